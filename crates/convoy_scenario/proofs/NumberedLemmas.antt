@@ -1,0 +1,182 @@
+-- A draft that passes all the checks gives a scenario that is well formed.
+use Rattle.std.proofs.Common.{◌≡◌, ℕ, ℤ, subst, leb-true, ◌||◌, pos, negsuc, ◌<◌, ◌≤◌, Bool, true, false, not, cond, nat_le, List, [], ◌∷◌, length, get_or, map, Option, Some, None, Result, Ok, Err, refl, sym}
+use Rattle.std.specs.List.{list_all, list_any, find, AllByRecursion, IsDistinct}
+use Rattle.std.specs.Str.{bytes_eq}
+use Rattle.std.proofs.lemmas.Bool.{and_parts, false≢true}
+use Rattle.std.proofs.lemmas.List.{length-map, get_or-map}
+use Rattle.std.proofs.Math.Dec.{leb-zero}
+use Rattle.std.proofs.lemmas.List.Elements.{All-map}
+use Rattle.std.proofs.lemmas.List.Sums.{AllPass-from_list_all}
+use Rattle.std.proofs.lemmas.Slice.Eq.{bytes_eq-Decides}
+use Rattle.convoy_scenario.specs.declared.fault.ScenarioFault.{ScenarioFault}
+use Rattle.convoy_scenario.specs.declared.limits.TheConstants.{GREATEST_AT, GREATEST_DELAY, MOST_GROUPS, MOST_MULTICASTS}
+use Rattle.convoy_scenario.specs.Plan.{Message, message_at, no_message}
+use Rattle.convoy_scenario.specs.WellFormed.{is_name, is_group_name, IsSender, IsMulticast, IsScenario}
+use Rattle.convoy_scenario.specs.Draft.{Draft, DraftMessage}
+use Rattle.convoy_scenario.specs.Checks.{is_within, is_count, is_among, all_differ, is_message, messages_differ, is_known_sender, knows, is_target_addressed, checks, judge, Check}
+use Rattle.convoy_scenario.specs.Numbering.{place, message_place, ticks, sender_of, numbers_of, message_of, plan_of}
+use Rattle.convoy_scenario.proofs.NumberLemmas.{numbers_have, numbers_some, numbers_rise, numbers_below}
+use Rattle.convoy_scenario.proofs.PlaceLemmas.{place_within, find_place, name_at_place}
+
+-- all the checks hold
+record Passes (draft : Draft) : Type 0 where
+  delay : is_within 1 GREATEST_DELAY draft.delay ≡ true
+  groups : is_count MOST_GROUPS draft.groups ≡ true
+  messages : is_count MOST_MULTICASTS draft.messages ≡ true
+  at : list_all (λ m. is_within 0 GREATEST_AT m.at) draft.messages ≡ true
+  group_names : list_all is_group_name draft.groups ≡ true
+  message_names : list_all (λ m. is_name m.name) draft.messages ≡ true
+  groups_differ : all_differ draft.groups ≡ true
+  messages_differ : messages_differ draft.messages ≡ true
+  known : list_all (knows draft.groups) draft.messages ≡ true
+  target_group : is_among draft.target_group draft.groups ≡ true
+  somewhere : list_all (λ m. nat_le 1 (length m.to)) draft.messages ≡ true
+  target : is_message draft.target_message draft.messages ≡ true
+  addressed : is_target_addressed draft ≡ true
+
+next_holds : (b : Bool) (fault : ScenarioFault) (rest : Result (Unit {0}) ScenarioFault) → cond b rest (Err fault) ≡ Ok tt → (b ≡ true) × (rest ≡ Ok tt)
+next_holds true fault rest h = (refl, h)
+next_holds false fault rest h = cc
+
+all_hold : (cs : List Check) → judge cs ≡ Ok tt → AllByRecursion (λ c. c.0 ≡ true) cs
+all_hold [] h = tt
+all_hold (c ∷ cs) h =
+    let next = next_holds c.0 c.1 (judge cs) h in
+    (next.0, all_hold cs next.1)
+
+passes : (draft : Draft) → judge (checks draft) ≡ Ok tt → Passes draft
+passes draft h =
+    let a = all_hold (checks draft) h in
+    let b = a.1.1.1.1 in
+    let c = b.1.1.1.1 in
+    record {
+      delay = a.0;
+      groups = a.1.0;
+      messages = a.1.1.0;
+      at = a.1.1.1.0;
+      group_names = b.0;
+      message_names = b.1.0;
+      groups_differ = b.1.1.0;
+      messages_differ = b.1.1.1.0;
+      known = c.0;
+      target_group = c.1.0;
+      somewhere = c.1.1.0;
+      target = c.1.1.1.1.0;
+      addressed = c.1.1.1.1.1.0;
+    }
+
+ticks-within : (least most : ℕ) (z : ℤ) → is_within least most z ≡ true → (least ≤ ticks most z) × (ticks most z ≤ most)
+ticks-within least most (pos n) h =
+    let parts = and_parts (nat_le least n) (nat_le n most) h in
+    let low = leb-true _ _ parts.0 in
+    let high = leb-true _ _ parts.1 in
+    rw (leb-zero n, parts.1) (low, high)
+ticks-within least most (negsuc n) h = absurd (false≢true h)
+
+-- no name is told twice
+apart : {A : Type 0} (p : A → Bool) (xs : List A) → not (list_any p xs) ≡ true → AllByRecursion (λ x. p x ≡ false) xs
+apart p [] h = tt
+apart p (x ∷ xs) h =
+    let e : p x ≡ false = elim (p x) as (λ b. not (b || list_any p xs) ≡ true → b ≡ false) [ true ↦ λ g. absurd (false≢true g) | false ↦ λ g. refl ] h in
+    let rest : not (list_any p xs) ≡ true = rw e at h in
+    (e, apart p xs rest)
+
+groups_distinct : (names : List (List ℕ)) → all_differ names ≡ true → IsDistinct bytes_eq names
+unfolding IsDistinct
+groups_distinct [] h = tt
+groups_distinct (name ∷ names) h =
+    let parts = and_parts (not (is_among name names)) (all_differ names) h in
+    (apart (bytes_eq name) names parts.0, groups_distinct names parts.1)
+
+AllByRecursion-map : {A B : Type 0} (P : B → Type 0) (f : A → B) (xs : List A) → AllByRecursion (λ x. P (f x)) xs → AllByRecursion P (map f xs)
+AllByRecursion-map P f [] h = tt
+AllByRecursion-map P f (x ∷ xs) h = (h.0, AllByRecursion-map P f xs h.1)
+
+messages_distinct : (groups : List (List ℕ)) (messages : List DraftMessage) → messages_differ messages ≡ true → IsDistinct (λ a b. bytes_eq a.name b.name) (map (message_of groups) messages)
+unfolding IsDistinct
+messages_distinct groups [] h = tt
+messages_distinct groups (message ∷ messages) h =
+    let parts = and_parts (not (is_message message.name messages)) (messages_differ messages) h in (
+      AllByRecursion-map (λ b. bytes_eq message.name b.name ≡ false) (message_of groups) messages (apart (λ m. bytes_eq message.name m.name) messages parts.0),
+      messages_distinct groups messages parts.1,
+    )
+
+sender_known : (groups : List (List ℕ)) (sender : Option (List ℕ)) → is_known_sender groups sender ≡ true → IsSender (length groups) (sender_of groups sender)
+sender_known groups None h = tt
+sender_known groups (Some name) h = place_within (bytes_eq name) groups h
+
+-- some group of those that are named is a group
+destinations_some : (groups named : List (List ℕ)) → list_all (λ name. is_among name groups) named ≡ true → nat_le 1 (length named) ≡ true → 0 < length (numbers_of groups named)
+destinations_some groups [] known some = absurd (false≢true some)
+destinations_some groups (name ∷ named) known some =
+    let here = (and_parts (is_among name groups) (list_all (λ other. is_among other groups) named) known).0 in
+    let at = name_at_place name groups here in
+    numbers_some groups (name ∷ named) (place name groups) (place_within (bytes_eq name) groups here) (rw at (rw ((bytes_eq-Decides name name).1 refl) refl))
+
+multicast_formed : (groups : List (List ℕ)) (message : DraftMessage) → is_name message.name ≡ true → knows groups message ≡ true → nat_le 1 (length message.to) ≡ true → is_within 0 GREATEST_AT message.at ≡ true
+    → IsMulticast (length groups) (message_of groups message)
+multicast_formed groups message name known some within =
+    let parts = and_parts (is_known_sender groups message.sender) _ known in
+    record {
+      name = name;
+      sender = sender_known groups message.sender parts.0;
+      destinations = destinations_some groups message.to parts.1 some;
+      ascending = numbers_rise groups message.to;
+      known = numbers_below groups message.to;
+      at = (ticks-within 0 GREATEST_AT message.at within).1;
+    }
+
+-- the first message of the target's name
+target_is : (draft : Draft) (m : DraftMessage) → find (λ message. bytes_eq draft.target_message message.name) draft.messages ≡ Some m → is_target_addressed draft ≡ true → is_among draft.target_group m.to ≡ true
+target_is draft m e h = rw e at h
+
+abbrev nothing : DraftMessage
+nothing = record { name = []; sender = None; to = []; at = pos 0 }
+
+-- a draft that passes the checks is a scenario
+pub plan_formed : (draft : Draft) → judge (checks draft) ≡ Ok tt → IsScenario (plan_of draft)
+plan_formed draft h =
+    let p = passes draft h in
+    let delay = ticks-within 1 GREATEST_DELAY draft.delay p.delay in
+    let groups = and_parts (nat_le 1 (length draft.groups)) _ p.groups in
+    let messages = and_parts (nat_le 1 (length draft.messages)) _ p.messages in
+    let named = AllPass-from_list_all is_group_name draft.groups p.group_names in
+    let names = AllPass-from_list_all (λ m. is_name m.name) draft.messages p.message_names in
+    let known = AllPass-from_list_all (knows draft.groups) draft.messages p.known in
+    let some = AllPass-from_list_all (λ m. nat_le 1 (length m.to)) draft.messages p.somewhere in
+    let at = AllPass-from_list_all (λ m. is_within 0 GREATEST_AT m.at) draft.messages p.at in
+    let numbered : length (map (message_of draft.groups) draft.messages) ≡ length draft.messages = length-map draft.messages (message_of draft.groups) in
+    let by_name : DraftMessage → Bool = λ m. bytes_eq draft.target_message m.name in
+    let t = message_place draft.target_message draft.messages in
+    let t_within : t < length draft.messages = place_within by_name draft.messages p.target in
+    let target : DraftMessage = get_or draft.messages t nothing in
+    let goes : is_among draft.target_group target.to ≡ true = target_is draft target (find_place by_name draft.messages nothing p.target) p.addressed in
+    let g = place draft.target_group draft.groups in
+    let g_within : g < length draft.groups = place_within (bytes_eq draft.target_group) draft.groups p.target_group in
+    let at_g : get_or draft.groups g [] ≡ draft.target_group = name_at_place draft.target_group draft.groups p.target_group in
+    let stands : message_at (plan_of draft) t ≡ message_of draft.groups target = get_or-map (message_of draft.groups) draft.messages t nothing no_message t_within in
+    record {
+      delay_low = delay.0;
+      delay_high = delay.1;
+      groups_low = leb-true _ _ groups.0;
+      groups_high = leb-true _ _ groups.1;
+      multicasts_low = rw numbered (leb-true _ _ messages.0);
+      multicasts_high = rw numbered (leb-true _ _ messages.1);
+      group_names = named;
+      group_names_differ = groups_distinct draft.groups p.groups_differ;
+      message_names_differ = messages_distinct draft.groups draft.messages p.messages_differ;
+      messages = All-map (IsMulticast (length draft.groups)) (message_of draft.groups) draft.messages (λ k d within. multicast_formed draft.groups (get_or draft.messages k d) (names k d within) (known k d within) (some k d within) (at k d within));
+      target = rw numbered t_within;
+      addressed = rw stands (numbers_have draft.groups target.to g g_within (rw at_g goes));
+    }
+
+-- the same of a scenario that is made part by part, each from a part of the draft or from an equal of it
+pub parts_formed : (draft : Draft) (delay : ℤ) (groups : List (List ℕ)) (messages : List DraftMessage) (message group : List ℕ)
+    → record { delay = delay; groups = groups; messages = messages; target_message = message; target_group = group } ≡ draft
+    → judge (checks draft) ≡ Ok tt
+    → {most : ℕ} {lent lent' : List (List ℕ)} {sent : List DraftMessage} {d t g : ℕ} {multicasts : List Message}
+    → most ≡ GREATEST_DELAY → d ≡ ticks most delay → lent ≡ groups → multicasts ≡ map (message_of lent) messages
+    → sent ≡ messages → t ≡ message_place message sent → lent' ≡ groups → g ≡ place group lent'
+    → IsScenario (record { delay = d; groups = groups; multicasts = multicasts; target_message = t; target_group = g })
+parts_formed draft delay groups messages message group seen h a b c d e f i j =
+    rw (b, a, d, c, f, e, j, i) (plan_formed (record { delay = delay; groups = groups; messages = messages; target_message = message; target_group = group }) (subst (λ (d : Draft). judge (checks d) ≡ Ok tt) (sym seen) h))

@@ -1,0 +1,171 @@
+-- Worked rows: what the definitions of the reader give for some drafts, tables and texts.
+use Rattle.std.proofs.Common.{◌≡◌, refl, true, ℕ, pos, negsuc, List, [], ◌∷◌, Some, None, Ok, Err, codes}
+use Rattle.toml.specs.Data.{Items, no_items, item, Members, no_members, member, string, integer, boolean, array, table}
+use Rattle.convoy_scenario.specs.declared.fault.ScenarioFault.TheVariants.{Shape, OverLimit, BadName, DoubleName, UnknownGroup, NoDestination, DoubleDestination, UnknownTarget, TargetNotAddressed}
+use Rattle.convoy_scenario.specs.declared.fault.Key.TheVariants as key
+use Rattle.convoy_scenario.specs.declared.fault.Limit.TheVariants as limit
+use Rattle.convoy_scenario.specs.declared.sender.Sender.TheVariants.{Client, Group}
+use Rattle.convoy_scenario.specs.Plan.{Plan}
+use Rattle.convoy_scenario.specs.Draft.{Draft}
+use Rattle.convoy_scenario.specs.Numbering.{scenario_of_draft}
+use Rattle.convoy_scenario.specs.Reading.{input_of_table, scenario_of_table}
+
+-- three ticks at most; x to b, t to b and a, y from a to both; t at a
+abbrev base : Draft
+base = record {
+  delay = pos 3;
+  groups = codes "a" ∷ codes "b" ∷ [];
+  messages =
+      record { name = codes "x"; sender = None; to = codes "b" ∷ []; at = pos 0 }
+      ∷ record { name = codes "t"; sender = None; to = codes "b" ∷ codes "a" ∷ []; at = pos 0 }
+      ∷ record { name = codes "y"; sender = Some (codes "a"); to = codes "a" ∷ codes "b" ∷ []; at = pos 6 }
+      ∷ [];
+  target_message = codes "t";
+  target_group = codes "a";
+}
+
+abbrev base_plan : Plan
+base_plan = record {
+  delay = 3;
+  groups = codes "a" ∷ codes "b" ∷ [];
+  multicasts =
+      record { name = codes "x"; sender = Client; destinations = 1 ∷ []; at = 0 }
+      ∷ record { name = codes "t"; sender = Client; destinations = 0 ∷ 1 ∷ []; at = 0 }
+      ∷ record { name = codes "y"; sender = Group 0; destinations = 0 ∷ 1 ∷ []; at = 6 }
+      ∷ [];
+  target_message = 1;
+  target_group = 0;
+}
+
+base_numbered : scenario_of_draft base ≡ Ok base_plan
+base_numbered = refl
+
+-- one message
+abbrev lone : List ℕ → List (List ℕ) → Draft
+lone name to = record base { messages = record { name = name; sender = None; to = to; at = pos 0 } ∷ [] }
+
+delay_low : scenario_of_draft (record base { delay = pos 0 }) ≡ Err (OverLimit limit.Delay)
+delay_low = refl
+
+delay_negative : scenario_of_draft (record base { delay = negsuc 4 }) ≡ Err (OverLimit limit.Delay)
+delay_negative = refl
+
+delay_high : scenario_of_draft (record base { delay = pos 17; groups = [] }) ≡ Err (OverLimit limit.Delay)
+delay_high = refl
+
+no_groups : scenario_of_draft (record base { groups = []; messages = [] }) ≡ Err (OverLimit limit.Groups)
+no_groups = refl
+
+no_messages : scenario_of_draft (record base { groups = codes "client" ∷ []; messages = [] }) ≡ Err (OverLimit limit.Multicasts)
+no_messages = refl
+
+bad_group : scenario_of_draft (record base { groups = codes "client" ∷ codes "client" ∷ [] }) ≡ Err BadName
+bad_group = refl
+
+bad_message : scenario_of_draft (lone (codes "T") (codes "a" ∷ [])) ≡ Err BadName
+bad_message = refl
+
+double_group : scenario_of_draft (record base { groups = codes "a" ∷ codes "a" ∷ [] }) ≡ Err DoubleName
+double_group = refl
+
+unknown_sender : scenario_of_draft (record base { messages = record { name = codes "t"; sender = Some (codes "client"); to = []; at = pos 0 } ∷ [] }) ≡ Err UnknownGroup
+unknown_sender = refl
+
+unknown_destination : scenario_of_draft (lone (codes "t") (codes "a" ∷ codes "c" ∷ [])) ≡ Err UnknownGroup
+unknown_destination = refl
+
+unknown_target_group : scenario_of_draft (record base { target_group = codes "c"; target_message = codes "c" }) ≡ Err UnknownGroup
+unknown_target_group = refl
+
+no_destination : scenario_of_draft (lone (codes "t") []) ≡ Err NoDestination
+no_destination = refl
+
+double_destination : scenario_of_draft (lone (codes "t") (codes "a" ∷ codes "a" ∷ [])) ≡ Err DoubleDestination
+double_destination = refl
+
+unknown_target : scenario_of_draft (lone (codes "x") (codes "a" ∷ [])) ≡ Err UnknownTarget
+unknown_target = refl
+
+not_addressed : scenario_of_draft (lone (codes "t") (codes "b" ∷ [])) ≡ Err TargetNotAddressed
+not_addressed = refl
+
+-- a table of one message, with further members at the top, in the message and in the target
+abbrev message_table : Members → Members
+message_table more = member (codes "at") (integer (pos 0)) (member (codes "name") (string (codes "t")) (member (codes "to") (array (item (string (codes "a")) no_items)) more))
+
+abbrev target_table : Members → Members
+target_table more = member (codes "group") (string (codes "a")) (member (codes "message") (string (codes "t")) more)
+
+abbrev top : Items → Members → Members → Members
+top messages target more = member (codes "delay") (integer (pos 3)) (member (codes "groups") (array (item (string (codes "a")) no_items))
+    (member (codes "multicast") (array messages) (member (codes "target") (table target) more)))
+
+abbrev one : Members → Items
+one message = item (table message) no_items
+
+abbrev odd : Members
+odd = member (codes "zone") (boolean true) no_members
+
+table_read : scenario_of_table (top (one (message_table no_members)) (target_table no_members) no_members) ≡ Ok (record {
+  delay = 3;
+  groups = codes "a" ∷ [];
+  multicasts = record { name = codes "t"; sender = Client; destinations = 0 ∷ []; at = 0 } ∷ [];
+  target_message = 0;
+  target_group = 0;
+})
+table_read = refl
+
+empty_table : scenario_of_table no_members ≡ Err (Shape key.Delay)
+empty_table = refl
+
+no_target : scenario_of_table (member (codes "delay") (integer (pos 0)) (member (codes "groups") (array no_items) (member (codes "multicast") (array no_items) odd))) ≡ Err (Shape key.Target)
+no_target = refl
+
+message_no_table : scenario_of_table (top (item (table odd) (item (boolean true) no_items)) no_members odd) ≡ Err (Shape key.Multicast)
+message_no_table = refl
+
+sender_no_text : scenario_of_table (top (one (member (codes "from") (boolean true) (message_table odd))) no_members odd) ≡ Err (Shape key.From)
+sender_no_text = refl
+
+odd_in_message : scenario_of_table (top (one (message_table odd)) no_members odd) ≡ Err (Shape key.Unknown)
+odd_in_message = refl
+
+odd_in_target : scenario_of_table (top (one (message_table no_members)) (target_table odd) no_members) ≡ Err (Shape key.Unknown)
+odd_in_target = refl
+
+odd_at_top : scenario_of_table (top no_items (target_table no_members) odd) ≡ Err (Shape key.Unknown)
+odd_at_top = refl
+
+-- the members of a schedule, before further members
+abbrev given : Items → Members → Members
+given delays more = member (codes "schedule") (array delays) more
+
+schedule_given : input_of_table (top (one (message_table no_members)) (target_table no_members) (given (item (integer (pos 3)) (item (integer (negsuc 4)) no_items)) no_members)) ≡ Ok (record {
+  scenario = record {
+    delay = 3;
+    groups = codes "a" ∷ [];
+    multicasts = record { name = codes "t"; sender = Client; destinations = 0 ∷ []; at = 0 } ∷ [];
+    target_message = 0;
+    target_group = 0;
+  };
+  schedule = Some (pos 3 ∷ negsuc 4 ∷ []);
+})
+schedule_given = refl
+
+schedule_no_array : scenario_of_table (top no_items (target_table no_members) (member (codes "schedule") (integer (pos 3)) odd)) ≡ Err (Shape key.Schedule)
+schedule_no_array = refl
+
+schedule_of_texts : scenario_of_table (top no_items (target_table no_members) (given (item (integer (pos 3)) (item (string (codes "a")) no_items)) odd)) ≡ Err (Shape key.Schedule)
+schedule_of_texts = refl
+
+schedule_after_target : scenario_of_table (top no_items (target_table odd) (member (codes "schedule") (integer (pos 3)) no_members)) ≡ Err (Shape key.Unknown)
+schedule_after_target = refl
+
+schedule_in_target : scenario_of_table (top no_items (target_table (given no_items no_members)) no_members) ≡ Err (Shape key.Unknown)
+schedule_in_target = refl
+
+schedule_before_limits : scenario_of_table (top no_items (target_table no_members) (given (item (boolean true) no_items) no_members)) ≡ Err (Shape key.Schedule)
+schedule_before_limits = refl
+
+no_multicast : scenario_of_table (top no_items (target_table no_members) no_members) ≡ Err (OverLimit limit.Multicasts)
+no_multicast = refl

@@ -1,0 +1,9 @@
+use Rattle.std.proofs.Common.{arith}
+use Rattle.convoy_scenario.specs.Lines.{ended, multicast_line}
+use Rattle.convoy_scenario.proofs.Texts.{in_map}
+use Rattle.convoy_scenario.proofs.lines.push_multicasts.Goals as goal
+
+pub returns : goal.returns
+returns c =
+    in_map ended (multicast_line c.args.scenario.now) c.args.scenario.now.multicasts c.loop-m.m c.args.text.now.items c.loop-m.text.items
+    (omega arith) c.loop-m.invariant

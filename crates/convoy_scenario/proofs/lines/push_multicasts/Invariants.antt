@@ -1,0 +1,8 @@
+use Rattle.std.proofs.Common.{◌≡◌, ◌++◌, take}
+use Rattle.std.specs.List.{flat_map}
+use Rattle.convoy_scenario.specs.Lines.{ended, multicast_line}
+use Rattle.convoy_scenario.proofs.lines.push_multicasts.Given as goal
+
+abbrev pub invariant-loop-m : goal.invariant-loop-m
+invariant-loop-m l =
+    l.text.items ≡ l.fn.text.items ++ flat_map (λ m. ended (multicast_line l.scenario m)) (take l.m l.scenario.multicasts)

@@ -1,0 +1,94 @@
+-- The rules for a scenario as it is written, in the order in which they are asked.
+use Rattle.std.specs.Prelude.{ℕ, ℤ, pos, int_le, Bool, true, false, ◌&&◌, not, nat_le, if◌then◌else◌, List, [], ◌∷◌, ◌++◌, length, Option, Some, None, find, Result, Ok, Err}
+use Rattle.std.specs.List.{list_all, list_any}
+use Rattle.std.specs.Str.{bytes_eq}
+use Rattle.convoy_scenario.specs.declared.fault.ScenarioFault.{ScenarioFault}
+use Rattle.convoy_scenario.specs.declared.fault.ScenarioFault.TheVariants.{OverLimit, BadName, DoubleName, UnknownGroup, NoDestination, DoubleDestination, UnknownTarget, TargetNotAddressed}
+use Rattle.convoy_scenario.specs.declared.fault.Limit.TheVariants.{Delay, Groups, Multicasts, At}
+use Rattle.convoy_scenario.specs.declared.limits.TheConstants.{GREATEST_AT, GREATEST_DELAY, MOST_GROUPS, MOST_MULTICASTS}
+use Rattle.convoy_scenario.specs.Draft.{Draft, DraftMessage}
+use Rattle.convoy_scenario.specs.WellFormed.{is_name, is_group_name}
+
+-- a number from the least to the most
+abbrev pub is_within : ℕ → ℕ → ℤ → Bool
+is_within least most z = int_le (pos least) z && int_le z (pos most)
+
+-- a list of at least one and at most so many
+abbrev pub is_count : {A : Type 0} → ℕ → List A → Bool
+is_count most xs = nat_le 1 (length xs) && nat_le (length xs) most
+
+-- the name is one of these
+abbrev pub is_among : List ℕ → List (List ℕ) → Bool
+is_among name names = list_any (bytes_eq name) names
+
+-- no two of the names are the same
+abbrev pub all_differ : List (List ℕ) → Bool
+all_differ [] = true
+all_differ (name ∷ rest) = not (is_among name rest) && all_differ rest
+
+-- the sender is a client, or one of the groups
+abbrev pub is_known_sender : List (List ℕ) → Option (List ℕ) → Bool
+is_known_sender groups None = true
+is_known_sender groups (Some name) = is_among name groups
+
+-- sender and destinations of the message are among the groups
+abbrev pub knows : List (List ℕ) → DraftMessage → Bool
+knows groups message = is_known_sender groups message.sender && list_all (λ name. is_among name groups) message.to
+
+-- one of the messages has the name
+abbrev pub is_message : List ℕ → List DraftMessage → Bool
+is_message name messages = list_any (λ message. bytes_eq name message.name) messages
+
+-- no two of the messages have the same name
+abbrev pub messages_differ : List DraftMessage → Bool
+messages_differ [] = true
+messages_differ (message ∷ rest) = not (is_message message.name rest) && messages_differ rest
+
+-- the first message of the target's name goes to the target's group
+abbrev pub is_target_addressed : Draft → Bool
+is_target_addressed draft = goes (find (λ message. bytes_eq draft.target_message message.name) draft.messages) where
+  goes : Option DraftMessage → Bool
+  goes None = false
+  goes (Some message) = is_among draft.target_group message.to
+
+-- a rule and the fault that is told where it does not hold
+abbrev pub Check : Type 0
+Check = Bool × ScenarioFault
+
+-- the rules on numbers
+abbrev pub limit_checks : Draft → List Check
+limit_checks draft =
+    (is_within 1 GREATEST_DELAY draft.delay, OverLimit Delay)
+    ∷ (is_count MOST_GROUPS draft.groups, OverLimit Groups)
+    ∷ (is_count MOST_MULTICASTS draft.messages, OverLimit Multicasts)
+    ∷ (list_all (λ message. is_within 0 GREATEST_AT message.at) draft.messages, OverLimit At)
+    ∷ []
+
+-- the rules on names
+abbrev pub name_checks : Draft → List Check
+name_checks draft =
+    (list_all is_group_name draft.groups, BadName)
+    ∷ (list_all (λ message. is_name message.name) draft.messages, BadName)
+    ∷ (all_differ draft.groups, DoubleName)
+    ∷ (messages_differ draft.messages, DoubleName)
+    ∷ []
+
+-- the rules on what refers to groups and messages
+abbrev pub reference_checks : Draft → List Check
+reference_checks draft =
+    (list_all (knows draft.groups) draft.messages, UnknownGroup)
+    ∷ (is_among draft.target_group draft.groups, UnknownGroup)
+    ∷ (list_all (λ message. nat_le 1 (length message.to)) draft.messages, NoDestination)
+    ∷ (list_all (λ message. all_differ message.to) draft.messages, DoubleDestination)
+    ∷ (is_message draft.target_message draft.messages, UnknownTarget)
+    ∷ (is_target_addressed draft, TargetNotAddressed)
+    ∷ []
+
+-- all the rules, in order
+abbrev pub checks : Draft → List Check
+checks draft = limit_checks draft ++ name_checks draft ++ reference_checks draft
+
+-- the fault of the first rule that does not hold
+abbrev pub judge : List Check → Result (Unit {0}) ScenarioFault
+judge [] = Ok tt
+judge (check ∷ rest) = if check.0 then judge rest else Err check.1

@@ -1,0 +1,17 @@
+-- A scenario as it is written, with names in place of numbers: what stands in it before any rule is asked.
+use Rattle.std.specs.Prelude.{ℕ, ℤ, List, Option}
+
+-- a message as it is written: its name, the group that sends it (none for a client), the groups that it goes to, and its tick
+pub record DraftMessage : Type 0 where
+  pub name : List ℕ
+  pub sender : Option (List ℕ)
+  pub to : List (List ℕ)
+  pub at : ℤ
+
+-- a scenario as it is written
+pub record Draft : Type 0 where
+  pub delay : ℤ
+  pub groups : List (List ℕ)
+  pub messages : List DraftMessage
+  pub target_message : List ℕ
+  pub target_group : List ℕ

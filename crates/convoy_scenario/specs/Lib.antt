@@ -1,0 +1,12 @@
+pub mod Checks
+pub mod Draft
+pub mod LineForms
+pub mod LineReading
+pub mod LineWords
+pub mod Lines
+pub mod Memory
+pub mod Numbering
+pub mod Plan
+pub mod Reading
+pub mod Shape
+pub mod WellFormed

@@ -1,0 +1,140 @@
+-- What reading the lines of a scenario answers: the scenario, or the first fault in the order of the lines.
+use Rattle.std.specs.Prelude.{ℕ, pos, ◌+◌, ◌==◌, Bool, ◌&&◌, ◌||◌, if◌then◌else◌, List, [], ◌∷◌, length, filter, codes, Option, Some, None, ok_or, Result, Ok, Err}
+use Rattle.std.specs.Cmp.Lexicographic.{pointwise}
+use Rattle.std.specs.Str.{bytes_eq}
+use Rattle.convoy_scenario.specs.declared.fault.ScenarioFault.{ScenarioFault}
+use Rattle.convoy_scenario.specs.declared.fault.ScenarioFault.TheVariants.{OverLimit}
+use Rattle.convoy_scenario.specs.declared.fault.Limit.TheVariants.{Multicasts}
+use Rattle.convoy_scenario.specs.declared.limits.TheConstants.{MOST_MULTICASTS}
+use Rattle.convoy_scenario.specs.declared.line_fault.Expected.{Expected}
+use Rattle.convoy_scenario.specs.declared.line_fault.Expected.TheVariants.{Delay, Groups, Multicast, Target}
+use Rattle.convoy_scenario.specs.declared.line_fault.LineFault.{LineFault}
+use Rattle.convoy_scenario.specs.declared.line_fault.LineFault.TheVariants.{Line, Scenario}
+use Rattle.convoy_scenario.specs.Checks.{is_among}
+use Rattle.convoy_scenario.specs.Draft.{Draft, DraftMessage}
+use Rattle.convoy_scenario.specs.LineForms.{begins_with, number_line, groups_line, multicast_line, target_line}
+use Rattle.convoy_scenario.specs.LineWords.{words_of}
+use Rattle.convoy_scenario.specs.Numbering.{scenario_of_draft}
+use Rattle.convoy_scenario.specs.Plan.{Plan}
+
+-- a text: the lines that are ended by byte 10, and what follows the last of them
+pub record Lines : Type 0 where
+  pub ended : List (List ℕ)
+  pub rest : List ℕ
+
+-- a byte, not 10, put in front of a text
+abbrev pub in_front : ℕ → List (List ℕ) → List ℕ → Lines
+in_front byte [] rest = record { ended = []; rest = byte ∷ rest }
+in_front byte (line ∷ lines) rest = record { ended = (byte ∷ line) ∷ lines; rest = rest }
+
+-- a byte put in front of a text
+abbrev pub with_byte : ℕ → Lines → Lines
+with_byte byte lines = if byte == 10 then record { ended = [] ∷ lines.ended; rest = lines.rest } else in_front byte lines.ended lines.rest
+
+-- the lines of a text
+abbrev pub lines_in : List ℕ → Lines
+lines_in [] = record { ended = []; rest = [] }
+lines_in (byte ∷ bytes) = with_byte byte (lines_in bytes)
+
+-- where a reader stands: what is left, and the number of the next line
+pub record Place : Type 0 where
+  pub ended : List (List ℕ)
+  pub rest : List ℕ
+  pub number : ℕ
+
+-- the place before a text whose first line has this number
+abbrev pub place_before : List ℕ → ℕ → Place
+place_before text number = record { ended = (lines_in text).ended; rest = (lines_in text).rest; number = number }
+
+-- the next line, if it is there and ended
+abbrev pub line_at : Place → Option (List ℕ)
+line_at place = first place.ended where
+  first : List (List ℕ) → Option (List ℕ)
+  first [] = None
+  first (line ∷ lines) = Some line
+
+-- the place after the next line, or the same place where there is no ended line
+abbrev pub past_line : Place → Place
+past_line place = past place.ended where
+  past : List (List ℕ) → Place
+  past [] = place
+  past (line ∷ lines) = record { ended = lines; rest = place.rest; number = place.number + 1 }
+
+-- what comes next: a line, ended or not
+abbrev pub upcoming : Place → List ℕ
+upcoming place = first place.ended where
+  first : List (List ℕ) → List ℕ
+  first [] = place.rest
+  first (line ∷ lines) = line
+
+-- nothing is left
+abbrev pub is_at_end : Place → Bool
+is_at_end place = (length place.ended == 0) && (length place.rest == 0)
+
+-- then: the first fault ends it
+infixl 10 ◌>>=◌
+abbrev pub ◌>>=◌ : {A B : Type 0} → Result A LineFault → (A → Result B LineFault) → Result B LineFault
+Ok x >>= f = f x
+Err fault >>= f = Err fault
+
+-- what the next line says, if it is there, ended and of its form
+abbrev pub form_at : {A : Type 0} → Expected → (List ℕ → Option A) → Place → Result (A × Place) LineFault
+form_at expected form place = do
+  line ← ok_or (line_at place) (Line place.number expected)
+  value ← ok_or (form line) (Line place.number expected)
+  Ok (value, past_line place)
+
+-- a line `multicast` is due: it is the first of them, or what comes next begins with that word
+abbrev pub is_multicast_due : ℕ → List ℕ → Bool
+is_multicast_due count line = count == 0 || begins_with (codes "multicast") (words_of line)
+
+-- The messages of the lines `multicast` that come next, after so many: the first line has to be one, and each that begins with that word.
+unfoldable pub messages_in : ℕ → ℕ → List ℕ → List (List ℕ) → Result (List DraftMessage × Place) LineFault
+messages_in count number rest [] =
+    if is_multicast_due count rest then Err (Line number Multicast)
+    else Ok ([], record { ended = []; rest = rest; number = number })
+messages_in count number rest (line ∷ lines) =
+    if is_multicast_due count line then (do
+      message ← ok_or (multicast_line line) (Line number Multicast)
+      more ← if count == MOST_MULTICASTS then Err (Scenario (OverLimit Multicasts)) else messages_in (count + 1) (number + 1) rest lines
+      Ok (message ∷ more.0, more.1))
+    else Ok ([], record { ended = line ∷ lines; rest = rest; number = number })
+
+abbrev pub messages_at : ℕ → Place → Result (List DraftMessage × Place) LineFault
+messages_at count place = messages_in count place.number place.rest place.ended
+
+-- the draft of what the lines say
+abbrev pub draft_of : ℕ → List (List ℕ) → List DraftMessage → List ℕ × List ℕ → Draft
+draft_of delay groups messages target =
+    record { delay = pos delay; groups = groups; messages = messages; target_message = target.0; target_group = target.1 }
+
+-- the fault of a scenario, told of lines
+abbrev pub told : Result Plan ScenarioFault → Result Plan LineFault
+told (Ok plan) = Ok plan
+told (Err fault) = Err (Scenario fault)
+
+-- the destinations stand in the order of the groups: they are the groups that are named, in their order
+abbrev pub is_ordered : List (List ℕ) → DraftMessage → Bool
+is_ordered groups message = pointwise bytes_eq message.to (filter (λ group. is_among group message.to) groups)
+
+-- the number of the first line whose destinations do not, where the first of the lines has this number
+abbrev pub first_unordered : List (List ℕ) → ℕ → List DraftMessage → Option ℕ
+first_unordered groups number [] = None
+first_unordered groups number (message ∷ messages) =
+    if is_ordered groups message then first_unordered groups (number + 1) messages else Some number
+
+-- the scenario, where no line has destinations out of order
+abbrev pub where_ordered : Option ℕ → Plan → Result Plan LineFault
+where_ordered None plan = Ok plan
+where_ordered (Some number) plan = Err (Line number Multicast)
+
+-- the scenario of the next lines, from `delay` to `target`, and the place after them; else the first fault
+unfoldable pub scenario_at : Place → Result (Plan × Place) LineFault
+scenario_at place = do
+  delay ← form_at Delay (number_line (codes "delay")) place
+  groups ← form_at Groups groups_line delay.1
+  messages ← messages_at 0 groups.1
+  target ← form_at Target target_line messages.1
+  plan ← told (scenario_of_draft (draft_of delay.0 groups.0 messages.0 target.0))
+  ordered ← where_ordered (first_unordered groups.0 groups.1.number messages.0) plan
+  Ok (ordered, target.1)

@@ -1,0 +1,57 @@
+-- The scenario of a draft, with numbers in place of names. Each word here has a value for any draft; only where all the checks hold do they mean what they say.
+use Rattle.std.specs.Prelude.{ℕ, ℤ, nat_abs, if◌then◌else◌, List, [], map, length, filter, Option, Some, None, unwrap_or, position, Result, Ok}
+use Rattle.std.specs.List.{range_with_len}
+use Rattle.std.specs.Result.{result_and}
+use Rattle.std.specs.Str.{bytes_eq}
+use Rattle.std.proofs.Common.{get_or}
+use Rattle.convoy_scenario.specs.declared.fault.ScenarioFault.{ScenarioFault}
+use Rattle.convoy_scenario.specs.declared.limits.TheConstants.{GREATEST_AT, GREATEST_DELAY}
+use Rattle.convoy_scenario.specs.declared.sender.Sender.{Sender}
+use Rattle.convoy_scenario.specs.declared.sender.Sender.TheVariants.{Client, Group}
+use Rattle.convoy_scenario.specs.Plan.{Message, Plan}
+use Rattle.convoy_scenario.specs.Draft.{Draft, DraftMessage}
+use Rattle.convoy_scenario.specs.Checks.{is_within, is_among, checks, judge}
+
+-- the place of the name, or 0 where it is not there
+abbrev pub place : List ℕ → List (List ℕ) → ℕ
+place name names = unwrap_or (position (bytes_eq name) names) 0
+
+-- the place of the first message of the name, or 0 where there is none
+abbrev pub message_place : List ℕ → List DraftMessage → ℕ
+message_place name messages = unwrap_or (position (λ message. bytes_eq name message.name) messages) 0
+
+-- the number, or 0 where it is not from 0 to the most
+abbrev pub ticks : ℕ → ℤ → ℕ
+ticks most z = if is_within 0 most z then nat_abs z else 0
+
+-- who sends a message that is written with this sender
+abbrev pub sender_of : List (List ℕ) → Option (List ℕ) → Sender
+sender_of groups None = Client
+sender_of groups (Some name) = Group (place name groups)
+
+-- the numbers of the groups that are named, ascending
+abbrev pub numbers_of : List (List ℕ) → List (List ℕ) → List ℕ
+numbers_of groups named = filter (λ g. is_among (get_or groups g []) named) (range_with_len 0 (length groups))
+
+-- a message with numbers
+abbrev pub message_of : List (List ℕ) → DraftMessage → Message
+message_of groups message = record {
+  name = message.name;
+  sender = sender_of groups message.sender;
+  destinations = numbers_of groups message.to;
+  at = ticks GREATEST_AT message.at;
+}
+
+-- a scenario with numbers
+abbrev pub plan_of : Draft → Plan
+plan_of draft = record {
+  delay = ticks GREATEST_DELAY draft.delay;
+  groups = draft.groups;
+  multicasts = map (message_of draft.groups) draft.messages;
+  target_message = message_place draft.target_message draft.messages;
+  target_group = place draft.target_group draft.groups;
+}
+
+-- the scenario of a draft, or the fault of the first check that does not hold
+abbrev pub scenario_of_draft : Draft → Result Plan ScenarioFault
+scenario_of_draft draft = result_and (judge (checks draft)) (Ok (plan_of draft))

@@ -1,0 +1,47 @@
+-- What a scenario says, as plain data: groups and messages go by number, from 0, in the order of the text.
+use Rattle.std.specs.Prelude.{ℕ, Bool, false, ◌==◌, List, [], length, slice_index_or}
+use Rattle.std.specs.List.{list_any, range_with_len}
+use Rattle.convoy_scenario.specs.declared.sender.Sender.{Sender}
+use Rattle.convoy_scenario.specs.declared.sender.Sender.TheVariants.{Client, Group}
+
+-- a message: its name, who sends it, the groups that it goes to, and the tick at which it is issued
+pub record Message : Type 0 where
+  pub name : List ℕ
+  pub sender : Sender
+  pub destinations : List ℕ
+  pub at : ℕ
+
+-- a scenario: D, the groups' names, the messages, and the message and the group of which the latency is asked
+pub record Plan : Type 0 where
+  pub delay : ℕ
+  pub groups : List (List ℕ)
+  pub multicasts : List Message
+  pub target_message : ℕ
+  pub target_group : ℕ
+
+-- what stands for a message past the last one: it goes to no group
+abbrev pub no_message : Message
+no_message = record { name = []; sender = Client; destinations = []; at = 0 }
+
+-- the message of that number
+abbrev pub message_at : Plan → ℕ → Message
+message_at plan m = slice_index_or plan.multicasts m no_message
+
+-- the name of the group of that number
+abbrev pub group_name_at : Plan → ℕ → List ℕ
+group_name_at plan g = slice_index_or plan.groups g []
+
+-- the numbers of the messages
+abbrev pub message_numbers : Plan → List ℕ
+message_numbers plan = range_with_len 0 (length plan.multicasts)
+
+-- the group sends the message itself
+abbrev pub is_sent_by : Message → ℕ → Bool
+is_sent_by message g = is_group message.sender g where
+  is_group : Sender → ℕ → Bool
+  is_group Client h = false
+  is_group (Group n) h = n == h
+
+-- the message goes to the group
+abbrev pub is_addressed : Message → ℕ → Bool
+is_addressed message g = list_any (λ h. h == g) message.destinations

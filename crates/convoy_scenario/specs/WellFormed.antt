@@ -1,0 +1,63 @@
+-- When a scenario is well formed: its limits, its names and its references.
+use Rattle.std.specs.Prelude.{ℕ, ◌<◌, ◌≤◌, ◌==◌, Bool, false, ◌&&◌, ◌||◌, not, nat_le, List, [], ◌∷◌, length, codes, IsTrue, All}
+use Rattle.std.specs.List.{list_all, IsDistinct}
+use Rattle.std.specs.List.Sorted.{IsStrictlyIncreasing}
+use Rattle.std.specs.Str.{bytes_eq}
+use Rattle.convoy_scenario.specs.declared.sender.Sender.{Sender}
+use Rattle.convoy_scenario.specs.declared.sender.Sender.TheVariants.{Client, Group}
+use Rattle.convoy_scenario.specs.declared.limits.TheConstants.{GREATEST_AT, GREATEST_DELAY, LONGEST_NAME, MOST_GROUPS, MOST_MULTICASTS}
+use Rattle.convoy_scenario.specs.Plan.{Message, Plan, message_at, is_addressed}
+
+-- a letter from a to z
+abbrev pub is_letter : ℕ → Bool
+is_letter c = nat_le 97 c && nat_le c 122
+
+-- a digit from 0 to 9
+abbrev pub is_digit : ℕ → Bool
+is_digit c = nat_le 48 c && nat_le c 57
+
+-- a letter, a digit, an underscore or a dash
+abbrev pub is_name_byte : ℕ → Bool
+is_name_byte c = is_letter c || is_digit c || c == 95 || c == 45
+
+-- a name begins with a letter, goes on in the bytes of names, and is not too long
+abbrev pub is_name : List ℕ → Bool
+is_name [] = false
+is_name (c ∷ cs) = is_letter c && list_all is_name_byte cs && nat_le (length (c ∷ cs)) LONGEST_NAME
+
+-- the text that no group has as its name, since it stands for a client
+abbrev pub client_word : List ℕ
+client_word = codes "client"
+
+-- a name that a group may have
+abbrev pub is_group_name : List ℕ → Bool
+is_group_name name = is_name name && not (bytes_eq name client_word)
+
+-- the sender is a client, or one of so many groups
+abbrev pub IsSender : ℕ → Sender → Type 0
+IsSender groups Client = Unit {0}
+IsSender groups (Group g) = g < groups
+
+-- a message among so many groups: it has a name and an issue tick within the limits, and goes to one group or more, each named once, in the order of their numbers
+pub record IsMulticast (groups : ℕ) (message : Message) : Type 0 where
+  pub name : IsTrue (is_name message.name)
+  pub sender : IsSender groups message.sender
+  pub destinations : 0 < length message.destinations
+  pub ascending : IsStrictlyIncreasing message.destinations
+  pub known : All (λ g. g < groups) message.destinations
+  pub at : message.at ≤ GREATEST_AT
+
+-- the limits hold, names are names and differ, and all that is referred to is there
+pub record IsScenario (plan : Plan) : Type 0 where
+  pub delay_low : 1 ≤ plan.delay
+  pub delay_high : plan.delay ≤ GREATEST_DELAY
+  pub groups_low : 1 ≤ length plan.groups
+  pub groups_high : length plan.groups ≤ MOST_GROUPS
+  pub multicasts_low : 1 ≤ length plan.multicasts
+  pub multicasts_high : length plan.multicasts ≤ MOST_MULTICASTS
+  pub group_names : All (λ name. IsTrue (is_group_name name)) plan.groups
+  pub group_names_differ : IsDistinct bytes_eq plan.groups
+  pub message_names_differ : IsDistinct (λ a b. bytes_eq a.name b.name) plan.multicasts
+  pub messages : All (IsMulticast (length plan.groups)) plan.multicasts
+  pub target : plan.target_message < length plan.multicasts
+  pub addressed : IsTrue (is_addressed (message_at plan plan.target_message) plan.target_group)

@@ -1,0 +1,206 @@
+ghost use Rattle.std.specs.Prelude.{◌≡◌, ◌&&◌, length, nat_le, find, option_copied};
+ghost use Rattle.std.specs.List.{list_all};
+ghost use Rattle.std.specs.Str.{bytes_eq};
+ghost use Rattle.convoy_scenario.specs.WellFormed.{is_name, is_group_name};
+ghost use Rattle.convoy_scenario.specs.Checks.{is_within, is_count, is_among, all_differ, is_known_sender, is_message, messages_differ, knows, is_target_addressed, limit_checks, name_checks, reference_checks, checks, judge};
+
+use super::draft::{DraftMulticast, DraftScenario};
+use super::fault::{Limit, ScenarioFault};
+use super::limits::{GREATEST_AT, GREATEST_DELAY, MOST_GROUPS, MOST_MULTICASTS};
+use super::name::Name;
+
+/// Tells the first rule that a draft breaks (docs/FORMATS.md, "Scenario text").
+pub fn check(draft: &DraftScenario) -> Result<(), ScenarioFault>
+    ensures { result ≡ judge (checks draft.now) }
+{
+    check_limits(draft)?;
+    check_names(draft)?;
+    check_references(draft)
+}
+
+fn check_limits(draft: &DraftScenario) -> Result<(), ScenarioFault>
+    ensures { result ≡ judge (limit_checks draft.now) }
+{
+    if !is_within(draft.delay, 1, u32::from(GREATEST_DELAY)) {
+        return Err(ScenarioFault::OverLimit(Limit::Delay));
+    }
+    if !is_count(draft.groups.len(), MOST_GROUPS) {
+        return Err(ScenarioFault::OverLimit(Limit::Groups));
+    }
+    if !is_count(draft.multicasts.len(), MOST_MULTICASTS) {
+        return Err(ScenarioFault::OverLimit(Limit::Multicasts));
+    }
+    if !ticks_are_within(&draft.multicasts) {
+        return Err(ScenarioFault::OverLimit(Limit::At));
+    }
+    Ok(())
+}
+
+fn check_names(draft: &DraftScenario) -> Result<(), ScenarioFault>
+    ensures { result ≡ judge (name_checks draft.now) }
+{
+    if !group_names_are_good(&draft.groups) {
+        return Err(ScenarioFault::BadName);
+    }
+    if !message_names_are_good(&draft.multicasts) {
+        return Err(ScenarioFault::BadName);
+    }
+    if !all_differ(&draft.groups) {
+        return Err(ScenarioFault::DoubleName);
+    }
+    if !messages_differ(&draft.multicasts) {
+        return Err(ScenarioFault::DoubleName);
+    }
+    Ok(())
+}
+
+fn check_references(draft: &DraftScenario) -> Result<(), ScenarioFault>
+    ensures { result ≡ judge (reference_checks draft.now) }
+{
+    if !all_are_known(&draft.groups, &draft.multicasts) {
+        return Err(ScenarioFault::UnknownGroup);
+    }
+    if !is_among(&draft.target_group, &draft.groups) {
+        return Err(ScenarioFault::UnknownGroup);
+    }
+    if !all_go_somewhere(&draft.multicasts) {
+        return Err(ScenarioFault::NoDestination);
+    }
+    if !destinations_differ(&draft.multicasts) {
+        return Err(ScenarioFault::DoubleDestination);
+    }
+    if !is_message(&draft.target_message, &draft.multicasts) {
+        return Err(ScenarioFault::UnknownTarget);
+    }
+    if !is_target_addressed(draft) {
+        return Err(ScenarioFault::TargetNotAddressed);
+    }
+    Ok(())
+}
+
+/// Whether the number is from `least` to `most`.
+pub fn is_within(number: i64, least: u32, most: u32) -> bool
+    ensures { result ≡ is_within least most number }
+{
+    i64::from(least) <= number && number <= i64::from(most)
+}
+
+fn is_count(count: usize, most: usize) -> bool
+    ensures { result ≡ (nat_le 1 count && nat_le count most) }
+{
+    1 <= count && count <= most
+}
+
+fn ticks_are_within(multicasts: &[DraftMulticast]) -> bool
+    ensures { result ≡ list_all (λ m. is_within 0 GREATEST_AT m.at) multicasts.now }
+{
+    multicasts.iter().all(|m| is_within(m.at, 0, GREATEST_AT))
+}
+
+fn group_names_are_good(groups: &[Name]) -> bool
+    ensures { result ≡ list_all is_group_name groups.now }
+{
+    groups.iter().all(|name| name.is_good_for_group())
+}
+
+fn message_names_are_good(multicasts: &[DraftMulticast]) -> bool
+    ensures { result ≡ list_all (λ m. is_name m.name) multicasts.now }
+{
+    multicasts.iter().all(|m| m.name.is_good())
+}
+
+/// Whether the name is one of these.
+pub fn is_among(name: &Name, names: &[Name]) -> bool
+    ensures { result ≡ is_among name.now names.now }
+{
+    names.iter().any(|other| name.is_same(other))
+}
+
+/// Whether the name is one of the messages' names.
+fn is_message(name: &Name, multicasts: &[DraftMulticast]) -> bool
+    ensures { result ≡ is_message name.now multicasts.now }
+{
+    multicasts.iter().any(|m| name.is_same(&m.name))
+}
+
+/// Whether no two of the names are the same.
+fn all_differ(names: &[Name]) -> bool
+    ensures { result ≡ all_differ names.now }
+{
+    let mut rest = names;
+    while let Some((name, tail)) = rest.split_first() {
+        if is_among(name, tail) {
+            return false;
+        }
+        rest = tail;
+    }
+    true
+}
+
+fn messages_differ(multicasts: &[DraftMulticast]) -> bool
+    ensures { result ≡ messages_differ multicasts.now }
+{
+    let mut rest = multicasts;
+    while let Some((first, tail)) = rest.split_first() {
+        if is_message(&first.name, tail) {
+            return false;
+        }
+        rest = tail;
+    }
+    true
+}
+
+fn is_known_sender(groups: &[Name], sender: &Option<Name>) -> bool
+    ensures { result ≡ is_known_sender groups.now sender.now }
+{
+    match sender {
+        Some(name) => is_among(name, groups),
+        None => true,
+    }
+}
+
+fn are_among(names: &[Name], groups: &[Name]) -> bool
+    ensures { result ≡ list_all (λ name. is_among name groups.now) names.now }
+{
+    names.iter().all(|name| is_among(name, groups))
+}
+
+fn knows(groups: &[Name], multicast: &DraftMulticast) -> bool
+    ensures { result ≡ knows groups.now multicast.now }
+{
+    is_known_sender(groups, &multicast.sender) && are_among(&multicast.to, groups)
+}
+
+fn all_are_known(groups: &[Name], multicasts: &[DraftMulticast]) -> bool
+    ensures { result ≡ list_all (knows groups.now) multicasts.now }
+{
+    multicasts.iter().all(|m| knows(groups, m))
+}
+
+fn all_go_somewhere(multicasts: &[DraftMulticast]) -> bool
+    ensures { result ≡ list_all (λ m. nat_le 1 (length m.to)) multicasts.now }
+{
+    multicasts.iter().all(|m| 1 <= m.to.len())
+}
+
+fn destinations_differ(multicasts: &[DraftMulticast]) -> bool
+    ensures { result ≡ list_all (λ m. all_differ m.to) multicasts.now }
+{
+    multicasts.iter().all(|m| all_differ(&m.to))
+}
+
+fn is_target_addressed(draft: &DraftScenario) -> bool
+    ensures { result ≡ is_target_addressed draft.now }
+{
+    match find_message(&draft.target_message, &draft.multicasts) {
+        Some(multicast) => is_among(&draft.target_group, &multicast.to),
+        None => false,
+    }
+}
+
+/// The first message of that name.
+fn find_message<'a>(name: &Name, multicasts: &'a [DraftMulticast]) -> Option<&'a DraftMulticast>
+    ensures { option_copied result ≡ find (λ m. bytes_eq name.now m.name) multicasts.now }
+{
+    multicasts.iter().find(|m| name.is_same(&m.name))
+}

@@ -1,0 +1,14 @@
+/// The greatest value of D, the greatest delay of a packet, in ticks.
+pub const GREATEST_DELAY: u16 = 16;
+
+/// How many groups a scenario has at most.
+pub const MOST_GROUPS: usize = 8;
+
+/// How many multicasts a scenario has at most.
+pub const MOST_MULTICASTS: usize = 16;
+
+/// The last tick at which a message may be issued.
+pub const GREATEST_AT: u32 = 1_000_000;
+
+/// How many bytes a name has at most.
+pub const LONGEST_NAME: usize = 16;

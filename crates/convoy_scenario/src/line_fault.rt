@@ -1,0 +1,50 @@
+use super::fault::ScenarioFault;
+use std::alloc::{AllocError, AllocFailed};
+
+/// What a line of a certificate text has to be (docs/FORMATS.md, "Certificate text").
+#[derive(Clone, Copy, Debug, PartialEq, Eq)]
+pub enum Expected {
+    Convoy,
+    Delay,
+    Groups,
+    Multicast,
+    Target,
+    Latency,
+    Schedule,
+    Node,
+}
+
+/// Why the lines read are no scenario. Where there are several faults, the first in the order of the
+/// lines is told (docs/FORMATS.md, "Certificate text").
+#[derive(Clone, Copy, Debug, PartialEq, Eq)]
+pub enum LineFault {
+    /// The line of that number, from 1, is absent, is not ended by byte 10, or has not the form that
+    /// was expected there.
+    Line(usize, Expected),
+    /// The lines have their form, but there is no such scenario.
+    Scenario(ScenarioFault),
+    /// Memory was refused, which says nothing of the text.
+    Memory,
+}
+
+impl From<AllocError> for LineFault {
+    ghost use Rattle.std.specs.Prelude.{◌≡◌};
+    ghost use Rattle.convoy_scenario.specs.declared.line_fault.LineFault.TheVariants.{Memory};
+
+    ghost from_gives = { λ _ fault. fault ≡ Memory };
+
+    fn from(_error: AllocError) -> LineFault {
+        LineFault::Memory
+    }
+}
+
+impl<T: Drop> From<AllocFailed<T>> for LineFault {
+    ghost use Rattle.std.specs.Prelude.{◌≡◌};
+    ghost use Rattle.convoy_scenario.specs.declared.line_fault.LineFault.TheVariants.{Memory};
+
+    ghost from_gives = { λ _ fault. fault ≡ Memory };
+
+    fn from(_error: AllocFailed<T>) -> LineFault {
+        LineFault::Memory
+    }
+}

@@ -1,0 +1,124 @@
+ghost use Rattle.std.specs.Prelude.{◌≡◌, ◌<◌, ◌++◌, length, map, decimal, IfOk, OnOk, OnErr};
+ghost use Rattle.std.specs.List.{flat_map};
+ghost use Rattle.convoy_scenario.specs.Plan.{message_at, group_name_at};
+ghost use Rattle.convoy_scenario.specs.Lines.{ended, spaced, sender_word, delay_line, groups_line, multicast_line, target_line, text_of, scenario_text};
+
+use super::scenario::Scenario;
+use super::sender::Sender;
+use itoa::Buffer;
+use std::alloc::{AllocError, Global};
+
+/// Appends the canonical lines of a scenario, from the line `delay` to the line `target`
+/// (docs/FORMATS.md, "Certificate text"). Where memory is refused, `out` stays as it was.
+pub fn write_lines(alloc: Global, scenario: &Scenario, out: &mut Vec<u8>) -> Result<(), AllocError>
+    ensures ok { OnOk result (out.new.items ≡ out.old.items ++ scenario_text scenario.now) }
+    ensures err { OnErr result (out.new.items ≡ out.old.items) }
+{
+    let text = lines_of(alloc, scenario)?;
+    out.extend_from_slice(&text)
+}
+
+fn lines_of(alloc: Global, scenario: &Scenario) -> Result<Vec<u8>, AllocError>
+    ensures { IfOk result (λ text. text.items ≡ scenario_text scenario.now) }
+{
+    let mut text = Vec::new(alloc);
+    push_delay(&mut text, scenario)?;
+    push_groups(&mut text, scenario)?;
+    push_multicasts(&mut text, scenario)?;
+    push_target(&mut text, scenario)?;
+    Ok(text)
+}
+
+fn push_delay(text: &mut Vec<u8>, scenario: &Scenario) -> Result<(), AllocError>
+    ensures { OnOk result (text.new.items ≡ text.old.items ++ ended (delay_line scenario.now)) }
+{
+    text.extend_from_slice(b"delay ")?;
+    push_number(text, u32::from(scenario.delay()))?;
+    Ok(text.push(b'\n')?)
+}
+
+fn push_groups(text: &mut Vec<u8>, scenario: &Scenario) -> Result<(), AllocError>
+    ensures { OnOk result (text.new.items ≡ text.old.items ++ ended (groups_line scenario.now)) }
+{
+    text.extend_from_slice(b"groups")?;
+    for g in 0..scenario.group_count() {
+        push_further_word(text, scenario.group_name(g))?;
+    }
+    Ok(text.push(b'\n')?)
+}
+
+fn push_multicasts(text: &mut Vec<u8>, scenario: &Scenario) -> Result<(), AllocError>
+    ensures { OnOk result
+        (text.new.items ≡ text.old.items
+        ++ text_of (map (multicast_line scenario.now) scenario.now.multicasts)) }
+{
+    for m in 0..scenario.message_count() {
+        push_multicast(text, scenario, m)?;
+    }
+    Ok(())
+}
+
+fn push_multicast(text: &mut Vec<u8>, scenario: &Scenario, m: usize) -> Result<(), AllocError>
+    requires { m < length scenario.now.multicasts }
+    ensures { OnOk result
+        (text.new.items ≡ text.old.items
+        ++ ended (multicast_line scenario.now (message_at scenario.now m))) }
+{
+    text.extend_from_slice(b"multicast")?;
+    push_further_word(text, scenario.message_name(m))?;
+    push_sender(text, scenario, m)?;
+    text.push(b' ')?;
+    push_number(text, scenario.issue_tick(m))?;
+    push_destinations(text, scenario, m)?;
+    Ok(text.push(b'\n')?)
+}
+
+fn push_sender(text: &mut Vec<u8>, scenario: &Scenario, m: usize) -> Result<(), AllocError>
+    requires { m < length scenario.now.multicasts }
+    ensures { OnOk result
+        (text.new.items ≡ text.old.items
+        ++ spaced (sender_word scenario.now (message_at scenario.now m).sender)) }
+{
+    match scenario.sender(m) {
+        Sender::Client => push_further_word(text, "client"),
+        Sender::Group(g) => push_further_word(text, scenario.group_name(g)),
+    }
+}
+
+fn push_destinations(text: &mut Vec<u8>, scenario: &Scenario, m: usize) -> Result<(), AllocError>
+    requires { m < length scenario.now.multicasts }
+    ensures { OnOk result
+        (text.new.items ≡ text.old.items
+        ++ flat_map spaced (map (group_name_at scenario.now)
+        (message_at scenario.now m).destinations)) }
+{
+    for g in scenario.destinations(m) {
+        push_further_word(text, scenario.group_name(*g))?;
+    }
+    Ok(())
+}
+
+fn push_target(text: &mut Vec<u8>, scenario: &Scenario) -> Result<(), AllocError>
+    ensures { OnOk result (text.new.items ≡ text.old.items ++ ended (target_line scenario.now)) }
+{
+    text.extend_from_slice(b"target")?;
+    push_further_word(text, scenario.message_name(scenario.target_message()))?;
+    push_further_word(text, scenario.group_name(scenario.target_group()))?;
+    Ok(text.push(b'\n')?)
+}
+
+/// Appends a space and a word.
+fn push_further_word(text: &mut Vec<u8>, word: &str) -> Result<(), AllocError>
+    ensures { OnOk result (text.new.items ≡ text.old.items ++ spaced word.now) }
+{
+    text.push(b' ')?;
+    text.extend_from_slice(word.as_bytes())
+}
+
+/// Appends a number in decimal digits.
+pub fn push_number(text: &mut Vec<u8>, number: u32) -> Result<(), AllocError>
+    ensures { OnOk result (text.new.items ≡ text.old.items ++ decimal number) }
+{
+    let mut buffer = Buffer::new();
+    text.extend_from_slice(buffer.format(number).as_bytes())
+}

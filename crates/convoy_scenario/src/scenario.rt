@@ -1,0 +1,238 @@
+ghost use Rattle.std.specs.Prelude.{◌≡◌, ◌<◌, length, IfOk};
+ghost use Rattle.convoy_scenario.specs.Plan.{message_at, group_name_at};
+ghost use Rattle.convoy_scenario.specs.WellFormed.{IsScenario};
+
+use super::checks::check;
+use super::draft::DraftScenario;
+use super::fault::ScenarioFault;
+use super::limits::GREATEST_DELAY;
+use super::name::Name;
+use super::numbering::{message_place, multicasts_of, place, ticks};
+use super::sender::Sender;
+use std::alloc::{AllocError, Global};
+use std::marker::Model;
+
+/// A message as a scenario keeps it.
+#[derive(Debug, Drop)]
+pub struct Multicast {
+    pub name: Name,
+    pub sender: Sender,
+    pub destinations: Vec<usize>,
+    pub at: u32,
+}
+
+impl Model for Multicast {
+    ghost use Rattle.convoy_scenario.specs.Plan.{Message};
+
+    ghost Value = { Message };
+
+    ghost view = { λ m. record {
+      name = m.name;
+      sender = m.sender;
+      destinations = m.destinations.items;
+      at = m.at;
+    } };
+}
+
+impl Multicast {
+    /// The same message, in memory of its own.
+    fn copy(&self) -> Result<Multicast, AllocError>
+        ensures { IfOk result (λ copy. copy ≡ self.now) }
+    {
+        let name = self.name.copy()?;
+        let destinations = Vec::from_slice(*self.destinations.allocator(), &self.destinations)?;
+        Ok(Multicast {
+            name,
+            sender: self.sender,
+            destinations,
+            at: self.at,
+        })
+    }
+}
+
+/// A scenario that is well formed: its limits hold, its names are names and differ, and every group
+/// and message that it refers to is there (docs/FORMATS.md, "Scenario text"). Groups and messages go
+/// by number, from 0, in the order of the text.
+#[derive(Debug, Drop)]
+pub struct Scenario {
+    delay: u16,
+    groups: Vec<Name>,
+    multicasts: Vec<Multicast>,
+    target_message: usize,
+    target_group: usize,
+}
+
+impl Model for Scenario {
+    ghost use Rattle.convoy_scenario.specs.Plan.{Plan};
+    ghost use Rattle.convoy_scenario.specs.WellFormed.{IsScenario};
+
+    ghost Value = { Plan };
+
+    ghost view = { λ s. record {
+      delay = s.delay;
+      groups = s.groups.items;
+      multicasts = s.multicasts.items;
+      target_message = s.target_message;
+      target_group = s.target_group;
+    } };
+
+    ghost invariant = { λ s. IsScenario (record {
+      delay = s.delay;
+      groups = s.groups.items;
+      multicasts = s.multicasts.items;
+      target_message = s.target_message;
+      target_group = s.target_group;
+    }) };
+}
+
+impl Scenario {
+    ghost use Rattle.convoy_scenario.specs.Memory.{IsUnlessMemory};
+    ghost use Rattle.convoy_scenario.specs.Numbering.{scenario_of_draft};
+
+    /// The scenario of a draft, or the first rule that the draft breaks.
+    pub(crate) fn from_draft(alloc: Global, draft: DraftScenario) -> Result<Scenario, ScenarioFault>
+        ensures { IsUnlessMemory ScenarioFault.Memory (scenario_of_draft draft) result }
+    {
+        check(&draft)?;
+        let delay = ticks(draft.delay, u32::from(GREATEST_DELAY)) as u16;
+        let target_message = message_place(&draft.target_message, &draft.multicasts);
+        let target_group = place(&draft.target_group, &draft.groups);
+        let DraftScenario {
+            groups,
+            multicasts,
+            ..
+        } = draft;
+        let multicasts = multicasts_of(alloc, &groups, multicasts)?;
+        Ok(Scenario {
+            delay,
+            groups,
+            multicasts,
+            target_message,
+            target_group,
+        })
+    }
+
+    /// The same scenario, in memory of its own.
+    pub fn copy(&self) -> Result<Scenario, AllocError>
+        ensures { IfOk result (λ copy. copy ≡ self.now) }
+    {
+        let groups = copy_names(*self.groups.allocator(), &self.groups)?;
+        let multicasts = copy_multicasts(*self.multicasts.allocator(), &self.multicasts)?;
+        Ok(Scenario {
+            delay: self.delay,
+            groups,
+            multicasts,
+            target_message: self.target_message,
+            target_group: self.target_group,
+        })
+    }
+
+    /// D, the greatest delay of a packet, in ticks.
+    pub fn delay(&self) -> u16
+        ensures value { result ≡ self.now.delay }
+        ensures lawful { IsScenario self.now }
+    {
+        self.delay
+    }
+
+    /// How many groups there are.
+    pub fn group_count(&self) -> usize
+        ensures value { result ≡ length self.now.groups }
+        ensures lawful { IsScenario self.now }
+    {
+        self.groups.len()
+    }
+
+    /// The name of group g.
+    pub fn group_name(&self, g: usize) -> &str
+        requires { g < length self.now.groups }
+        ensures { result.now ≡ group_name_at self.now g }
+    {
+        self.groups[g].as_str()
+    }
+
+    /// How many messages there are.
+    pub fn message_count(&self) -> usize
+        ensures value { result ≡ length self.now.multicasts }
+        ensures lawful { IsScenario self.now }
+    {
+        self.multicasts.len()
+    }
+
+    /// The name of message m.
+    pub fn message_name(&self, m: usize) -> &str
+        requires { m < length self.now.multicasts }
+        ensures { result.now ≡ (message_at self.now m).name }
+    {
+        let message = &self.multicasts[m];
+        message.name.as_str()
+    }
+
+    /// Who sends message m.
+    pub fn sender(&self, m: usize) -> Sender
+        requires { m < length self.now.multicasts }
+        ensures value { result ≡ (message_at self.now m).sender }
+        ensures lawful { IsScenario self.now }
+    {
+        let message = &self.multicasts[m];
+        message.sender
+    }
+
+    /// The numbers of the groups that message m goes to, ascending.
+    pub fn destinations(&self, m: usize) -> &[usize]
+        requires { m < length self.now.multicasts }
+        ensures value { result.now ≡ (message_at self.now m).destinations }
+        ensures lawful { IsScenario self.now }
+    {
+        let message = &self.multicasts[m];
+        message.destinations.as_slice()
+    }
+
+    /// The tick at which message m is issued.
+    pub fn issue_tick(&self, m: usize) -> u32
+        requires { m < length self.now.multicasts }
+        ensures value { result ≡ (message_at self.now m).at }
+        ensures lawful { IsScenario self.now }
+    {
+        let message = &self.multicasts[m];
+        message.at
+    }
+
+    /// The number of the message of which the latency is asked.
+    pub fn target_message(&self) -> usize
+        ensures value { result ≡ self.now.target_message }
+        ensures lawful { IsScenario self.now }
+    {
+        self.target_message
+    }
+
+    /// The number of the group at which the latency of the target is asked.
+    pub fn target_group(&self) -> usize
+        ensures value { result ≡ self.now.target_group }
+        ensures lawful { IsScenario self.now }
+    {
+        self.target_group
+    }
+}
+
+/// The same names, in memory of their own.
+fn copy_names(alloc: Global, names: &[Name]) -> Result<Vec<Name>, AllocError>
+    ensures { IfOk result (λ copies. copies.items ≡ names.now) }
+{
+    let mut copies = Vec::with_capacity(alloc, names.len())?;
+    for name in names {
+        copies.push(name.copy()?)?;
+    }
+    Ok(copies)
+}
+
+/// The same messages, in memory of their own.
+fn copy_multicasts(alloc: Global, multicasts: &[Multicast]) -> Result<Vec<Multicast>, AllocError>
+    ensures { IfOk result (λ copies. copies.items ≡ multicasts.now) }
+{
+    let mut copies = Vec::with_capacity(alloc, multicasts.len())?;
+    for multicast in multicasts {
+        copies.push(multicast.copy()?)?;
+    }
+    Ok(copies)
+}

@@ -1,0 +1,147 @@
+ghost use Rattle.std.specs.Prelude.{◌≡◌, ◌==◌, ◌≤◌, ◌^◌, Ok, codes, OnErr};
+ghost use Rattle.std.specs.Cmp.Lexicographic.{pointwise};
+ghost use Rattle.std.specs.Result.{result_map_both};
+ghost use Rattle.convoy_scenario.specs.Memory.{IsUnlessMemory};
+ghost use Rattle.convoy_scenario.specs.LineForms.{number_line, groups_line, multicast_line, target_line};
+ghost use Rattle.convoy_scenario.specs.LineReading.{form_at, messages_at, is_multicast_due, upcoming, is_ordered, first_unordered, told, scenario_at};
+ghost use Rattle.convoy_scenario.specs.Numbering.{scenario_of_draft};
+
+use super::checks::is_among;
+use super::draft::{DraftMulticast, DraftScenario};
+use super::fault::{Limit, ScenarioFault};
+use super::limits::MOST_MULTICASTS;
+use super::line_fault::{Expected, LineFault};
+use super::line_forms::{groups_line, multicast_line, number_line, target_line};
+use super::line_reader::LineReader;
+use super::name::Name;
+use super::scenario::Scenario;
+use std::alloc::Global;
+
+/// Reads the lines of a scenario, from `delay` to `target`. After a fault the reader stands somewhere
+/// among them.
+#[tactic(auto, unfolding(crate::specs::LineReading::scenario_at))]
+pub fn read_scenario(alloc: Global, reader: &mut LineReader) -> Result<Scenario, LineFault>
+    ensures { IsUnlessMemory LineFault.Memory (scenario_at reader.old)
+        (result_map_both (λ scenario. (scenario, reader.new)) (λ fault. fault) result) }
+{
+    let delay = read_delay(reader)?;
+    let groups = read_groups(alloc, reader)?;
+    let first = reader.number();
+    let multicasts = read_multicasts(alloc, reader)?;
+    let (target_message, target_group) = read_target(alloc, reader)?;
+    let unordered = first_unordered(&groups, first, &multicasts);
+    let draft = DraftScenario {
+        delay: i64::from(delay),
+        groups,
+        multicasts,
+        target_message,
+        target_group,
+    };
+    let scenario = scenario_of(alloc, draft)?;
+    match unordered {
+        Some(number) => Err(LineFault::Line(number, Expected::Multicast)),
+        None => Ok(scenario),
+    }
+}
+
+fn scenario_of(alloc: Global, draft: DraftScenario) -> Result<Scenario, LineFault>
+    ensures { IsUnlessMemory LineFault.Memory (told (scenario_of_draft draft)) result }
+{
+    match Scenario::from_draft(alloc, draft) {
+        Ok(scenario) => Ok(scenario),
+        Err(ScenarioFault::Memory) => Err(LineFault::Memory),
+        Err(fault) => Err(LineFault::Scenario(fault)),
+    }
+}
+
+fn read_delay(reader: &mut LineReader) -> Result<u32, LineFault>
+    ensures { result_map_both (λ delay. (delay, reader.new)) (λ fault. fault) result
+        ≡ form_at Expected.Delay (number_line (codes "delay")) reader.old }
+{
+    let wrong = LineFault::Line(reader.number(), Expected::Delay);
+    let line = reader.line().ok_or(wrong)?;
+    number_line(line, b"delay").ok_or(wrong)
+}
+
+fn read_groups(alloc: Global, reader: &mut LineReader) -> Result<Vec<Name>, LineFault>
+    ensures { IsUnlessMemory LineFault.Memory (form_at Expected.Groups groups_line reader.old)
+        (result_map_both (λ groups. (groups.items, reader.new)) (λ fault. fault) result) }
+{
+    let wrong = LineFault::Line(reader.number(), Expected::Groups);
+    let line = reader.line().ok_or(wrong)?;
+    groups_line(alloc, line, wrong)
+}
+
+fn read_multicast(alloc: Global, reader: &mut LineReader) -> Result<DraftMulticast, LineFault>
+    ensures { IsUnlessMemory LineFault.Memory (form_at Expected.Multicast multicast_line reader.old)
+        (result_map_both (λ message. (message, reader.new)) (λ fault. fault) result) }
+{
+    let wrong = LineFault::Line(reader.number(), Expected::Multicast);
+    let line = reader.line().ok_or(wrong)?;
+    multicast_line(alloc, line, wrong)
+}
+
+fn read_multicasts(alloc: Global, reader: &mut LineReader) -> Result<Vec<DraftMulticast>, LineFault>
+    ensures { IsUnlessMemory LineFault.Memory (messages_at 0 reader.old)
+        (result_map_both (λ messages. (messages.items, reader.new)) (λ fault. fault) result) }
+{
+    let mut multicasts = Vec::new(alloc);
+    while is_multicast_due(reader, multicasts.len()) {
+        let multicast = read_multicast(alloc, reader)?;
+        if multicasts.len() == MOST_MULTICASTS {
+            return Err(LineFault::Scenario(ScenarioFault::OverLimit(Limit::Multicasts)));
+        }
+        multicasts.push(multicast)?;
+    }
+    Ok(multicasts)
+}
+
+/// Whether a line `multicast` is due after so many: it is the first of them, or what comes next begins
+/// with that word.
+fn is_multicast_due(reader: &LineReader, count: usize) -> bool
+    ensures { result ≡ is_multicast_due count (upcoming reader.now) }
+{
+    count == 0 || reader.begins_with(b"multicast")
+}
+
+fn read_target(alloc: Global, reader: &mut LineReader) -> Result<(Name, Name), LineFault>
+    ensures { IsUnlessMemory LineFault.Memory (form_at Expected.Target target_line reader.old)
+        (result_map_both (λ target. (target, reader.new)) (λ fault. fault) result) }
+{
+    let wrong = LineFault::Line(reader.number(), Expected::Target);
+    let line = reader.line().ok_or(wrong)?;
+    target_line(alloc, line, wrong)
+}
+
+/// The number of the first line whose destinations are not in the order of the groups, where `number`
+/// is that of the first of the lines.
+fn first_unordered(groups: &[Name], number: usize, multicasts: &[DraftMulticast]) -> Option<usize>
+    requires { number ≤ 2 ^ 63 }
+    ensures { result ≡ first_unordered groups.now number multicasts.now }
+{
+    for (i, multicast) in multicasts.iter().enumerate() {
+        if !is_ordered(groups, multicast) {
+            return Some(number + i);
+        }
+    }
+    None
+}
+
+/// Whether the destinations of a message are in the order of the groups.
+fn is_ordered(groups: &[Name], multicast: &DraftMulticast) -> bool
+    ensures { result ≡ is_ordered groups.now multicast.now }
+{
+    let mut rest = multicast.to.as_slice();
+    for group in groups {
+        if is_among(group, &multicast.to) {
+            let Some((first, tail)) = rest.split_first() else {
+                return false;
+            };
+            if !first.is_same(group) {
+                return false;
+            }
+            rest = tail;
+        }
+    }
+    rest.is_empty()
+}

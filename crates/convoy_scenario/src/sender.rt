@@ -1,0 +1,8 @@
+/// Who sends a message.
+#[derive(Clone, Copy, Debug, PartialEq, Eq)]
+pub enum Sender {
+    /// A place apart from all groups.
+    Client,
+    /// The group of that number.
+    Group(usize),
+}
