@@ -1,0 +1,167 @@
+-- What holds of the packet list of a well-formed scenario.
+use Rattle.std.proofs.Common.{◌≡◌, ℕ, ◌<◌, ◌≤◌, ◌==◌, Bool, true, false, cond, not, length, get_or, arith, refl, sym, ap, ◌∙◌}
+use Rattle.std.specs.List.{All, AllPairs, filter, flat_map, enumerate_from}
+use Rattle.std.proofs.lemmas.Bool.{eq-eqb, true≢false}
+use Rattle.std.proofs.lemmas.Bool.Decides.{nat_tests}
+use Rattle.std.proofs.lemmas.List.{length-map, length-append}
+use Rattle.std.proofs.lemmas.List.Concat.{length-flat_map}
+use Rattle.std.proofs.lemmas.List.Elements.{All-append, All-filter, All-map}
+use Rattle.std.proofs.lemmas.List.Filters.{length-filter_both}
+use Rattle.std.proofs.lemmas.List.FromFn.{length-enumerate_from}
+use Rattle.std.proofs.lemmas.List.Kept.{AllPairs-filter, AllPairs-from_increasing}
+use Rattle.std.proofs.lemmas.List.Sums.{length-filter, count_by-le-length, get_or-le-sum_by, sum_by-le}
+use Rattle.convoy_scenario.specs.Plan.{Message, Plan, is_sent_by}
+use Rattle.convoy_scenario.specs.WellFormed.{IsMulticast, IsScenario}
+use Rattle.convoy_packets.specs.declared.packet.Packet.{Packet}
+use Rattle.convoy_packets.specs.declared.packet.Packet.TheVariants.{Multicast, Propose}
+use Rattle.convoy_packets.specs.Packets.{multicast_packets, propose_packets, message_packets, packets_of}
+use Rattle.convoy_packets.specs.Slots.{is_within_limits, HaveSlots}
+use Rattle.convoy_packets.proofs.Lists.{All-flat_map, All-numbered, length-increasing-le}
+use Rattle.convoy_packets.proofs.Pairs.{AllPairs-append, AllPairs-map, AllPairs-weaker, AllPairs-flat_map, numbers_rise}
+
+multicast_within : (m g : ℕ) → m < 16 → g < 8 → is_within_limits (Multicast m g) ≡ true
+multicast_within m g a b = grind (arith, nat_tests)
+
+propose_within : (m h g : ℕ) → m < 16 → h < 8 → g < 8 → is_within_limits (Propose m h g) ≡ true
+propose_within m h g a b c = grind (arith, nat_tests)
+
+-- the message of a packet, and the group that a local stamp comes from
+abbrev pub message_of : Packet → ℕ
+message_of (Multicast m g) = m
+message_of (Propose m h g) = m
+
+abbrev sender_of : Packet → ℕ
+sender_of (Multicast m g) = g
+sender_of (Propose m h g) = h
+
+abbrev pub is_multicast : Packet → Bool
+is_multicast (Multicast m g) = true
+is_multicast (Propose m h g) = false
+
+module _ (m : ℕ) (message : Message) where
+  pub are_multicasts : All (λ p. is_multicast p ≡ true) (multicast_packets m message)
+  are_multicasts =
+      All-map (λ p. is_multicast p ≡ true) (λ g. Multicast m g) (filter (λ g. not (is_sent_by message g)) message.destinations)
+      (λ k d l. refl)
+
+  pub are_stamps : All (λ p. is_multicast p ≡ false) (flat_map (propose_packets m message) message.destinations)
+  are_stamps =
+      All-flat_map (λ p. is_multicast p ≡ false) (propose_packets m message) message.destinations
+      (λ k d l. All-map (λ p. is_multicast p ≡ false) (λ g. Propose m (get_or message.destinations k d) g)
+      (filter (λ g. not (get_or message.destinations k d == g)) message.destinations) (λ i e h. refl))
+
+  of_message : All (λ p. message_of p ≡ m) (message_packets m message)
+  of_message =
+      All-append (λ p. message_of p ≡ m) (multicast_packets m message) (flat_map (propose_packets m message) message.destinations)
+      (All-map (λ p. message_of p ≡ m) (λ g. Multicast m g) (filter (λ g. not (is_sent_by message g)) message.destinations)
+      (λ k d l. refl))
+      (All-flat_map (λ p. message_of p ≡ m) (propose_packets m message) message.destinations
+      (λ k d l. All-map (λ p. message_of p ≡ m) (λ g. Propose m (get_or message.destinations k d) g)
+      (filter (λ g. not (get_or message.destinations k d == g)) message.destinations) (λ i e h. refl)))
+
+module _ (m : ℕ) (message : Message) (groups : ℕ) (few : groups ≤ 8) (is : IsMulticast groups message) where
+  multicasts_within : m < 16 → HaveSlots (multicast_packets m message)
+  multicasts_within low =
+      All-map (λ p. is_within_limits p ≡ true) (λ g. Multicast m g) (filter (λ g. not (is_sent_by message g)) message.destinations)
+      (All-filter (λ g. not (is_sent_by message g)) (λ g. is_within_limits (Multicast m g) ≡ true) message.destinations
+      (λ k d l. let known = is.known k d l in multicast_within m (get_or message.destinations k d) low (omega arith)))
+
+  proposals_within : m < 16 → (h : ℕ) → h < 8 → HaveSlots (propose_packets m message h)
+  proposals_within low h at =
+      All-map (λ p. is_within_limits p ≡ true) (λ g. Propose m h g) (filter (λ g. not (h == g)) message.destinations)
+      (All-filter (λ g. not (h == g)) (λ g. is_within_limits (Propose m h g) ≡ true) message.destinations
+      (λ k d l. let known = is.known k d l in propose_within m h (get_or message.destinations k d) low at (omega arith)))
+
+  message_within : m < 16 → HaveSlots (message_packets m message)
+  message_within low =
+      All-append (λ p. is_within_limits p ≡ true) (multicast_packets m message) (flat_map (propose_packets m message) message.destinations)
+      (multicasts_within low)
+      (All-flat_map (λ p. is_within_limits p ≡ true) (propose_packets m message) message.destinations
+      (λ k d l. let known = is.known k d l in proposals_within low (get_or message.destinations k d) (omega arith)))
+
+  length-destinations : length message.destinations ≤ 8
+  length-destinations = let most = length-increasing-le message.destinations groups is.ascending is.known in omega arith
+
+  length-multicasts : length (multicast_packets m message) ≤ length message.destinations
+  length-multicasts =
+      let p = λ (g : ℕ). not (is_sent_by message g) in
+      rw (length-map, length-filter) (count_by-le-length p message.destinations)
+
+  -- a destination sends no stamp to itself
+  length-proposals : (k d : ℕ) → k < length message.destinations → length (propose_packets m message (get_or message.destinations k d)) ≤ 7
+  length-proposals k d l =
+      let h = get_or message.destinations k d in
+      let gs = message.destinations in
+      let same = λ (g : ℕ). h == g in
+      let both = length-filter_both same (λ g. not (h == g)) (λ _. refl) gs in
+      let one = get_or-le-sum_by (λ g. cond (h == g) 1 0) gs k d l in
+      let itself = rw (eq-eqb h h refl) at one in
+      let count = length-filter same gs in
+      let most = length-destinations in
+      rw length-map (omega arith)
+
+  length-message : length (message_packets m message) ≤ 64
+  length-message =
+      let gs = message.destinations in
+      let all = sum_by-le (λ h. length (propose_packets m message h)) 7 gs length-proposals in
+      let first = length-multicasts in
+      let most = length-destinations in
+      rw (length-append, length-flat_map) (omega arith)
+
+  destinations_differ : AllPairs (λ g h. g ≡ h → ⊥) message.destinations
+  destinations_differ =
+      AllPairs-weaker (λ g h. g < h) (λ g h. g ≡ h → ⊥) message.destinations (λ g h l e. omega arith)
+      (AllPairs-from_increasing message.destinations is.ascending)
+
+  multicasts_differ : AllPairs (λ p q. p ≡ q → ⊥) (multicast_packets m message)
+  multicasts_differ =
+      AllPairs-map (λ p q. p ≡ q → ⊥) (λ g. Multicast m g) (filter (λ g. not (is_sent_by message g)) message.destinations)
+      (AllPairs-filter (λ g h. Multicast m g ≡ Multicast m h → ⊥) (λ g. not (is_sent_by message g)) message.destinations
+      (AllPairs-weaker (λ g h. g ≡ h → ⊥) (λ g h. Multicast m g ≡ Multicast m h → ⊥) message.destinations
+      (λ g h ne e. ne cc) destinations_differ))
+
+  proposals_differ : (from : ℕ) → AllPairs (λ p q. p ≡ q → ⊥) (propose_packets m message from)
+  proposals_differ from =
+      AllPairs-map (λ p q. p ≡ q → ⊥) (λ g. Propose m from g) (filter (λ g. not (from == g)) message.destinations)
+      (AllPairs-filter (λ g h. Propose m from g ≡ Propose m from h → ⊥) (λ g. not (from == g)) message.destinations
+      (AllPairs-weaker (λ g h. g ≡ h → ⊥) (λ g h. Propose m from g ≡ Propose m from h → ⊥) message.destinations
+      (λ g h ne e. ne cc) destinations_differ))
+
+  message_differs : AllPairs (λ p q. p ≡ q → ⊥) (message_packets m message)
+  message_differs =
+      AllPairs-append (λ p q. p ≡ q → ⊥) (multicast_packets m message) (flat_map (propose_packets m message) message.destinations)
+      multicasts_differ
+      (AllPairs-flat_map (λ h. h) sender_of (propose_packets m message) message.destinations
+      (λ h. All-map (λ p. sender_of p ≡ h) (λ g. Propose m h g) (filter (λ g. not (h == g)) message.destinations) (λ k d l. refl))
+      (λ k d l. proposals_differ (get_or message.destinations k d))
+      destinations_differ)
+      (λ k d l i e h same. true≢false (sym (are_multicasts m message k d l) ∙ ap is_multicast same ∙ are_stamps m message i e h))
+
+module _ (plan : Plan) (is : IsScenario plan) where
+  pub packets_within : HaveSlots (packets_of plan)
+  unfolding packets_of
+  packets_within =
+      All-flat_map (λ p. is_within_limits p ≡ true) (λ p. message_packets p.0 p.1) (enumerate_from 0 plan.multicasts)
+      (All-numbered (λ p. HaveSlots (message_packets p.0 p.1)) plan.multicasts
+      (λ k d l. let low = is.multicasts_high in
+      message_within k (get_or plan.multicasts k d) (length plan.groups) is.groups_high (is.messages k d l) (omega arith)))
+
+  pub length-packets_of-le : length (packets_of plan) ≤ 1024
+  unfolding packets_of
+  length-packets_of-le =
+      let each = sum_by-le (λ p. length (message_packets p.0 p.1)) 64 (enumerate_from 0 plan.multicasts)
+      (All-numbered (λ p. length (message_packets p.0 p.1) ≤ 64) plan.multicasts
+      (λ k d l. length-message k (get_or plan.multicasts k d) (length plan.groups) is.groups_high (is.messages k d l))) in
+      let few = is.multicasts_high in
+      let long = length-enumerate_from 0 plan.multicasts in
+      rw length-flat_map (omega arith)
+
+  pub packets_differ : AllPairs (λ p q. p ≡ q → ⊥) (packets_of plan)
+  unfolding packets_of
+  packets_differ =
+      AllPairs-flat_map (λ p. p.0) message_of (λ p. message_packets p.0 p.1) (enumerate_from 0 plan.multicasts)
+      (λ p. of_message p.0 p.1)
+      (All-numbered (λ p. AllPairs (λ a b. a ≡ b → ⊥) (message_packets p.0 p.1)) plan.multicasts
+      (λ k d l. message_differs k (get_or plan.multicasts k d) (length plan.groups) is.groups_high (is.messages k d l)))
+      (AllPairs-weaker (λ p q. p.0 < q.0) (λ p q. p.0 ≡ q.0 → ⊥) (enumerate_from 0 plan.multicasts) (λ p q l e. omega arith)
+      (numbers_rise 0 plan.multicasts))

@@ -1,0 +1,158 @@
+-- The list has just the packets that are sent: a look-up's test, carried through the list's definition.
+use Rattle.std.proofs.Common.{◌≡◌, ℕ, zero, suc, ◌+◌, ◌<◌, ◌==◌, Bool, true, false, cond, ◌&&◌, ◌||◌, not, List, [], ◌∷◌, length, map, get_or, refl, sym, ap, ◌∙◌, arith, inl, inr, ◌⊎◌, zero-add, position, ltb, Some, None}
+use Rattle.std.specs.List.{filter, flat_map, enumerate_from, list_any, position_or_len}
+use Rattle.std.specs.Option.{is_some}
+use Rattle.std.proofs.lemmas.Bool.{cases_eq, ne_eqb, eq-eqb, and_right, lt-ltb, true≢false, false≢true}
+use Rattle.std.proofs.lemmas.Bool.Decides.{nat_tests}
+use Rattle.std.proofs.lemmas.List.Folds.{list_any-append, list_any_none}
+use Rattle.convoy_scenario.specs.Plan.{Message, Plan, message_at, no_message, is_sent_by, is_addressed}
+use Rattle.convoy_packets.specs.declared.packet.Packet.{Packet}
+use Rattle.convoy_packets.specs.declared.packet.Packet.TheVariants.{Multicast, Propose}
+use Rattle.convoy_packets.specs.Packets.{multicast_packets, propose_packets, message_packets, packets_of, is_packet, place_of}
+use Rattle.convoy_packets.specs.Laws.{is_sent}
+use Rattle.convoy_packets.proofs.Listed.{are_multicasts, are_stamps, is_multicast, message_of}
+
+list_any-flat_map : {X A : Type 0} (p : A → Bool) (f : X → List A) (xs : List X) → list_any p (flat_map f xs) ≡ list_any (λ x. list_any p (f x)) xs
+list_any-flat_map p f [] = refl
+list_any-flat_map p f (x ∷ xs) = list_any-append p (f x) (flat_map f xs) ∙ ap (λ b. list_any p (f x) || b) (list_any-flat_map p f xs)
+
+any_mapped : {X A : Type 0} (t : A → Bool) (f : X → A) (p : X → Bool) (xs : List X) → list_any t (map f (filter p xs)) ≡ list_any (λ x. p x && t (f x)) xs
+any_mapped t f p [] = refl
+any_mapped t f p (x ∷ xs) = by_test (p x) (any_mapped t f p xs) where
+  by_test : (b : Bool) → list_any t (map f (filter p xs)) ≡ list_any (λ y. p y && t (f y)) xs → list_any t (map f (cond b (x ∷ filter p xs) (filter p xs))) ≡ ((b && t (f x)) || list_any (λ y. p y && t (f y)) xs)
+  by_test true e = ap (λ b. t (f x) || b) e
+  by_test false e = e
+
+-- a test that only the number g can pass, where it says c
+any_one : (F : ℕ → Bool) (c : Bool) (g : ℕ) (xs : List ℕ) → ((k : ℕ) → F k ≡ (c && (k == g))) → list_any F xs ≡ (c && list_any (λ k. k == g) xs)
+any_one F true g [] h = refl
+any_one F false g [] h = refl
+any_one F true g (x ∷ xs) h = rw (h x, any_one F true g xs h) refl
+any_one F false g (x ∷ xs) h = rw (h x, any_one F false g xs h) refl
+
+to_one : (t : ℕ → Bool) (g k : ℕ) → (t k && (g == k)) ≡ (t g && (k == g))
+to_one t g k = by_cases (cases_eq k g) where
+  by_cases : (k ≡ g) ⊎ (k ≡ g → ⊥) → (t k && (g == k)) ≡ (t g && (k == g))
+  by_cases (inl e) = rw e refl
+  by_cases (inr ne) =
+      and_right (t k) (g == k) (ne_eqb g k (λ e. ne (sym e))) ∙ sym (and_right (t g) (k == g) (ne_eqb k g ne))
+
+or_false : (a : Bool) → (a || false) ≡ a
+or_false true = refl
+or_false false = refl
+
+and_comm : (a b : Bool) → (a && b) ≡ (b && a)
+and_comm true true = refl
+and_comm true false = refl
+and_comm false true = refl
+and_comm false false = refl
+
+and_assoc : (a b c : Bool) → (a && (b && c)) ≡ ((a && b) && c)
+and_assoc true b c = refl
+and_assoc false b c = refl
+
+-- the numbers from n on, with an element each: a test that only the number m can pass
+none_below : {X : Type 0} (F : ℕ × X → Bool) (S : X → Bool) (m n : ℕ) (xs : List X) → ((p : ℕ × X) → F p ≡ ((m == p.0) && S p.1)) → m < n → list_any F (enumerate_from n xs) ≡ false
+none_below F S m n [] h l = refl
+none_below F S m n (x ∷ xs) h l =
+    rw (h (n, x), ne_eqb m n (λ e. omega arith), none_below F S m (n + 1) xs h (omega arith)) refl
+
+any_numbered : {X : Type 0} (F : ℕ × X → Bool) (S : X → Bool) (m n k : ℕ) (xs : List X) (d : X) → ((p : ℕ × X) → F p ≡ ((m == p.0) && S p.1)) → S d ≡ false → m ≡ n + k → list_any F (enumerate_from n xs) ≡ S (get_or xs k d)
+any_numbered F S m n k [] d h none e = sym none
+any_numbered F S m n zero (x ∷ xs) d h none e =
+    rw (h (n, x), eq-eqb m n (omega arith), none_below F S m (n + 1) xs h (omega arith)) (or_false (S x))
+any_numbered F S m n (suc k) (x ∷ xs) d h none e =
+    rw (h (n, x), ne_eqb m n (λ same. omega arith)) (any_numbered F S m (n + 1) k xs d h none (omega arith))
+
+-- the message sends the packet, whatever its own number
+abbrev sends : Message → Packet → Bool
+sends message (Multicast m g) = is_addressed message g && not (is_sent_by message g)
+sends message (Propose m h g) = is_addressed message h && is_addressed message g && not (h == g)
+
+unaddressed : (p : Packet) → sends no_message p ≡ false
+unaddressed (Multicast m g) = refl
+unaddressed (Propose m h g) = refl
+
+turned : (s e a : Bool) → ((s && e) && a) ≡ (e && (a && s))
+turned s e a = grind arith
+
+grouped : (s e k a : Bool) → ((s && (e && k)) && a) ≡ (((e && a) && s) && k)
+grouped s e k a = grind arith
+
+regrouped : (e a s b : Bool) → (((e && a) && s) && b) ≡ (e && ((b && a) && s))
+regrouped e a s b = grind arith
+
+not_stamp : (m g : ℕ) (p : Packet) → is_multicast p ≡ false → is_packet (Multicast m g) p ≡ false
+not_stamp m g (Multicast n k) e = absurd (true≢false e)
+not_stamp m g (Propose n i k) e = refl
+
+not_multicast : (m h g : ℕ) (p : Packet) → is_multicast p ≡ true → is_packet (Propose m h g) p ≡ false
+not_multicast m h g (Multicast n k) e = refl
+not_multicast m h g (Propose n i k) e = absurd (false≢true e)
+
+module _ (n : ℕ) (message : Message) where
+  multicast_found : (m g : ℕ) → list_any (is_packet (Multicast m g)) (message_packets n message) ≡ ((m == n) && sends message (Multicast m g))
+  multicast_found m g =
+      let sent = λ (k : ℕ). not (is_sent_by message k) in
+      let gs = message.destinations in
+      let q = Multicast m g in
+      list_any-append (is_packet q) (multicast_packets n message) (flat_map (propose_packets n message) gs)
+      ∙ ap (λ b. list_any (is_packet q) (multicast_packets n message) || b)
+      (list_any_none (is_packet q) (flat_map (propose_packets n message) gs)
+      (λ k d l. not_stamp m g (get_or (flat_map (propose_packets n message) gs) k d) (are_stamps n message k d l)))
+      ∙ or_false (list_any (is_packet q) (multicast_packets n message))
+      ∙ any_mapped (is_packet q) (λ k. Multicast n k) sent gs
+      ∙ any_one (λ k. sent k && ((m == n) && (g == k))) (sent g && (m == n)) g gs
+      (λ k. and_assoc (sent k) (m == n) (g == k) ∙ to_one (λ i. sent i && (m == n)) g k)
+      ∙ turned (sent g) (m == n) (is_addressed message g)
+
+  stamps_found : (m h g k : ℕ) → list_any (is_packet (Propose m h g)) (propose_packets n message k) ≡ ((not (k == g) && ((m == n) && (h == k))) && is_addressed message g)
+  stamps_found m h g k =
+      any_mapped (is_packet (Propose m h g)) (λ i. Propose n k i) (λ i. not (k == i)) message.destinations
+      ∙ any_one (λ i. not (k == i) && ((m == n) && (h == k) && (g == i))) (not (k == g) && ((m == n) && (h == k))) g message.destinations
+      (λ i. and_assoc (not (k == i)) ((m == n) && (h == k)) (g == i) ∙ to_one (λ j. not (k == j) && ((m == n) && (h == k))) g i)
+
+  propose_found : (m h g : ℕ) → list_any (is_packet (Propose m h g)) (message_packets n message) ≡ ((m == n) && sends message (Propose m h g))
+  propose_found m h g =
+      let gs = message.destinations in
+      let q = Propose m h g in
+      list_any-append (is_packet q) (multicast_packets n message) (flat_map (propose_packets n message) gs)
+      ∙ ap (λ b. b || list_any (is_packet q) (flat_map (propose_packets n message) gs))
+      (list_any_none (is_packet q) (multicast_packets n message) (λ k d l. not_multicast m h g (get_or (multicast_packets n message) k d) (are_multicasts n message k d l)))
+      ∙ list_any-flat_map (is_packet q) (propose_packets n message) gs
+      ∙ any_one (λ k. list_any (is_packet q) (propose_packets n message k)) (((m == n) && is_addressed message g) && not (h == g)) h gs
+      (λ k. stamps_found m h g k
+      ∙ grouped (not (k == g)) (m == n) (h == k) (is_addressed message g)
+      ∙ to_one (λ j. ((m == n) && is_addressed message g) && not (j == g)) h k)
+      ∙ regrouped (m == n) (is_addressed message g) (not (h == g)) (is_addressed message h)
+
+  found : (p : Packet) → list_any (is_packet p) (message_packets n message) ≡ ((message_of p == n) && sends message p)
+  found (Multicast m g) = multicast_found m g
+  found (Propose m h g) = propose_found m h g
+
+ltb_suc : (a b : ℕ) → ltb a b ≡ ltb (1 + a) (suc b)
+ltb_suc a b = grind (arith, nat_tests)
+
+found_within : {X : Type 0} (p : X → Bool) (xs : List X) → list_any p xs ≡ ltb (position_or_len p xs) (length xs)
+found_within p [] = refl
+found_within p (x ∷ xs) = by_test (p x) (found_within p xs) where
+  by_test : (b : Bool) → list_any p xs ≡ ltb (position_or_len p xs) (length xs) → (b || list_any p xs) ≡ ltb (cond (not b) (1 + position_or_len p xs) 0) (suc (length xs))
+  by_test true e = sym (lt-ltb 0 (suc (length xs)) (omega arith))
+  by_test false e = e ∙ ltb_suc (position_or_len p xs) (length xs)
+
+is_some-position : {X : Type 0} (p : X → Bool) (xs : List X) → is_some (position p xs) ≡ list_any p xs
+is_some-position p xs = known (ltb (position_or_len p xs) (length xs)) ∙ sym (found_within p xs) where
+  known : (b : Bool) → is_some (cond b (Some (position_or_len p xs)) None) ≡ b
+  known true = refl
+  known false = refl
+
+pub found_if_sent : (plan : Plan) (p : Packet) → is_some (place_of p (packets_of plan)) ≡ is_sent plan p
+unfolding packets_of
+found_if_sent plan p =
+    is_some-position (is_packet p) (packets_of plan)
+    ∙ list_any-flat_map (is_packet p) (λ q. message_packets q.0 q.1) (enumerate_from 0 plan.multicasts)
+    ∙ any_numbered (λ q. list_any (is_packet p) (message_packets q.0 q.1)) (λ message. sends message p) (message_of p) 0 (message_of p) plan.multicasts no_message (λ q. found q.0 q.1 p) (unaddressed p) (sym (zero-add (message_of p)))
+    ∙ named p where
+      named : (p : Packet) → sends (message_at plan (message_of p)) p ≡ is_sent plan p
+      named (Multicast m g) = refl
+      named (Propose m h g) = refl

@@ -1,0 +1,35 @@
+-- Delays: the range of each packet, and the assignments of a delay to each packet.
+use Rattle.std.specs.Prelude.{ℕ, ◌≤◌, List, map, slice_index}
+use Rattle.std.specs.List.{AllZip}
+use Rattle.std.specs.Option.{option_map_or}
+use Rattle.convoy_scenario.specs.Plan.{Plan}
+use Rattle.convoy_packets.specs.declared.packet.Packet.{Packet}
+use Rattle.convoy_packets.specs.Packets.{packets_of, place_of}
+
+-- the least and the greatest delay of a packet, in ticks: today 1 and D for each packet
+abbrev pub range_of : Plan → Packet → ℕ × ℕ
+range_of plan packet = (1, plan.delay)
+
+-- the ranges of all packets, in the order of the packet list
+unfoldable pub ranges_of : Plan → List (ℕ × ℕ)
+ranges_of plan = map (range_of plan) (packets_of plan)
+
+-- the delay is in the range
+abbrev pub IsWithin : ℕ × ℕ → ℕ → Type 0
+IsWithin range delay = (range.0 ≤ delay) × (delay ≤ range.1)
+
+-- there is one delay for each range, in its range
+abbrev pub AreWithin : List (ℕ × ℕ) → List ℕ → Type 0
+AreWithin ranges delays = AllZip IsWithin ranges delays
+
+-- an assignment gives each packet of the scenario a delay in its range
+abbrev pub IsAssignment : Plan → List ℕ → Type 0
+IsAssignment plan delays = AreWithin (ranges_of plan) delays
+
+-- the delay of a packet in a schedule, by its place in the list of packets; what is no packet, as what a group sends itself, takes no time
+abbrev pub delay_in : List Packet → List ℕ → Packet → ℕ
+delay_in packets delays packet = option_map_or (λ i. slice_index delays i) (place_of packet packets) 0
+
+-- the delay of a packet in a schedule of the scenario
+unfoldable pub delay_of : Plan → List ℕ → Packet → ℕ
+delay_of plan delays packet = delay_in (packets_of plan) delays packet

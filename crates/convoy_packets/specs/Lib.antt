@@ -1,0 +1,9 @@
+pub use Rattle.convoy_scenario.specs.Memory
+pub use Rattle.convoy_scenario.specs.Plan
+pub use Rattle.convoy_scenario.specs.WellFormed
+pub mod Packets
+pub mod Assignment
+pub mod Slots
+pub mod Table
+pub mod Given
+pub mod Laws

@@ -1,0 +1,34 @@
+-- The packets of a scenario, in the order in which schedules list their delays.
+use Rattle.std.specs.Prelude.{ℕ, ◌==◌, Bool, false, ◌&&◌, not, List, ◌++◌, map, Option, position}
+use Rattle.std.specs.List.{filter, flat_map, enumerate_from}
+use Rattle.convoy_scenario.specs.Plan.{Message, Plan, is_sent_by}
+use Rattle.convoy_packets.specs.declared.packet.Packet.{Packet}
+use Rattle.convoy_packets.specs.declared.packet.Packet.TheVariants.{Multicast, Propose}
+
+-- message m to each of its destinations but the group that sends it, in the order of their numbers
+abbrev pub multicast_packets : ℕ → Message → List Packet
+multicast_packets m message =
+    map (λ g. Multicast m g) (filter (λ g. not (is_sent_by message g)) message.destinations)
+
+-- the local stamp of the destination h of message m to each other destination
+abbrev pub propose_packets : ℕ → Message → ℕ → List Packet
+propose_packets m message h = map (λ g. Propose m h g) (filter (λ g. not (h == g)) message.destinations)
+
+-- the packets of message m: the message itself, and then the stamps by (from, to)
+abbrev pub message_packets : ℕ → Message → List Packet
+message_packets m message = multicast_packets m message ++ flat_map (propose_packets m message) message.destinations
+
+-- all packets of a scenario, message by message
+unfoldable pub packets_of : Plan → List Packet
+packets_of plan = flat_map (λ p. message_packets p.0 p.1) (enumerate_from 0 plan.multicasts)
+
+-- the two are one packet
+abbrev pub is_packet : Packet → Packet → Bool
+is_packet (Multicast m g) (Multicast n k) = (m == n) && (g == k)
+is_packet (Propose m h g) (Propose n i k) = (m == n) && (h == i) && (g == k)
+is_packet (Multicast m g) (Propose n i k) = false
+is_packet (Propose m h g) (Multicast n k) = false
+
+-- the place of a packet in a list of packets, from 0
+abbrev pub place_of : Packet → List Packet → Option ℕ
+place_of packet packets = position (is_packet packet) packets

@@ -1,0 +1,35 @@
+use std::alloc::{AllocError, AllocFailed};
+
+/// Why a list of numbers is no schedule. Where it has several faults, the first in the order of
+/// these variants is told.
+#[derive(Clone, Copy, Debug, PartialEq, Eq)]
+pub enum ListFault {
+    /// The list has not one number for each packet.
+    Length,
+    /// A number is no delay that its packet may take, in ticks: the place of the first such packet.
+    Range(usize),
+    /// Memory was refused, which says nothing of the list.
+    Memory,
+}
+
+impl From<AllocError> for ListFault {
+    ghost use Rattle.std.specs.Prelude.{◌≡◌};
+    ghost use Rattle.convoy_packets.specs.declared.fault.ListFault.TheVariants.{Memory};
+
+    ghost from_gives = { λ _ fault. fault ≡ Memory };
+
+    fn from(_error: AllocError) -> ListFault {
+        ListFault::Memory
+    }
+}
+
+impl<T: Drop> From<AllocFailed<T>> for ListFault {
+    ghost use Rattle.std.specs.Prelude.{◌≡◌};
+    ghost use Rattle.convoy_packets.specs.declared.fault.ListFault.TheVariants.{Memory};
+
+    ghost from_gives = { λ _ fault. fault ≡ Memory };
+
+    fn from(_error: AllocFailed<T>) -> ListFault {
+        ListFault::Memory
+    }
+}

@@ -1,0 +1,67 @@
+//! What always holds of packet lists, ranges and schedules. A proof cites a law by a call.
+ghost use Rattle.convoy_packets.specs.Laws.{PacketsAreThoseSent, PacketsStandOnce};
+ghost use Rattle.convoy_packets.specs.Laws.{PlacesLeadBack, PacketsAreFew};
+ghost use Rattle.convoy_packets.specs.Laws.{RangesAreOneEach, DelaysAreOneEach, DelaysAreByPlace};
+ghost use Rattle.convoy_packets.specs.Laws.{DelaysAreWithin, UnsentTakesNoTime, DelaysAreAtMost};
+ghost use Rattle.convoy_packets.specs.Laws.{LeastIsAssignment, ListsOfDelaysAreSchedules};
+
+/// The list has just the packets that the scenario sends: each message to each of its destinations
+/// but its sender, and the stamp of each destination to each other one.
+pub fn packets_are_those_sent()
+    ensures { PacketsAreThoseSent }
+{}
+
+/// No packet stands twice in the list of a scenario: it is found where it stands.
+pub fn packets_stand_once()
+    ensures { PacketsStandOnce }
+{}
+
+/// A packet stands where it is found.
+pub fn places_lead_back()
+    ensures { PlacesLeadBack }
+{}
+
+/// A scenario has 1,024 packets at most.
+pub fn packets_are_few()
+    ensures { PacketsAreFew }
+{}
+
+/// There is one range for each packet.
+pub fn ranges_are_one_each()
+    ensures { RangesAreOneEach }
+{}
+
+/// An assignment has one delay for each packet.
+pub fn delays_are_one_each()
+    ensures { DelaysAreOneEach }
+{}
+
+/// The delay of the packet at a place is the one that the schedule has there.
+pub fn delays_are_by_place()
+    ensures { DelaysAreByPlace }
+{}
+
+/// An assignment keeps each packet that is sent within its range.
+pub fn delays_are_within()
+    ensures { DelaysAreWithin }
+{}
+
+/// What is not sent takes no time, in any schedule.
+pub fn unsent_takes_no_time()
+    ensures { UnsentTakesNoTime }
+{}
+
+/// In an assignment nothing takes longer than the greatest delay of the scenario.
+pub fn delays_are_at_most()
+    ensures { DelaysAreAtMost }
+{}
+
+/// The list of the delays of an assignment gives that assignment, and no other list does.
+pub fn lists_of_delays_are_schedules()
+    ensures { ListsOfDelaysAreSchedules }
+{}
+
+/// The least delays are an assignment.
+pub fn least_is_assignment()
+    ensures { LeastIsAssignment }
+{}

@@ -1,0 +1,89 @@
+ghost use Rattle.std.specs.Prelude.{◌≡◌, ◌<◌, ◌≤◌, ◌++◌, length, OnOk, IfOk};
+ghost use Rattle.std.specs.List.{flat_map};
+ghost use Rattle.convoy_scenario.specs.Plan.{message_at, is_sent_by};
+ghost use Rattle.convoy_packets.specs.Packets.{multicast_packets, propose_packets, packets_of};
+ghost use Rattle.convoy_packets.specs.Slots.{HaveSlots};
+
+use super::packet::{MOST_PACKETS, Packet};
+use convoy_scenario::{Scenario, Sender};
+use std::alloc::{AllocError, Global};
+
+/// Lists the packets of a scenario: message by message, the message itself to each of its
+/// destinations, and then the local stamps by (from, to).
+pub fn list_packets(alloc: Global, scenario: &Scenario) -> Result<Vec<Packet>, AllocError>
+    ensures value { IfOk result (λ packets. packets.items ≡ packets_of scenario.now) }
+    ensures few { IfOk result (λ packets. length packets.items ≤ MOST_PACKETS) }
+    ensures known { IfOk result (λ packets. HaveSlots packets.items) }
+{
+    let mut packets = Vec::new(alloc);
+    for message in 0..scenario.message_count() {
+        list_multicasts(&mut packets, scenario, message)?;
+        list_proposals(&mut packets, scenario, message)?;
+    }
+    Ok(packets)
+}
+
+/// Adds a message on its way to each of its destinations but its sender.
+fn list_multicasts(
+    packets: &mut Vec<Packet>,
+    scenario: &Scenario,
+    message: usize,
+) -> Result<(), AllocError>
+    requires { message < length scenario.now.multicasts }
+    ensures { OnOk result
+        (packets.new.items ≡ packets.old.items
+        ++ multicast_packets message (message_at scenario.now message)) }
+{
+    for &to in scenario.destinations(message) {
+        if !is_sender(scenario, message, to) {
+            packets.push(Packet::Multicast { message, to })?;
+        }
+    }
+    Ok(())
+}
+
+/// Whether the group sends the message itself.
+fn is_sender(scenario: &Scenario, message: usize, group: usize) -> bool
+    requires { message < length scenario.now.multicasts }
+    ensures { result ≡ is_sent_by (message_at scenario.now message) group }
+{
+    scenario.sender(message) == Sender::Group(group)
+}
+
+/// Adds the local stamps for a message, from each of its destinations to each other one.
+fn list_proposals(
+    packets: &mut Vec<Packet>,
+    scenario: &Scenario,
+    message: usize,
+) -> Result<(), AllocError>
+    requires { message < length scenario.now.multicasts }
+    ensures { OnOk result
+        (packets.new.items ≡ packets.old.items
+        ++ flat_map (propose_packets message (message_at scenario.now message))
+        (message_at scenario.now message).destinations) }
+{
+    for &from in scenario.destinations(message) {
+        list_proposals_from(packets, scenario, message, from)?;
+    }
+    Ok(())
+}
+
+/// Adds the local stamp of one destination for a message, to each other destination.
+fn list_proposals_from(
+    packets: &mut Vec<Packet>,
+    scenario: &Scenario,
+    message: usize,
+    from: usize,
+) -> Result<(), AllocError>
+    requires { message < length scenario.now.multicasts }
+    ensures { OnOk result
+        (packets.new.items ≡ packets.old.items
+        ++ propose_packets message (message_at scenario.now message) from) }
+{
+    for &to in scenario.destinations(message) {
+        if from != to {
+            packets.push(Packet::Propose { message, from, to })?;
+        }
+    }
+    Ok(())
+}
