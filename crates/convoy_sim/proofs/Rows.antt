@@ -1,0 +1,152 @@
+-- Worked rows, computed from the definitions alone.
+use Rattle.std.proofs.Common.{◌≡◌, ℕ, List, [], ◌∷◌, length, replicate, refl, codes}
+use Rattle.convoy_scenario.specs.declared.sender.Sender.{Sender}
+use Rattle.convoy_scenario.specs.declared.sender.Sender.TheVariants.{Client, Group}
+use Rattle.convoy_scenario.specs.Plan.{Message, Plan}
+use Rattle.convoy_packets.specs.Packets.{packets_of}
+use Rattle.convoy_packets.specs.Assignment.{delay_of}
+use Rattle.convoy_sim.specs.Times.{arrive, settle}
+use Rattle.convoy_sim.specs.Moments.{moments_of}
+use Rattle.convoy_sim.specs.Stamps.{clocks_of, local_stamp, final_stamp}
+use Rattle.convoy_sim.specs.Delivery.{holds_back, deliver, latency_at, latency_of}
+
+message : List ℕ → Sender → List ℕ → ℕ → Message
+message name sender destinations at =
+    record { name = name; sender = sender; destinations = destinations; at = at }
+
+-- the base scenario, with the tick at which y is issued
+base_with_y_at : ℕ → Plan
+base_with_y_at at = record {
+  delay = 3;
+  groups = codes "a" ∷ codes "b" ∷ [];
+  multicasts = message (codes "x") Client (1 ∷ []) 0 ∷ message (codes "t") Client (0 ∷ 1 ∷ []) 0
+      ∷ message (codes "y") (Group 0) (0 ∷ 1 ∷ []) at ∷ [];
+  target_message = 1;
+  target_group = 0;
+}
+
+base : Plan
+base = base_with_y_at 6
+
+-- the base with its groups in the order b, a
+swapped : Plan
+swapped = record {
+  delay = 3;
+  groups = codes "b" ∷ codes "a" ∷ [];
+  multicasts = message (codes "x") Client (0 ∷ []) 0 ∷ message (codes "t") Client (0 ∷ 1 ∷ []) 0
+      ∷ message (codes "y") (Group 1) (0 ∷ 1 ∷ []) 6 ∷ [];
+  target_message = 1;
+  target_group = 1;
+}
+
+-- x comes to b one tick before t, in its tick, or after it
+raced : Plan
+raced = record {
+  delay = 3;
+  groups = codes "a" ∷ codes "b" ∷ [];
+  multicasts = message (codes "t") Client (0 ∷ 1 ∷ []) 0 ∷ message (codes "x") Client (1 ∷ []) 1
+      ∷ message (codes "y") (Group 0) (0 ∷ 1 ∷ []) 5 ∷ [];
+  target_message = 0;
+  target_group = 0;
+}
+
+lone : Sender → List ℕ → Plan
+lone sender destinations = record {
+  delay = 5;
+  groups = codes "a" ∷ codes "b" ∷ [];
+  multicasts = message (codes "m") sender destinations 0 ∷ [];
+  target_message = 0;
+  target_group = 0;
+}
+
+-- u and v raise the clock of a, so that t has a stamp of time 4 and waits for n
+raised_twice : Plan
+raised_twice = record {
+  delay = 3;
+  groups = codes "c" ∷ codes "a" ∷ codes "b" ∷ [];
+  multicasts = message (codes "u") Client (1 ∷ 2 ∷ []) 0 ∷ message (codes "v") Client (1 ∷ 2 ∷ []) 0
+      ∷ message (codes "t") Client (0 ∷ 1 ∷ []) 5 ∷ message (codes "w1") (Group 0) (0 ∷ []) 9
+      ∷ message (codes "w2") (Group 0) (0 ∷ []) 9 ∷ message (codes "n") (Group 0) (0 ∷ 2 ∷ []) 10 ∷ [];
+  target_message = 2;
+  target_group = 0;
+}
+
+-- as many groups and messages as there may be, each message from a client to all groups
+largest : Plan
+largest = record {
+  delay = 16;
+  groups = replicate 8 (codes "g");
+  multicasts = replicate 16 (message (codes "m") Client (0 ∷ 1 ∷ 2 ∷ 3 ∷ 4 ∷ 5 ∷ 6 ∷ 7 ∷ []) 0);
+  target_message = 0;
+  target_group = 0;
+}
+
+base_has_eight_packets : length (packets_of base) ≡ 8
+unfolding base base_with_y_at message packets_of
+base_has_eight_packets = refl
+
+base_ones : latency_of base (replicate 8 1) ≡ 2
+unfolding base base_with_y_at message packets_of delay_of arrive settle moments_of clocks_of local_stamp final_stamp holds_back deliver latency_at latency_of
+base_ones = refl
+
+base_threes : latency_of base (replicate 8 3) ≡ 12
+unfolding base base_with_y_at message packets_of delay_of arrive settle moments_of clocks_of local_stamp final_stamp holds_back deliver latency_at latency_of
+base_threes = refl
+
+swapped_threes : latency_of swapped (replicate 8 3) ≡ 6
+unfolding swapped message packets_of delay_of arrive settle moments_of clocks_of local_stamp final_stamp holds_back deliver latency_at latency_of
+swapped_threes = refl
+
+y_one_later : latency_of (base_with_y_at 7) (replicate 8 3) ≡ 6
+unfolding base_with_y_at message packets_of delay_of arrive settle moments_of clocks_of local_stamp final_stamp holds_back deliver latency_at latency_of
+y_one_later = refl
+
+y_one_earlier : latency_of (base_with_y_at 5) (replicate 8 3) ≡ 11
+unfolding base_with_y_at message packets_of delay_of arrive settle moments_of clocks_of local_stamp final_stamp holds_back deliver latency_at latency_of
+y_one_earlier = refl
+
+-- lesser delays, and a far lesser latency
+not_monotone : latency_of (base_with_y_at 5) (3 ∷ 3 ∷ 1 ∷ 3 ∷ 1 ∷ 3 ∷ 3 ∷ 3 ∷ []) ≡ 3
+unfolding base_with_y_at message packets_of delay_of arrive settle moments_of clocks_of local_stamp final_stamp holds_back deliver latency_at latency_of
+not_monotone = refl
+
+-- a greater delay of x, and a lesser latency
+raced_early : latency_of raced (3 ∷ 3 ∷ 3 ∷ 3 ∷ 1 ∷ 3 ∷ 3 ∷ 3 ∷ []) ≡ 11
+unfolding raced message packets_of delay_of arrive settle moments_of clocks_of local_stamp final_stamp holds_back deliver latency_at latency_of
+raced_early = refl
+
+raced_together : latency_of raced (3 ∷ 3 ∷ 3 ∷ 3 ∷ 2 ∷ 3 ∷ 3 ∷ 3 ∷ []) ≡ 6
+unfolding raced message packets_of delay_of arrive settle moments_of clocks_of local_stamp final_stamp holds_back deliver latency_at latency_of
+raced_together = refl
+
+raced_late : latency_of raced (replicate 8 3) ≡ 6
+unfolding raced message packets_of delay_of arrive settle moments_of clocks_of local_stamp final_stamp holds_back deliver latency_at latency_of
+raced_late = refl
+
+lone_to_itself : latency_of (lone (Group 0) (0 ∷ [])) [] ≡ 0
+unfolding lone message packets_of delay_of arrive settle moments_of clocks_of local_stamp final_stamp holds_back deliver latency_at latency_of
+lone_to_itself = refl
+
+lone_from_client : latency_of (lone Client (0 ∷ [])) (5 ∷ []) ≡ 5
+unfolding lone message packets_of delay_of arrive settle moments_of clocks_of local_stamp final_stamp holds_back deliver latency_at latency_of
+lone_from_client = refl
+
+lone_to_two : latency_of (lone Client (0 ∷ 1 ∷ [])) (replicate 4 5) ≡ 10
+unfolding lone message packets_of delay_of arrive settle moments_of clocks_of local_stamp final_stamp holds_back deliver latency_at latency_of
+lone_to_two = refl
+
+raised_twice_packets : length (packets_of raised_twice) ≡ 15
+unfolding raised_twice message packets_of
+raised_twice_packets = refl
+
+raised_twice_eleven : latency_of raised_twice (1 ∷ 3 ∷ 1 ∷ 1 ∷ 1 ∷ 1 ∷ 1 ∷ 1 ∷ 3 ∷ 3 ∷ 3 ∷ 3 ∷ 3 ∷ 3 ∷ 3 ∷ []) ≡ 11
+unfolding raised_twice message packets_of delay_of arrive settle moments_of clocks_of local_stamp final_stamp holds_back deliver latency_at latency_of
+raised_twice_eleven = refl
+
+raised_twice_threes : latency_of raised_twice (replicate 15 3) ≡ 6
+unfolding raised_twice message packets_of delay_of arrive settle moments_of clocks_of local_stamp final_stamp holds_back deliver latency_at latency_of
+raised_twice_threes = refl
+
+largest_packets : length (packets_of largest) ≡ 1024
+unfolding largest message packets_of
+largest_packets = refl
