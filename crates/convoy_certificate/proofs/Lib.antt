@@ -1,0 +1,7 @@
+pub mod Pieces
+pub mod Nodes
+pub mod Assigned
+pub mod Taken
+pub mod NodeLaws
+pub mod Again
+mod Rows

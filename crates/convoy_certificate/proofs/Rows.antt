@@ -1,0 +1,80 @@
+-- Worked rows, computed from the definitions alone.
+use Rattle.std.proofs.Common.{◌≡◌, ℕ, List, [], ◌∷◌, ◌++◌, Err, refl, codes}
+use Rattle.std.specs.Fmt.{digits}
+use Rattle.convoy_scenario.specs.declared.line_fault.Expected.TheVariants as expected
+use Rattle.convoy_scenario.specs.declared.sender.Sender.{Sender}
+use Rattle.convoy_scenario.specs.declared.sender.Sender.TheVariants.{Client, Group}
+use Rattle.convoy_scenario.specs.LineReading.{messages_in, scenario_at}
+use Rattle.convoy_scenario.specs.Plan.{Message}
+use Rattle.convoy_packets.specs.Assignment.{ranges_of}
+use Rattle.convoy_packets.specs.Packets.{packets_of}
+use Rattle.convoy_certificate.specs.declared.node.Node.TheVariants.{Bound}
+use Rattle.convoy_certificate.specs.declared.text_fault.TextFault.TheVariants as faults
+use Rattle.convoy_certificate.specs.Contents.{Contents}
+use Rattle.convoy_certificate.specs.Reading.{nodes_in, certificate_of}
+use Rattle.convoy_certificate.specs.Text.{certificate_text}
+
+abbrev message : List ℕ → Sender → List ℕ → ℕ → Message
+message name sender destinations at = record { name = name; sender = sender; destinations = destinations; at = at }
+
+-- the certificate of the base: one leaf
+abbrev base : Contents
+base = record {
+  scenario = record {
+    delay = 3;
+    groups = codes "a" ∷ codes "b" ∷ [];
+    multicasts = message (codes "x") Client (1 ∷ []) 0 ∷ message (codes "t") Client (0 ∷ 1 ∷ []) 0 ∷ message (codes "y") (Group 0) (0 ∷ 1 ∷ []) 6 ∷ [];
+    target_message = 1;
+    target_group = 0;
+  };
+  latency = 12;
+  delays = 3 ∷ 3 ∷ 3 ∷ 3 ∷ 3 ∷ 3 ∷ 3 ∷ 3 ∷ [];
+  nodes = Bound ∷ [];
+}
+
+-- the certificate of a lone message that a group sends itself: no packets
+abbrev lone : Contents
+lone = record {
+  scenario = record {
+    delay = 5;
+    groups = codes "a" ∷ [];
+    multicasts = message (codes "m") (Group 0) (0 ∷ []) 0 ∷ [];
+    target_message = 0;
+    target_group = 0;
+  };
+  latency = 0;
+  delays = [];
+  nodes = Bound ∷ [];
+}
+
+-- the base up to its last message, and after it
+abbrev head : List ℕ
+head = codes "convoy 1\ndelay 3\ngroups a b\nmulticast x client 0 b\nmulticast t client 0 a b\nmulticast y a 6 a b\n"
+
+abbrev foot : List ℕ
+foot = codes "target t a\nlatency 12\nschedule 3 3 3 3 3 3 3 3\n"
+
+text_of_base : certificate_text base ≡ head ++ foot ++ codes "b\nend\n"
+unfolding digits
+text_of_base = refl
+
+text_of_lone : certificate_text lone ≡ codes "convoy 1\ndelay 5\ngroups a\nmulticast m a 0 a\ntarget m a\nlatency 0\nschedule\nb\nend\n"
+unfolding digits
+text_of_lone = refl
+
+-- a line `multicast` that is cut off
+cut_off : certificate_of (head ++ codes "multicast") ≡ Err (faults.Line 7 expected.Multicast)
+unfolding certificate_of scenario_at messages_in nodes_in ranges_of packets_of
+cut_off = refl
+
+no_text : certificate_of [] ≡ Err (faults.Line 1 expected.Convoy)
+unfolding certificate_of scenario_at messages_in nodes_in ranges_of packets_of
+no_text = refl
+
+delay_with_zero : certificate_of (codes "convoy 1\ndelay 03\n") ≡ Err (faults.Line 2 expected.Delay)
+unfolding certificate_of scenario_at messages_in nodes_in ranges_of packets_of
+delay_with_zero = refl
+
+delay_after_two_spaces : certificate_of (codes "convoy 1\ndelay  3\n") ≡ Err (faults.Line 2 expected.Delay)
+unfolding certificate_of scenario_at messages_in nodes_in ranges_of packets_of
+delay_after_two_spaces = refl

@@ -1,0 +1,14 @@
+use Rattle.std.proofs.Common.{◌≡◌, All, length, vec_len}
+use Rattle.convoy_certificate.specs.Contents.{IsNode}
+use Rattle.convoy_certificate.specs.Reading.{nodes_at}
+use Rattle.convoy_certificate.proofs.Nodes.{with_front}
+use Rattle.convoy_certificate.proofs.reading.read_nodes.Given as goal
+
+abbrev pub invariant-loop-nodes : goal.invariant-loop-nodes
+invariant-loop-nodes l = record {
+  so_far : with_front l.nodes.items (nodes_at (vec_len l.nodes) l.reader) ≡ nodes_at 0 l.fn.reader;
+  lawful : All IsNode l.nodes.items;
+}
+
+abbrev pub decreases-loop-nodes : goal.decreases-loop-nodes
+decreases-loop-nodes l = length l.reader.ended

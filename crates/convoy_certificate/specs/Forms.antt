@@ -1,0 +1,51 @@
+-- The forms of a certificate's own lines: what a line says, where it has its form.
+use Rattle.std.specs.Prelude.{ℕ, nat_le, ◌==◌, ◌&&◌, if◌then◌else◌, List, [], ◌∷◌, length, codes, Option, Some, None, option_map, option_and_then}
+use Rattle.std.specs.Str.{bytes_eq}
+use Rattle.convoy_scenario.specs.declared.limits.TheConstants.{GREATEST_DELAY}
+use Rattle.convoy_scenario.specs.LineForms.{◌>>=◌, words_after}
+use Rattle.convoy_scenario.specs.LineWords.{words_of, next_word, number_of}
+use Rattle.convoy_certificate.specs.declared.node.Node.{Node}
+use Rattle.convoy_certificate.specs.declared.node.Node.TheVariants.{Split, Bound, Point}
+use Rattle.convoy_certificate.specs.declared.node.TheConstants.{GREATEST_PACKET}
+use Rattle.convoy_certificate.specs.Text.{version_line, end_line}
+
+-- the greatest number that may stand in a line `schedule`
+abbrev pub greatest_number_of_delay : ℕ
+greatest_number_of_delay = 65_535
+
+-- the version of a text whose first line this is: 1 alone, today
+abbrev pub version_in : List ℕ → Option ℕ
+version_in line = if bytes_eq line (version_line 1) then Some 1 else None
+
+-- the numbers that the words are, where each of them is one
+abbrev pub delays_in : List (List ℕ) → Option (List ℕ)
+delays_in [] = Some []
+delays_in (word ∷ words) =
+    option_and_then (λ delay. option_map (λ delays. delay ∷ delays) (delays_in words)) (number_of greatest_number_of_delay word)
+
+-- the numbers of a line `schedule`
+abbrev pub schedule_in : List ℕ → Option (List ℕ)
+schedule_in line = option_and_then delays_in (words_after (codes "schedule") line)
+
+-- the split of a line `s`, by the words after its first
+abbrev pub split_in : List (List ℕ) → Option Node
+split_in words = do
+  first ← next_word words
+  packet ← number_of GREATEST_PACKET first.0
+  second ← next_word first.1
+  at ← number_of GREATEST_DELAY second.0
+  if nat_le 1 at && (length second.1 == 0) then Some (Split packet at) else None
+
+-- the leaf that a line of one word is
+abbrev pub leaf_in : List ℕ → Option Node
+leaf_in word = if bytes_eq word (codes "b") then Some Bound else if bytes_eq word (codes "p") then Some Point else None
+
+-- the node of a line
+abbrev pub node_in : List ℕ → Option Node
+node_in line = do
+  first ← next_word (words_of line)
+  if bytes_eq first.0 (codes "s") then split_in first.1 else if length first.1 == 0 then leaf_in first.0 else None
+
+-- the node of a line, or none at the line `end`
+abbrev pub node_or_end : List ℕ → Option (Option Node)
+node_or_end line = if bytes_eq line end_line then Some None else option_map (λ node. Some node) (node_in line)

@@ -1,0 +1,12 @@
+pub use Rattle.convoy_packets.specs.Assignment
+pub use Rattle.convoy_scenario.specs.LineForms
+pub use Rattle.convoy_scenario.specs.LineReading
+pub use Rattle.convoy_scenario.specs.LineWords
+pub use Rattle.convoy_scenario.specs.Lines
+pub use Rattle.convoy_scenario.specs.Memory
+pub use Rattle.convoy_scenario.specs.Plan
+pub use Rattle.convoy_scenario.specs.WellFormed
+pub mod Contents
+pub mod Forms
+pub mod Reading
+pub mod Text

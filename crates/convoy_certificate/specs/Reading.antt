@@ -1,0 +1,76 @@
+-- What reading a text answers: the certificate, or the first fault in the order of the lines.
+use Rattle.std.specs.Prelude.{◌≡◌, ℕ, ◌+◌, ◌≤◌, ◌==◌, nat_le, Bool, ◌&&◌, if◌then◌else◌, List, [], ◌∷◌, length, codes, Option, Some, None, ok_or, Result, Ok, Err}
+use Rattle.std.specs.Cmp.Lexicographic.{pointwise}
+use Rattle.convoy_scenario.specs.declared.line_fault.Expected.TheVariants as expected
+use Rattle.convoy_scenario.specs.declared.line_fault.LineFault.{LineFault}
+use Rattle.convoy_scenario.specs.declared.line_fault.LineFault.TheVariants as lines
+use Rattle.convoy_scenario.specs.LineForms.{number_line}
+use Rattle.convoy_scenario.specs.LineReading.{Place, place_before, form_at, scenario_at, is_at_end}
+use Rattle.convoy_scenario.specs.Plan.{Plan}
+use Rattle.convoy_packets.specs.Assignment.{ranges_of}
+use Rattle.convoy_certificate.specs.declared.certificate.TheConstants.{MOST_NODES}
+use Rattle.convoy_certificate.specs.declared.node.Node.{Node}
+use Rattle.convoy_certificate.specs.declared.text_fault.TextFault.{TextFault}
+use Rattle.convoy_certificate.specs.declared.text_fault.TextFault.TheVariants as faults
+use Rattle.convoy_certificate.specs.Contents.{Contents, IsCertificate}
+use Rattle.convoy_certificate.specs.Text.{certificate_text}
+use Rattle.convoy_certificate.specs.Forms.{version_in, schedule_in, node_or_end}
+
+-- the fault of a line, told of a text
+abbrev pub text_fault : LineFault → TextFault
+text_fault (lines.Line number expected) = faults.Line number expected
+text_fault (lines.Scenario fault) = faults.Scenario fault
+text_fault lines.Memory = faults.Memory
+
+abbrev pub in_text : {A : Type 0} → Result A LineFault → Result A TextFault
+in_text (Ok x) = Ok x
+in_text (Err fault) = Err (text_fault fault)
+
+-- then: the first fault ends it
+infixl 10 ◌>>=◌
+abbrev pub ◌>>=◌ : {A B : Type 0} → Result A TextFault → (A → Result B TextFault) → Result B TextFault
+Ok x >>= f = f x
+Err fault >>= f = Err fault
+
+-- the delay is in the range
+abbrev pub is_within : ℕ × ℕ → ℕ → Bool
+is_within range delay = nat_le range.0 delay && nat_le delay range.1
+
+-- there is one delay for each packet, and each is in its packet's range
+abbrev pub is_assignment : Plan → List ℕ → Bool
+is_assignment plan delays = pointwise is_within (ranges_of plan) delays
+
+-- a node and those after it; at the line `end` there are none, and the reading stands past it
+abbrev pub from_node : Option Node → Place → Result (List Node × Place) TextFault → Result (List Node × Place) TextFault
+from_node None past more = Ok ([], past)
+from_node (Some node) past more = more >>= λ others. Ok (node ∷ others.0, others.1)
+
+-- the nodes up to the line `end`, after so many
+unfoldable pub nodes_in : ℕ → ℕ → List ℕ → List (List ℕ) → Result (List Node × Place) TextFault
+nodes_in count number rest [] = Err (faults.Line number expected.Node)
+nodes_in count number rest (line ∷ lines) = do
+  next ← ok_or (node_or_end line) (faults.Line number expected.Node)
+  from_node next (record { ended = lines; rest = rest; number = number + 1 })
+      (if count == MOST_NODES then Err faults.TreeCount else nodes_in (count + 1) (number + 1) rest lines)
+
+abbrev pub nodes_at : ℕ → Place → Result (List Node × Place) TextFault
+nodes_at count place = nodes_in count place.number place.rest place.ended
+
+-- the certificate that a text is; else the first fault
+unfoldable pub certificate_of : List ℕ → Result Contents TextFault
+certificate_of text = do
+  version ← in_text (form_at expected.Convoy version_in (place_before text 1))
+  scenario ← in_text (scenario_at version.1)
+  latency ← in_text (form_at expected.Latency (number_line (codes "latency")) scenario.1)
+  delays ← in_text (form_at expected.Schedule schedule_in latency.1)
+  nodes ← if is_assignment scenario.0 delays.0 then nodes_at 0 delays.1 else Err faults.Schedule
+  if is_at_end nodes.1 then Ok (record { scenario = scenario.0; latency = latency.0; delays = delays.0; nodes = nodes.0 })
+      else Err faults.AfterEnd
+
+-- the text is that of the certificate, which has no more nodes than may be read
+abbrev pub IsTextOf : Contents → List ℕ → Type 0
+IsTextOf certificate text = (text ≡ certificate_text certificate) × (length certificate.nodes ≤ MOST_NODES)
+
+-- no two certificates have one text
+abbrev pub TextsDiffer : Type 0
+TextsDiffer = (b c : Contents) → IsCertificate b → IsCertificate c → certificate_text b ≡ certificate_text c → b ≡ c

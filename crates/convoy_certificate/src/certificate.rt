@@ -1,0 +1,96 @@
+ghost use Rattle.std.specs.Prelude.{◌≡◌};
+ghost use Rattle.std.specs.List.{All};
+ghost use Rattle.convoy_packets.specs.Assignment.{IsAssignment};
+ghost use Rattle.convoy_certificate.specs.Contents.{IsNode, IsCertificate};
+
+use super::node::Node;
+use convoy_scenario::Scenario;
+use std::marker::Model;
+
+/// How many nodes a certificate that is read has at most.
+pub const MOST_NODES: usize = 4_000_000;
+
+/// What a certificate says: a scenario, the greatest latency of its target, in ticks, a schedule that
+/// has it, and the nodes of a tree that shows that no other schedule has a greater one.
+///
+/// The schedule is an assignment of the scenario, and each split names a packet number from 0 to
+/// `GREATEST_PACKET` and a place from 1 to `GREATEST_DELAY`. Nothing else is known of the nodes: they
+/// may be no tree, and there may be none.
+#[derive(Debug, Drop)]
+pub struct Certificate {
+    scenario: Scenario,
+    latency: u32,
+    delays: Vec<u16>,
+    nodes: Vec<Node>,
+}
+
+impl Model for Certificate {
+    ghost use Rattle.convoy_certificate.specs.Contents.{Contents, IsCertificate};
+
+    ghost Value = { Contents };
+
+    ghost view = { λ c. record {
+      scenario = c.scenario;
+      latency = c.latency;
+      delays = c.delays.items;
+      nodes = c.nodes.items;
+    } };
+
+    ghost invariant = { λ c. IsCertificate (record {
+      scenario = c.scenario;
+      latency = c.latency;
+      delays = c.delays.items;
+      nodes = c.nodes.items;
+    }) };
+}
+
+impl Certificate {
+    /// A certificate of these parts.
+    pub fn new(scenario: Scenario, latency: u32, delays: Vec<u16>, nodes: Vec<Node>) -> Certificate
+        requires assigned { IsAssignment scenario delays.items }
+        requires nodes { All IsNode nodes.items }
+        ensures { result ≡ record {
+          scenario = scenario;
+          latency = latency;
+          delays = delays.items;
+          nodes = nodes.items;
+        } }
+    {
+        Certificate {
+            scenario,
+            latency,
+            delays,
+            nodes,
+        }
+    }
+
+    /// The scenario.
+    pub fn scenario(&self) -> &Scenario
+        ensures { result.now ≡ self.now.scenario }
+    {
+        &self.scenario
+    }
+
+    /// The stated latency, in ticks.
+    pub fn latency(&self) -> u32
+        ensures { result ≡ self.now.latency }
+    {
+        self.latency
+    }
+
+    /// The delays of the schedule in ticks, in the order of the packets.
+    pub fn delays(&self) -> &[u16]
+        ensures value { result.now ≡ self.now.delays }
+        ensures lawful { IsCertificate self.now }
+    {
+        self.delays.as_slice()
+    }
+
+    /// The nodes, in their order.
+    pub fn nodes(&self) -> &[Node]
+        ensures value { result.now ≡ self.now.nodes }
+        ensures lawful { IsCertificate self.now }
+    {
+        self.nodes.as_slice()
+    }
+}

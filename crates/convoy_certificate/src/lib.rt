@@ -1,0 +1,18 @@
+//! Certificates, what they say, and the one text of each: a writer and a strict reader.
+#![tactic(auto)]
+
+pub use certificate::{Certificate, MOST_NODES};
+pub use node::{GREATEST_PACKET, Node};
+pub use reading::read;
+pub use text_fault::TextFault;
+pub use writing::write;
+
+mod certificate;
+pub mod laws;
+mod lines;
+mod node;
+mod reading;
+#[cfg(test)]
+mod tests;
+mod text_fault;
+mod writing;

@@ -1,0 +1,82 @@
+ghost use Rattle.std.specs.Prelude.{◌≡◌, ok_or, IfSome};
+ghost use Rattle.convoy_certificate.specs.Contents.{IsNode};
+ghost use Rattle.std.specs.Result.{result_map_both};
+ghost use Rattle.convoy_scenario.specs.Memory.{IsUnlessMemory};
+ghost use Rattle.convoy_scenario.specs.LineForms.{words_after};
+ghost use Rattle.convoy_certificate.specs.Forms.{version_in, schedule_in, split_in, leaf_in, node_in, node_or_end};
+
+use super::node::{GREATEST_PACKET, Node};
+use super::text_fault::TextFault;
+use convoy_scenario::{GREATEST_DELAY, Words, number_of, words_after};
+use std::alloc::Global;
+
+/// The version of a text whose first line this is.
+pub fn version_in(line: &[u8]) -> Option<u32>
+    ensures { result ≡ version_in line.now }
+{
+    (line == b"convoy 1".as_slice()).then_some(1)
+}
+
+/// The node of a line, or `Some(None)` at the line `end`; None where the line has neither form.
+pub fn node_or_end(line: &[u8]) -> Option<Option<Node>>
+    ensures value { result ≡ node_or_end line.now }
+    ensures lawful { IfSome result (λ node. IfSome node IsNode) }
+{
+    if line == b"end".as_slice() {
+        return Some(None);
+    }
+    Some(Some(node_in(line)?))
+}
+
+fn node_in(line: &[u8]) -> Option<Node>
+    ensures value { result ≡ node_in line.now }
+    ensures lawful { IfSome result IsNode }
+{
+    let mut words = Words::of(line);
+    let first = words.next()?;
+    if first == b"s".as_slice() {
+        split_in(words)
+    } else if words.are_over() {
+        leaf_in(first)
+    } else {
+        None
+    }
+}
+
+fn split_in(words: Words) -> Option<Node>
+    ensures value { result ≡ split_in words.entry }
+    ensures lawful { IfSome result IsNode }
+{
+    let mut words = words;
+    let packet = number_of(words.next()?, u32::from(GREATEST_PACKET))?;
+    let at = number_of(words.next()?, u32::from(GREATEST_DELAY))?;
+    (1 <= at && words.are_over()).then_some(Node::Split {
+        packet: packet as u16,
+        at: at as u16,
+    })
+}
+
+fn leaf_in(word: &[u8]) -> Option<Node>
+    ensures value { result ≡ leaf_in word.now }
+    ensures lawful { IfSome result IsNode }
+{
+    match word {
+        b"b" => Some(Node::Bound),
+        b"p" => Some(Node::Point),
+        _ => None,
+    }
+}
+
+/// The delays of a line `schedule`; `wrong` where the line has not its form.
+pub fn schedule_in(alloc: Global, line: &[u8], wrong: TextFault) -> Result<Vec<u16>, TextFault>
+    ensures { IsUnlessMemory TextFault.Memory (ok_or (schedule_in line.now) wrong)
+        (result_map_both (λ delays. delays.items) (λ fault. fault) result) }
+{
+    let mut words = words_after(line, b"schedule").ok_or(wrong)?;
+    let mut delays = Vec::new(alloc);
+    while let Some(word) = words.next() {
+        let delay = number_of(word, u32::from(u16::MAX)).ok_or(wrong)?;
+        delays.push(delay as u16)?;
+    }
+    Ok(delays)
+}

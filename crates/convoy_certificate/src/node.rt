@@ -1,0 +1,16 @@
+/// The greatest number of a packet that a split may name.
+pub const GREATEST_PACKET: u16 = 1_023;
+
+/// A node of the tree of a certificate, as it stands in the list of nodes: a split comes first, then
+/// the tree of its lower half, and then that of its upper half.
+#[derive(Clone, Copy, Debug, PartialEq, Eq)]
+pub enum Node {
+    /// The delays of a packet are split: at most `at`, and above it.
+    Split { packet: u16, at: u16 },
+    /// A leaf: a bound shows that no delays of its box have a greater latency.
+    Bound,
+    /// A leaf: its box has one delay for each packet, whose latency is not greater.
+    Point,
+}
+
+const _: () = prove!(size_of::<Node>() <= 8);

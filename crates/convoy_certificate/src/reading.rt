@@ -1,0 +1,134 @@
+ghost use Rattle.std.specs.Prelude.{◌≡◌, codes, Ok, IfOk, IfSome};
+ghost use Rattle.std.specs.Cmp.Lexicographic.{pointwise};
+ghost use Rattle.std.specs.List.{All};
+ghost use Rattle.std.specs.Result.{result_map_both};
+ghost use Rattle.convoy_scenario.specs.Memory.{IsUnlessMemory};
+ghost use Rattle.convoy_scenario.specs.LineForms.{number_line};
+ghost use Rattle.convoy_scenario.specs.LineReading.{form_at, scenario_at};
+ghost use Rattle.convoy_certificate.specs.Contents.{Contents, IsCertificate, IsNode};
+ghost use Rattle.convoy_certificate.specs.Forms.{version_in, schedule_in, node_or_end};
+ghost use Rattle.convoy_certificate.specs.Reading.{in_text, is_within, nodes_at, certificate_of, IsTextOf};
+
+use super::certificate::{Certificate, MOST_NODES};
+use super::lines::{node_or_end, schedule_in, version_in};
+use super::node::Node;
+use super::text_fault::TextFault;
+use convoy_packets::PacketTable;
+use convoy_scenario::{Expected, LineReader, Scenario, number_line};
+use std::alloc::Global;
+
+/// Reads the text of a certificate (docs/FORMATS.md, "Certificate text").
+///
+/// A text that is none is refused with its first fault, in the order of the lines; where memory is
+/// refused, `TextFault::Memory` is the answer, and says nothing of the text. The tree's shape is not
+/// looked at: any list of nodes up to `MOST_NODES` is read, an empty one too.
+pub fn read(alloc: Global, text: &[u8]) -> Result<Certificate, TextFault>
+    // What is read has this text, and no more nodes than may be read.
+    ensures found { IfOk result (λ certificate. IsTextOf certificate text.now) }
+    // A text of such a certificate is read, unless memory runs out.
+    ensures only { (certificate : Contents) → IsCertificate certificate → IsTextOf certificate text.now →
+        IsUnlessMemory TextFault.Memory (Ok certificate) result }
+    // Which fault it is.
+    ensures exact { IsUnlessMemory TextFault.Memory (certificate_of text.now) result }
+{
+    read_all(alloc, text)
+}
+
+#[tactic(auto, unfolding(crate::specs::Reading::certificate_of))]
+fn read_all(alloc: Global, text: &[u8]) -> Result<Certificate, TextFault>
+    ensures { IsUnlessMemory TextFault.Memory (certificate_of text.now) result }
+{
+    let mut reader = LineReader::over(text);
+    let _version = read_version(&mut reader)?;
+    let scenario = read_scenario(alloc, &mut reader)?;
+    let latency = read_latency(&mut reader)?;
+    let delays = read_schedule(alloc, &mut reader)?;
+    let table = PacketTable::of(alloc, &scenario)?;
+    if !are_within(table.ranges(), &delays) {
+        return Err(TextFault::Schedule);
+    }
+    let nodes = read_nodes(alloc, &mut reader)?;
+    if !reader.at_end() {
+        return Err(TextFault::AfterEnd);
+    }
+    Ok(Certificate::new(scenario, latency, delays, nodes))
+}
+
+fn read_version(reader: &mut LineReader) -> Result<u32, TextFault>
+    ensures { result_map_both (λ version. (version, reader.new)) (λ fault. fault) result
+        ≡ in_text (form_at Expected.Convoy version_in reader.old) }
+{
+    let wrong = TextFault::Line(reader.number(), Expected::Convoy);
+    let line = reader.line().ok_or(wrong)?;
+    version_in(line).ok_or(wrong)
+}
+
+fn read_scenario(alloc: Global, reader: &mut LineReader) -> Result<Scenario, TextFault>
+    ensures { IsUnlessMemory TextFault.Memory (in_text (scenario_at reader.old))
+        (result_map_both (λ scenario. (scenario, reader.new)) (λ fault. fault) result) }
+{
+    Ok(reader.scenario(alloc)?)
+}
+
+fn read_latency(reader: &mut LineReader) -> Result<u32, TextFault>
+    ensures { result_map_both (λ latency. (latency, reader.new)) (λ fault. fault) result
+        ≡ in_text (form_at Expected.Latency (number_line (codes "latency")) reader.old) }
+{
+    let wrong = TextFault::Line(reader.number(), Expected::Latency);
+    let line = reader.line().ok_or(wrong)?;
+    number_line(line, b"latency").ok_or(wrong)
+}
+
+fn read_schedule(alloc: Global, reader: &mut LineReader) -> Result<Vec<u16>, TextFault>
+    ensures { IsUnlessMemory TextFault.Memory
+        (in_text (form_at Expected.Schedule schedule_in reader.old))
+        (result_map_both (λ delays. (delays.items, reader.new)) (λ fault. fault) result) }
+{
+    let wrong = TextFault::Line(reader.number(), Expected::Schedule);
+    let line = reader.line().ok_or(wrong)?;
+    schedule_in(alloc, line, wrong)
+}
+
+/// Whether there is one delay for each range, in its range.
+fn are_within(ranges: &[(u16, u16)], delays: &[u16]) -> bool
+    ensures { result ≡ pointwise is_within ranges.now delays.now }
+{
+    let mut rest = delays;
+    for range in ranges {
+        let Some((delay, tail)) = rest.split_first() else {
+            return false;
+        };
+        if *delay < range.0 || range.1 < *delay {
+            return false;
+        }
+        rest = tail;
+    }
+    rest.is_empty()
+}
+
+/// The nodes up to the line `end`.
+fn read_nodes(alloc: Global, reader: &mut LineReader) -> Result<Vec<Node>, TextFault>
+    ensures value { IsUnlessMemory TextFault.Memory (nodes_at 0 reader.old)
+        (result_map_both (λ nodes. (nodes.items, reader.new)) (λ fault. fault) result) }
+    ensures lawful { IfOk result (λ nodes. All IsNode nodes.items) }
+{
+    let mut nodes = Vec::new(alloc);
+    while let Some(node) = read_node(reader)? {
+        if nodes.len() == MOST_NODES {
+            return Err(TextFault::TreeCount);
+        }
+        nodes.push(node)?;
+    }
+    Ok(nodes)
+}
+
+/// The node of the next line, or None at the line `end`.
+fn read_node(reader: &mut LineReader) -> Result<Option<Node>, TextFault>
+    ensures value { result_map_both (λ node. (node, reader.new)) (λ fault. fault) result
+        ≡ in_text (form_at Expected.Node node_or_end reader.old) }
+    ensures lawful { IfOk result (λ node. IfSome node IsNode) }
+{
+    let wrong = TextFault::Line(reader.number(), Expected::Node);
+    let line = reader.line().ok_or(wrong)?;
+    node_or_end(line).ok_or(wrong)
+}

@@ -1,0 +1,277 @@
+ghost use Rattle.std.specs.Prelude.{IsTrue};
+ghost use Rattle.convoy_packets.specs.Assignment.{AreWithin};
+
+use super::*;
+use convoy_packets::PacketTable;
+use convoy_scenario::{Expected, ScenarioFault, read_toml};
+use std::alloc::Global;
+use std::process::Abort;
+use std::test::Fail;
+
+const BASE: &[u8] = b"convoy 1
+delay 3
+groups a b
+multicast x client 0 b
+multicast t client 0 a b
+multicast y a 6 a b
+target t a
+latency 12
+schedule 3 3 3 3 3 3 3 3
+b
+end
+";
+
+const LONE: &[u8] = b"convoy 1
+delay 5
+groups a
+multicast m a 0 a
+target m a
+latency 0
+schedule
+b
+end
+";
+
+/// A text with the first such part replaced.
+fn with(alloc: Global, text: &[u8], old: &[u8], new: &[u8]) -> Result<Vec<u8>, Fail> {
+    let mut changed = Vec::new(alloc);
+    for (i, byte) in text.iter().enumerate() {
+        if let Some(after) = text[i..].strip_prefix(old) {
+            changed.extend_from_slice(new)?;
+            changed.extend_from_slice(after)?;
+            return Ok(changed);
+        }
+        changed.push(*byte)?;
+    }
+    Ok(changed)
+}
+
+/// Whether what is read of a text is written as it stands.
+fn is_kept(alloc: Global, text: &[u8]) -> Result<bool, Fail> {
+    let certificate = read(alloc, text)?;
+    let mut written = Vec::new(alloc);
+    write(alloc, &certificate, &mut written)?;
+    Ok(written.as_slice() == text)
+}
+
+fn is_refused(alloc: Global, text: &[u8], fault: TextFault) -> bool {
+    match read(alloc, text) {
+        Ok(_) => false,
+        Err(told) => told == fault,
+    }
+}
+
+#[test]
+fn certificate_of_base(rt: HostRuntime) -> Result<(), Fail> {
+    assert_eq!(rt; BASE.len(), 149);
+    assert!(rt; is_kept(rt.alloc(), BASE)?);
+    let certificate = read(rt.alloc(), BASE)?;
+    assert_eq!(rt; certificate.latency(), 12);
+    assert_eq!(rt; certificate.delays(), [3, 3, 3, 3, 3, 3, 3, 3].as_slice());
+    assert_eq!(rt; certificate.nodes(), [Node::Bound].as_slice());
+    assert_eq!(rt; certificate.scenario().delay(), 3);
+    Ok(())
+}
+
+#[test]
+fn certificate_of_lone_message(rt: HostRuntime) -> Result<(), Fail> {
+    assert_eq!(rt; LONE.len(), 80);
+    assert!(rt; is_kept(rt.alloc(), LONE)?);
+    Ok(())
+}
+
+#[test]
+fn tree_of_splits(rt: HostRuntime) -> Result<(), Fail> {
+    let text = with(rt.alloc(), BASE, b"b\nend", b"s 1023 16\np\nb\nend")?;
+    assert!(rt; is_kept(rt.alloc(), &text)?);
+    let none = with(rt.alloc(), BASE, b"b\nend", b"end")?;
+    assert!(rt; is_kept(rt.alloc(), &none)?);
+    Ok(())
+}
+
+#[test]
+fn faults_of_form(rt: HostRuntime) -> Result<(), Fail> {
+    let without_end = with(rt.alloc(), BASE, b"end\n", b"")?;
+    assert!(rt;
+        is_refused(
+            rt.alloc(),
+            &without_end,
+            TextFault::Line(11, Expected::Node)
+        )
+    );
+    let second_space = with(rt.alloc(), BASE, b"x client", b"x  client")?;
+    assert!(rt;
+        is_refused(
+            rt.alloc(),
+            &second_space,
+            TextFault::Line(4, Expected::Multicast)
+        )
+    );
+    let leading_zero = with(rt.alloc(), BASE, b"latency 12", b"latency 012")?;
+    assert!(rt;
+        is_refused(
+            rt.alloc(),
+            &leading_zero,
+            TextFault::Line(8, Expected::Latency)
+        )
+    );
+    let carriage_return = with(rt.alloc(), BASE, b"delay 3", b"delay 3\r")?;
+    assert!(rt;
+        is_refused(
+            rt.alloc(),
+            &carriage_return,
+            TextFault::Line(2, Expected::Delay)
+        )
+    );
+    let no_last_line_end = with(rt.alloc(), BASE, b"\nend\n", b"\nend")?;
+    assert!(rt;
+        is_refused(
+            rt.alloc(),
+            &no_last_line_end,
+            TextFault::Line(11, Expected::Node)
+        )
+    );
+    Ok(())
+}
+
+#[test]
+fn faults_of_content(rt: HostRuntime) -> Result<(), Fail> {
+    let bare_multicast = with(rt.alloc(), BASE, b"target t a", b"multicast")?;
+    assert!(rt;
+        is_refused(
+            rt.alloc(),
+            &bare_multicast,
+            TextFault::Line(7, Expected::Multicast)
+        )
+    );
+    let no_destination = with(rt.alloc(), BASE, b"x client 0 b", b"x client 0")?;
+    assert!(rt;
+        is_refused(
+            rt.alloc(),
+            &no_destination,
+            TextFault::Scenario(ScenarioFault::NoDestination)
+        )
+    );
+    let unordered = with(rt.alloc(), BASE, b"t client 0 a b", b"t client 0 b a")?;
+    assert!(rt;
+        is_refused(
+            rt.alloc(),
+            &unordered,
+            TextFault::Line(5, Expected::Multicast)
+        )
+    );
+    let seven_delays = with(rt.alloc(), BASE, b"3 3 3 3\n", b"3 3 3\n")?;
+    assert!(rt; is_refused(rt.alloc(), &seven_delays, TextFault::Schedule));
+    let delay_of_four = with(rt.alloc(), BASE, b"3 3\n", b"3 4\n")?;
+    assert!(rt; is_refused(rt.alloc(), &delay_of_four, TextFault::Schedule));
+    Ok(())
+}
+
+#[test]
+fn faults_of_nodes_and_words(rt: HostRuntime) -> Result<(), Fail> {
+    let after_end = with(rt.alloc(), BASE, b"end\n", b"end\n\n")?;
+    assert!(rt; is_refused(rt.alloc(), &after_end, TextFault::AfterEnd));
+    let place_of_zero = with(rt.alloc(), BASE, b"b\nend", b"s 0 0\nend")?;
+    assert!(rt;
+        is_refused(
+            rt.alloc(),
+            &place_of_zero,
+            TextFault::Line(10, Expected::Node)
+        )
+    );
+    let packet_too_large = with(rt.alloc(), BASE, b"b\nend", b"s 1024 1\nend")?;
+    assert!(rt;
+        is_refused(
+            rt.alloc(),
+            &packet_too_large,
+            TextFault::Line(10, Expected::Node)
+        )
+    );
+    let not_utf8 = with(rt.alloc(), BASE, b"target t", b"target \xff")?;
+    assert!(rt;
+        is_refused(
+            rt.alloc(),
+            &not_utf8,
+            TextFault::Scenario(ScenarioFault::UnknownTarget)
+        )
+    );
+    let no_text = with(rt.alloc(), BASE, b"convoy 1\n", b"convoy 2\n")?;
+    assert!(rt; is_refused(rt.alloc(), &no_text, TextFault::Line(1, Expected::Convoy)));
+    Ok(())
+}
+
+#[test]
+fn one_node_too_many(rt: HostRuntime) -> Result<(), Fail> {
+    let mut text = with(rt.alloc(), BASE, b"b\nend\n", b"")?;
+    for _ in 0..MOST_NODES {
+        text.extend_from_slice(b"b\n")?;
+    }
+    assert!(rt;
+        is_refused(
+            rt.alloc(),
+            &text,
+            TextFault::Line(4_000_010, Expected::Node)
+        )
+    );
+    text.extend_from_slice(b"b\n")?;
+    assert!(rt; is_refused(rt.alloc(), &text, TextFault::TreeCount));
+    Ok(())
+}
+
+/// Whether there is one delay for each range, in its range.
+fn are_within(ranges: &[(u16, u16)], delays: &[u16]) -> bool
+    ensures { IsTrue result → AreWithin ranges.now delays.now }
+{
+    match (ranges, delays) {
+        ([], []) => true,
+        ([range, ranges @ ..], [delay, delays @ ..]) => {
+            range.0 <= *delay && *delay <= range.1 && are_within(ranges, delays)
+        }
+        _ => false,
+    }
+}
+
+/// The certificate of a scenario with each packet at its greatest delay, and one leaf.
+fn one_leaf(
+    rt: &impl Abort,
+    alloc: Global,
+    scenario: &str,
+    latency: u32,
+) -> Result<Certificate, Fail> {
+    let scenario = read_toml(alloc, scenario.as_bytes())?.scenario;
+    let table = PacketTable::of(alloc, &scenario)?;
+    let delays = vec![in alloc; scenario.delay(); table.len()]?;
+    assert!(rt; are_within(table.ranges(), &delays));
+    let mut nodes = Vec::new(alloc);
+    nodes.push(Node::Bound)?;
+    Ok(Certificate::new(scenario, latency, delays, nodes))
+}
+
+const BASE_SCENARIO: &str = r#"
+delay = 3
+groups = ["a", "b"]
+multicast = [
+    { name = "x", to = ["b"], at = 0 },
+    { name = "t", to = ["a", "b"], at = 0 },
+    { name = "y", from = "a", to = ["a", "b"], at = 6 },
+]
+target = { message = "t", group = "a" }
+"#;
+
+const LONE_SCENARIO: &str = r#"
+delay = 5
+groups = ["a"]
+multicast = [{ name = "m", from = "a", to = ["a"], at = 0 }]
+target = { message = "m", group = "a" }
+"#;
+
+#[test]
+fn texts_of_values(rt: HostRuntime) -> Result<(), Fail> {
+    for (scenario, latency, text) in [(BASE_SCENARIO, 12, BASE), (LONE_SCENARIO, 0, LONE)] {
+        let certificate = one_leaf(&rt, rt.alloc(), scenario, latency)?;
+        let mut written = Vec::new(rt.alloc());
+        write(rt.alloc(), &certificate, &mut written)?;
+        assert_eq!(rt; written.as_slice(), text);
+    }
+    Ok(())
+}

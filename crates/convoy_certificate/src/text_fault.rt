@@ -1,0 +1,59 @@
+use convoy_scenario::{Expected, LineFault, ScenarioFault};
+use std::alloc::{AllocError, AllocFailed};
+
+/// Why a text is no certificate. Where it has several faults, the first in the order of the lines is
+/// told (docs/FORMATS.md, "Certificate text").
+#[derive(Clone, Copy, Debug, PartialEq, Eq)]
+pub enum TextFault {
+    /// The line of that number, from 1, is absent, is not ended by byte 10, or has not the form that
+    /// was expected there.
+    Line(usize, Expected),
+    /// The lines from `delay` to `target` have their form, but there is no such scenario.
+    Scenario(ScenarioFault),
+    /// The line `schedule` has its form, but the number of delays is not the number of packets, or a
+    /// delay is not in its packet's range.
+    Schedule,
+    /// There are more than `MOST_NODES` nodes.
+    TreeCount,
+    /// A byte follows the line `end`.
+    AfterEnd,
+    /// Memory was refused, which says nothing of the text.
+    Memory,
+}
+
+impl From<LineFault> for TextFault {
+    ghost use Rattle.std.specs.Prelude.{◌≡◌};
+    ghost use Rattle.convoy_certificate.specs.Reading.{text_fault};
+
+    ghost from_gives = { λ fault text. text ≡ text_fault fault };
+
+    fn from(fault: LineFault) -> TextFault {
+        match fault {
+            LineFault::Line(number, expected) => TextFault::Line(number, expected),
+            LineFault::Scenario(fault) => TextFault::Scenario(fault),
+            LineFault::Memory => TextFault::Memory,
+        }
+    }
+}
+
+impl From<AllocError> for TextFault {
+    ghost use Rattle.std.specs.Prelude.{◌≡◌};
+    ghost use Rattle.convoy_certificate.specs.declared.text_fault.TextFault.TheVariants.{Memory};
+
+    ghost from_gives = { λ _ fault. fault ≡ Memory };
+
+    fn from(_error: AllocError) -> TextFault {
+        TextFault::Memory
+    }
+}
+
+impl<T: Drop> From<AllocFailed<T>> for TextFault {
+    ghost use Rattle.std.specs.Prelude.{◌≡◌};
+    ghost use Rattle.convoy_certificate.specs.declared.text_fault.TextFault.TheVariants.{Memory};
+
+    ghost from_gives = { λ _ fault. fault ≡ Memory };
+
+    fn from(_error: AllocFailed<T>) -> TextFault {
+        TextFault::Memory
+    }
+}

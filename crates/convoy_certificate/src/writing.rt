@@ -1,0 +1,80 @@
+ghost use Rattle.std.specs.Prelude.{◌≡◌, ◌++◌, map, codes, decimal, IfOk, OnOk, OnErr};
+ghost use Rattle.convoy_scenario.specs.Lines.{ended, spaced, text_of};
+ghost use Rattle.convoy_certificate.specs.Text.{latency_line, schedule_line, node_line, certificate_text};
+
+use super::certificate::Certificate;
+use super::node::Node;
+use convoy_scenario::{push_number, write_lines};
+use std::alloc::{AllocError, Global};
+
+/// Appends the text of a certificate (docs/FORMATS.md, "Certificate text"). Where memory is refused,
+/// `out` stays as it was.
+pub fn write(alloc: Global, certificate: &Certificate, out: &mut Vec<u8>) -> Result<(), AllocError>
+    ensures ok { OnOk result (out.new.items ≡ out.old.items ++ certificate_text certificate.now) }
+    ensures err { OnErr result (out.new.items ≡ out.old.items) }
+{
+    let text = text_of(alloc, certificate)?;
+    out.extend_from_slice(&text)
+}
+
+fn text_of(alloc: Global, certificate: &Certificate) -> Result<Vec<u8>, AllocError>
+    ensures { IfOk result (λ text. text.items ≡ certificate_text certificate.now) }
+{
+    let mut text = Vec::from_slice(alloc, b"convoy 1\n")?;
+    write_lines(alloc, certificate.scenario(), &mut text)?;
+    push_latency(&mut text, certificate.latency())?;
+    push_schedule(&mut text, certificate.delays())?;
+    push_nodes(&mut text, certificate.nodes())?;
+    text.extend_from_slice(b"end\n")?;
+    Ok(text)
+}
+
+fn push_latency(text: &mut Vec<u8>, latency: u32) -> Result<(), AllocError>
+    ensures { OnOk result (text.new.items ≡ text.old.items ++ ended (latency_line latency)) }
+{
+    text.extend_from_slice(b"latency ")?;
+    push_number(text, latency)?;
+    Ok(text.push(b'\n')?)
+}
+
+fn push_schedule(text: &mut Vec<u8>, delays: &[u16]) -> Result<(), AllocError>
+    ensures { OnOk result (text.new.items ≡ text.old.items ++ ended (schedule_line delays.now)) }
+{
+    text.extend_from_slice(b"schedule")?;
+    for delay in delays {
+        push_further_number(text, *delay)?;
+    }
+    Ok(text.push(b'\n')?)
+}
+
+fn push_nodes(text: &mut Vec<u8>, nodes: &[Node]) -> Result<(), AllocError>
+    ensures { OnOk result (text.new.items ≡ text.old.items ++ text_of (map node_line nodes.now)) }
+{
+    for node in nodes {
+        push_node(text, *node)?;
+    }
+    Ok(())
+}
+
+fn push_node(text: &mut Vec<u8>, node: Node) -> Result<(), AllocError>
+    ensures { OnOk result (text.new.items ≡ text.old.items ++ ended (node_line node)) }
+{
+    match node {
+        Node::Split { packet, at } => {
+            text.push(b's')?;
+            push_further_number(text, packet)?;
+            push_further_number(text, at)?;
+        }
+        Node::Bound => text.push(b'b')?,
+        Node::Point => text.push(b'p')?,
+    }
+    Ok(text.push(b'\n')?)
+}
+
+/// Appends a space and a number.
+fn push_further_number(text: &mut Vec<u8>, number: u16) -> Result<(), AllocError>
+    ensures { OnOk result (text.new.items ≡ text.old.items ++ spaced (decimal number)) }
+{
+    text.push(b' ')?;
+    push_number(text, u32::from(number))
+}
