@@ -1,0 +1,5 @@
+use Rattle.convoy_intervals.proofs.Enclosing.{Encloses-members}
+use Rattle.convoy_intervals.proofs.laws.members_are_enclosed.Goals as goal
+
+pub returns : goal.returns
+returns c plan ranges delays member = Encloses-members plan ranges delays member

@@ -1,0 +1,8 @@
+use Rattle.convoy_intervals.specs.Bounds.{tables_of, plain_bound}
+use Rattle.convoy_intervals.proofs.Enclosing.{Encloses-members}
+use Rattle.convoy_intervals.proofs.laws.plain_bound_holds.Goals as goal
+
+pub returns : goal.returns
+unfolding plain_bound
+returns c plan ranges delays lawful member =
+    c.plain_bound_over_tables.ensures plan delays (tables_of plan ranges) lawful (Encloses-members plan ranges delays member)

@@ -1,0 +1,18 @@
+use Rattle.std.proofs.Common.{ℕ, refl}
+use Rattle.convoy_packets.specs.declared.packet.Packet.TheVariants.{Propose}
+use Rattle.convoy_intervals.proofs.PacketDelays.{place_in_box, propose_at_end}
+use Rattle.convoy_intervals.proofs.times.proposals.Goals as goal
+
+pub range_of-least-requires : goal.range_of-least-requires
+range_of-least-requires c =
+    place_in_box _ _ _ (Propose c.args.message c.args.from c.args.to) _ c.requires.packets c.requires.inside c.propose.ensures
+
+pub returns-clause-least : goal.returns-clause-least
+returns-clause-least c =
+    let e = propose_at_end c.args.scenario.now c.args.table.now c.args.delay_box.now c.requires.packets (λ (r : ℕ × ℕ). r.0) refl c.args.message c.args.to c.args.from in
+    cc
+
+pub returns-clause-greatest : goal.returns-clause-greatest
+returns-clause-greatest c =
+    let e = propose_at_end c.args.scenario.now c.args.table.now c.args.delay_box.now c.requires.packets (λ (r : ℕ × ℕ). r.1) refl c.args.message c.args.to c.args.from in
+    cc

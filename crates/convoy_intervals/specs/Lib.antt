@@ -1,0 +1,13 @@
+pub use Rattle.convoy_scenario.specs.Memory
+pub use Rattle.convoy_scenario.specs.Plan
+pub use Rattle.convoy_scenario.specs.WellFormed
+pub use Rattle.convoy_packets.specs.Packets
+pub use Rattle.convoy_packets.specs.Assignment
+pub use Rattle.convoy_packets.specs.Table
+pub use Rattle.convoy_sim.specs.Times
+pub use Rattle.convoy_sim.specs.Moments
+pub use Rattle.convoy_sim.specs.Stamps
+pub use Rattle.convoy_sim.specs.Delivery
+pub mod Boxes
+pub mod Bounds
+pub mod Laws

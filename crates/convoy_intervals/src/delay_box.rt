@@ -1,0 +1,126 @@
+ghost use Rattle.std.specs.Prelude.{◌≡◌, ◌≤◌, ◌<◌, ◌↔◌, length, IfOk, IsTrue, MatchResult};
+ghost use Rattle.convoy_scenario.specs.Plan.{Plan};
+ghost use Rattle.convoy_packets.specs.Table.{table_of};
+ghost use Rattle.convoy_intervals.specs.Boxes.{AreRanges, IsBox, IsIn, IsPoint};
+ghost use Rattle.convoy_intervals.specs.Boxes.{range_at, lower_half, upper_half, greatest_of};
+
+use convoy_packets::{Delays, PacketTable};
+use std::alloc::{AllocError, Global};
+use std::marker::Model;
+
+/// A range of delays for each packet of a scenario, by the packet's place in the packet list. A
+/// range is a least and a greatest delay, in ticks, and both belong to it. A schedule is a member
+/// of the box if each of its delays lies in the packet's range.
+#[derive(Debug, Drop)]
+pub struct DelayBox {
+    ranges: Vec<(u16, u16)>,
+}
+
+impl Model for DelayBox {
+    ghost use Rattle.std.specs.Prelude.{ℕ, List};
+    ghost use Rattle.convoy_intervals.specs.Boxes.{AreRanges};
+
+    ghost Value = { List (ℕ × ℕ) };
+
+    ghost view = { λ b. b.ranges.items };
+
+    ghost invariant = { λ b. AreRanges b.ranges.items };
+}
+
+impl DelayBox {
+    /// The box in which each packet has its whole range: its members are the assignments of the
+    /// table's scenario.
+    pub fn root(alloc: Global, table: &PacketTable) -> Result<DelayBox, AllocError>
+        ensures value { IfOk result (λ root. root ≡ table.now.ranges) }
+        ensures is_box { (plan : Plan) → table.now ≡ table_of plan
+            → IfOk result (λ root. IsBox plan root) }
+    {
+        Ok(DelayBox {
+            ranges: table.ranges().to_vec(alloc)?,
+        })
+    }
+
+    /// How many packets there are, each with a range.
+    pub fn len(&self) -> usize
+        ensures value { result ≡ length self.now }
+        ensures lawful { AreRanges self.now }
+    {
+        self.ranges.len()
+    }
+
+    /// Whether there is no packet at all.
+    pub fn is_empty(&self) -> bool
+        ensures { IsTrue result ↔ (length self.now ≡ 0) }
+    {
+        self.ranges.is_empty()
+    }
+
+    /// The least and the greatest delay of a packet, in ticks.
+    pub fn range(&self, packet: usize) -> (u16, u16)
+        requires { packet < length self.now }
+        ensures value { result ≡ range_at self.now packet }
+        ensures ordered { result.0 ≤ result.1 }
+    {
+        self.ranges[packet]
+    }
+
+    /// Whether each packet has one delay left, so that the box has one member.
+    pub fn is_point(&self) -> bool
+        ensures { IsTrue result ↔ IsPoint self.now }
+    {
+        self.ranges.iter().all(|(least, most)| least == most)
+    }
+
+    /// The member of the box in which each packet takes the greatest time of its range.
+    pub fn greatest(&self, alloc: Global) -> Result<Delays, AllocError>
+        ensures value { IfOk result (λ delays. delays ≡ greatest_of self.now) }
+        ensures member { IfOk result (λ delays. IsIn self.now delays) }
+    {
+        let delays = greatest_delays(alloc, &self.ranges)?;
+        Ok(Delays::from_vec(delays))
+    }
+
+    /// A copy of the box.
+    pub fn copy(&self) -> Result<DelayBox, AllocError>
+        ensures { IfOk result (λ b. b ≡ self.now) }
+    {
+        Ok(DelayBox {
+            ranges: self.ranges.clone()?,
+        })
+    }
+
+    /// Parts the box at a packet: into the box in which its delay is at most `at` ticks, and the
+    /// box in which it is more. Where memory is refused, the box comes back as it was.
+    pub fn halves(
+        self,
+        packet: usize,
+        at: u16,
+    ) -> Result<(DelayBox, DelayBox), (DelayBox, AllocError)>
+        requires place { packet < length self }
+        requires low { (range_at self packet).0 ≤ at }
+        requires high { at < (range_at self packet).1 }
+        ensures value { MatchResult result
+            (λ halves. halves ≡ (lower_half self packet at, upper_half self packet at))
+            (λ refused. refused.0 ≡ self) }
+        ensures are_boxes { (plan : Plan) → IsBox plan self
+            → IfOk result (λ halves. IsBox plan halves.0 × IsBox plan halves.1) }
+    {
+        let (least, most) = self.range(packet);
+        match self.copy() {
+            Ok(mut upper) => {
+                let mut lower = self;
+                lower.ranges[packet] = (least, at);
+                upper.ranges[packet] = (at + 1, most);
+                Ok((lower, upper))
+            }
+            Err(error) => Err((self, error)),
+        }
+    }
+}
+
+/// The greatest delay of each range.
+fn greatest_delays(alloc: Global, ranges: &[(u16, u16)]) -> Result<Vec<u16>, AllocError>
+    ensures { IfOk result (λ delays. delays.items ≡ greatest_of ranges.now) }
+{
+    ranges.iter().map(|range| range.1).collect(alloc)
+}

@@ -1,0 +1,71 @@
+//! The laws of boxes and bounds. Each is the one clause of a function that does nothing; a caller
+//! that needs the law calls the function.
+
+ghost use Rattle.convoy_intervals.specs.Laws.{RootIsBox, RootHoldsAll, MembersAreAssignments};
+ghost use Rattle.convoy_intervals.specs.Laws.{HalvesAreBoxes, HalvesPart};
+ghost use Rattle.convoy_intervals.specs.Laws.{GreatestIsMember, LeastIsMember, PointHasOneMember};
+ghost use Rattle.convoy_intervals.specs.Laws.{MembersAreEnclosed};
+ghost use Rattle.convoy_intervals.specs.Laws.{PlainBoundOverTables, PlainBoundHolds};
+
+use convoy_sim::laws::delivery_bound;
+
+/// Of a well-formed scenario the root is a box.
+pub fn root_is_box()
+    ensures { RootIsBox }
+{}
+
+/// The members of the root box are the assignments.
+pub fn root_holds_all()
+    ensures { RootHoldsAll }
+{}
+
+/// A member of a box is an assignment.
+pub fn members_are_assignments()
+    ensures { MembersAreAssignments }
+{}
+
+/// The halves of a box at a packet are boxes.
+pub fn halves_are_boxes()
+    ensures { HalvesAreBoxes }
+{}
+
+/// The halves of a box at a packet have its members, each in exactly one of them.
+pub fn halves_part()
+    ensures { HalvesPart }
+{}
+
+/// The greatest delays of a box are a member of it.
+pub fn greatest_is_member()
+    ensures { GreatestIsMember }
+{}
+
+/// The least delays of a box are a member of it.
+pub fn least_is_member()
+    ensures { LeastIsMember }
+{}
+
+/// A point has one member at most.
+pub fn point_has_one_member()
+    ensures { PointHasOneMember }
+{}
+
+/// With its least and with its greatest delays, a box encloses arrival and settling under each of
+/// its members.
+pub fn members_are_enclosed()
+    ensures { MembersAreEnclosed }
+{}
+
+/// No schedule has a greater latency than the plain bound over tables that enclose arrival and
+/// settling under it.
+pub fn plain_bound_over_tables()
+    ensures { PlainBoundOverTables }
+{
+    delivery_bound();
+}
+
+/// No member of a box has a greater latency than the box's plain bound.
+pub fn plain_bound_holds()
+    ensures { PlainBoundHolds }
+{
+    plain_bound_over_tables();
+}

@@ -1,0 +1,144 @@
+ghost use Rattle.std.specs.Prelude.{◌≡◌, ◌<◌, length, IfOk};
+ghost use Rattle.convoy_scenario.specs.Plan.{Plan};
+ghost use Rattle.convoy_packets.specs.Table.{table_of};
+ghost use Rattle.convoy_intervals.specs.Boxes.{IsBox};
+
+use super::{DelayBox, bound};
+use convoy_packets::PacketTable;
+use convoy_scenario::{Scenario, read_toml};
+use std::alloc::{AllocError, Global};
+use std::process::Abort;
+use std::test::Fail;
+
+/// The base scenario of docs/PROTOCOL.md, with its groups in that order and y issued at that tick.
+fn base(alloc: Global, groups: &str, at: u32) -> Result<Scenario, Fail> {
+    let text = format!(in alloc;
+        "delay = 3
+groups = [{groups}]
+
+[[multicast]]
+name = \"x\"
+to = [\"b\"]
+at = 0
+
+[[multicast]]
+name = \"t\"
+to = [\"a\", \"b\"]
+at = 0
+
+[[multicast]]
+name = \"y\"
+from = \"a\"
+to = [\"a\", \"b\"]
+at = {at}
+
+[target]
+message = \"t\"
+group = \"a\"
+"
+    )?;
+    Ok(read_toml(alloc, text.as_bytes())?.scenario)
+}
+
+/// The bound of the whole box.
+fn root_bound(alloc: Global, scenario: &Scenario) -> Result<u32, Fail> {
+    let table = PacketTable::of(alloc, scenario)?;
+    let root = DelayBox::root(alloc, &table)?;
+    Ok(bound(scenario, &table, &root))
+}
+
+/// The bounds of the halves of the whole box at a packet.
+fn half_bounds(
+    rt: &impl Abort,
+    alloc: Global,
+    scenario: &Scenario,
+    packet: usize,
+    at: u16,
+) -> Result<(u32, u32), Fail> {
+    let table = PacketTable::of(alloc, scenario)?;
+    let root = DelayBox::root(alloc, &table)?;
+    assert!(rt; packet < root.len());
+    let (least, most) = root.range(packet);
+    assert!(rt; least <= at && at < most);
+    match root.halves(packet, at) {
+        Ok((lower, upper)) => {
+            Ok((
+                bound(scenario, &table, &lower),
+                bound(scenario, &table, &upper),
+            ))
+        }
+        Err((_, error)) => Err(error.into()),
+    }
+}
+
+#[test]
+fn bounds_of_the_base(rt: HostRuntime) -> Result<(), Fail> {
+    let alloc = rt.alloc();
+    for (at, want) in [(5, 11), (6, 12), (7, 6)] {
+        let scenario = base(alloc, "\"a\", \"b\"", at)?;
+        assert_eq!(rt; root_bound(alloc, &scenario)?, want, "y at {at}");
+    }
+    Ok(())
+}
+
+#[test]
+fn bounds_of_halves(rt: HostRuntime) -> Result<(), Fail> {
+    let alloc = rt.alloc();
+    let scenario = base(alloc, "\"a\", \"b\"", 6)?;
+    for (packet, at, lower, upper) in [(4, 1, 4, 12), (4, 2, 5, 12), (7, 1, 10, 12)] {
+        let bounds = half_bounds(&rt, alloc, &scenario, packet, at)?;
+        assert_eq!(rt; bounds, (lower, upper), "packet {packet} at {at}");
+    }
+    Ok(())
+}
+
+/// The box with only the greatest delay of that packet.
+fn at_greatest(delay_box: DelayBox, packet: usize) -> Result<DelayBox, AllocError>
+    requires { packet < length delay_box }
+    ensures same_length { IfOk result (λ b. length b ≡ length delay_box) }
+    ensures is_box { IfOk result (λ b. (plan : Plan) → IsBox plan delay_box → IsBox plan b) }
+{
+    let (least, most) = delay_box.range(packet);
+    if least == most {
+        return Ok(delay_box);
+    }
+    match delay_box.halves(packet, most - 1) {
+        Ok((_, upper)) => Ok(upper),
+        Err((_, error)) => Err(error),
+    }
+}
+
+/// The box with only the greatest delay of each packet.
+fn greatest_point(
+    alloc: Global,
+    scenario: &Scenario,
+    table: &PacketTable,
+) -> Result<DelayBox, AllocError>
+    requires { table.now ≡ table_of scenario.now }
+    ensures { IfOk result (λ b. IsBox scenario.now b) }
+{
+    let mut point = DelayBox::root(alloc, table)?;
+    for packet in 0..point.len() {
+        point = at_greatest(point, packet)?;
+    }
+    Ok(point)
+}
+
+#[test]
+fn bound_of_a_point(rt: HostRuntime) -> Result<(), Fail> {
+    let alloc = rt.alloc();
+    let scenario = base(alloc, "\"b\", \"a\"", 6)?;
+    let table = PacketTable::of(alloc, &scenario)?;
+    let point = greatest_point(alloc, &scenario, &table)?;
+    assert!(rt; point.is_point());
+    assert!(rt; !DelayBox::root(alloc, &table)?.is_point());
+    assert_eq!(rt; bound(&scenario, &table, &point), 12);
+    let copy = point.copy()?;
+    assert!(rt; copy.is_point());
+    let delays = copy.greatest(alloc)?;
+    assert_eq!(rt; delays.len(), 8);
+    for packet in 0..8 {
+        assert_eq!(rt; delays.delay(packet), 3, "packet {packet}");
+    }
+    Ok(())
+}

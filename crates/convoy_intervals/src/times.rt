@@ -1,0 +1,87 @@
+ghost use Rattle.std.specs.Prelude.{◌≡◌, ℕ, ◌+◌, ◌≤◌, ◌<◌, length, IfSome};
+ghost use Rattle.std.specs.Option.{option_map_or};
+ghost use Rattle.convoy_scenario.specs.Plan.{message_at};
+ghost use Rattle.convoy_packets.specs.Table.{least_of, table_of};
+ghost use Rattle.convoy_sim.specs.Times.{arrive, settle, propose_arrive};
+ghost use Rattle.convoy_intervals.specs.Boxes.{range_at, greatest_of, IsBox};
+
+use super::delay_box::DelayBox;
+use convoy_packets::PacketTable;
+use convoy_scenario::{GREATEST_AT, Scenario};
+
+/// The range of the packet at that place; what is no packet takes no time.
+fn range_of(delay_box: &DelayBox, place: Option<u16>) -> (u16, u16)
+    requires { IfSome place (λ i. i < length delay_box.now) }
+    ensures { result ≡ option_map_or (range_at delay_box.now) place (0, 0) }
+{
+    place.map_or((0, 0), |packet| delay_box.range(usize::from(packet)))
+}
+
+/// The least and the greatest tick at which a message comes to a group, over the members of a box.
+pub fn arrivals(
+    scenario: &Scenario,
+    table: &PacketTable,
+    delay_box: &DelayBox,
+    message: usize,
+    group: usize,
+) -> (u32, u32)
+    requires known { message < length scenario.now.multicasts }
+    requires packets { table.now ≡ table_of scenario.now }
+    requires inside { IsBox scenario.now delay_box.now }
+    ensures least { result.0 ≡ arrive scenario.now (least_of delay_box.now) message group }
+    ensures greatest { result.1 ≡ arrive scenario.now (greatest_of delay_box.now) message group }
+    ensures fits { (result.0 ≤ GREATEST_AT + u16.MAX) × (result.1 ≤ GREATEST_AT + u16.MAX) }
+{
+    let (least, most) = range_of(delay_box, table.multicast_to(message, group));
+    let issued = scenario.issue_tick(message);
+    (issued + u32::from(least), issued + u32::from(most))
+}
+
+/// The least and the greatest tick at which the group `to` has the stamp that the group `from`
+/// proposes for a message, over the members of a box.
+fn proposals(
+    scenario: &Scenario,
+    table: &PacketTable,
+    delay_box: &DelayBox,
+    message: usize,
+    from: usize,
+    to: usize,
+) -> (u32, u32)
+    requires known { message < length scenario.now.multicasts }
+    requires packets { table.now ≡ table_of scenario.now }
+    requires inside { IsBox scenario.now delay_box.now }
+    ensures least { result.0
+        ≡ propose_arrive scenario.now (least_of delay_box.now) message to from }
+    ensures greatest { result.1
+        ≡ propose_arrive scenario.now (greatest_of delay_box.now) message to from }
+{
+    let (first, last) = arrivals(scenario, table, delay_box, message, from);
+    let (least, most) = range_of(delay_box, table.propose(message, from, to));
+    (first + u32::from(least), last + u32::from(most))
+}
+
+/// The least and the greatest tick at which a message is committed at a group, over the members of
+/// a box.
+#[tactic(auto, unfolding(convoy_sim::specs::Times::settle))]
+pub fn settlings(
+    scenario: &Scenario,
+    table: &PacketTable,
+    delay_box: &DelayBox,
+    message: usize,
+    group: usize,
+) -> (u32, u32)
+    requires known { message < length scenario.now.multicasts }
+    requires packets { table.now ≡ table_of scenario.now }
+    requires inside { IsBox scenario.now delay_box.now }
+    ensures least { result.0 ≡ settle scenario.now (least_of delay_box.now) message group }
+    ensures greatest { result.1 ≡ settle scenario.now (greatest_of delay_box.now) message group }
+{
+    let mut least = 0;
+    let mut most = 0;
+    for from in scenario.destinations(message) {
+        let (first, last) = proposals(scenario, table, delay_box, message, *from, group);
+        least = least.max(first);
+        most = most.max(last);
+    }
+    (least, most)
+}
