@@ -1,0 +1,7 @@
+use Rattle.std.proofs.Common.{rules}
+use Rattle.convoy_timeline.proofs.Truth.{text_told-true}
+use Rattle.convoy_timeline.proofs.timeline.write_timeline.Goals as goal
+
+pub returns-clause-ok : goal.returns-clause-ok
+returns-clause-ok c = λ delays story.
+    rw (← text_told-true c.args.scenario.now delays c.args.run.now story) (search rules)

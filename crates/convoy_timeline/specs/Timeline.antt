@@ -1,0 +1,81 @@
+-- The timeline of a run: what happens at each group, tick by tick, as lines of text.
+use Rattle.std.specs.Prelude.{ℕ, ◌==◌, nat_lt, Bool, ◌&&◌, ◌||◌, List, [], ◌∷◌, ◌++◌, if◌then◌else◌, codes, decimal}
+use Rattle.std.specs.List.{fold, flat_map}
+use Rattle.convoy_scenario.specs.Plan.{Plan, message_at, message_numbers, group_name_at}
+use Rattle.convoy_sim.specs.declared.timestamp.Timestamp.{Timestamp}
+use Rattle.convoy_sim.specs.Times.{arrive, settle}
+use Rattle.convoy_sim.specs.Stamps.{is_less, local_stamp, final_stamp}
+use Rattle.convoy_sim.specs.Delivery.{deliver}
+use Rattle.convoy_timeline.specs.declared.entry.Entry.{Entry}
+use Rattle.convoy_timeline.specs.declared.entry.EntryKind.{EntryKind}
+use Rattle.convoy_timeline.specs.declared.entry.EntryKind.TheVariants.{Propose, Commit, Deliver}
+
+-- inside a tick proposals come first, and deliveries last
+abbrev pub rank : EntryKind → ℕ
+rank Propose = 0
+rank Commit = 1
+rank Deliver = 2
+
+-- the word that stands for a kind
+abbrev pub word_of : EntryKind → List ℕ
+word_of Propose = codes "propose"
+word_of Commit = codes "commit"
+word_of Deliver = codes "deliver"
+
+abbrev pub is_before_by_message : Entry → Entry → Bool
+is_before_by_message a b = nat_lt a.message b.message || ((a.message == b.message) && nat_lt a.group b.group)
+
+abbrev pub is_before_by_stamp : Entry → Entry → Bool
+is_before_by_stamp a b = nat_lt a.group b.group || ((a.group == b.group) && is_less a.stamp b.stamp)
+
+-- of two entries of one tick and of that kind: deliveries by group and final stamp, all others by message and group
+abbrev pub is_before_in_kind : EntryKind → Entry → Entry → Bool
+is_before_in_kind Propose a b = is_before_by_message a b
+is_before_in_kind Commit a b = is_before_by_message a b
+is_before_in_kind Deliver a b = is_before_by_stamp a b
+
+-- of two entries of one tick: by kind, and then as in one kind
+abbrev pub is_before_in_tick : Entry → Entry → Bool
+is_before_in_tick a b =
+    nat_lt (rank a.kind) (rank b.kind) || ((rank a.kind == rank b.kind) && is_before_in_kind a.kind a b)
+
+-- entry a is before entry b: by tick, and then as in one tick
+abbrev pub is_before : Entry → Entry → Bool
+is_before a b = nat_lt a.tick b.tick || ((a.tick == b.tick) && is_before_in_tick a b)
+
+-- the entries with one more, before the first that it is before
+abbrev pub insert_entry : List Entry → Entry → List Entry
+insert_entry [] x = x ∷ []
+insert_entry (y ∷ ys) x = if is_before x y then x ∷ y ∷ ys else y ∷ insert_entry ys x
+
+-- what happens to message m at group g, with that stamp, at that tick
+abbrev pub entry_of : EntryKind → ℕ → ℕ → Timestamp → ℕ → Entry
+entry_of kind m g stamp tick = record { tick = tick; kind = kind; message = m; group = g; stamp = stamp }
+
+-- the entries of message m at group g: it is proposed with its local stamp, and committed and delivered with the final one
+abbrev pub entries_at : Plan → List ℕ → ℕ → ℕ → List Entry
+entries_at plan delays m g =
+    entry_of Propose m g (local_stamp plan delays m g) (arrive plan delays m g)
+    ∷ entry_of Commit m g (final_stamp plan delays m) (settle plan delays m g)
+    ∷ entry_of Deliver m g (final_stamp plan delays m) (deliver plan delays m g)
+    ∷ []
+
+-- the entries of all messages at their destinations, in no order yet
+abbrev pub entries_of : Plan → List ℕ → List Entry
+entries_of plan delays =
+    flat_map (λ m. flat_map (entries_at plan delays m) (message_at plan m).destinations) (message_numbers plan)
+
+-- the line of an entry: tick, group, kind, message and stamp, and byte 10
+unfoldable pub line_of : Plan → Entry → List ℕ
+line_of plan entry =
+    decimal entry.tick
+    ++ 32 ∷ (group_name_at plan entry.group
+    ++ 32 ∷ (word_of entry.kind
+    ++ 32 ∷ ((message_at plan entry.message).name
+    ++ 32 ∷ (decimal entry.stamp.time
+    ++ 46 ∷ (group_name_at plan entry.stamp.group
+    ++ 10 ∷ [])))))
+
+-- the timeline of the run that follows from a schedule of delays: the lines of its entries in their order
+unfoldable pub timeline_text : Plan → List ℕ → List ℕ
+timeline_text plan delays = flat_map (line_of plan) (fold insert_entry [] (entries_of plan delays))

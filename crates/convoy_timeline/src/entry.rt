@@ -1,0 +1,90 @@
+use convoy_sim::Timestamp;
+
+/// What an entry tells: inside a tick, proposals come first, and deliveries last.
+#[derive(Clone, Copy, Debug, PartialEq, Eq)]
+pub enum EntryKind {
+    /// The message comes to the group, which proposes a local stamp for it.
+    Propose,
+    /// The group commits the message.
+    Commit,
+    /// The group delivers the message.
+    Deliver,
+}
+
+impl EntryKind {
+    ghost use Rattle.std.specs.Prelude.{◌≡◌};
+    ghost use Rattle.convoy_timeline.specs.Timeline.{rank, word_of};
+
+    /// The place of the kind inside a tick.
+    fn rank(self) -> u8
+        ensures { result ≡ rank self }
+    {
+        match self {
+            EntryKind::Propose => 0,
+            EntryKind::Commit => 1,
+            EntryKind::Deliver => 2,
+        }
+    }
+
+    /// The word that stands for the kind in a line.
+    pub fn word(self) -> &'static str
+        ensures { result.now ≡ word_of self }
+    {
+        match self {
+            EntryKind::Propose => "propose",
+            EntryKind::Commit => "commit",
+            EntryKind::Deliver => "deliver",
+        }
+    }
+}
+
+/// What happens to a message at a group, at that tick and with that stamp: the local one where it is
+/// proposed, else the final one.
+#[derive(Clone, Copy, Debug, PartialEq, Eq)]
+pub struct Entry {
+    /// In ticks.
+    pub tick: u32,
+    pub kind: EntryKind,
+    /// The number of the message.
+    pub message: usize,
+    /// The number of the group.
+    pub group: usize,
+    pub stamp: Timestamp,
+}
+
+impl Entry {
+    ghost use Rattle.std.specs.Prelude.{◌≡◌};
+    ghost use Rattle.convoy_timeline.specs.Timeline.{is_before, is_before_in_tick, is_before_in_kind};
+
+    /// This entry is before the other: by tick, and then as in one tick.
+    pub fn is_before(&self, other: &Entry) -> bool
+        ensures { result ≡ is_before self.now other.now }
+    {
+        self.tick < other.tick || (self.tick == other.tick && self.is_before_in_tick(other))
+    }
+
+    /// In one tick: by kind, and then as among entries of one kind.
+    fn is_before_in_tick(&self, other: &Entry) -> bool
+        ensures { result ≡ is_before_in_tick self.now other.now }
+    {
+        let (rank, other_rank) = (self.kind.rank(), other.kind.rank());
+        rank < other_rank || (rank == other_rank && self.is_before_in_kind(other))
+    }
+
+    /// Among entries of this kind: deliveries by group and final stamp, all others by message and
+    /// group.
+    fn is_before_in_kind(&self, other: &Entry) -> bool
+        ensures { result ≡ is_before_in_kind self.now.kind self.now other.now }
+    {
+        match self.kind {
+            EntryKind::Propose | EntryKind::Commit => {
+                self.message < other.message
+                    || (self.message == other.message && self.group < other.group)
+            }
+            EntryKind::Deliver => {
+                self.group < other.group
+                    || (self.group == other.group && self.stamp.is_less(other.stamp))
+            }
+        }
+    }
+}
