@@ -1,0 +1,69 @@
+-- The number and the text of each fault, and its line.
+use Rattle.std.specs.Prelude.{ℕ, List, [], ◌∷◌, ◌++◌, codes, decimal}
+use Rattle.convoy_packets.specs.declared.fault.ListFault.{ListFault}
+use Rattle.convoy_packets.specs.declared.fault.ListFault.TheVariants as lists
+use Rattle.convoy_scenario.specs.Shape.{word_of}
+use Rattle.convoy_scenario.specs.declared.fault.Limit.{Limit}
+use Rattle.convoy_scenario.specs.declared.fault.Limit.TheVariants as limits
+use Rattle.convoy_scenario.specs.declared.fault.ScenarioFault.{ScenarioFault}
+use Rattle.convoy_scenario.specs.declared.fault.ScenarioFault.TheVariants as scenario
+use Rattle.convoy_engine.specs.declared.fault.Ending.{Ending}
+use Rattle.convoy_engine.specs.declared.fault.Ending.TheVariants as endings
+use Rattle.convoy_engine.specs.declared.fault.Fault.{Fault}
+use Rattle.convoy_engine.specs.declared.fault.Fault.TheVariants.{NotToml, Shape, OverLimit, BadName, DoubleName, UnknownGroup, NoDestination, DoubleDestination, UnknownTarget, TargetNotAddressed, ScheduleLength, DelayOutOfRange, Memory, Read, Write, JobTooLong, ReadTurns}
+
+-- a limit's word
+abbrev pub limit_word : Limit → List ℕ
+limit_word limits.Delay = codes "delay"
+limit_word limits.Groups = codes "groups"
+limit_word limits.Multicasts = codes "multicasts"
+limit_word limits.At = codes "at"
+
+-- a fault's number and its text
+abbrev pub row_of : Fault → ℕ × List ℕ
+row_of NotToml = (1, codes "not TOML")
+row_of (Shape key) = (2, codes "shape of " ++ word_of key)
+row_of (OverLimit limit) = (3, codes "over limit " ++ limit_word limit)
+row_of BadName = (4, codes "bad name")
+row_of DoubleName = (5, codes "double name")
+row_of UnknownGroup = (6, codes "unknown group")
+row_of NoDestination = (7, codes "no destination")
+row_of DoubleDestination = (8, codes "double destination")
+row_of UnknownTarget = (9, codes "unknown target")
+row_of TargetNotAddressed = (10, codes "target not addressed")
+row_of ScheduleLength = (12, codes "schedule length")
+row_of (DelayOutOfRange packet) = (13, codes "delay out of range " ++ decimal packet)
+row_of Memory = (11, codes "out of memory")
+row_of Read = (40, codes "read failed")
+row_of Write = (41, codes "write failed")
+row_of JobTooLong = (42, codes "job too long")
+row_of ReadTurns = (44, codes "too many reads")
+
+-- what ends a fault's text
+abbrev pub ending_text : Ending → List ℕ
+ending_text (endings.Word word) = word.now
+ending_text (endings.Number value) = decimal value
+
+-- the line that tells a fault
+unfoldable pub fault_line_of : Fault → List ℕ
+fault_line_of fault = codes "fault " ++ (decimal (row_of fault).0 ++ 32 ∷ ((row_of fault).1 ++ 10 ∷ []))
+
+-- a fault of the scenario, as the engine tells it
+abbrev pub told_of : ScenarioFault → Fault
+told_of scenario.NotToml = NotToml
+told_of (scenario.Shape key) = Shape key
+told_of (scenario.OverLimit limit) = OverLimit limit
+told_of scenario.BadName = BadName
+told_of scenario.DoubleName = DoubleName
+told_of scenario.UnknownGroup = UnknownGroup
+told_of scenario.NoDestination = NoDestination
+told_of scenario.DoubleDestination = DoubleDestination
+told_of scenario.UnknownTarget = UnknownTarget
+told_of scenario.TargetNotAddressed = TargetNotAddressed
+told_of scenario.Memory = Memory
+
+-- a fault of a schedule that was given as a list, as the engine tells it
+abbrev pub told_of_list : ListFault → Fault
+told_of_list lists.Length = ScheduleLength
+told_of_list (lists.Range packet) = DelayOutOfRange packet
+told_of_list lists.Memory = Memory

@@ -1,0 +1,26 @@
+-- Laws of runs.
+use Rattle.std.specs.Prelude.{◌≡◌, ℕ, List, Result, Ok, Err}
+use Rattle.convoy_engine.specs.declared.done.Done.{Done}
+use Rattle.convoy_engine.specs.declared.fault.Fault.{Fault}
+use Rattle.convoy_engine.specs.declared.fault.Fault.TheVariants.{Read, Write}
+use Rattle.convoy_engine.specs.Devices.{Answer, failures}
+use Rattle.convoy_engine.specs.Runs.{RunsTo}
+
+-- how often a result says that the source failed
+abbrev pub told_reads : Result Done Fault → ℕ
+told_reads (Err Read) = 1
+told_reads (Err other) = 0
+told_reads (Ok done) = 0
+
+-- how often a result says that the sink failed
+abbrev pub told_writes : Result Done Fault → ℕ
+told_writes (Err Write) = 1
+told_writes (Err other) = 0
+told_writes (Ok done) = 0
+
+-- In runs of a command that answers so, each failure of a device is told, and no failure is told that was none.
+abbrev pub FailuresAreTold : (List ℕ → Result (List ℕ) Fault) → Type 0
+FailuresAreTold answer =
+    (turns : ℕ) (reads writes : List Answer) (result : Result Done Fault) →
+    RunsTo answer turns reads writes result →
+    (failures reads ≡ told_reads result) × (failures writes ≡ told_writes result)

@@ -1,0 +1,48 @@
+-- What a run of a command does, from the bytes that come to the bytes that go out.
+use Rattle.std.specs.Prelude.{◌≡◌, ◌⊎◌, ℕ, ◌≤◌, List, [], length, Result, Ok, Err}
+use Rattle.std.specs.List.{FoldsTo}
+use Rattle.convoy_engine.specs.declared.done.Done.{Done}
+use Rattle.convoy_engine.specs.declared.fault.Fault.{Fault}
+use Rattle.convoy_engine.specs.declared.fault.Fault.TheVariants.{Memory, Write}
+use Rattle.convoy_engine.specs.Devices.{Answer}
+use Rattle.convoy_engine.specs.Reads.{ReadsText, StopsReading}
+use Rattle.convoy_engine.specs.Writes.{WritesAll, FailsWithin}
+
+-- the reads gave a text whole, and this is what is to be written for it
+pub record Answers (answer : List ℕ → Result (List ℕ) Fault) (reads : List Answer) (out : List ℕ) : Type 0 where
+  pub text : List ℕ
+  pub read : ReadsText reads text
+  pub answered : answer text ≡ Ok out
+
+-- the reads gave a text whole, and this is its fault
+pub record Refuses (answer : List ℕ → Result (List ℕ) Fault) (reads : List Answer) (fault : Fault) : Type 0 where
+  pub text : List ℕ
+  pub read : ReadsText reads text
+  pub refused : answer text ≡ Err fault
+
+-- What a run gives, by what its reads and its writes answered, where at most so many reads are made.
+abbrev pub RunsTo : (List ℕ → Result (List ℕ) Fault) → ℕ → List Answer → List Answer → Result Done Fault → Type 0
+-- all that is to be written went out
+RunsTo answer turns reads writes (Ok done) =
+    (out : List ℕ) × Answers answer reads out × WritesAll out writes
+-- a front of it went out, and then the sink failed
+RunsTo answer turns reads writes (Err Write) =
+    (out : List ℕ) × Answers answer reads out × FailsWithin out writes
+-- memory was refused, in reading or after the text was read, and nothing was written
+RunsTo answer turns reads writes (Err Memory) =
+    (StopsReading turns reads Memory ⊎ ((text : List ℕ) × ReadsText reads text)) × (writes ≡ [])
+-- reading stopped, or the text has a fault, and nothing was written
+RunsTo answer turns reads writes (Err fault) =
+    (StopsReading turns reads fault ⊎ Refuses answer reads fault) × (writes ≡ [])
+
+-- Over a source and a sink that may answer so, from their old states to their new ones, there is
+-- a run that gives this result.
+pub record IsRun {S K : Type 0} (answer : List ℕ → Result (List ℕ) Fault) (turns : ℕ)
+    (may_read : S → Answer → S → Type 0) (may_write : K → Answer → K → Type 0)
+    (source new_source : S) (sink new_sink : K) (result : Result Done Fault) : Type 0 where
+  pub reads : List Answer
+  pub writes : List Answer
+  pub read : FoldsTo may_read source reads new_source
+  pub few : length reads ≤ turns
+  pub wrote : FoldsTo may_write sink writes new_sink
+  pub outcome : RunsTo answer turns reads writes result

@@ -1,0 +1,15 @@
+-- What the command `simulate` writes.
+use Rattle.std.specs.Prelude.{ℕ, List, ◌++◌, Result}
+use Rattle.std.specs.Result.{result_map_both}
+use Rattle.convoy_sim.specs.Delivery.{latency_of}
+use Rattle.convoy_engine.specs.declared.fault.Fault.{Fault}
+use Rattle.convoy_engine.specs.Cases.{Case, case_of_text}
+use Rattle.convoy_engine.specs.Lines.{latency_line, schedule_line}
+
+-- the latency of the case's run, and its schedule
+abbrev pub simulated_text : Case → List ℕ
+simulated_text case = latency_line (latency_of case.scenario case.delays) ++ schedule_line case.delays
+
+-- What is written for a text: that of its case, or else the first fault.
+unfoldable pub simulate_text : List ℕ → Result (List ℕ) Fault
+simulate_text text = result_map_both simulated_text (λ fault. fault) (case_of_text text)

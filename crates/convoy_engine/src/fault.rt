@@ -1,0 +1,170 @@
+ghost use Rattle.std.specs.Prelude.{◌≡◌, ◌++◌, OnOk, OnErr, IfOk, string_bytes};
+ghost use Rattle.convoy_engine.specs.Faults.{limit_word, ending_text, row_of, fault_line_of};
+
+use convoy_packets::ListFault;
+use convoy_scenario::{Key, Limit, ScenarioFault};
+use std::alloc::{AllocError, Global};
+use thiserror::Error;
+
+/// Why an engine gave no answer. Each has a number and a line of its own (docs/FORMATS.md, "Faults");
+/// the texts of `Display` are for callers of the library alone.
+#[derive(Debug, Drop, Error)]
+pub enum Fault {
+    #[error("the text is not TOML")]
+    NotToml,
+    #[error("a key is absent, unknown or of another kind: {0:?}")]
+    Shape(Key),
+    #[error("a number is over its limit: {0:?}")]
+    OverLimit(Limit),
+    #[error("a name is not a name")]
+    BadName,
+    #[error("a name is there twice")]
+    DoubleName,
+    #[error("a group is not known")]
+    UnknownGroup,
+    #[error("a message has no destination")]
+    NoDestination,
+    #[error("a message has a destination twice")]
+    DoubleDestination,
+    #[error("the target's message is not known")]
+    UnknownTarget,
+    #[error("the target's message does not go to its group")]
+    TargetNotAddressed,
+    /// The schedule has not one delay for each packet.
+    #[error("the schedule has not one delay for each packet")]
+    ScheduleLength,
+    /// The schedule gives a packet a delay that it may not take: the first such packet, by its place
+    /// in the packet order.
+    #[error("the schedule gives a packet a delay that it may not take: {0}")]
+    DelayOutOfRange(usize),
+    /// Memory was refused, which says nothing of the input.
+    #[error("out of memory")]
+    Memory,
+    /// The source failed in its last read.
+    #[error("the input could not be read")]
+    Read,
+    /// The sink failed in its last write, or took none of the bytes offered.
+    #[error("the output could not be written")]
+    Write,
+    /// The input has more than `LONGEST_JOB` bytes.
+    #[error("the input is too long")]
+    JobTooLong,
+    /// As many reads as the caller allows were made, and the end of the input was not seen.
+    #[error("the input did not end within the reads that are allowed")]
+    ReadTurns,
+}
+
+impl From<AllocError> for Fault {
+    ghost use Rattle.std.specs.Prelude.{◌≡◌};
+    ghost use Rattle.convoy_engine.specs.declared.fault.Fault.TheVariants.{Memory};
+
+    ghost from_gives = { λ _ fault. fault ≡ Memory };
+
+    fn from(_error: AllocError) -> Self {
+        Fault::Memory
+    }
+}
+
+impl From<ScenarioFault> for Fault {
+    ghost use Rattle.std.specs.Prelude.{◌≡◌};
+    ghost use Rattle.convoy_engine.specs.Faults.{told_of};
+
+    ghost from_gives = { λ refused fault. fault ≡ told_of refused };
+
+    fn from(refused: ScenarioFault) -> Self {
+        match refused {
+            ScenarioFault::NotToml => Fault::NotToml,
+            ScenarioFault::Shape(key) => Fault::Shape(key),
+            ScenarioFault::OverLimit(limit) => Fault::OverLimit(limit),
+            ScenarioFault::BadName => Fault::BadName,
+            ScenarioFault::DoubleName => Fault::DoubleName,
+            ScenarioFault::UnknownGroup => Fault::UnknownGroup,
+            ScenarioFault::NoDestination => Fault::NoDestination,
+            ScenarioFault::DoubleDestination => Fault::DoubleDestination,
+            ScenarioFault::UnknownTarget => Fault::UnknownTarget,
+            ScenarioFault::TargetNotAddressed => Fault::TargetNotAddressed,
+            ScenarioFault::Memory => Fault::Memory,
+        }
+    }
+}
+
+impl From<ListFault> for Fault {
+    ghost use Rattle.std.specs.Prelude.{◌≡◌};
+    ghost use Rattle.convoy_engine.specs.Faults.{told_of_list};
+
+    ghost from_gives = { λ refused fault. fault ≡ told_of_list refused };
+
+    fn from(refused: ListFault) -> Self {
+        match refused {
+            ListFault::Length => Fault::ScheduleLength,
+            ListFault::Range(packet) => Fault::DelayOutOfRange(packet),
+            ListFault::Memory => Fault::Memory,
+        }
+    }
+}
+
+/// What ends a fault's text, after its phrase.
+enum Ending {
+    Word(&'static str),
+    Number(usize),
+}
+
+/// The end of a phrase that is the whole text.
+const NOTHING: Ending = Ending::Word("");
+
+/// Appends the line of a fault: `fault`, its number, its text, and byte 10 (docs/FORMATS.md,
+/// "Faults"). Where memory is refused the vector is as it was.
+pub fn fault_line(fault: &Fault, out: &mut Vec<u8>) -> Result<(), AllocError>
+    ensures ok { OnOk result (out.new.items ≡ out.old.items ++ fault_line_of fault.now) }
+    ensures err { OnErr result (out.new.items ≡ out.old.items) }
+{
+    let line = line_of(*out.allocator(), fault)?;
+    out.extend_from_slice(line.as_bytes())
+}
+
+fn line_of(alloc: Global, fault: &Fault) -> Result<String, AllocError>
+    ensures { IfOk result (λ line. string_bytes line ≡ fault_line_of fault.now) }
+{
+    let (number, phrase, ending) = row(fault);
+    match ending {
+        Ending::Word(word) => format!(in alloc; "fault {number} {phrase}{word}\n"),
+        Ending::Number(value) => format!(in alloc; "fault {number} {phrase}{value}\n"),
+    }
+}
+
+/// A fault's number, and its text: a phrase and what ends it.
+fn row(fault: &Fault) -> (u8, &'static str, Ending)
+    ensures number { result.0 ≡ (row_of fault.now).0 }
+    ensures text { result.1.now ++ ending_text result.2 ≡ (row_of fault.now).1 }
+{
+    match fault {
+        Fault::NotToml => (1, "not TOML", NOTHING),
+        Fault::Shape(key) => (2, "shape of ", Ending::Word(key.word())),
+        Fault::OverLimit(limit) => (3, "over limit ", Ending::Word(word_of_limit(*limit))),
+        Fault::BadName => (4, "bad name", NOTHING),
+        Fault::DoubleName => (5, "double name", NOTHING),
+        Fault::UnknownGroup => (6, "unknown group", NOTHING),
+        Fault::NoDestination => (7, "no destination", NOTHING),
+        Fault::DoubleDestination => (8, "double destination", NOTHING),
+        Fault::UnknownTarget => (9, "unknown target", NOTHING),
+        Fault::TargetNotAddressed => (10, "target not addressed", NOTHING),
+        Fault::ScheduleLength => (12, "schedule length", NOTHING),
+        Fault::DelayOutOfRange(packet) => (13, "delay out of range ", Ending::Number(*packet)),
+        Fault::Memory => (11, "out of memory", NOTHING),
+        Fault::Read => (40, "read failed", NOTHING),
+        Fault::Write => (41, "write failed", NOTHING),
+        Fault::JobTooLong => (42, "job too long", NOTHING),
+        Fault::ReadTurns => (44, "too many reads", NOTHING),
+    }
+}
+
+fn word_of_limit(limit: Limit) -> &'static str
+    ensures { result.now ≡ limit_word limit }
+{
+    match limit {
+        Limit::Delay => "delay",
+        Limit::Groups => "groups",
+        Limit::Multicasts => "multicasts",
+        Limit::At => "at",
+    }
+}

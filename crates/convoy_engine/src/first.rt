@@ -1,0 +1,58 @@
+ghost use Rattle.std.specs.Prelude.{◌≡◌, IfOk};
+ghost use Rattle.std.specs.Result.{result_map_both};
+ghost use Rattle.convoy_engine.specs.declared.fault.Fault.TheVariants.{Memory};
+ghost use Rattle.convoy_engine.specs.Memory.{IsUnlessMemory};
+ghost use Rattle.convoy_engine.specs.First.{attained_text, first_text, least_delays};
+ghost use Rattle.convoy_engine.specs.Runs.{IsRun};
+
+use super::command::{Command, run_command};
+use super::device::{Sink, Source};
+use super::done::Done;
+use super::fault::Fault;
+use super::lines::{append_attained, append_schedule};
+use convoy_packets::{Delays, PacketTable};
+use convoy_scenario::{Scenario, read_toml};
+use convoy_sim::simulate;
+use std::alloc::{AllocError, Global};
+
+/// The command `first`: reads a scenario to the end of the source, and writes the latency in ticks
+/// that the schedule of least delays attains, and that schedule (docs/FORMATS.md, "What `first`
+/// writes").
+///
+/// At most `turns` reads are made. Nothing is written before the answer is known. The faults are
+/// those of [`read_toml`], and `Fault::Memory`; `Fault::Read` where the source fails;
+/// `Fault::JobTooLong` at the read that brings a byte past [`LONGEST_JOB`](super::LONGEST_JOB);
+/// `Fault::ReadTurns` where `turns` reads give bytes and none the end; `Fault::Write` where the sink
+/// fails, after a front of the answer has gone out.
+pub fn run_first<S: Source, K: Sink>(
+    alloc: Global,
+    source: &mut S,
+    sink: &mut K,
+    turns: u64,
+) -> Result<Done, Fault>
+    ensures { IsRun first_text turns S.reads K.writes source.old source.new sink.old sink.new result }
+{
+    run_command(alloc, Command::First, source, sink, turns)
+}
+
+/// What is written for a text.
+pub(crate) fn first_answer(alloc: Global, text: &[u8]) -> Result<Vec<u8>, Fault>
+    ensures { IsUnlessMemory Memory (first_text text.now)
+        (result_map_both (λ answer. answer.items) (λ fault. fault) result) }
+{
+    let input = read_toml(alloc, text)?;
+    Ok(attained(alloc, &input.scenario)?)
+}
+
+/// The latency that the least delays attain, and those delays.
+fn attained(alloc: Global, scenario: &Scenario) -> Result<Vec<u8>, AllocError>
+    ensures { IfOk result (λ text. text.items ≡ attained_text scenario.now (least_delays scenario.now)) }
+{
+    let table = PacketTable::of(alloc, scenario)?;
+    let delays = Delays::least(alloc, &table)?;
+    let run = simulate(alloc, scenario, &table, &delays)?;
+    let mut text = Vec::new(alloc);
+    append_attained(run.latency(), &mut text)?;
+    append_schedule(&delays, &mut text)?;
+    Ok(text)
+}

@@ -1,0 +1,50 @@
+ghost use Rattle.std.specs.Prelude.{◌<◌, ◌≤◌, length, MatchResult};
+ghost use Rattle.convoy_engine.specs.Devices.{Moved, Failed, HasRun};
+ghost use Rattle.convoy_engine.specs.Reads.{ReadsText, StopsReading};
+
+use super::device::{DeviceFailed, Source};
+use super::fault::Fault;
+use std::alloc::Global;
+
+/// How many bytes the text of a job has at most (docs/FORMATS.md, "Scenario text").
+pub const LONGEST_JOB: usize = 65_536;
+
+/// How many bytes are read at most in one call.
+const BUFFER_LENGTH: usize = 4_096;
+
+/// Reads a source to its end, in at most `turns` reads. The faults are `Read`, `JobTooLong`,
+/// `ReadTurns` and `Memory`.
+pub(crate) fn read_to_end<S: Source>(
+    alloc: Global,
+    source: &mut S,
+    turns: u64,
+) -> Result<Vec<u8>, Fault>
+    ensures { HasRun S.reads source.old source.new (λ answers. (length answers ≤ turns)
+        × MatchResult result (λ text. ReadsText answers text.items) (StopsReading turns answers)) }
+{
+    let mut text = Vec::new(alloc);
+    let mut buffer = [0; BUFFER_LENGTH];
+    for _ in 0..turns {
+        let Ok(piece) = read_piece(source, &mut buffer) else {
+            return Err(Fault::Read);
+        };
+        if piece.is_empty() {
+            return Ok(text);
+        }
+        if piece.len() > LONGEST_JOB - text.len() {
+            return Err(Fault::JobTooLong);
+        }
+        text.extend_from_slice(piece)?;
+    }
+    Err(Fault::ReadTurns)
+}
+
+/// One read: the front of the buffer that it filled.
+fn read_piece<'a, S: Source>(source: &mut S, buffer: &'a mut [u8]) -> Result<&'a [u8], DeviceFailed>
+    requires { 0 < length buffer.old }
+    ensures { MatchResult result (λ piece. S.reads source.old (Moved piece.now) source.new)
+        (λ _. S.reads source.old Failed source.new) }
+{
+    let count = source.read(buffer)?;
+    Ok(&buffer[..count])
+}

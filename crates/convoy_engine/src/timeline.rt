@@ -1,0 +1,56 @@
+ghost use Rattle.std.specs.Prelude.{◌≡◌, IfOk};
+ghost use Rattle.std.specs.Result.{result_map_both};
+ghost use Rattle.convoy_packets.specs.Assignment.{IsAssignment};
+ghost use Rattle.convoy_packets.specs.Table.{table_of};
+ghost use Rattle.convoy_engine.specs.declared.fault.Fault.TheVariants.{Memory};
+ghost use Rattle.convoy_engine.specs.Memory.{IsUnlessMemory};
+ghost use Rattle.convoy_engine.specs.Runs.{IsRun};
+ghost use Rattle.convoy_engine.specs.Timelines.{case_timeline, timeline_of_text};
+
+use super::case::{Case, read_case};
+use super::command::{Command, run_command};
+use super::device::{Sink, Source};
+use super::done::Done;
+use super::fault::Fault;
+use convoy_sim::simulate;
+use convoy_timeline::write_timeline;
+use std::alloc::{AllocError, Global};
+
+/// The command `timeline`: reads a scenario to the end of the source, and writes what happens at each
+/// group, tick by tick, under the schedule that is given beside it, or where none is under the least
+/// delays (docs/FORMATS.md, "What `timeline` writes").
+///
+/// At most `turns` reads are made. Nothing is written before the answer is known. The faults are
+/// those of [`run_simulate`](super::run_simulate).
+pub fn run_timeline<S: Source, K: Sink>(
+    alloc: Global,
+    source: &mut S,
+    sink: &mut K,
+    turns: u64,
+) -> Result<Done, Fault>
+    ensures { IsRun timeline_of_text turns S.reads K.writes source.old source.new sink.old sink.new result }
+{
+    run_command(alloc, Command::Timeline, source, sink, turns)
+}
+
+/// What is written for a text.
+pub(crate) fn timeline_answer(alloc: Global, text: &[u8]) -> Result<Vec<u8>, Fault>
+    ensures { IsUnlessMemory Memory (timeline_of_text text.now)
+        (result_map_both (λ answer. answer.items) (λ fault. fault) result) }
+{
+    let case = read_case(alloc, text)?;
+    Ok(timeline(alloc, &case)?)
+}
+
+/// The timeline of the case's run.
+fn timeline(alloc: Global, case: &Case) -> Result<Vec<u8>, AllocError>
+    requires table { case.now.table ≡ table_of case.now.scenario }
+    requires assignment { IsAssignment case.now.scenario case.now.delays }
+    ensures { IfOk result (λ text. text.items
+        ≡ case_timeline (record { scenario = case.now.scenario; delays = case.now.delays })) }
+{
+    let run = simulate(alloc, &case.scenario, &case.table, &case.delays)?;
+    let mut text = Vec::new(alloc);
+    write_timeline(&case.scenario, &run, &mut text)?;
+    Ok(text)
+}
