@@ -19,7 +19,6 @@ pub mod CalendarHeaps
 pub mod CalendarDeliveries
 pub mod DeliveryTick
 pub mod PacketDelays
-pub mod PacketPlaces
 pub mod LatencyBounds
 pub mod CalendarSending
 pub mod CalendarUnderWay

@@ -1,51 +1,38 @@
 -- The delays of packets in an assignment, and how far arrivals and commits are from the issue.
-use Rattle.std.proofs.Common.{◌≡◌, ℕ, ◌+◌, ◌*◌, ◌<◌, ◌≤◌, zero, suc, List, [], ◌∷◌, length, get_or, map, Option, Some, None, IsSome, refl, arith}
-use Rattle.std.proofs.lemmas.List.Quantifiers.{position-Some}
+use Rattle.std.proofs.Common.{ℕ, ◌+◌, ◌*◌, ◌≤◌, zero, suc, List, [], ◌∷◌, get_or, map, Option, Some, None, arith}
 use Rattle.std.specs.Option.{option_map_or}
 use Rattle.convoy_scenario.specs.Plan.{Plan, message_at}
 use Rattle.convoy_packets.specs.declared.packet.Packet.{Packet}
 use Rattle.convoy_packets.specs.declared.packet.Packet.TheVariants.{Multicast, Propose}
-use Rattle.convoy_packets.specs.Packets.{packets_of, place_of, is_packet}
+use Rattle.convoy_packets.specs.Packets.{packets_of, place_of}
 use Rattle.convoy_packets.specs.Assignment.{range_of, ranges_of, AreWithin, IsAssignment, delay_of}
 use Rattle.convoy_sim.specs.Times.{arrive, settle, propose_arrive}
-use Rattle.convoy_sim.specs.Laws.{DelayIsAtMostD, PacketTakesOneTick, ComesWithinOneDelay, CommittedWithinTwoDelays}
+use Rattle.convoy_packets.specs.Laws.{DelaysAreAtMost}
+use Rattle.convoy_sim.specs.Laws.{ComesWithinOneDelay, CommittedWithinTwoDelays}
 use Rattle.convoy_sim.proofs.Membership.{greatest_most}
 
--- each delay in the list is one for its place, and there is none past the end
+-- no delay in the list is above D
 within_at : (plan : Plan) (packets : List Packet) (delays : List ℕ) → AreWithin (map (range_of plan) packets) delays → (i : ℕ)
-    → (get_or delays i 0 ≤ plan.delay) × (i < length packets → 1 ≤ get_or delays i 0)
-within_at plan [] [] h i = (omega arith, λ l. absurd (omega arith))
+    → get_or delays i 0 ≤ plan.delay
+within_at plan [] [] h i = omega arith
 within_at plan [] (d ∷ ds) h i = absurd h
 within_at plan (p ∷ ps) [] h i = absurd h
-within_at plan (p ∷ ps) (d ∷ ds) h zero = (h.0.1, λ l. h.0.0)
-within_at plan (p ∷ ps) (d ∷ ds) h (suc i) =
-    let rest = within_at plan ps ds h.1 i in
-    (rest.0, λ l. rest.1 (omega arith))
+within_at plan (p ∷ ps) (d ∷ ds) h zero = h.0.1
+within_at plan (p ∷ ps) (d ∷ ds) h (suc i) = within_at plan ps ds h.1 i
 
 placed_most : (plan : Plan) (delays : List ℕ) → IsAssignment plan delays → (place : Option ℕ)
     → option_map_or (λ i. get_or delays i 0) place 0 ≤ plan.delay
 unfolding ranges_of
 placed_most plan delays h None = omega arith
-placed_most plan delays h (Some i) = (within_at plan (packets_of plan) delays h i).0
+placed_most plan delays h (Some i) = within_at plan (packets_of plan) delays h i
 
-placed_least : (plan : Plan) (delays : List ℕ) → IsAssignment plan delays → (packet : Packet) (place : Option ℕ)
-    → place_of packet (packets_of plan) ≡ place → IsSome place → 1 ≤ option_map_or (λ i. get_or delays i 0) place 0
-unfolding ranges_of
-placed_least plan delays h packet None e some = absurd (cc)
-placed_least plan delays h packet (Some i) e some =
-    (within_at plan (packets_of plan) delays h i).1 (position-Some (is_packet packet) (packets_of plan) i packet e).0
-
-pub at_most : DelayIsAtMostD
+at_most : DelaysAreAtMost
 unfolding delay_of
-at_most plan delays h packet = placed_most plan delays h (place_of packet (packets_of plan))
-
-pub one_tick : PacketTakesOneTick
-unfolding delay_of
-one_tick plan delays h packet = placed_least plan delays h packet (place_of packet (packets_of plan)) refl
+at_most plan delays packet h = placed_most plan delays h (place_of packet (packets_of plan))
 
 pub comes_within : ComesWithinOneDelay
 unfolding arrive
-comes_within plan delays h m g = let come = at_most plan delays h (Multicast m g) in omega arith
+comes_within plan delays h m g = let come = at_most plan delays (Multicast m g) h in omega arith
 
 pub committed_within : CommittedWithinTwoDelays
 unfolding settle
@@ -53,5 +40,5 @@ committed_within plan delays h m g =
     greatest_most (propose_arrive plan delays m g) ((message_at plan m).at + 2 * plan.delay) (message_at plan m).destinations
     (λ k i.
     let first = comes_within plan delays h m k in
-    let second = at_most plan delays h (Propose m k g) in
+    let second = at_most plan delays (Propose m k g) h in
     omega arith)

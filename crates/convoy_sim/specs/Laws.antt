@@ -1,12 +1,9 @@
 -- The laws of the protocol: what holds of each scenario and each schedule of delays.
-use Rattle.std.specs.Prelude.{◌≡◌, ◌≢◌, ◌⊎◌, ℕ, ◌+◌, ◌*◌, ◌<◌, ◌≤◌, nat_le, List, ◌∷◌, length, map, IsSome, IsTrue, IsFalse}
+use Rattle.std.specs.Prelude.{◌≡◌, ◌≢◌, ◌⊎◌, ℕ, ◌+◌, ◌*◌, ◌<◌, ◌≤◌, nat_le, List, ◌∷◌, length, map, IsTrue, IsFalse}
 use Rattle.std.specs.List.{filter}
 use Rattle.convoy_scenario.specs.Plan.{Plan, message_at, is_addressed, is_sent_by}
 use Rattle.convoy_scenario.specs.WellFormed.{IsScenario}
-use Rattle.convoy_packets.specs.Packets.{packets_of, place_of}
-use Rattle.convoy_packets.specs.Assignment.{IsAssignment, delay_of}
-use Rattle.convoy_packets.specs.declared.packet.Packet.{Packet}
-use Rattle.convoy_packets.specs.declared.packet.Packet.TheVariants.{Multicast, Propose}
+use Rattle.convoy_packets.specs.Assignment.{IsAssignment}
 use Rattle.convoy_sim.specs.declared.moment.Moment.{Moment}
 use Rattle.convoy_sim.specs.declared.moment.MomentKind.TheVariants.{Coming, Commit}
 use Rattle.convoy_sim.specs.Times.{greatest, arrive, settle}
@@ -94,39 +91,11 @@ OrderLaw =
     → (g : ℕ) → GoesTo plan m g → GoesTo plan n g
     → deliver plan delays m g ≤ deliver plan delays n g
 
--- No delay is above D.
-abbrev pub DelayIsAtMostD : Type 0
-DelayIsAtMostD =
-    (plan : Plan) (delays : List ℕ) → IsAssignment plan delays → (packet : Packet) → delay_of plan delays packet ≤ plan.delay
-
--- A packet of the packet list takes one tick at least.
-abbrev pub PacketTakesOneTick : Type 0
-PacketTakesOneTick =
-    (plan : Plan) (delays : List ℕ) → IsAssignment plan delays → (packet : Packet)
-    → IsSome (place_of packet (packets_of plan)) → 1 ≤ delay_of plan delays packet
-
--- A message takes one tick at least to each destination but the group that sends it, ..
-abbrev pub MessageTakesOneTick : Type 0
-MessageTakesOneTick =
-    (plan : Plan) (delays : List ℕ) → IsAssignment plan delays → (m g : ℕ) → GoesTo plan m g
-    → IsFalse (is_sent_by (message_at plan m) g) → 1 ≤ delay_of plan delays (Multicast m g)
-
--- .. to which it comes as it is issued.
+-- A message comes to the group that sends it as it is issued.
 abbrev pub SenderHasItAtOnce : Type 0
 SenderHasItAtOnce =
     (plan : Plan) (delays : List ℕ) (m g : ℕ) → IsTrue (is_sent_by (message_at plan m) g)
     → arrive plan delays m g ≡ (message_at plan m).at
-
--- A proposal takes one tick at least from a destination to another, ..
-abbrev pub ProposalTakesOneTick : Type 0
-ProposalTakesOneTick =
-    (plan : Plan) (delays : List ℕ) → IsAssignment plan delays → (m h g : ℕ) → GoesTo plan m h → GoesTo plan m g
-    → h ≢ g → 1 ≤ delay_of plan delays (Propose m h g)
-
--- .. and none to the group itself.
-abbrev pub OwnProposalTakesNoTime : Type 0
-OwnProposalTakesNoTime =
-    (plan : Plan) (delays : List ℕ) (m g : ℕ) → delay_of plan delays (Propose m g g) ≡ 0
 
 -- A message comes to a group within D ticks of its issue.
 abbrev pub ComesWithinOneDelay : Type 0

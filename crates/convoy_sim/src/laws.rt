@@ -6,7 +6,6 @@ ghost use Rattle.convoy_sim.specs.Laws.{
   ComesBeforeCommit,
   ComesWithinOneDelay,
   CommittedWithinTwoDelays,
-  DelayIsAtMostD,
   DeliveredAfterCommit,
   DeliveredByLastCommit,
   DeliveryBound,
@@ -19,17 +18,15 @@ ghost use Rattle.convoy_sim.specs.Laws.{
   LatencyWithinFourDelays,
   LocalStampNamesGroup,
   LoneLatencyWithinTwoDelays,
-  MessageTakesOneTick,
   NoLocalStampIsGreater,
   OrderLaw,
-  OwnProposalTakesNoTime,
-  PacketTakesOneTick,
-  ProposalTakesOneTick,
   SenderHasItAtOnce,
   StampsRise,
   StampsRisePastCommit,
   TargetLatencyWithinFourDelays,
 };
+
+use convoy_packets::laws::unsent_takes_no_time;
 
 /// A message is delivered at a group at the last of the commits there of itself and of all that are
 /// ahead of it: those whose local stamps there are less than its final stamp.
@@ -89,41 +86,12 @@ pub fn comes_before_commit()
     ensures { ComesBeforeCommit }
 {}
 
-/// No delay is above D.
-#[tactic(auto, using(crate::proofs::PacketDelays::at_most))]
-pub fn delay_is_at_most_d()
-    ensures { DelayIsAtMostD }
-{}
-
-/// A packet of the packet list takes one tick at least.
-#[tactic(auto, using(crate::proofs::PacketDelays::one_tick))]
-pub fn packet_takes_one_tick()
-    ensures { PacketTakesOneTick }
-{}
-
-/// A message takes one tick at least to each destination but the group that sends it.
-#[tactic(auto, using(crate::proofs::PacketPlaces::message_takes))]
-pub fn message_takes_one_tick()
-    ensures { MessageTakesOneTick }
-{}
-
 /// A message comes to the group that sends it as it is issued.
-#[tactic(auto, using(crate::proofs::PacketPlaces::sender_has_it))]
 pub fn sender_has_it_at_once()
     ensures { SenderHasItAtOnce }
-{}
-
-/// A proposal takes one tick at least from a destination to another.
-#[tactic(auto, using(crate::proofs::PacketPlaces::proposal_takes))]
-pub fn proposal_takes_one_tick()
-    ensures { ProposalTakesOneTick }
-{}
-
-/// A group has its own proposal at once.
-#[tactic(auto, using(crate::proofs::PacketPlaces::own_takes_none))]
-pub fn own_proposal_takes_no_time()
-    ensures { OwnProposalTakesNoTime }
-{}
+{
+    unsent_takes_no_time();
+}
 
 /// A message comes to a group within D ticks of its issue.
 #[tactic(auto, using(crate::proofs::PacketDelays::comes_within))]
