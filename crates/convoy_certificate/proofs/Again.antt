@@ -7,14 +7,11 @@ use Rattle.convoy_scenario.specs.declared.line_fault.Expected.{Expected}
 use Rattle.convoy_scenario.specs.declared.line_fault.Expected.TheVariants as expected
 use Rattle.convoy_scenario.specs.declared.limits.TheConstants.{GREATEST_DELAY}
 use Rattle.convoy_scenario.specs.Plan.{Plan}
+use Rattle.convoy_scenario.specs.WellFormed.{IsScenario}
 use Rattle.convoy_scenario.specs.LineForms as forms
-use Rattle.convoy_scenario.specs.LineWords.{Lacks}
+use Rattle.convoy_scenario.specs.Laws.{IsWord, IsLine}
 use Rattle.convoy_scenario.specs.LineReading.{Lines, Place, place_before, form_at, scenario_at, is_at_end, lines_in}
 use Rattle.convoy_scenario.specs.Lines.{scenario_lines}
-use Rattle.convoy_scenario.proofs.FormLaws.{label_again, number_line_again}
-use Rattle.convoy_scenario.proofs.ScenarioAgain.{scenario_again, scenario_lines_are, lines_append}
-use Rattle.convoy_scenario.proofs.Spelling.{IsWord, AreWords, AreLines, line_lacks, lines_again, number_again, decimal_word}
-use Rattle.convoy_scenario.proofs.Texts.{target_known}
 use Rattle.convoy_packets.specs.Assignment.{AreWithin, IsAssignment, ranges_of, range_of}
 use Rattle.convoy_packets.specs.Packets.{packets_of}
 use Rattle.convoy_packets.specs.declared.packet.Packet.{Packet}
@@ -25,11 +22,12 @@ use Rattle.convoy_certificate.specs.declared.text_fault.TextFault.{TextFault}
 use Rattle.convoy_certificate.specs.declared.text_fault.TextFault.TheVariants as faults
 use Rattle.convoy_certificate.specs.Contents.{Contents, IsNode, IsCertificate}
 use Rattle.convoy_certificate.specs.Forms.{version_in, delays_in, schedule_in, node_or_end, greatest_number_of_delay}
-use Rattle.convoy_certificate.specs.Reading.{◌>>=◌, in_text, is_assignment, nodes_in, nodes_at, certificate_of, IsTextOf}
+use Rattle.convoy_certificate.specs.Reading.{◌>>=◌, in_text, is_assignment, nodes_in, nodes_at, certificate_of, IsTextOf, TextsAreRead}
 use Rattle.convoy_scenario.specs.Memory.{IsUnlessMemory}
 use Rattle.convoy_certificate.specs.Text.{version_line, latency_line, schedule_line, node_line, end_line, certificate_lines, certificate_text}
 use Rattle.convoy_certificate.proofs.Assigned.{passes}
-use Rattle.convoy_certificate.proofs.NodeLaws.{split_again}
+use Rattle.convoy_certificate.proofs.LineLaws.{WrittenGrounds, AreWords, AreLines, lines_append, decimal_word, number_again, line_made, label_again, number_line_again, lines_again, scenario_lines_are}
+use Rattle.convoy_certificate.proofs.NodeLaws.{split_word, split_again}
 
 -- ---- the schedule
 
@@ -43,18 +41,6 @@ latency_word = record { some = omega arith; spaceless = refl; endless = refl }
 abbrev Small : List ℕ → Type 0
 Small delays = AllByRecursion (λ d. d ≤ greatest_number_of_delay) delays
 
-small_words : (delays : List ℕ) → Small delays → AreWords (map decimal delays)
-small_words [] small = tt
-small_words (d ∷ ds) small = (decimal_word d (omega (arith, small.0)), small_words ds small.1)
-
-delays_again : (delays : List ℕ) → Small delays → delays_in (map decimal delays) ≡ Some delays
-delays_again [] small = refl
-delays_again (d ∷ ds) small = rw (number_again greatest_number_of_delay d small.0 (omega (arith, small.0)), delays_again ds small.1) refl
-
-schedule_again : (delays : List ℕ) → Small delays → schedule_in (schedule_line delays) ≡ Some delays
-schedule_again delays small =
-    ap (option_and_then delays_in) (label_again (codes "schedule") (map decimal delays) schedule_word (small_words delays small)) ∙ delays_again delays small
-
 small_within : (plan : Plan) (packets : List Packet) (delays : List ℕ) → plan.delay ≤ GREATEST_DELAY → AreWithin (map (range_of plan) packets) delays → Small delays
 small_within plan [] [] low within = tt
 small_within plan [] (d ∷ ds) low within = absurd within
@@ -64,47 +50,6 @@ small_within plan (p ∷ ps) (d ∷ ds) low within = (omega (arith, within.0.1),
 small_assigned : (plan : Plan) (delays : List ℕ) → plan.delay ≤ GREATEST_DELAY → IsAssignment plan delays → Small delays
 unfolding ranges_of
 small_assigned plan delays low within = small_within plan (packets_of plan) delays low within
-
--- ---- nodes
-
-node_again : (node : Node) → IsNode node → node_or_end (node_line node) ≡ Some (Some node)
-node_again (Split packet at) is = ap (option_map (λ node. Some node)) (split_again packet at is.0 is.1 is.2)
-node_again Bound is = refl
-node_again Point is = refl
-
-nodes_again : (nodes : List Node) (count number : ℕ) (rest : List ℕ) (more : List (List ℕ)) → All IsNode nodes → count + length nodes ≤ MOST_NODES
-    → nodes_in count number rest (map node_line nodes ++ end_line ∷ more) ≡ Ok (nodes, record { ended = more; rest = rest; number = number + length nodes + 1 })
-unfolding nodes_in
-nodes_again [] count number rest more are few = let e : number + 0 + 1 ≡ number + 1 = omega arith in rw e refl
-nodes_again (node ∷ nodes) count number rest more are few =
-    let below : (count == MOST_NODES) ≡ false = ne_eqb count MOST_NODES (λ e. omega arith) in
-    let e : number + suc (length nodes) + 1 ≡ (number + 1) + length nodes + 1 = omega arith in
-    rw (node_again node (All-head IsNode node nodes are), below, nodes_again nodes (count + 1) (number + 1) rest more (All-tail IsNode node nodes are) (omega arith), e) refl
-
--- ---- no line has a byte 10 in it
-
-node_lines : (nodes : List Node) → All IsNode nodes → AreLines (map node_line nodes)
-node_lines [] are = tt
-node_lines (node ∷ nodes) are = (one node (All-head IsNode node nodes are), node_lines nodes (All-tail IsNode node nodes are)) where
-  one : (node : Node) → IsNode node → Lacks 10 (node_line node)
-  one (Split packet at) is = line_lacks (codes "s") (decimal packet ∷ decimal at ∷ []) refl (decimal_word packet (omega (arith, is.0)), (decimal_word at (omega (arith, is.2)), tt))
-  one Bound is = refl
-  one Point is = refl
-
-lines_are : (c : Contents) → IsCertificate c → AreLines (certificate_lines c)
-lines_are c is =
-    let small = small_assigned c.scenario c.delays is.scenario.delay_high is.assigned in (
-      refl,
-      lines_append (scenario_lines c.scenario) (latency_line c.latency ∷ schedule_line c.delays ∷ (map node_line c.nodes ++ end_line ∷ [])) (scenario_lines_are c.scenario is.scenario (target_known c.scenario is.scenario)) (
-        line_lacks (codes "latency") (decimal c.latency ∷ []) refl (decimal_word c.latency (omega (arith, is.latency)), tt),
-        (
-          line_lacks (codes "schedule") (map decimal c.delays) refl (small_words c.delays small),
-          lines_append (map node_line c.nodes) (end_line ∷ []) (node_lines c.nodes is.nodes) (refl, tt),
-        ),
-      ),
-    )
-
--- ---- the certificate
 
 then_ok : {A B : Type 0} (r : Result A TextFault) (f : A → Result B TextFault) (x : A) (y : Result B TextFault) → r ≡ Ok x → f x ≡ y → (r >>= f) ≡ y
 then_ok r f x y e g = ap (λ z. z >>= f) e ∙ g
@@ -116,54 +61,6 @@ form_again expected form number rest line lines x e = rw e refl
 assigned : (plan : Plan) (delays : List ℕ) → IsAssignment plan delays → is_assignment plan delays ≡ true
 assigned plan delays is = passes (ranges_of plan) delays is
 
-pub certificate_again : (c : Contents) → IsCertificate c → length c.nodes ≤ MOST_NODES → certificate_of (certificate_text c) ≡ Ok c
-unfolding certificate_of
-certificate_again c is few =
-    let nodes : List (List ℕ) = map node_line c.nodes ++ end_line ∷ [] in
-    let tail : List (List ℕ) = latency_line c.latency ∷ schedule_line c.delays ∷ nodes in
-    let p0 : Place = record { ended = version_line 1 ∷ (scenario_lines c.scenario ++ tail); rest = []; number = 1 } in
-    let p1 : Place = record { ended = scenario_lines c.scenario ++ tail; rest = []; number = 2 } in
-    let scenario = scenario_again c.scenario 2 [] tail is.scenario (target_known c.scenario is.scenario) in
-    let n = scenario.0 in
-    let p2 : Place = record { ended = tail; rest = []; number = n } in
-    let p3 : Place = record { ended = schedule_line c.delays ∷ nodes; rest = []; number = n + 1 } in
-    let p4 : Place = record { ended = nodes; rest = []; number = n + 1 + 1 } in
-    let p5 : Place = record { ended = []; rest = []; number = n + 1 + 1 + length c.nodes + 1 } in
-    let small = small_assigned c.scenario c.delays is.scenario.delay_high is.assigned in
-    let start : place_before (certificate_text c) 1 ≡ p0 =
-    ap (λ (l : Lines). record { ended = l.ended; rest = l.rest; number = 1 }) (lines_again (certificate_lines c) (lines_are c is)) in
-    let from : Place → Result Contents TextFault = λ p. in_text (form_at expected.Convoy version_in p) >>= λ version. in_text (scenario_at version.1) >>= λ scenario. in_text (form_at expected.Latency (forms.number_line (codes "latency")) scenario.1) >>= λ latency.
-    in_text (form_at expected.Schedule schedule_in latency.1) >>= λ delays. cond (is_assignment scenario.0 delays.0) (nodes_at 0 delays.1) (Err faults.Schedule) >>= λ nodes.
-    cond (is_at_end nodes.1) (Ok (record { scenario = scenario.0; latency = latency.0; delays = delays.0; nodes = nodes.0 })) (Err faults.AfterEnd) in
-    let read : from p0 ≡ Ok c =
-    then_ok (in_text (form_at expected.Convoy version_in p0)) (λ version. in_text (scenario_at version.1) >>= λ scenario. in_text (form_at expected.Latency (forms.number_line (codes "latency")) scenario.1) >>= λ latency.
-    in_text (form_at expected.Schedule schedule_in latency.1) >>= λ delays. cond (is_assignment scenario.0 delays.0) (nodes_at 0 delays.1) (Err faults.Schedule) >>= λ nodes.
-    cond (is_at_end nodes.1) (Ok (record { scenario = scenario.0; latency = latency.0; delays = delays.0; nodes = nodes.0 })) (Err faults.AfterEnd))
-    (1, p1) (Ok c) refl
-    (then_ok (in_text (scenario_at p1)) (λ scenario. in_text (form_at expected.Latency (forms.number_line (codes "latency")) scenario.1) >>= λ latency.
-    in_text (form_at expected.Schedule schedule_in latency.1) >>= λ delays. cond (is_assignment scenario.0 delays.0) (nodes_at 0 delays.1) (Err faults.Schedule) >>= λ nodes.
-    cond (is_at_end nodes.1) (Ok (record { scenario = scenario.0; latency = latency.0; delays = delays.0; nodes = nodes.0 })) (Err faults.AfterEnd))
-    (c.scenario, p2) (Ok c) (ap in_text scenario.1)
-    (then_ok (in_text (form_at expected.Latency (forms.number_line (codes "latency")) p2)) (λ latency.
-    in_text (form_at expected.Schedule schedule_in latency.1) >>= λ delays. cond (is_assignment c.scenario delays.0) (nodes_at 0 delays.1) (Err faults.Schedule) >>= λ nodes.
-    cond (is_at_end nodes.1) (Ok (record { scenario = c.scenario; latency = latency.0; delays = delays.0; nodes = nodes.0 })) (Err faults.AfterEnd))
-    (c.latency, p3) (Ok c) (form_again expected.Latency (forms.number_line (codes "latency")) n [] (latency_line c.latency) (schedule_line c.delays ∷ nodes) c.latency (number_line_again (codes "latency") c.latency latency_word (omega (arith, is.latency))))
-    (then_ok (in_text (form_at expected.Schedule schedule_in p3)) (λ delays. cond (is_assignment c.scenario delays.0) (nodes_at 0 delays.1) (Err faults.Schedule) >>= λ nodes.
-    cond (is_at_end nodes.1) (Ok (record { scenario = c.scenario; latency = c.latency; delays = delays.0; nodes = nodes.0 })) (Err faults.AfterEnd))
-    (c.delays, p4) (Ok c) (form_again expected.Schedule schedule_in (n + 1) [] (schedule_line c.delays) nodes c.delays (schedule_again c.delays small))
-    (then_ok (cond (is_assignment c.scenario c.delays) (nodes_at 0 p4) (Err faults.Schedule)) (λ nodes.
-    cond (is_at_end nodes.1) (Ok (record { scenario = c.scenario; latency = c.latency; delays = c.delays; nodes = nodes.0 })) (Err faults.AfterEnd))
-    (c.nodes, p5) (Ok c) (cond-true (is_assignment c.scenario c.delays) (nodes_at 0 p4) (Err faults.Schedule) (assigned c.scenario c.delays is.assigned) ∙ nodes_again c.nodes 0 (n + 1 + 1) [] [] is.nodes (omega (arith, few)))
-    refl)))) in
-    ap from start ∙ read
-
--- what spells a certificate is read
-pub is_read : (text : List ℕ) (c : Contents) (result : Result Contents TextFault) → IsCertificate c → IsTextOf c text → IsUnlessMemory faults.Memory (certificate_of text) result → IsUnlessMemory faults.Memory (Ok c) result
-is_read text c result is spelled (inl e) = inl (e ∙ ap certificate_of spelled.0 ∙ certificate_again c is spelled.1)
-is_read text c result is spelled (inr e) = inr e
-
--- ---- two certificates with one text
-
 parts : {A : Type 0} (x y : A) (xs ys : List A) → x ∷ xs ≡ y ∷ ys → (x ≡ y) × (xs ≡ ys)
 parts x y xs ys e = (cc, cc)
 
@@ -173,50 +70,159 @@ same_ok x y e = cc
 same_some : {A : Type 0} (x y : A) → Some x ≡ Some y → x ≡ y
 same_some x y e = cc
 
-nodes_unique : (xs ys : List Node) → All IsNode xs → All IsNode ys → map node_line xs ++ end_line ∷ [] ≡ map node_line ys ++ end_line ∷ [] → xs ≡ ys
-nodes_unique [] [] p q e = refl
-nodes_unique [] (y ∷ ys) p q e =
-    let h = parts end_line (node_line y) [] (map node_line ys ++ end_line ∷ []) e in
-    let f : Some None ≡ Some (Some y) = ap node_or_end h.0 ∙ node_again y (All-head IsNode y ys q) in
-    let g : None ≡ Some y = same_some None (Some y) f in absurd cc
-nodes_unique (x ∷ xs) [] p q e =
-    let h = parts (node_line x) end_line (map node_line xs ++ end_line ∷ []) [] e in
-    let f : Some (Some x) ≡ Some None = sym (node_again x (All-head IsNode x xs p)) ∙ ap node_or_end h.0 in
-    let g : Some x ≡ None = same_some (Some x) None f in absurd cc
-nodes_unique (x ∷ xs) (y ∷ ys) p q e =
-    let h = parts (node_line x) (node_line y) (map node_line xs ++ end_line ∷ []) (map node_line ys ++ end_line ∷ []) e in
-    let f : Some (Some x) ≡ Some (Some y) = sym (node_again x (All-head IsNode x xs p)) ∙ ap node_or_end h.0 ∙ node_again y (All-head IsNode y ys q) in
-    let one : x ≡ y = same_some x y (same_some (Some x) (Some y) f) in
-    ap (λ n. n ∷ xs) one ∙ ap (λ ns. y ∷ ns) (nodes_unique xs ys (All-tail IsNode x xs p) (All-tail IsNode y ys q) h.1)
-
 abbrev after_at : List (List ℕ) → ℕ → Place
 after_at ls n = record { ended = ls; rest = []; number = n }
 
 abbrev tail_of : Contents → List (List ℕ)
 tail_of c = latency_line c.latency ∷ schedule_line c.delays ∷ (map node_line c.nodes ++ end_line ∷ [])
 
--- two certificates with one text are equal
-pub is_unique : (b c : Contents) → IsCertificate b → IsCertificate c → certificate_text b ≡ certificate_text c → b ≡ c
-is_unique b c p q e =
-    let lines : certificate_lines b ≡ certificate_lines c =
-    ap (λ (l : Lines). l.ended) (sym (lines_again (certificate_lines b) (lines_are b p)) ∙ ap lines_in e ∙ lines_again (certificate_lines c) (lines_are c q)) in
-    let after = (parts (version_line 1) (version_line 1) (scenario_lines b.scenario ++ tail_of b) (scenario_lines c.scenario ++ tail_of c) lines).1 in
-    let one = scenario_again b.scenario 2 [] (tail_of b) p.scenario (target_known b.scenario p.scenario) in
-    let two = scenario_again c.scenario 2 [] (tail_of c) q.scenario (target_known c.scenario q.scenario) in
-    let read = same_ok (b.scenario, after_at (tail_of b) one.0) (c.scenario, after_at (tail_of c) two.0) (sym one.1 ∙ ap (λ ls. scenario_at (after_at ls 2)) after ∙ two.1) in
-    let scenario : b.scenario ≡ c.scenario = ap (λ (x : Plan × Place). x.0) read in
-    let tails : tail_of b ≡ tail_of c = ap (λ (x : Plan × Place). x.1.ended) read in
-    let first = parts (latency_line b.latency) (latency_line c.latency) _ _ tails in
-    let second = parts (schedule_line b.delays) (schedule_line c.delays) _ _ first.1 in
-    let latency : b.latency ≡ c.latency = same_some b.latency c.latency
-    (sym (number_line_again (codes "latency") b.latency latency_word (omega (arith, p.latency))) ∙ ap (forms.number_line (codes "latency")) first.0 ∙ number_line_again (codes "latency") c.latency latency_word (omega (arith, q.latency))) in
-    let delays : b.delays ≡ c.delays = same_some b.delays c.delays
-    (sym (schedule_again b.delays (small_assigned b.scenario b.delays p.scenario.delay_high p.assigned)) ∙ ap schedule_in second.0 ∙ schedule_again c.delays (small_assigned c.scenario c.delays q.scenario.delay_high q.assigned)) in
-    let nodes : b.nodes ≡ c.nodes = nodes_unique b.nodes c.nodes p.nodes q.nodes second.1 in
-    made scenario latency delays nodes where
-      made : b.scenario ≡ c.scenario → b.latency ≡ c.latency → b.delays ≡ c.delays → b.nodes ≡ c.nodes → b ≡ c
-      made s l d n =
-          ap (λ (x : Plan). record { scenario = x; latency = b.latency; delays = b.delays; nodes = b.nodes }) s
-          ∙ ap (λ (x : ℕ). record { scenario = c.scenario; latency = x; delays = b.delays; nodes = b.nodes }) l
-          ∙ ap (λ (x : List ℕ). record { scenario = c.scenario; latency = c.latency; delays = x; nodes = b.nodes }) d
-          ∙ ap (λ (x : List Node). record { scenario = c.scenario; latency = c.latency; delays = c.delays; nodes = x }) n
+module _ (grounds : WrittenGrounds) where
+  small_words : (delays : List ℕ) → Small delays → AreWords (map decimal delays)
+  small_words [] small = tt
+  small_words (d ∷ ds) small = (decimal_word grounds d (omega (arith, small.0)), small_words ds small.1)
+
+  delays_again : (delays : List ℕ) → Small delays → delays_in (map decimal delays) ≡ Some delays
+  delays_again [] small = refl
+  delays_again (d ∷ ds) small = rw (number_again grounds greatest_number_of_delay d (omega arith) small.0, delays_again ds small.1) refl
+
+  schedule_again : (delays : List ℕ) → Small delays → schedule_in (schedule_line delays) ≡ Some delays
+  schedule_again delays small =
+      ap (option_and_then delays_in) (label_again grounds (codes "schedule") (map decimal delays) (schedule_word, small_words delays small)) ∙ delays_again delays small
+
+  -- ---- nodes
+
+  node_again : (node : Node) → IsNode node → node_or_end (node_line node) ≡ Some (Some node)
+  node_again (Split packet at) is = ap (option_map (λ node. Some node)) (split_again grounds packet at is.0 is.1 is.2)
+  node_again Bound is = refl
+  node_again Point is = refl
+
+  nodes_again : (nodes : List Node) (count number : ℕ) (rest : List ℕ) (more : List (List ℕ)) → All IsNode nodes → count + length nodes ≤ MOST_NODES
+      → nodes_in count number rest (map node_line nodes ++ end_line ∷ more) ≡ Ok (nodes, record { ended = more; rest = rest; number = number + length nodes + 1 })
+  unfolding nodes_in
+  nodes_again [] count number rest more are few = let e : number + 0 + 1 ≡ number + 1 = omega arith in rw e refl
+  nodes_again (node ∷ nodes) count number rest more are few =
+      let below : (count == MOST_NODES) ≡ false = ne_eqb count MOST_NODES (λ e. omega arith) in
+      let e : number + suc (length nodes) + 1 ≡ (number + 1) + length nodes + 1 = omega arith in
+      rw (node_again node (All-head IsNode node nodes are), below, nodes_again nodes (count + 1) (number + 1) rest more (All-tail IsNode node nodes are) (omega arith), e) refl
+
+  -- ---- no line has a byte 10 in it
+
+  node_lines : (nodes : List Node) → All IsNode nodes → AreLines (map node_line nodes)
+  node_lines [] are = tt
+  node_lines (node ∷ nodes) are = (one node (All-head IsNode node nodes are), node_lines nodes (All-tail IsNode node nodes are)) where
+    one : (node : Node) → IsNode node → IsLine (node_line node)
+    one (Split packet at) is = line_made grounds (codes "s") (decimal packet ∷ decimal at ∷ []) (split_word, (decimal_word grounds packet (omega (arith, is.0)), (decimal_word grounds at (omega (arith, is.2)), tt)))
+    one Bound is = refl
+    one Point is = refl
+
+  lines_are : (c : Contents) → IsCertificate c → AreLines (certificate_lines c)
+  lines_are c is =
+      let small = small_assigned c.scenario c.delays is.scenario.delay_high is.assigned in (
+        refl,
+        lines_append (scenario_lines c.scenario) (latency_line c.latency ∷ schedule_line c.delays ∷ (map node_line c.nodes ++ end_line ∷ [])) (scenario_lines_are grounds c.scenario is.scenario) (
+          line_made grounds (codes "latency") (decimal c.latency ∷ []) (latency_word, (decimal_word grounds c.latency (omega (arith, is.latency)), tt)),
+          (
+            line_made grounds (codes "schedule") (map decimal c.delays) (schedule_word, small_words c.delays small),
+            lines_append (map node_line c.nodes) (end_line ∷ []) (node_lines c.nodes is.nodes) (refl, tt),
+          ),
+        ),
+      )
+
+  -- ---- the certificate
+
+  scenario_again : (plan : Plan) (more : List (List ℕ)) → IsScenario plan
+      → scenario_at (record { ended = scenario_lines plan ++ more; rest = []; number = 2 }) ≡ Ok (plan, record { ended = more; rest = []; number = 2 + length (scenario_lines plan) })
+  scenario_again plan more is =
+      (grounds.scenarios plan (record { ended = scenario_lines plan ++ more; rest = []; number = 2 }) (record { ended = more; rest = []; number = 2 + length (scenario_lines plan) })).1
+      (is, record { ended = refl; rest = refl; number = refl })
+
+  pub certificate_again : (c : Contents) → IsCertificate c → length c.nodes ≤ MOST_NODES → certificate_of (certificate_text c) ≡ Ok c
+  unfolding certificate_of
+  certificate_again c is few =
+      let nodes : List (List ℕ) = map node_line c.nodes ++ end_line ∷ [] in
+      let tail : List (List ℕ) = latency_line c.latency ∷ schedule_line c.delays ∷ nodes in
+      let p0 : Place = record { ended = version_line 1 ∷ (scenario_lines c.scenario ++ tail); rest = []; number = 1 } in
+      let p1 : Place = record { ended = scenario_lines c.scenario ++ tail; rest = []; number = 2 } in
+      let n : ℕ = 2 + length (scenario_lines c.scenario) in
+      let p2 : Place = record { ended = tail; rest = []; number = n } in
+      let scenario = scenario_again c.scenario tail is.scenario in
+      let p3 : Place = record { ended = schedule_line c.delays ∷ nodes; rest = []; number = n + 1 } in
+      let p4 : Place = record { ended = nodes; rest = []; number = n + 1 + 1 } in
+      let p5 : Place = record { ended = []; rest = []; number = n + 1 + 1 + length c.nodes + 1 } in
+      let small = small_assigned c.scenario c.delays is.scenario.delay_high is.assigned in
+      let start : place_before (certificate_text c) 1 ≡ p0 =
+      ap (λ (l : Lines). record { ended = l.ended; rest = l.rest; number = 1 }) (lines_again grounds (certificate_lines c) (lines_are c is)) in
+      let from : Place → Result Contents TextFault = λ p. in_text (form_at expected.Convoy version_in p) >>= λ version. in_text (scenario_at version.1) >>= λ scenario. in_text (form_at expected.Latency (forms.number_line (codes "latency")) scenario.1) >>= λ latency.
+      in_text (form_at expected.Schedule schedule_in latency.1) >>= λ delays. cond (is_assignment scenario.0 delays.0) (nodes_at 0 delays.1) (Err faults.Schedule) >>= λ nodes.
+      cond (is_at_end nodes.1) (Ok (record { scenario = scenario.0; latency = latency.0; delays = delays.0; nodes = nodes.0 })) (Err faults.AfterEnd) in
+      let read : from p0 ≡ Ok c =
+      then_ok (in_text (form_at expected.Convoy version_in p0)) (λ version. in_text (scenario_at version.1) >>= λ scenario. in_text (form_at expected.Latency (forms.number_line (codes "latency")) scenario.1) >>= λ latency.
+      in_text (form_at expected.Schedule schedule_in latency.1) >>= λ delays. cond (is_assignment scenario.0 delays.0) (nodes_at 0 delays.1) (Err faults.Schedule) >>= λ nodes.
+      cond (is_at_end nodes.1) (Ok (record { scenario = scenario.0; latency = latency.0; delays = delays.0; nodes = nodes.0 })) (Err faults.AfterEnd))
+      (1, p1) (Ok c) refl
+      (then_ok (in_text (scenario_at p1)) (λ scenario. in_text (form_at expected.Latency (forms.number_line (codes "latency")) scenario.1) >>= λ latency.
+      in_text (form_at expected.Schedule schedule_in latency.1) >>= λ delays. cond (is_assignment scenario.0 delays.0) (nodes_at 0 delays.1) (Err faults.Schedule) >>= λ nodes.
+      cond (is_at_end nodes.1) (Ok (record { scenario = scenario.0; latency = latency.0; delays = delays.0; nodes = nodes.0 })) (Err faults.AfterEnd))
+      (c.scenario, p2) (Ok c) (ap in_text scenario)
+      (then_ok (in_text (form_at expected.Latency (forms.number_line (codes "latency")) p2)) (λ latency.
+      in_text (form_at expected.Schedule schedule_in latency.1) >>= λ delays. cond (is_assignment c.scenario delays.0) (nodes_at 0 delays.1) (Err faults.Schedule) >>= λ nodes.
+      cond (is_at_end nodes.1) (Ok (record { scenario = c.scenario; latency = latency.0; delays = delays.0; nodes = nodes.0 })) (Err faults.AfterEnd))
+      (c.latency, p3) (Ok c) (form_again expected.Latency (forms.number_line (codes "latency")) n [] (latency_line c.latency) (schedule_line c.delays ∷ nodes) c.latency (number_line_again grounds (codes "latency") c.latency latency_word (omega (arith, is.latency))))
+      (then_ok (in_text (form_at expected.Schedule schedule_in p3)) (λ delays. cond (is_assignment c.scenario delays.0) (nodes_at 0 delays.1) (Err faults.Schedule) >>= λ nodes.
+      cond (is_at_end nodes.1) (Ok (record { scenario = c.scenario; latency = c.latency; delays = delays.0; nodes = nodes.0 })) (Err faults.AfterEnd))
+      (c.delays, p4) (Ok c) (form_again expected.Schedule schedule_in (n + 1) [] (schedule_line c.delays) nodes c.delays (schedule_again c.delays small))
+      (then_ok (cond (is_assignment c.scenario c.delays) (nodes_at 0 p4) (Err faults.Schedule)) (λ nodes.
+      cond (is_at_end nodes.1) (Ok (record { scenario = c.scenario; latency = c.latency; delays = c.delays; nodes = nodes.0 })) (Err faults.AfterEnd))
+      (c.nodes, p5) (Ok c) (cond-true (is_assignment c.scenario c.delays) (nodes_at 0 p4) (Err faults.Schedule) (assigned c.scenario c.delays is.assigned) ∙ nodes_again c.nodes 0 (n + 1 + 1) [] [] is.nodes (omega (arith, few)))
+      refl)))) in
+      ap from start ∙ read
+
+  -- ---- two certificates with one text
+
+  nodes_unique : (xs ys : List Node) → All IsNode xs → All IsNode ys → map node_line xs ++ end_line ∷ [] ≡ map node_line ys ++ end_line ∷ [] → xs ≡ ys
+  nodes_unique [] [] p q e = refl
+  nodes_unique [] (y ∷ ys) p q e =
+      let h = parts end_line (node_line y) [] (map node_line ys ++ end_line ∷ []) e in
+      let f : Some None ≡ Some (Some y) = ap node_or_end h.0 ∙ node_again y (All-head IsNode y ys q) in
+      let g : None ≡ Some y = same_some None (Some y) f in absurd cc
+  nodes_unique (x ∷ xs) [] p q e =
+      let h = parts (node_line x) end_line (map node_line xs ++ end_line ∷ []) [] e in
+      let f : Some (Some x) ≡ Some None = sym (node_again x (All-head IsNode x xs p)) ∙ ap node_or_end h.0 in
+      let g : Some x ≡ None = same_some (Some x) None f in absurd cc
+  nodes_unique (x ∷ xs) (y ∷ ys) p q e =
+      let h = parts (node_line x) (node_line y) (map node_line xs ++ end_line ∷ []) (map node_line ys ++ end_line ∷ []) e in
+      let f : Some (Some x) ≡ Some (Some y) = sym (node_again x (All-head IsNode x xs p)) ∙ ap node_or_end h.0 ∙ node_again y (All-head IsNode y ys q) in
+      let one : x ≡ y = same_some x y (same_some (Some x) (Some y) f) in
+      ap (λ n. n ∷ xs) one ∙ ap (λ ns. y ∷ ns) (nodes_unique xs ys (All-tail IsNode x xs p) (All-tail IsNode y ys q) h.1)
+
+  -- two certificates with one text are equal
+  pub is_unique : (b c : Contents) → IsCertificate b → IsCertificate c → certificate_text b ≡ certificate_text c → b ≡ c
+  is_unique b c p q e =
+      let lines : certificate_lines b ≡ certificate_lines c =
+      ap (λ (l : Lines). l.ended) (sym (lines_again grounds (certificate_lines b) (lines_are b p)) ∙ ap lines_in e ∙ lines_again grounds (certificate_lines c) (lines_are c q)) in
+      let after = (parts (version_line 1) (version_line 1) (scenario_lines b.scenario ++ tail_of b) (scenario_lines c.scenario ++ tail_of c) lines).1 in
+      let one = scenario_again b.scenario (tail_of b) p.scenario in
+      let two = scenario_again c.scenario (tail_of c) q.scenario in
+      let read = same_ok (b.scenario, after_at (tail_of b) (2 + length (scenario_lines b.scenario))) (c.scenario, after_at (tail_of c) (2 + length (scenario_lines c.scenario)))
+      (sym one ∙ ap (λ ls. scenario_at (after_at ls 2)) after ∙ two) in
+      let scenario : b.scenario ≡ c.scenario = ap (λ (x : Plan × Place). x.0) read in
+      let tails : tail_of b ≡ tail_of c = ap (λ (x : Plan × Place). x.1.ended) read in
+      let first = parts (latency_line b.latency) (latency_line c.latency) _ _ tails in
+      let second = parts (schedule_line b.delays) (schedule_line c.delays) _ _ first.1 in
+      let latency : b.latency ≡ c.latency = same_some b.latency c.latency
+      (sym (number_line_again grounds (codes "latency") b.latency latency_word (omega (arith, p.latency))) ∙ ap (forms.number_line (codes "latency")) first.0 ∙ number_line_again grounds (codes "latency") c.latency latency_word (omega (arith, q.latency))) in
+      let delays : b.delays ≡ c.delays = same_some b.delays c.delays
+      (sym (schedule_again b.delays (small_assigned b.scenario b.delays p.scenario.delay_high p.assigned)) ∙ ap schedule_in second.0 ∙ schedule_again c.delays (small_assigned c.scenario c.delays q.scenario.delay_high q.assigned)) in
+      let nodes : b.nodes ≡ c.nodes = nodes_unique b.nodes c.nodes p.nodes q.nodes second.1 in
+      made scenario latency delays nodes where
+        made : b.scenario ≡ c.scenario → b.latency ≡ c.latency → b.delays ≡ c.delays → b.nodes ≡ c.nodes → b ≡ c
+        made s l d n =
+            ap (λ (x : Plan). record { scenario = x; latency = b.latency; delays = b.delays; nodes = b.nodes }) s
+            ∙ ap (λ (x : ℕ). record { scenario = c.scenario; latency = x; delays = b.delays; nodes = b.nodes }) l
+            ∙ ap (λ (x : List ℕ). record { scenario = c.scenario; latency = c.latency; delays = x; nodes = b.nodes }) d
+            ∙ ap (λ (x : List Node). record { scenario = c.scenario; latency = c.latency; delays = c.delays; nodes = x }) n
+
+-- what spells a certificate is read
+pub is_read : TextsAreRead → (text : List ℕ) (c : Contents) (result : Result Contents TextFault) → IsCertificate c → IsTextOf c text → IsUnlessMemory faults.Memory (certificate_of text) result → IsUnlessMemory faults.Memory (Ok c) result
+is_read again text c result is spelled (inl e) = inl (e ∙ ap certificate_of spelled.0 ∙ again c is spelled.1)
+is_read again text c result is spelled (inr e) = inr e

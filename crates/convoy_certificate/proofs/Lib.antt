@@ -1,6 +1,7 @@
 pub mod Pieces
 pub mod Nodes
 pub mod Assigned
+pub mod LineLaws
 pub mod Taken
 pub mod NodeLaws
 pub mod Again

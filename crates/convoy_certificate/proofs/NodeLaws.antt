@@ -1,5 +1,5 @@
 -- The node lines: what is read was written so, and what is written is read again.
-use Rattle.std.proofs.Common.{◌≡◌, ℕ, ◌≤◌, ◌==◌, ◌&&◌, if◌then◌else◌, cond, leb, le-leb, List, [], ◌∷◌, length, Option, Some, None, option_map, option_and_then, refl, ap, sym, ◌∙◌, arith, inl, inr, codes, decimal}
+use Rattle.std.proofs.Common.{◌≡◌, ℕ, ◌≤◌, ◌==◌, ◌&&◌, if◌then◌else◌, cond, leb, le-leb, List, [], ◌∷◌, length, Option, Some, None, option_map, option_and_then, refl, ap, ◌∙◌, arith, inl, inr, codes, decimal}
 use Rattle.std.specs.Str.{bytes_eq}
 use Rattle.std.proofs.lemmas.Bool.{and_parts, cases_Bool, eqb-true}
 use Rattle.std.proofs.lemmas.List.{append-nil, nil_from_length}
@@ -8,13 +8,13 @@ use Rattle.convoy_scenario.specs.declared.limits.TheConstants.{GREATEST_DELAY}
 use Rattle.convoy_scenario.specs.LineForms.{◌>>=◌}
 use Rattle.convoy_scenario.specs.LineWords.{words_of, next_word, number_of}
 use Rattle.convoy_scenario.specs.Lines.{line_of}
-use Rattle.convoy_scenario.proofs.FormLaws.{bind_some, next_takes, same_bytes}
-use Rattle.convoy_scenario.proofs.Spelling.{number_takes, number_again, decimal_word, words_again, line_again, by_words}
 use Rattle.convoy_certificate.specs.declared.node.Node.{Node}
 use Rattle.convoy_certificate.specs.declared.node.Node.TheVariants.{Split, Bound, Point}
 use Rattle.convoy_certificate.specs.declared.node.TheConstants.{GREATEST_PACKET}
 use Rattle.convoy_certificate.specs.Forms.{split_in, leaf_in, node_in}
 use Rattle.convoy_certificate.specs.Text.{node_line}
+use Rattle.convoy_certificate.proofs.LineLaws.{ReadGrounds, WrittenGrounds, bind_some, next_takes, same_bytes, decimal_word, number_again, words_again}
+use Rattle.convoy_scenario.specs.Laws.{IsWord}
 
 pub and_then_takes : {A B : Type 0} (f : A → Option B) (o : Option A) (y : B) → option_and_then f o ≡ Some y → (x : A) × (o ≡ Some x) × (f x ≡ Some y)
 and_then_takes f None y e = absurd cc
@@ -36,40 +36,41 @@ leaf_takes word node e =
           same_bytes word (codes "p") g.0 ∙ ap node_line g.1
     ]
 
-split_takes : (words : List (List ℕ)) (node : Node) → split_in words ≡ Some node → line_of (codes "s") words ≡ node_line node
-split_takes words node e =
-    let a = bind_some (next_word words) (λ first. number_of GREATEST_PACKET first.0 >>= λ packet. next_word first.1 >>= λ second. number_of GREATEST_DELAY second.0 >>= λ at.
-    cond (leb 1 at && (length second.1 == 0)) (Some (Split packet at)) None) node e in
-    let b = bind_some (number_of GREATEST_PACKET a.0.0) (λ packet. next_word a.0.1 >>= λ second. number_of GREATEST_DELAY second.0 >>= λ at.
-    cond (leb 1 at && (length second.1 == 0)) (Some (Split packet at)) None) node a.2 in
-    let c = bind_some (next_word a.0.1) (λ second. number_of GREATEST_DELAY second.0 >>= λ at. cond (leb 1 at && (length second.1 == 0)) (Some (Split b.0 at)) None) node b.2 in
-    let d = bind_some (number_of GREATEST_DELAY c.0.0) (λ at. cond (leb 1 at && (length c.0.1 == 0)) (Some (Split b.0 at)) None) node c.2 in
-    let g = cond_some (leb 1 d.0 && (length c.0.1 == 0)) (Split b.0 d.0) node d.2 in
-    let last : c.0.1 ≡ [] = nil_from_length c.0.1 (eqb-true _ _ (and_parts (leb 1 d.0) (length c.0.1 == 0) g.0).1) in
-    let packet = number_takes GREATEST_PACKET a.0.0 b.0 (omega arith) b.1 in
-    let at = number_takes GREATEST_DELAY c.0.0 d.0 (omega arith) d.1 in
-    let read : words ≡ decimal b.0 ∷ decimal d.0 ∷ [] =
-    next_takes words a.0 a.1 ∙ ap (λ ws. a.0.0 ∷ ws) (next_takes a.0.1 c.0 c.1 ∙ ap (λ ws. c.0.0 ∷ ws) last) ∙ ap (λ w. w ∷ c.0.0 ∷ []) packet.0 ∙ ap (λ w. decimal b.0 ∷ w ∷ []) at.0 in
-    ap (line_of (codes "s")) read ∙ ap node_line g.1
+module _ (grounds : ReadGrounds) where
+  split_takes : (words : List (List ℕ)) (node : Node) → split_in words ≡ Some node → line_of (codes "s") words ≡ node_line node
+  split_takes words node e =
+      let a = bind_some (next_word words) (λ first. number_of GREATEST_PACKET first.0 >>= λ packet. next_word first.1 >>= λ second. number_of GREATEST_DELAY second.0 >>= λ at.
+      cond (leb 1 at && (length second.1 == 0)) (Some (Split packet at)) None) node e in
+      let b = bind_some (number_of GREATEST_PACKET a.0.0) (λ packet. next_word a.0.1 >>= λ second. number_of GREATEST_DELAY second.0 >>= λ at.
+      cond (leb 1 at && (length second.1 == 0)) (Some (Split packet at)) None) node a.2 in
+      let c = bind_some (next_word a.0.1) (λ second. number_of GREATEST_DELAY second.0 >>= λ at. cond (leb 1 at && (length second.1 == 0)) (Some (Split b.0 at)) None) node b.2 in
+      let d = bind_some (number_of GREATEST_DELAY c.0.0) (λ at. cond (leb 1 at && (length c.0.1 == 0)) (Some (Split b.0 at)) None) node c.2 in
+      let g = cond_some (leb 1 d.0 && (length c.0.1 == 0)) (Split b.0 d.0) node d.2 in
+      let last : c.0.1 ≡ [] = nil_from_length c.0.1 (eqb-true _ _ (and_parts (leb 1 d.0) (length c.0.1 == 0) g.0).1) in
+      let packet = (grounds.numbers GREATEST_PACKET a.0.0 b.0 (omega arith)).0 b.1 in
+      let at = (grounds.numbers GREATEST_DELAY c.0.0 d.0 (omega arith)).0 d.1 in
+      let read : words ≡ decimal b.0 ∷ decimal d.0 ∷ [] =
+      next_takes words a.0 a.1 ∙ ap (λ ws. a.0.0 ∷ ws) (next_takes a.0.1 c.0 c.1 ∙ ap (λ ws. c.0.0 ∷ ws) last) ∙ ap (λ w. w ∷ c.0.0 ∷ []) packet.0 ∙ ap (λ w. decimal b.0 ∷ w ∷ []) at.0 in
+      ap (line_of (codes "s")) read ∙ ap node_line g.1
 
-pub node_takes : (line : List ℕ) (node : Node) → node_in line ≡ Some node → line ≡ node_line node
-node_takes line node e =
-    let a = bind_some (next_word (words_of line)) (λ first. cond (bytes_eq first.0 (codes "s")) (split_in first.1) (cond (length first.1 == 0) (leaf_in first.0) None)) node e in
-    let whole : line ≡ line_of a.0.0 a.0.1 = sym (line_again line) ∙ ap by_words (next_takes (words_of line) a.0 a.1) in
-    elim (cases_Bool (bytes_eq a.0.0 (codes "s"))) [
-      | inl split ↦
-          let read : split_in a.0.1 ≡ Some node = rw split at a.2 in
-          whole ∙ ap (λ w. line_of w a.0.1) (same_bytes a.0.0 (codes "s") split) ∙ split_takes a.0.1 node read
-      | inr other ↦
-          let read : cond (length a.0.1 == 0) (leaf_in a.0.0) None ≡ Some node = rw other at a.2 in
-          elim (cases_Bool (length a.0.1 == 0)) [
-            | inl alone ↦
-                let leaf : leaf_in a.0.0 ≡ Some node = rw alone at read in
-                let last : a.0.1 ≡ [] = nil_from_length a.0.1 (eqb-true _ _ alone) in
-                whole ∙ ap (line_of a.0.0) last ∙ append-nil a.0.0 ∙ leaf_takes a.0.0 node leaf
-            | inr more ↦ let none : None ≡ Some node = rw more at read in absurd cc
-          ]
-    ]
+  pub node_takes : (line : List ℕ) (node : Node) → node_in line ≡ Some node → line ≡ node_line node
+  node_takes line node e =
+      let a = bind_some (next_word (words_of line)) (λ first. cond (bytes_eq first.0 (codes "s")) (split_in first.1) (cond (length first.1 == 0) (leaf_in first.0) None)) node e in
+      let whole : line ≡ line_of a.0.0 a.0.1 = (grounds.words line a.0.0 a.0.1).0 (next_takes (words_of line) a.0 a.1) in
+      elim (cases_Bool (bytes_eq a.0.0 (codes "s"))) [
+        | inl split ↦
+            let read : split_in a.0.1 ≡ Some node = rw split at a.2 in
+            whole ∙ ap (λ w. line_of w a.0.1) (same_bytes a.0.0 (codes "s") split) ∙ split_takes a.0.1 node read
+        | inr other ↦
+            let read : cond (length a.0.1 == 0) (leaf_in a.0.0) None ≡ Some node = rw other at a.2 in
+            elim (cases_Bool (length a.0.1 == 0)) [
+              | inl alone ↦
+                  let leaf : leaf_in a.0.0 ≡ Some node = rw alone at read in
+                  let last : a.0.1 ≡ [] = nil_from_length a.0.1 (eqb-true _ _ alone) in
+                  whole ∙ ap (line_of a.0.0) last ∙ append-nil a.0.0 ∙ leaf_takes a.0.0 node leaf
+              | inr more ↦ let none : None ≡ Some node = rw more at read in absurd cc
+            ]
+      ]
 
 -- the node that the words of a line are
 abbrev node_of_words : List (List ℕ) → Option Node
@@ -77,11 +78,15 @@ node_of_words words = do
   first ← next_word words
   if bytes_eq first.0 (codes "s") then split_in first.1 else if length first.1 == 0 then leaf_in first.0 else None
 
+-- the word of a line `s`
+pub split_word : IsWord (codes "s")
+split_word = record { some = omega arith; spaceless = refl; endless = refl }
+
 -- a line `s` is read again
-pub split_again : (packet at : ℕ) → packet ≤ GREATEST_PACKET → 1 ≤ at → at ≤ GREATEST_DELAY → node_in (node_line (Split packet at)) ≡ Some (Split packet at)
-split_again packet at known low high =
+pub split_again : WrittenGrounds → (packet at : ℕ) → packet ≤ GREATEST_PACKET → 1 ≤ at → at ≤ GREATEST_DELAY → node_in (node_line (Split packet at)) ≡ Some (Split packet at)
+split_again grounds packet at known low high =
     let words : words_of (node_line (Split packet at)) ≡ codes "s" ∷ decimal packet ∷ decimal at ∷ [] =
-    words_again (codes "s") (decimal packet ∷ decimal at ∷ []) refl (decimal_word packet (omega arith), (decimal_word at (omega arith), tt)) in
+    words_again grounds (codes "s") (decimal packet ∷ decimal at ∷ []) (split_word, (decimal_word grounds packet (omega arith), (decimal_word grounds at (omega arith), tt))) in
     let read : node_of_words (codes "s" ∷ decimal packet ∷ decimal at ∷ []) ≡ Some (Split packet at) =
-    rw (number_again GREATEST_PACKET packet known (omega arith), number_again GREATEST_DELAY at high (omega arith), le-leb 1 at low) refl in
+    rw (number_again grounds GREATEST_PACKET packet (omega arith) known, number_again grounds GREATEST_DELAY at (omega arith) high, le-leb 1 at low) refl in
     ap node_of_words words ∙ read

@@ -1,20 +1,20 @@
 -- A certificate that is read from a text: the text is its text.
-use Rattle.std.proofs.Common.{◌≡◌, ℕ, ◌+◌, ◌≤◌, ◌==◌, if◌then◌else◌, Bool, true, false, cond, List, [], ◌∷◌, ◌++◌, length, map, Option, Some, None, option_map, ok_or, Result, Ok, Err, refl, ap, sym, subst, ◌∙◌, arith, inl, inr, codes, decimal}
+use Rattle.std.proofs.Common.{◌≡◌, ℕ, ◌+◌, ◌≤◌, ◌==◌, if◌then◌else◌, Bool, true, false, cond, List, [], ◌∷◌, ◌++◌, length, map, Option, Some, None, option_map, ok_or, Result, Ok, Err, refl, ap, ap₂, sym, subst, ◌∙◌, arith, inl, inr, codes, decimal}
 use Rattle.std.specs.Prelude.{IfOk}
 use Rattle.std.specs.Str.{bytes_eq}
 use Rattle.convoy_scenario.specs.Memory.{IsUnlessMemory}
 use Rattle.std.proofs.lemmas.Bool.{and_parts, cases_Bool, eqb-true, eqb-false}
-use Rattle.std.proofs.lemmas.List.{append-nil, nil_from_length}
+use Rattle.std.proofs.lemmas.List.{nil_from_length}
 use Rattle.std.proofs.lemmas.Option.{cond_some, same_Some}
 use Rattle.convoy_scenario.specs.declared.line_fault.Expected.TheVariants as expected
 use Rattle.convoy_scenario.specs.declared.line_fault.LineFault.{LineFault}
 use Rattle.convoy_scenario.specs.LineForms as forms
 use Rattle.convoy_scenario.specs.LineWords.{number_of}
-use Rattle.convoy_scenario.specs.LineReading.{Place, place_before, form_at, scenario_at, is_at_end}
-use Rattle.convoy_scenario.specs.Lines.{line_of, text_of, scenario_lines}
-use Rattle.convoy_scenario.proofs.FormLaws.{same_bytes, label_takes, number_line_takes}
-use Rattle.convoy_scenario.proofs.ScenarioTakes.{took, scenario_takes}
-use Rattle.convoy_scenario.proofs.Spelling.{number_takes, text_again}
+use Rattle.convoy_scenario.specs.LineReading.{Lines, lines_in, Place, place_before, form_at, scenario_at, is_at_end}
+use Rattle.convoy_scenario.specs.Lines.{line_of, scenario_lines}
+use Rattle.convoy_scenario.specs.declared.line_fault.Expected.{Expected}
+use Rattle.convoy_scenario.specs.Laws.{IsWord}
+use Rattle.convoy_certificate.proofs.LineLaws.{ReadGrounds, same_bytes}
 use Rattle.convoy_certificate.proofs.NodeLaws.{and_then_takes, map_takes, node_takes}
 use Rattle.convoy_certificate.specs.declared.certificate.TheConstants.{MOST_NODES}
 use Rattle.convoy_certificate.specs.declared.node.Node.{Node}
@@ -22,7 +22,7 @@ use Rattle.convoy_certificate.specs.declared.text_fault.TextFault.{TextFault}
 use Rattle.convoy_certificate.specs.declared.text_fault.TextFault.TheVariants as faults
 use Rattle.convoy_certificate.specs.Contents.{Contents}
 use Rattle.convoy_certificate.specs.Forms.{version_in, delays_in, schedule_in, node_in, node_or_end, greatest_number_of_delay}
-use Rattle.convoy_certificate.specs.Reading.{◌>>=◌, in_text, is_assignment, from_node, nodes_in, nodes_at, certificate_of, IsTextOf}
+use Rattle.convoy_certificate.specs.Reading.{◌>>=◌, in_text, is_assignment, from_node, nodes_in, nodes_at, certificate_of, IsTextOf, TextsAreKept}
 use Rattle.convoy_certificate.specs.Text.{version_line, latency_line, schedule_line, node_line, end_line, certificate_lines, certificate_text}
 
 bind_ok : {A B : Type 0} (r : Result A TextFault) (f : A → Result B TextFault) (y : B) → (r >>= f) ≡ Ok y → (x : A) × (r ≡ Ok x) × (f x ≡ Ok y)
@@ -40,41 +40,41 @@ ok_or_takes : {A : Type 0} (o : Option A) (fault : TextFault) (x : A) → ok_or 
 ok_or_takes None fault x e = absurd cc
 ok_or_takes (Some y) fault x e = ap (λ z. Some z) (same_ok y x e)
 
--- ---- the schedule
+-- the form that a line at a place had
+record Took {A : Type 0} (form : List ℕ → Option A) (p : Place) (x : A × Place) : Type 0 where
+  line : List ℕ
+  ended : p.ended ≡ line ∷ x.1.ended
+  rest : p.rest ≡ x.1.rest
+  has : form line ≡ Some x.0
 
-delays_take : (words : List (List ℕ)) (delays : List ℕ) → delays_in words ≡ Some delays → words ≡ map decimal delays
-delays_take [] delays e = ap (map decimal) (same_Some [] delays e)
-delays_take (w ∷ ws) delays e =
-    let a = and_then_takes (λ delay. option_map (λ more. delay ∷ more) (delays_in ws)) (number_of greatest_number_of_delay w) delays e in
-    let b = map_takes (λ more. a.0 ∷ more) (delays_in ws) delays a.2 in
-    let number = number_takes greatest_number_of_delay w a.0 (omega arith) a.1 in
-    ap (λ x. x ∷ ws) number.0 ∙ ap (λ xs. decimal a.0 ∷ xs) (delays_take ws b.0 b.1) ∙ ap (map decimal) b.2
+took_at : {A : Type 0} (expected : Expected) (form : List ℕ → Option A) (number : ℕ) (rest : List ℕ) (ended : List (List ℕ)) (x : A × Place)
+    → in_text (form_at expected form (record { ended = ended; rest = rest; number = number })) ≡ Ok x → Took form (record { ended = ended; rest = rest; number = number }) x
+took_at expected form number rest [] x e = absurd cc
+took_at {A} expected form number rest (line ∷ lines) x e = by_value (form line) refl e where
+  by_value : (o : Option A) → form line ≡ o → in_text (form_at expected (λ _. o) (record { ended = line ∷ lines; rest = rest; number = number })) ≡ Ok x
+      → Took form (record { ended = line ∷ lines; rest = rest; number = number }) x
+  by_value None is e = absurd cc
+  by_value (Some value) is e =
+      let same = same_ok (value, record { ended = lines; rest = rest; number = number + 1 }) x e in
+      record {
+        line = line;
+        ended = ap (λ (y : A × Place). line ∷ y.1.ended) same;
+        rest = ap (λ (y : A × Place). y.1.rest) same;
+        has = is ∙ ap (λ (y : A × Place). Some y.0) same;
+      }
 
-schedule_takes : (line : List ℕ) (delays : List ℕ) → schedule_in line ≡ Some delays → line ≡ schedule_line delays
-schedule_takes line delays e =
-    let a = and_then_takes delays_in (forms.words_after (codes "schedule") line) delays e in
-    label_takes (codes "schedule") line a.0 a.1 ∙ ap (line_of (codes "schedule")) (delays_take a.0 delays a.2)
+took : {A : Type 0} (expected : Expected) (form : List ℕ → Option A) (p : Place) (x : A × Place) → in_text (form_at expected form p) ≡ Ok x → Took form p x
+took expected form p x e = took_at expected form p.number p.rest p.ended x e
+
+latency_word : IsWord (codes "latency")
+latency_word = record { some = omega arith; spaceless = refl; endless = refl }
 
 version_takes : (line : List ℕ) (version : ℕ) → version_in line ≡ Some version → line ≡ version_line 1
 version_takes line version e = same_bytes line (version_line 1) (cond_some (bytes_eq line (version_line 1)) 1 version e).0
 
--- ---- nodes
-
 abbrev line_for : Option Node → List ℕ
 line_for None = end_line
 line_for (Some node) = node_line node
-
-next_node_takes : (line : List ℕ) (next : Option Node) → node_or_end line ≡ Some next → line ≡ line_for next
-next_node_takes line next e =
-    elim (cases_Bool (bytes_eq line end_line)) [
-      | inl end ↦
-          let read : Some None ≡ Some next = rw end at e in
-          same_bytes line end_line end ∙ ap line_for (same_Some None next read)
-      | inr other ↦
-          let read : option_map (λ node. Some node) (node_in line) ≡ Some next = rw other at e in
-          let a = map_takes (λ node. Some node) (node_in line) next read in
-          node_takes line a.0 a.1 ∙ ap line_for a.2
-    ]
 
 -- the node lines that stood before a place, up to the line `end`
 record TookNodes (count : ℕ) (rest : List ℕ) (ended : List (List ℕ)) (x : List Node × Place) : Type 0 where
@@ -86,30 +86,6 @@ unless : {A : Type 0} (b : Bool) (fault : TextFault) (r : Result A TextFault) (x
 unless true fault r x e = absurd cc
 unless false fault r x e = (refl, e)
 
-nodes_take : (count number : ℕ) (rest : List ℕ) (ended : List (List ℕ)) (x : List Node × Place) → count ≤ MOST_NODES → nodes_in count number rest ended ≡ Ok x → TookNodes count rest ended x
-unfolding nodes_in
-nodes_take count number rest [] x few e = absurd cc
-nodes_take count number rest (line ∷ lines) x few e =
-    let past : Place = record { ended = lines; rest = rest; number = number + 1 } in
-    let more : Result (List Node × Place) TextFault = if count == MOST_NODES then Err faults.TreeCount else nodes_in (count + 1) (number + 1) rest lines in
-    let a = bind_ok (ok_or (node_or_end line) (faults.Line number expected.Node)) (λ next. from_node next past more) x e in
-    let text = next_node_takes line a.0 (ok_or_takes (node_or_end line) (faults.Line number expected.Node) a.0 a.1) in
-    by_next a.0 text a.2 (λ y less within. nodes_take (count + 1) (number + 1) rest lines y less within) where
-      by_next : (next : Option Node) → line ≡ line_for next
-          → from_node next (record { ended = lines; rest = rest; number = number + 1 }) (if count == MOST_NODES then Err faults.TreeCount else nodes_in (count + 1) (number + 1) rest lines) ≡ Ok x
-          → ((y : List Node × Place) → count + 1 ≤ MOST_NODES → nodes_in (count + 1) (number + 1) rest lines ≡ Ok y → TookNodes (count + 1) rest lines y) → TookNodes count rest (line ∷ lines) x
-      by_next None text e others =
-          subst (TookNodes count rest (line ∷ lines)) (same_ok ([], record { ended = lines; rest = rest; number = number + 1 }) x e) (record { before = ap (λ l. l ∷ lines) text; after = refl; few = omega arith })
-      by_next (Some node) text e others =
-          let b = bind_ok (if count == MOST_NODES then Err faults.TreeCount else nodes_in (count + 1) (number + 1) rest lines) (λ others. Ok (node ∷ others.0, others.1)) x e in
-          let within = unless (count == MOST_NODES) faults.TreeCount (nodes_in (count + 1) (number + 1) rest lines) b.0 b.1 in
-          let less : count + 1 ≤ MOST_NODES = omega (arith, eqb-false count MOST_NODES within.0) in
-          let tail = others b.0 less within.1 in
-          subst (TookNodes count rest (line ∷ lines)) (same_ok (node ∷ b.0.0, b.0.1) x b.2)
-          (record { before = ap (λ l. l ∷ lines) text ∙ ap (λ ls. node_line node ∷ ls) tail.before; after = tail.after; few = omega (arith, tail.few) })
-
--- ---- the certificate
-
 nil_ended : (p : Place) → is_at_end p ≡ true → (p.ended ≡ []) × (p.rest ≡ [])
 nil_ended p e =
     let parts = and_parts (length p.ended == 0) (length p.rest == 0) e in
@@ -119,46 +95,103 @@ if_true : {A : Type 0} (b : Bool) (fault : TextFault) (r : Result A TextFault) (
 if_true true fault r x e = (refl, e)
 if_true false fault r x e = absurd cc
 
-pub certificate_takes : (text : List ℕ) (c : Contents) → certificate_of text ≡ Ok c → (text ≡ certificate_text c) × (length c.nodes ≤ MOST_NODES)
-unfolding certificate_of
-certificate_takes text c e =
-    let start = place_before text 1 in
-    let a = bind_ok (in_text (form_at expected.Convoy version_in start)) (λ version. in_text (scenario_at version.1) >>= λ scenario. in_text (form_at expected.Latency (forms.number_line (codes "latency")) scenario.1) >>= λ latency.
-    in_text (form_at expected.Schedule schedule_in latency.1) >>= λ delays. cond (is_assignment scenario.0 delays.0) (nodes_at 0 delays.1) (Err faults.Schedule) >>= λ nodes.
-    cond (is_at_end nodes.1) (Ok (record { scenario = scenario.0; latency = latency.0; delays = delays.0; nodes = nodes.0 })) (Err faults.AfterEnd)) c e in
-    let b = bind_ok (in_text (scenario_at a.0.1)) (λ scenario. in_text (form_at expected.Latency (forms.number_line (codes "latency")) scenario.1) >>= λ latency.
-    in_text (form_at expected.Schedule schedule_in latency.1) >>= λ delays. cond (is_assignment scenario.0 delays.0) (nodes_at 0 delays.1) (Err faults.Schedule) >>= λ nodes.
-    cond (is_at_end nodes.1) (Ok (record { scenario = scenario.0; latency = latency.0; delays = delays.0; nodes = nodes.0 })) (Err faults.AfterEnd)) c a.2 in
-    let d = bind_ok (in_text (form_at expected.Latency (forms.number_line (codes "latency")) b.0.1)) (λ latency.
-    in_text (form_at expected.Schedule schedule_in latency.1) >>= λ delays. cond (is_assignment b.0.0 delays.0) (nodes_at 0 delays.1) (Err faults.Schedule) >>= λ nodes.
-    cond (is_at_end nodes.1) (Ok (record { scenario = b.0.0; latency = latency.0; delays = delays.0; nodes = nodes.0 })) (Err faults.AfterEnd)) c b.2 in
-    let f = bind_ok (in_text (form_at expected.Schedule schedule_in d.0.1)) (λ delays. cond (is_assignment b.0.0 delays.0) (nodes_at 0 delays.1) (Err faults.Schedule) >>= λ nodes.
-    cond (is_at_end nodes.1) (Ok (record { scenario = b.0.0; latency = d.0.0; delays = delays.0; nodes = nodes.0 })) (Err faults.AfterEnd)) c d.2 in
-    let g = bind_ok (cond (is_assignment b.0.0 f.0.0) (nodes_at 0 f.0.1) (Err faults.Schedule)) (λ nodes.
-    cond (is_at_end nodes.1) (Ok (record { scenario = b.0.0; latency = d.0.0; delays = f.0.0; nodes = nodes.0 })) (Err faults.AfterEnd)) c f.2 in
-    let made : Contents = record { scenario = b.0.0; latency = d.0.0; delays = f.0.0; nodes = g.0.0 } in
-    let last = if_true (is_at_end g.0.1) faults.AfterEnd (Ok made) c g.2 in
-    let same : made ≡ c = same_ok made c last.1 in
-    let over = nil_ended g.0.1 last.0 in
-    let t-version = took expected.Convoy version_in start a.0 (from_lines (form_at expected.Convoy version_in start) a.0 a.1) in
-    let t-scenario = scenario_takes a.0.1 b.0 (from_lines (scenario_at a.0.1) b.0 b.1) in
-    let t-latency = took expected.Latency (forms.number_line (codes "latency")) b.0.1 d.0 (from_lines (form_at expected.Latency (forms.number_line (codes "latency")) b.0.1) d.0 d.1) in
-    let t-schedule = took expected.Schedule schedule_in d.0.1 f.0 (from_lines (form_at expected.Schedule schedule_in d.0.1) f.0 f.1) in
-    let t-nodes = nodes_take 0 f.0.1.number f.0.1.rest f.0.1.ended g.0 (omega arith) (if_true (is_assignment b.0.0 f.0.0) faults.Schedule (nodes_at 0 f.0.1) g.0 g.1).1 in
-    let nodes : f.0.1.ended ≡ map node_line g.0.0 ++ end_line ∷ [] = t-nodes.before ∙ ap (λ ls. map node_line g.0.0 ++ end_line ∷ ls) over.0 in
-    let schedule : d.0.1.ended ≡ schedule_line f.0.0 ∷ (map node_line g.0.0 ++ end_line ∷ []) =
-    t-schedule.ended ∙ ap (λ l. l ∷ f.0.1.ended) (schedule_takes t-schedule.line f.0.0 t-schedule.has) ∙ ap (λ ls. schedule_line f.0.0 ∷ ls) nodes in
-    let latency : b.0.1.ended ≡ latency_line d.0.0 ∷ schedule_line f.0.0 ∷ (map node_line g.0.0 ++ end_line ∷ []) =
-    t-latency.ended ∙ ap (λ l. l ∷ d.0.1.ended) (number_line_takes (codes "latency") t-latency.line d.0.0 t-latency.has).0 ∙ ap (λ ls. latency_line d.0.0 ∷ ls) schedule in
-    let whole : start.ended ≡ certificate_lines made =
-    t-version.ended ∙ ap (λ l. l ∷ a.0.1.ended) (version_takes t-version.line a.0.0 t-version.has) ∙ ap (λ ls. version_line 1 ∷ ls) (t-scenario.ended ∙ ap (λ ls. scenario_lines b.0.0 ++ ls) latency) in
-    let nothing : start.rest ≡ [] = t-version.rest ∙ t-scenario.rest ∙ t-latency.rest ∙ t-schedule.rest ∙ t-nodes.after ∙ over.1 in
-    let read : text ≡ certificate_text made =
-    sym (text_again text) ∙ ap (λ r. text_of start.ended ++ r) nothing ∙ append-nil (text_of start.ended) ∙ ap text_of whole in
-    subst (λ (x : Contents). (text ≡ certificate_text x) × (length x.nodes ≤ MOST_NODES)) same (read, omega (arith, t-nodes.few))
+both : (l : Lines) (lines : List (List ℕ)) → l.ended ≡ lines → l.rest ≡ [] → l ≡ record { ended = lines; rest = [] }
+both l lines e f = ap₂ (λ ls r. record { ended = ls; rest = r }) e f
+
+module _ (grounds : ReadGrounds) where
+  -- ---- the schedule
+
+  delays_take : (words : List (List ℕ)) (delays : List ℕ) → delays_in words ≡ Some delays → words ≡ map decimal delays
+  delays_take [] delays e = ap (map decimal) (same_Some [] delays e)
+  delays_take (w ∷ ws) delays e =
+      let a = and_then_takes (λ delay. option_map (λ more. delay ∷ more) (delays_in ws)) (number_of greatest_number_of_delay w) delays e in
+      let b = map_takes (λ more. a.0 ∷ more) (delays_in ws) delays a.2 in
+      let number = (grounds.numbers greatest_number_of_delay w a.0 (omega arith)).0 a.1 in
+      ap (λ x. x ∷ ws) number.0 ∙ ap (λ xs. decimal a.0 ∷ xs) (delays_take ws b.0 b.1) ∙ ap (map decimal) b.2
+
+  schedule_takes : (line : List ℕ) (delays : List ℕ) → schedule_in line ≡ Some delays → line ≡ schedule_line delays
+  schedule_takes line delays e =
+      let a = and_then_takes delays_in (forms.words_after (codes "schedule") line) delays e in
+      (grounds.labelled (codes "schedule") line a.0).0 a.1 ∙ ap (line_of (codes "schedule")) (delays_take a.0 delays a.2)
+
+  -- ---- nodes
+
+  next_node_takes : (line : List ℕ) (next : Option Node) → node_or_end line ≡ Some next → line ≡ line_for next
+  next_node_takes line next e =
+      elim (cases_Bool (bytes_eq line end_line)) [
+        | inl end ↦
+            let read : Some None ≡ Some next = rw end at e in
+            same_bytes line end_line end ∙ ap line_for (same_Some None next read)
+        | inr other ↦
+            let read : option_map (λ node. Some node) (node_in line) ≡ Some next = rw other at e in
+            let a = map_takes (λ node. Some node) (node_in line) next read in
+            node_takes grounds line a.0 a.1 ∙ ap line_for a.2
+      ]
+
+  nodes_take : (count number : ℕ) (rest : List ℕ) (ended : List (List ℕ)) (x : List Node × Place) → count ≤ MOST_NODES → nodes_in count number rest ended ≡ Ok x → TookNodes count rest ended x
+  unfolding nodes_in
+  nodes_take count number rest [] x few e = absurd cc
+  nodes_take count number rest (line ∷ lines) x few e =
+      let past : Place = record { ended = lines; rest = rest; number = number + 1 } in
+      let more : Result (List Node × Place) TextFault = if count == MOST_NODES then Err faults.TreeCount else nodes_in (count + 1) (number + 1) rest lines in
+      let a = bind_ok (ok_or (node_or_end line) (faults.Line number expected.Node)) (λ next. from_node next past more) x e in
+      let text = next_node_takes line a.0 (ok_or_takes (node_or_end line) (faults.Line number expected.Node) a.0 a.1) in
+      by_next a.0 text a.2 (λ y less within. nodes_take (count + 1) (number + 1) rest lines y less within) where
+        by_next : (next : Option Node) → line ≡ line_for next
+            → from_node next (record { ended = lines; rest = rest; number = number + 1 }) (if count == MOST_NODES then Err faults.TreeCount else nodes_in (count + 1) (number + 1) rest lines) ≡ Ok x
+            → ((y : List Node × Place) → count + 1 ≤ MOST_NODES → nodes_in (count + 1) (number + 1) rest lines ≡ Ok y → TookNodes (count + 1) rest lines y) → TookNodes count rest (line ∷ lines) x
+        by_next None text e others =
+            subst (TookNodes count rest (line ∷ lines)) (same_ok ([], record { ended = lines; rest = rest; number = number + 1 }) x e) (record { before = ap (λ l. l ∷ lines) text; after = refl; few = omega arith })
+        by_next (Some node) text e others =
+            let b = bind_ok (if count == MOST_NODES then Err faults.TreeCount else nodes_in (count + 1) (number + 1) rest lines) (λ others. Ok (node ∷ others.0, others.1)) x e in
+            let within = unless (count == MOST_NODES) faults.TreeCount (nodes_in (count + 1) (number + 1) rest lines) b.0 b.1 in
+            let less : count + 1 ≤ MOST_NODES = omega (arith, eqb-false count MOST_NODES within.0) in
+            let tail = others b.0 less within.1 in
+            subst (TookNodes count rest (line ∷ lines)) (same_ok (node ∷ b.0.0, b.0.1) x b.2)
+            (record { before = ap (λ l. l ∷ lines) text ∙ ap (λ ls. node_line node ∷ ls) tail.before; after = tail.after; few = omega (arith, tail.few) })
+
+  -- ---- the certificate
+
+  pub certificate_takes : (text : List ℕ) (c : Contents) → certificate_of text ≡ Ok c → (text ≡ certificate_text c) × (length c.nodes ≤ MOST_NODES)
+  unfolding certificate_of
+  certificate_takes text c e =
+      let start = place_before text 1 in
+      let a = bind_ok (in_text (form_at expected.Convoy version_in start)) (λ version. in_text (scenario_at version.1) >>= λ scenario. in_text (form_at expected.Latency (forms.number_line (codes "latency")) scenario.1) >>= λ latency.
+      in_text (form_at expected.Schedule schedule_in latency.1) >>= λ delays. cond (is_assignment scenario.0 delays.0) (nodes_at 0 delays.1) (Err faults.Schedule) >>= λ nodes.
+      cond (is_at_end nodes.1) (Ok (record { scenario = scenario.0; latency = latency.0; delays = delays.0; nodes = nodes.0 })) (Err faults.AfterEnd)) c e in
+      let b = bind_ok (in_text (scenario_at a.0.1)) (λ scenario. in_text (form_at expected.Latency (forms.number_line (codes "latency")) scenario.1) >>= λ latency.
+      in_text (form_at expected.Schedule schedule_in latency.1) >>= λ delays. cond (is_assignment scenario.0 delays.0) (nodes_at 0 delays.1) (Err faults.Schedule) >>= λ nodes.
+      cond (is_at_end nodes.1) (Ok (record { scenario = scenario.0; latency = latency.0; delays = delays.0; nodes = nodes.0 })) (Err faults.AfterEnd)) c a.2 in
+      let d = bind_ok (in_text (form_at expected.Latency (forms.number_line (codes "latency")) b.0.1)) (λ latency.
+      in_text (form_at expected.Schedule schedule_in latency.1) >>= λ delays. cond (is_assignment b.0.0 delays.0) (nodes_at 0 delays.1) (Err faults.Schedule) >>= λ nodes.
+      cond (is_at_end nodes.1) (Ok (record { scenario = b.0.0; latency = latency.0; delays = delays.0; nodes = nodes.0 })) (Err faults.AfterEnd)) c b.2 in
+      let f = bind_ok (in_text (form_at expected.Schedule schedule_in d.0.1)) (λ delays. cond (is_assignment b.0.0 delays.0) (nodes_at 0 delays.1) (Err faults.Schedule) >>= λ nodes.
+      cond (is_at_end nodes.1) (Ok (record { scenario = b.0.0; latency = d.0.0; delays = delays.0; nodes = nodes.0 })) (Err faults.AfterEnd)) c d.2 in
+      let g = bind_ok (cond (is_assignment b.0.0 f.0.0) (nodes_at 0 f.0.1) (Err faults.Schedule)) (λ nodes.
+      cond (is_at_end nodes.1) (Ok (record { scenario = b.0.0; latency = d.0.0; delays = f.0.0; nodes = nodes.0 })) (Err faults.AfterEnd)) c f.2 in
+      let made : Contents = record { scenario = b.0.0; latency = d.0.0; delays = f.0.0; nodes = g.0.0 } in
+      let last = if_true (is_at_end g.0.1) faults.AfterEnd (Ok made) c g.2 in
+      let same : made ≡ c = same_ok made c last.1 in
+      let over = nil_ended g.0.1 last.0 in
+      let t-version = took expected.Convoy version_in start a.0 a.1 in
+      let t-scenario = ((grounds.scenarios b.0.0 a.0.1 b.0.1).0 (from_lines (scenario_at a.0.1) b.0 b.1)).1 in
+      let t-latency = took expected.Latency (forms.number_line (codes "latency")) b.0.1 d.0 d.1 in
+      let t-schedule = took expected.Schedule schedule_in d.0.1 f.0 f.1 in
+      let t-nodes = nodes_take 0 f.0.1.number f.0.1.rest f.0.1.ended g.0 (omega arith) (if_true (is_assignment b.0.0 f.0.0) faults.Schedule (nodes_at 0 f.0.1) g.0 g.1).1 in
+      let nodes : f.0.1.ended ≡ map node_line g.0.0 ++ end_line ∷ [] = t-nodes.before ∙ ap (λ ls. map node_line g.0.0 ++ end_line ∷ ls) over.0 in
+      let schedule : d.0.1.ended ≡ schedule_line f.0.0 ∷ (map node_line g.0.0 ++ end_line ∷ []) =
+      t-schedule.ended ∙ ap (λ l. l ∷ f.0.1.ended) (schedule_takes t-schedule.line f.0.0 t-schedule.has) ∙ ap (λ ls. schedule_line f.0.0 ∷ ls) nodes in
+      let latency : b.0.1.ended ≡ latency_line d.0.0 ∷ schedule_line f.0.0 ∷ (map node_line g.0.0 ++ end_line ∷ []) =
+      t-latency.ended ∙ ap (λ l. l ∷ d.0.1.ended) ((grounds.number_lines (codes "latency") t-latency.line d.0.0 latency_word).0 t-latency.has).0 ∙ ap (λ ls. latency_line d.0.0 ∷ ls) schedule in
+      let whole : start.ended ≡ certificate_lines made =
+      t-version.ended ∙ ap (λ l. l ∷ a.0.1.ended) (version_takes t-version.line a.0.0 t-version.has) ∙ ap (λ ls. version_line 1 ∷ ls) (t-scenario.ended ∙ ap (λ ls. scenario_lines b.0.0 ++ ls) latency) in
+      let nothing : start.rest ≡ [] = t-version.rest ∙ t-scenario.rest ∙ t-latency.rest ∙ t-schedule.rest ∙ t-nodes.after ∙ over.1 in
+      let read : text ≡ certificate_text made =
+      ((grounds.texts text (certificate_lines made)).0 (both (lines_in text) (certificate_lines made) whole nothing)).0 in
+      subst (λ (x : Contents). (text ≡ certificate_text x) × (length x.nodes ≤ MOST_NODES)) same (read, omega (arith, t-nodes.few))
 
 -- what was read has this text
-pub is_found : (text : List ℕ) (result : Result Contents TextFault) → IsUnlessMemory faults.Memory (certificate_of text) result → IfOk result (λ certificate. IsTextOf certificate text)
-is_found text (Ok c) (inl e) = certificate_takes text c (sym e)
-is_found text (Ok c) (inr e) = absurd cc
-is_found text (Err fault) given = tt
+pub is_found : TextsAreKept → (text : List ℕ) (result : Result Contents TextFault) → IsUnlessMemory faults.Memory (certificate_of text) result → IfOk result (λ certificate. IsTextOf certificate text)
+is_found kept text (Ok c) (inl e) = kept text c (sym e)
+is_found kept text (Ok c) (inr e) = absurd cc
+is_found kept text (Err fault) given = tt

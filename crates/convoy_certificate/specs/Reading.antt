@@ -74,3 +74,16 @@ IsTextOf certificate text = (text ≡ certificate_text certificate) × (length c
 -- no two certificates have one text
 abbrev pub TextsDiffer : Type 0
 TextsDiffer = (b c : Contents) → IsCertificate b → IsCertificate c → certificate_text b ≡ certificate_text c → b ≡ c
+
+-- the text of a certificate that has no more nodes than may be read is read as the certificate
+abbrev pub TextsAreRead : Type 0
+TextsAreRead =
+    (certificate : Contents)
+    → IsCertificate certificate
+    → length certificate.nodes ≤ MOST_NODES
+    → certificate_of (certificate_text certificate) ≡ Ok certificate
+
+-- a certificate that is read from a text has this text
+abbrev pub TextsAreKept : Type 0
+TextsAreKept =
+    (text : List ℕ) (certificate : Contents) → certificate_of text ≡ Ok certificate → IsTextOf certificate text

@@ -4,6 +4,7 @@ ghost use Rattle.convoy_packets.specs.Assignment.{IsAssignment};
 ghost use Rattle.convoy_certificate.specs.Contents.{IsNode, IsCertificate};
 
 use super::node::Node;
+use convoy_packets::Delays;
 use convoy_scenario::Scenario;
 use std::marker::Model;
 
@@ -20,7 +21,7 @@ pub const MOST_NODES: usize = 4_000_000;
 pub struct Certificate {
     scenario: Scenario,
     latency: u32,
-    delays: Vec<u16>,
+    delays: Delays,
     nodes: Vec<Node>,
 }
 
@@ -32,27 +33,27 @@ impl Model for Certificate {
     ghost view = { λ c. record {
       scenario = c.scenario;
       latency = c.latency;
-      delays = c.delays.items;
+      delays = c.delays;
       nodes = c.nodes.items;
     } };
 
     ghost invariant = { λ c. IsCertificate (record {
       scenario = c.scenario;
       latency = c.latency;
-      delays = c.delays.items;
+      delays = c.delays;
       nodes = c.nodes.items;
     }) };
 }
 
 impl Certificate {
     /// A certificate of these parts.
-    pub fn new(scenario: Scenario, latency: u32, delays: Vec<u16>, nodes: Vec<Node>) -> Certificate
-        requires assigned { IsAssignment scenario delays.items }
+    pub fn new(scenario: Scenario, latency: u32, delays: Delays, nodes: Vec<Node>) -> Certificate
+        requires assigned { IsAssignment scenario delays }
         requires nodes { All IsNode nodes.items }
         ensures { result ≡ record {
           scenario = scenario;
           latency = latency;
-          delays = delays.items;
+          delays = delays;
           nodes = nodes.items;
         } }
     {
@@ -78,12 +79,12 @@ impl Certificate {
         self.latency
     }
 
-    /// The delays of the schedule in ticks, in the order of the packets.
-    pub fn delays(&self) -> &[u16]
+    /// The schedule.
+    pub fn delays(&self) -> &Delays
         ensures value { result.now ≡ self.now.delays }
         ensures lawful { IsCertificate self.now }
     {
-        self.delays.as_slice()
+        &self.delays
     }
 
     /// The nodes, in their order.

@@ -1,8 +1,50 @@
 //! What always holds of certificates: functions that do nothing, and whose contracts are the laws.
 
-ghost use Rattle.convoy_certificate.specs.Reading.{TextsDiffer};
+ghost use Rattle.convoy_certificate.specs.Reading.{TextsDiffer, TextsAreRead, TextsAreKept};
+
+use convoy_scenario::laws::{
+    decimals_are_words, labelled_lines, lines_of_texts, number_lines, numbers_are_decimals,
+    scenario_lines_are_lines, scenarios_are_their_lines, words_make_lines, words_of_lines,
+};
 
 /// Two certificates with one text are equal.
 pub fn texts_differ()
     ensures { TextsDiffer }
-{}
+{
+    numbers_are_decimals();
+    decimals_are_words();
+    words_of_lines();
+    words_make_lines();
+    labelled_lines();
+    number_lines();
+    lines_of_texts();
+    scenario_lines_are_lines();
+    scenarios_are_their_lines();
+}
+
+/// The text of a certificate with no more nodes than may be read is read as that certificate.
+pub fn texts_are_read()
+    ensures { TextsAreRead }
+{
+    numbers_are_decimals();
+    decimals_are_words();
+    words_of_lines();
+    words_make_lines();
+    labelled_lines();
+    number_lines();
+    lines_of_texts();
+    scenario_lines_are_lines();
+    scenarios_are_their_lines();
+}
+
+/// A certificate that is read from a text has this text, and no more nodes than may be read.
+pub fn texts_are_kept()
+    ensures { TextsAreKept }
+{
+    numbers_are_decimals();
+    words_of_lines();
+    labelled_lines();
+    number_lines();
+    lines_of_texts();
+    scenarios_are_their_lines();
+}

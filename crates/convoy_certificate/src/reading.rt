@@ -10,10 +10,11 @@ ghost use Rattle.convoy_certificate.specs.Forms.{version_in, schedule_in, node_o
 ghost use Rattle.convoy_certificate.specs.Reading.{in_text, is_within, nodes_at, certificate_of, IsTextOf};
 
 use super::certificate::{Certificate, MOST_NODES};
+use super::laws::{texts_are_kept, texts_are_read};
 use super::lines::{node_or_end, schedule_in, version_in};
 use super::node::Node;
 use super::text_fault::TextFault;
-use convoy_packets::PacketTable;
+use convoy_packets::{Delays, PacketTable};
 use convoy_scenario::{Expected, LineReader, Scenario, number_line};
 use std::alloc::Global;
 
@@ -23,6 +24,8 @@ use std::alloc::Global;
 /// refused, `TextFault::Memory` is the answer, and says nothing of the text. The tree's shape is not
 /// looked at: any list of nodes up to `MOST_NODES` is read, an empty one too.
 pub fn read(alloc: Global, text: &[u8]) -> Result<Certificate, TextFault>
+    // What is read is a certificate: its schedule is an assignment of its scenario.
+    ensures lawful { IfOk result (λ certificate. IsCertificate certificate) }
     // What is read has this text, and no more nodes than may be read.
     ensures found { IfOk result (λ certificate. IsTextOf certificate text.now) }
     // A text of such a certificate is read, unless memory runs out.
@@ -31,6 +34,8 @@ pub fn read(alloc: Global, text: &[u8]) -> Result<Certificate, TextFault>
     // Which fault it is.
     ensures exact { IsUnlessMemory TextFault.Memory (certificate_of text.now) result }
 {
+    texts_are_kept();
+    texts_are_read();
     read_all(alloc, text)
 }
 
@@ -51,7 +56,7 @@ fn read_all(alloc: Global, text: &[u8]) -> Result<Certificate, TextFault>
     if !reader.at_end() {
         return Err(TextFault::AfterEnd);
     }
-    Ok(Certificate::new(scenario, latency, delays, nodes))
+    Ok(Certificate::new(scenario, latency, Delays::from_vec(delays), nodes))
 }
 
 fn read_version(reader: &mut LineReader) -> Result<u32, TextFault>

@@ -2,7 +2,7 @@ ghost use Rattle.std.specs.Prelude.{IsTrue};
 ghost use Rattle.convoy_packets.specs.Assignment.{AreWithin};
 
 use super::*;
-use convoy_packets::PacketTable;
+use convoy_packets::{Delays, PacketTable};
 use convoy_scenario::{Expected, ScenarioFault, read_toml};
 use std::alloc::Global;
 use std::process::Abort;
@@ -67,7 +67,10 @@ fn certificate_of_base(rt: HostRuntime) -> Result<(), Fail> {
     assert!(rt; is_kept(rt.alloc(), BASE)?);
     let certificate = read(rt.alloc(), BASE)?;
     assert_eq!(rt; certificate.latency(), 12);
-    assert_eq!(rt; certificate.delays(), [3, 3, 3, 3, 3, 3, 3, 3].as_slice());
+    assert_eq!(rt;
+        certificate.delays().as_slice(),
+        [3, 3, 3, 3, 3, 3, 3, 3].as_slice()
+    );
     assert_eq!(rt; certificate.nodes(), [Node::Bound].as_slice());
     assert_eq!(rt; certificate.scenario().delay(), 3);
     Ok(())
@@ -244,7 +247,7 @@ fn one_leaf(
     assert!(rt; are_within(table.ranges(), &delays));
     let mut nodes = Vec::new(alloc);
     nodes.push(Node::Bound)?;
-    Ok(Certificate::new(scenario, latency, delays, nodes))
+    Ok(Certificate::new(scenario, latency, Delays::from_vec(delays), nodes))
 }
 
 const BASE_SCENARIO: &str = r#"

@@ -23,7 +23,7 @@ fn text_of(alloc: Global, certificate: &Certificate) -> Result<Vec<u8>, AllocErr
     let mut text = Vec::from_slice(alloc, b"convoy 1\n")?;
     write_lines(alloc, certificate.scenario(), &mut text)?;
     push_latency(&mut text, certificate.latency())?;
-    push_schedule(&mut text, certificate.delays())?;
+    push_schedule(&mut text, certificate.delays().as_slice())?;
     push_nodes(&mut text, certificate.nodes())?;
     text.extend_from_slice(b"end\n")?;
     Ok(text)

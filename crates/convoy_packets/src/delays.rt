@@ -77,6 +77,13 @@ impl Delays {
         Delays { delays }
     }
 
+    /// The delays in ticks, in the order of the packets.
+    pub fn as_slice(&self) -> &[u16]
+        ensures { result.now ≡ self.now }
+    {
+        self.delays.as_slice()
+    }
+
     /// How many packets the schedule has.
     pub fn len(&self) -> usize
         ensures { result ≡ length self.now }

@@ -10,7 +10,8 @@ use Rattle.convoy_scenario.specs.Draft.{DraftMessage}
 use Rattle.convoy_scenario.specs.LineWords.{words_of, next_word, number_of}
 use Rattle.convoy_scenario.specs.LineForms.{◌>>=◌, greatest_number, is_spaced, words_after, number_line, name_of, sender_of, groups_line, multicast_line, target_line}
 use Rattle.convoy_scenario.specs.Lines.{line_of}
-use Rattle.convoy_scenario.proofs.Spelling.{IsWord, AreWords, words_again, line_again, by_words, number_again, number_takes, decimal_word}
+use Rattle.convoy_scenario.specs.Laws.{IsWord}
+use Rattle.convoy_scenario.proofs.Spelling.{AreWords, words_again, line_again, by_words, number_again, number_takes, decimal_word}
 
 pub bind_some : {A B : Type 0} (o : Option A) (f : A → Option B) (y : B) → (o >>= f) ≡ Some y → (x : A) × (o ≡ Some x) × (f x ≡ Some y)
 bind_some None f y e = absurd cc

@@ -24,8 +24,9 @@ use Rattle.convoy_scenario.specs.LineReading.{◌>>=◌, Place, form_at, is_mult
 use Rattle.convoy_scenario.proofs.DraftAgain.{draft_for, draft_message, sender_name, plan_again, passes_again}
 use Rattle.convoy_scenario.proofs.FormLaws.{label_again, number_line_again}
 use Rattle.convoy_scenario.proofs.NumberedAgain.{numbers_again}
-use Rattle.convoy_scenario.proofs.ScenarioTakes.{named}
-use Rattle.convoy_scenario.proofs.Spelling.{IsWord, AreWords, AreLines, line_lacks, words_again, number_again, decimal_word}
+use Rattle.convoy_scenario.proofs.ScenarioTakes.{named, count_lines}
+use Rattle.convoy_scenario.specs.Laws.{IsWord}
+use Rattle.convoy_scenario.proofs.Spelling.{AreWords, AreLines, line_lacks, words_again, number_again, decimal_word}
 
 -- ---- names are words
 
@@ -190,7 +191,7 @@ told_again : (plan : Plan) → IsScenario plan → told (scenario_of_draft (draf
 told_again plan s = rw (passes_again plan s) (ap (λ (p : Plan). Ok p) (plan_again plan s))
 
 pub scenario_again : (plan : Plan) (number : ℕ) (rest : List ℕ) (more : List (List ℕ)) → IsScenario plan → plan.target_group < length plan.groups
-    → (n : ℕ) × (scenario_at (record { ended = scenario_lines plan ++ more; rest = rest; number = number }) ≡ Ok (plan, record { ended = more; rest = rest; number = n }))
+    → scenario_at (record { ended = scenario_lines plan ++ more; rest = rest; number = number }) ≡ Ok (plan, record { ended = more; rest = rest; number = number + length (scenario_lines plan) })
 unfolding scenario_at
 scenario_again plan number rest more s within =
     let ms = map (draft_message plan) plan.multicasts in
@@ -220,7 +221,8 @@ scenario_again plan number rest more s within =
     (then_ok (told (scenario_of_draft (draft_for plan))) (λ plan'. where_ordered (first_unordered plan.groups p2.number ms) plan' >>= λ ordered. Ok (ordered, p4))
     plan (Ok (plan, p4)) (told_again plan s)
     (ap (λ o. where_ordered o plan >>= λ ordered. Ok (ordered, p4)) (none_unordered plan p2.number plan.multicasts s s.messages)))))) in
-    (p4.number, ap scenario_at start ∙ read)
+    let past : p4.number ≡ number + length (scenario_lines plan) = omega (arith, count_lines plan) in
+    ap scenario_at start ∙ read ∙ ap (λ n. Ok (plan, record { ended = more; rest = rest; number = n })) past
 
 -- ---- no line has a byte 10 in it
 

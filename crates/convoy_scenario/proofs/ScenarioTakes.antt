@@ -4,7 +4,7 @@ use Rattle.std.specs.List.{list_all, AllByRecursion, AllZip, range_with_len}
 use Rattle.std.specs.Result.{result_and}
 use Rattle.std.specs.Str.{bytes_eq}
 use Rattle.std.proofs.lemmas.Bool.{and_parts, and_from, cases_Bool, false≢true, le-leb}
-use Rattle.std.proofs.lemmas.List.{get_or-map}
+use Rattle.std.proofs.lemmas.List.{get_or-map, length-append, length-map}
 use Rattle.std.proofs.lemmas.Slice.Eq.{slice_eq-Decides, bytes_eq-Decides}
 use Rattle.convoy_scenario.specs.declared.fault.ScenarioFault.{ScenarioFault}
 use Rattle.convoy_scenario.specs.declared.limits.TheConstants.{GREATEST_AT, GREATEST_DELAY, MOST_MULTICASTS}
@@ -16,7 +16,8 @@ use Rattle.convoy_scenario.specs.declared.fault.ScenarioFault.TheVariants.{OverL
 use Rattle.convoy_scenario.specs.declared.fault.Limit.TheVariants.{Multicasts}
 use Rattle.convoy_scenario.specs.Draft.{Draft, DraftMessage}
 use Rattle.convoy_scenario.specs.Plan.{Plan, Message, message_at, no_message}
-use Rattle.convoy_scenario.specs.WellFormed.{is_name, is_group_name, client_word}
+use Rattle.convoy_scenario.specs.WellFormed.{is_name, is_group_name, client_word, IsScenario}
+use Rattle.convoy_scenario.specs.Laws.{IsBetween}
 use Rattle.convoy_scenario.specs.Checks.{Check, checks, judge, is_within, is_among, is_known_sender, knows, is_message}
 use Rattle.convoy_scenario.specs.Numbering as numbering
 use Rattle.convoy_scenario.specs.Numbering.{place, message_place, ticks, numbers_of, message_of, plan_of, scenario_of_draft}
@@ -24,6 +25,7 @@ use Rattle.convoy_scenario.specs.Lines.{line_of, sender_word, delay_line, groups
 use Rattle.convoy_scenario.specs.LineForms as forms
 use Rattle.convoy_scenario.specs.LineReading.{◌>>=◌, Place, form_at, messages_in, messages_at, is_multicast_due, draft_of, told, is_ordered, first_unordered, where_ordered, scenario_at}
 use Rattle.convoy_scenario.proofs.FormLaws.{Says, message_takes, name_takes, names_take, number_line_takes, groups_take, target_takes, same_bytes}
+use Rattle.convoy_scenario.proofs.NumberedLemmas.{plan_formed}
 use Rattle.convoy_scenario.proofs.PlaceLemmas.{place_within, place_passes, name_at_place}
 
 -- ---- the destinations
@@ -132,6 +134,7 @@ pub record Took {A : Type 0} (form : List ℕ → Option A) (p : Place) (x : A �
   pub line : List ℕ
   pub ended : p.ended ≡ line ∷ x.1.ended
   pub rest : p.rest ≡ x.1.rest
+  pub number : p.number + 1 ≡ x.1.number
   pub has : form line ≡ Some x.0
 
 took_at : {A : Type 0} (expected : Expected) (form : List ℕ → Option A) (number : ℕ) (rest : List ℕ) (ended : List (List ℕ)) (x : A × Place)
@@ -145,6 +148,7 @@ took_at {A} expected form number rest (line ∷ lines) x e =
       line = line;
       ended = ap (λ (y : A × Place). line ∷ y.1.ended) same;
       rest = ap (λ (y : A × Place). y.1.rest) same;
+      number = ap (λ (y : A × Place). y.1.number) same;
       has = ok_or_takes (form line) (Line number expected) a.0 a.1 ∙ ap (λ (y : A × Place). Some y.0) same;
     }
 
@@ -152,10 +156,11 @@ pub took : {A : Type 0} (expected : Expected) (form : List ℕ → Option A) (p 
 took expected form p x e = took_at expected form p.number p.rest p.ended x e
 
 -- the lines that say some messages
-pub record TookMessages (rest : List ℕ) (ended : List (List ℕ)) (x : List DraftMessage × Place) : Type 0 where
+pub record TookMessages (number : ℕ) (rest : List ℕ) (ended : List (List ℕ)) (x : List DraftMessage × Place) : Type 0 where
   pub lines : List (List ℕ)
   pub before : ended ≡ lines ++ x.1.ended
   pub after : rest ≡ x.1.rest
+  pub past : number + length x.0 ≡ x.1.number
   pub say : AllZip Says lines x.0
 
 stop : (b : Bool) (fault : LineFault) (y x : List DraftMessage × Place) → cond b (Err fault) (Ok y) ≡ Ok x → y ≡ x
@@ -166,11 +171,11 @@ unless : {A : Type 0} (b : Bool) (fault : LineFault) (r : Result A LineFault) (x
 unless true fault r x e = absurd cc
 unless false fault r x e = e
 
-pub messages_take : (count number : ℕ) (rest : List ℕ) (ended : List (List ℕ)) (x : List DraftMessage × Place) → messages_in count number rest ended ≡ Ok x → TookMessages rest ended x
+pub messages_take : (count number : ℕ) (rest : List ℕ) (ended : List (List ℕ)) (x : List DraftMessage × Place) → messages_in count number rest ended ≡ Ok x → TookMessages number rest ended x
 unfolding messages_in
 messages_take count number rest [] x e =
     let same = stop (is_multicast_due count rest) (Line number Multicast) ([], record { ended = []; rest = rest; number = number }) x e in
-    subst (TookMessages rest []) same (record { lines = []; before = refl; after = refl; say = tt })
+    subst (TookMessages number rest []) same (record { lines = []; before = refl; after = refl; past = omega arith; say = tt })
 messages_take count number rest (line ∷ lines) x e =
     elim (cases_Bool (is_multicast_due count line)) [
       | inl due ↦
@@ -180,10 +185,10 @@ messages_take count number rest (line ∷ lines) x e =
           let same : (a.0 ∷ b.0.0, b.0.1) ≡ x = same_ok (a.0 ∷ b.0.0, b.0.1) x b.2 in
           let more = messages_take (count + 1) (number + 1) rest lines b.0 (unless (count == MOST_MULTICASTS) (Scenario (OverLimit Multicasts)) _ b.0 b.1) in
           let says = message_takes line a.0 (ok_or_takes (forms.multicast_line line) (Line number Multicast) a.0 a.1) in
-          subst (TookMessages rest (line ∷ lines)) same (record { lines = line ∷ more.lines; before = ap (λ t. line ∷ t) more.before; after = more.after; say = (says, more.say) })
+          subst (TookMessages number rest (line ∷ lines)) same (record { lines = line ∷ more.lines; before = ap (λ t. line ∷ t) more.before; after = more.after; past = omega (arith, more.past); say = (says, more.say) })
       | inr other ↦
           let read : Ok ([], record { ended = line ∷ lines; rest = rest; number = number }) ≡ Ok x = rw other at e in
-          subst (TookMessages rest (line ∷ lines)) (same_ok ([], record { ended = line ∷ lines; rest = rest; number = number }) x read) (record { lines = []; before = refl; after = refl; say = tt })
+          subst (TookMessages number rest (line ∷ lines)) (same_ok ([], record { ended = line ∷ lines; rest = rest; number = number }) x read) (record { lines = []; before = refl; after = refl; past = omega arith; say = tt })
     ]
 
 -- all that is asked of each message
@@ -268,10 +273,12 @@ name_among name (m ∷ ms) e all =
 
 -- ---- the scenario
 
--- the lines of a scenario stood before a place
-pub record Stood (p : Place) (x : Plan × Place) : Type 0 where
-  pub ended : p.ended ≡ scenario_lines x.0 ++ x.1.ended
-  pub rest : p.rest ≡ x.1.rest
+-- as many lines as messages, and three
+pub count_lines : (plan : Plan) → length (scenario_lines plan) ≡ length plan.multicasts + 3
+count_lines plan =
+    let messages = length-map plan.multicasts (multicast_line plan) in
+    let last = length-append (map (multicast_line plan) plan.multicasts) (target_line plan ∷ []) in
+    omega arith
 
 made : (draft : Draft) (delay : ℕ) (d g t : List ℕ) (ms rest : List (List ℕ)) → draft.delay ≡ pos delay
     → d ≡ line_of (codes "delay") (decimal delay ∷ []) → decimal delay ≡ decimal (ticks GREATEST_DELAY (pos delay))
@@ -285,7 +292,7 @@ made draft delay d g t ms rest said de tick ge me te =
     ∙ ap (λ l. delay_line (plan_of draft) ∷ groups_line (plan_of draft) ∷ (map (multicast_line (plan_of draft)) (plan_of draft).multicasts ++ l ∷ rest)) te
     ∙ sym (ap (λ ls. delay_line (plan_of draft) ∷ groups_line (plan_of draft) ∷ ls) (append_assoc (map (multicast_line (plan_of draft)) (plan_of draft).multicasts) (target_line (plan_of draft) ∷ []) rest))
 
-pub scenario_takes : (p : Place) (x : Plan × Place) → scenario_at p ≡ Ok x → Stood p x
+pub scenario_takes : (p : Place) (x : Plan × Place) → scenario_at p ≡ Ok x → IsScenario x.0 × IsBetween x.0 p x.1
 unfolding scenario_at
 scenario_takes p x e =
     let a = bind_ok (form_at Delay (forms.number_line (codes "delay")) p) (λ delay. form_at Groups forms.groups_line delay.1 >>= λ groups. messages_at 0 groups.1 >>= λ messages. form_at Target forms.target_line messages.1 >>= λ target.
@@ -321,4 +328,8 @@ scenario_takes p x e =
     let stood : p.ended ≡ t-delay.line ∷ t-groups.line ∷ (t-messages.lines ++ t-target.line ∷ d.0.1.ended) =
     t-delay.ended ∙ ap (λ ls. t-delay.line ∷ ls) (t-groups.ended ∙ ap (λ ls. t-groups.line ∷ ls) (t-messages.before ∙ ap (λ ls. t-messages.lines ++ ls) t-target.ended)) in
     let whole = made draft a.0.0 t-delay.line t-groups.line t-target.line t-messages.lines d.0.1.ended refl delay.0 (delay_is a.0.0 all.0) groups lines target-is in
-    subst (Stood p) same (record { ended = stood ∙ whole; rest = t-delay.rest ∙ t-groups.rest ∙ t-messages.after ∙ t-target.rest })
+    let messages = length-map c.0.0 (message_of b.0.0) in
+    let past : p.number + length (scenario_lines (plan_of draft)) ≡ d.0.1.number =
+    omega (arith, count_lines (plan_of draft), t-delay.number, t-groups.number, t-messages.past, t-target.number) in
+    subst (λ (y : Plan × Place). IsScenario y.0 × IsBetween y.0 p y.1) same
+    (plan_formed draft sure.0, record { ended = stood ∙ whole; rest = t-delay.rest ∙ t-groups.rest ∙ t-messages.after ∙ t-target.rest; number = past })

@@ -1,5 +1,5 @@
 -- Words, lines and texts: what is written is read again, and what is read was written so.
-use Rattle.std.proofs.Common.{◌≡◌, ℕ, ◌<◌, ◌≤◌, ◌^◌, ◌==◌, ◌||◌, ◌&&◌, not, true, leb, List, [], ◌∷◌, ◌++◌, length, get_or, Some, inl, inr, refl, ap, sym, subst, ◌∙◌, append_assoc, arith, decimal}
+use Rattle.std.proofs.Common.{◌≡◌, ℕ, ◌<◌, ◌≤◌, ◌^◌, ◌==◌, ◌||◌, ◌&&◌, not, true, false, leb, List, [], ◌∷◌, ◌++◌, length, get_or, Some, inl, inr, refl, ap, sym, subst, ◌∙◌, append_assoc, arith, decimal}
 use Rattle.std.specs.List.{onto_first, list_any, AllByRecursion}
 use Rattle.std.specs.Str.{all_ascii_digits}
 use Rattle.std.specs.Str.Parse.{digits_value}
@@ -12,6 +12,7 @@ use Rattle.std.proofs.lemmas.Str.Parse.{IsNumeralModel, numerals_by_value, tells
 use Rattle.convoy_scenario.specs.LineWords.{Lacks, words_of, has_no_leading_zero, is_number, number_of}
 use Rattle.convoy_scenario.specs.Lines.{line_of, text_of}
 use Rattle.convoy_scenario.specs.LineReading.{Lines, in_front, lines_in}
+use Rattle.convoy_scenario.specs.Laws.{IsWord, IsLine}
 use Rattle.convoy_scenario.proofs.Cutting.{lone_word, next_word}
 use Rattle.convoy_scenario.proofs.Splitting.{lines_after}
 
@@ -24,12 +25,6 @@ lacks_append byte (x ∷ xs) ys p q =
     or_from _ _ h.0 (lacks_append byte xs ys h.1 q)
 
 -- ---- words
-
--- a word: bytes, none of them a space or byte 10
-pub record IsWord (word : List ℕ) : Type 0 where
-  pub some : 0 < length word
-  pub spaceless : Lacks 32 word
-  pub endless : Lacks 10 word
 
 abbrev pub AreWords : List (List ℕ) → Type 0
 AreWords words = AllByRecursion IsWord words
@@ -72,7 +67,7 @@ line_again (x ∷ xs) =
 -- ---- lines
 
 abbrev pub AreLines : List (List ℕ) → Type 0
-AreLines lines = AllByRecursion (Lacks 10) lines
+AreLines lines = AllByRecursion IsLine lines
 
 -- the lines of a text that was written
 pub lines_again : (lines : List (List ℕ)) → AreLines lines → lines_in (text_of lines) ≡ record { ended = lines; rest = [] }
@@ -95,6 +90,19 @@ text_again (x ∷ xs) =
           let is : x ≡ 10 = eqb-true x 10 end in
           rw end (ap (λ t. 10 ∷ t) (text_again xs) ∙ ap (λ b. b ∷ xs) (sym is))
       | inr other ↦ rw other (front_again x (lines_in xs).ended (lines_in xs).rest xs (text_again xs))
+    ]
+
+front_lines : (byte : ℕ) (lines : List (List ℕ)) (rest : List ℕ) → byte == 10 ≡ false → AreLines lines → AreLines (in_front byte lines rest).ended
+front_lines byte [] rest other are = tt
+front_lines byte (line ∷ lines) rest other are = (or_from (byte == 10) _ other are.0, are.1)
+
+-- no line of a text has its end inside it
+pub lines_are : (text : List ℕ) → AreLines (lines_in text).ended
+lines_are [] = tt
+lines_are (x ∷ xs) =
+    elim (cases_Bool (x == 10)) [
+      | inl end ↦ rw end (refl, lines_are xs)
+      | inr other ↦ rw other (front_lines x (lines_in xs).ended (lines_in xs).rest other (lines_are xs))
     ]
 
 -- ---- numbers

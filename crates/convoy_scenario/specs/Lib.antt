@@ -1,5 +1,6 @@
 pub mod Checks
 pub mod Draft
+pub mod Laws
 pub mod LineForms
 pub mod LineReading
 pub mod LineWords

@@ -17,6 +17,7 @@ mod checks;
 mod draft;
 mod fault;
 mod input;
+pub mod laws;
 mod limits;
 mod line_fault;
 mod line_forms;

@@ -1,7 +1,7 @@
 -- Members and sums of a list, and of the same list in another order.
-use Rattle.std.proofs.Common.{◌≡◌, ℕ, ◌+◌, ◌*◌, ◌<◌, ◌≤◌, zero, suc, Bool, true, false, inl, inr, List, [], ◌∷◌, length, map, get_or, refl, sym, ap, subst, ◌∙◌, arith, ◌-◌, ◌||◌, fold}
-use Rattle.std.specs.List.{list_any, range_with_len, Contains, sum_by, flat_map}
-use Rattle.std.specs.List.Sorted.{IsPermutation}
+use Rattle.std.proofs.Common.{◌≡◌, ℕ, ◌+◌, ◌*◌, ◌<◌, ◌≤◌, zero, suc, Bool, true, false, inl, inr, List, [], ◌∷◌, length, map, get_or, refl, sym, ap, subst, ◌∙◌, arith, add-one, ◌-◌, ◌||◌, fold}
+use Rattle.std.specs.List.{All, list_any, range_with_len, Contains, sum_by, flat_map}
+use Rattle.std.specs.List.Sorted.{IsPermutation, IsStrictlyIncreasing}
 use Rattle.std.proofs.lemmas.Bool.{cases_Bool, or_left}
 use Rattle.std.proofs.lemmas.List.Sorted.{Contains-permutation}
 use Rattle.std.proofs.lemmas.List.Sums.{sum_by-cons, sum_by-append}
@@ -175,3 +175,19 @@ fold_here f a i n l = ap (fold f a) (range_next i n l)
 
 pub fold_end : {B : Type 0} (f : B → ℕ → B) (a : B) (i n : ℕ) → n ≤ i → fold f a (range_with_len i (n - i)) ≡ a
 fold_end f a i n l = ap (fold f a) (range_end i n l)
+
+-- ---- rising numbers
+rises : (xs : List ℕ) → IsStrictlyIncreasing xs → (k : ℕ) → k < length xs → k ≤ get_or xs k 0
+rises xs h zero l = omega arith
+rises xs h (suc k) l =
+    let before = rises xs h k (omega arith) in
+    let step = rw add-one at (h k (omega arith)) in
+    omega arith
+
+-- rising numbers below n are no more than n
+pub length-rising-le : (xs : List ℕ) (n : ℕ) → IsStrictlyIncreasing xs → All (λ x. x < n) xs → length xs ≤ n
+length-rising-le [] n h below = omega arith
+length-rising-le (x ∷ xs) n h below =
+    let last = rises (x ∷ xs) h (length xs) (omega arith) in
+    let under = below (length xs) 0 (omega arith) in
+    omega arith

@@ -10,7 +10,6 @@ use Rattle.convoy_scenario.specs.declared.limits.TheConstants.{MOST_GROUPS}
 use Rattle.convoy_scenario.specs.Plan.{Plan, message_at, message_numbers}
 use Rattle.convoy_scenario.specs.WellFormed.{IsScenario}
 use Rattle.convoy_packets.specs.Assignment.{IsAssignment}
-use Rattle.convoy_packets.proofs.Lists.{length-increasing-le}
 use Rattle.convoy_sim.specs.declared.moment.Moment.{Moment}
 use Rattle.convoy_sim.specs.declared.moment.MomentKind.{MomentKind}
 use Rattle.convoy_sim.specs.declared.moment.MomentKind.TheVariants.{Coming, Commit}
@@ -27,7 +26,7 @@ use Rattle.convoy_sim.proofs.Membership.{IsIn, in_append_cases, in_of_map, all-i
 use Rattle.convoy_sim.proofs.PlanMoments.{in_of_goes, goes_from_in, number_of_goes, multicast_at}
 use Rattle.convoy_sim.proofs.PacketDelays.{comes_within}
 use Rattle.convoy_sim.proofs.CalendarProgress.{place_parts, deliveries_length}
-use Rattle.convoy_sim.proofs.CalendarLists.{in-permutation, sum_of_flat_map, sum_of_ones, sum_most}
+use Rattle.convoy_sim.proofs.CalendarLists.{length-rising-le, in-permutation, sum_of_flat_map, sum_of_ones, sum_most}
 use Rattle.convoy_sim.proofs.CalendarAgenda.{agenda_ends}
 use Rattle.convoy_sim.proofs.CalendarPops.{AreFlying, IsPopped, IsAnswered, commit_pops, proposal_pops, copy_pops, weight, weight_proposal, weight_copy, flying_permutation, proposal_from, proposal_parts, no_proposal}
 use Rattle.convoy_sim.proofs.CalendarStart.{in_of_issued, in_numbers_below, start, awaited_at_start}
@@ -75,7 +74,7 @@ module _ (plan : Plan) (delays : List ℕ) where
   few_destinations well m l =
       let one = multicast_at plan well m l in
       let most = well.groups_high in
-      let few = length-increasing-le (message_at plan m).destinations (length plan.groups) one.ascending one.known in
+      let few = length-rising-le (message_at plan m).destinations (length plan.groups) one.ascending one.known in
       omega arith
 
   pub place_below : IsScenario plan → (m g : ℕ) → GoesTo plan m g → place m g < length plan.multicasts * MOST_GROUPS

@@ -86,24 +86,13 @@ impl Record {
     }
 
     /// The same record again.
-    pub fn copy(&self, alloc: Global) -> Result<Record, AllocError>
+    pub fn copy(&self) -> Result<Record, AllocError>
         ensures { IfOk result (λ r. r ≡ self.now) }
     {
         Ok(Record {
-            delays: copy_delays(alloc, &self.delays)?,
+            delays: self.delays.copy()?,
             latency: self.latency,
             scenario: self.scenario.copy(),
         })
     }
-}
-
-/// The same schedule again.
-fn copy_delays(alloc: Global, delays: &Delays) -> Result<Delays, AllocError>
-    ensures { IfOk result (λ copy. copy ≡ delays.now) }
-{
-    let mut copy = Vec::with_capacity(alloc, delays.len())?;
-    for i in 0..delays.len() {
-        copy.push(delays.delay(i))?;
-    }
-    Ok(Delays::from_vec(copy))
 }

@@ -200,7 +200,7 @@ fn record_of_the_base(rt: HostRuntime) -> Result<(), Fail> {
     let delays = Delays::least(alloc, &table)?;
     match Record::of(alloc, &scenario, &table, delays) {
         Ok(record) => {
-            let copy = record.copy(alloc)?;
+            let copy = record.copy()?;
             assert_eq!(rt; copy.latency(), 2);
             assert_eq!(rt; copy.delays().len(), 8);
             Ok(())

@@ -1,6 +1,9 @@
 -- Where a run tells the truth, the timeline that it tells is that of its schedule.
-use Rattle.std.proofs.Common.{◌≡◌, ℕ, ◌<◌, ◌++◌, List, [], ◌∷◌, Option, Some, unwrap_or, length, inl, inr, refl, ap, ap₂, arith}
-use Rattle.std.specs.List.{fold, flat_map}
+use Rattle.std.proofs.Common.{◌≡◌, ℕ, ◌<◌, ◌==◌, ◌++◌, true, List, [], ◌∷◌, Option, Some, unwrap_or, length, refl, ap, ap₂, arith}
+use Rattle.std.proofs.lemmas.Bool.{eq-eqb, or_left, or_right}
+use Rattle.std.proofs.lemmas.List.Elements.{All-nil, All-cons, All-head, All-tail, All-weaker}
+use Rattle.std.proofs.lemmas.List.FromFn.{length-range_with_len, get_or-range_with_len}
+use Rattle.std.specs.List.{All, fold, flat_map, list_any, range_with_len}
 use Rattle.std.specs.Option.{option_map, option_to_list}
 use Rattle.convoy_scenario.specs.Plan.{Plan, message_at, message_numbers}
 use Rattle.convoy_sim.specs.declared.timestamp.Timestamp.{Timestamp}
@@ -10,17 +13,31 @@ use Rattle.convoy_sim.specs.Stamps.{no_stamp, local_stamp, final_stamp}
 use Rattle.convoy_sim.specs.Times.{arrive, settle}
 use Rattle.convoy_sim.specs.Delivery.{deliver}
 use Rattle.convoy_sim.specs.Laws.{GoesTo}
-use Rattle.convoy_sim.proofs.Membership.{IsIn, in_of_range}
-use Rattle.convoy_sim.proofs.PlanMoments.{goes_from_in}
 use Rattle.convoy_timeline.specs.declared.entry.EntryKind.TheVariants.{Propose, Commit, Deliver}
 use Rattle.convoy_timeline.specs.Timeline.{entry_of, insert_entry, line_of, entries_at, entries_of, timeline_text}
 use Rattle.convoy_timeline.specs.Told.{proposal_told, entries_told_at, entries_told, told_in_order, text_told}
 
 -- two functions that agree on a list's elements make the same of it
-flat_map_same : {X A : Type 0} (f h : X → List A) (xs : List X) → ((x : X) → IsIn x xs → f x ≡ h x) → flat_map f xs ≡ flat_map h xs
+flat_map_same : {X A : Type 0} (f h : X → List A) (xs : List X) → All (λ x. f x ≡ h x) xs → flat_map f xs ≡ flat_map h xs
 flat_map_same f h [] same = refl
 flat_map_same f h (x ∷ xs) same =
-    ap₂ (λ ys zs. ys ++ zs) (same x (inl refl)) (flat_map_same f h xs (λ y i. same y (inr i)))
+    ap₂ (λ ys zs. ys ++ zs) (All-head (λ y. f y ≡ h y) x xs same) (flat_map_same f h xs (All-tail (λ y. f y ≡ h y) x xs same))
+
+-- the first n numbers are below n
+below : (n : ℕ) → All (λ m. m < n) (range_with_len 0 n)
+below n k d l =
+    let within : k < n = rw length-range_with_len at l in
+    let at = get_or-range_with_len 0 n k d within in
+    omega arith
+
+-- each element of a list is found in it
+found : (xs : List ℕ) → All (λ g. list_any (λ h. h == g) xs ≡ true) xs
+found [] = All-nil (λ g. list_any (λ h. h == g) [] ≡ true)
+found (x ∷ xs) =
+    All-cons (λ g. list_any (λ h. h == g) (x ∷ xs) ≡ true) x xs
+    (or_left (x == x) (list_any (λ h. h == x) xs) (eq-eqb x x refl))
+    (All-weaker (λ g. list_any (λ h. h == g) xs ≡ true) (λ g. list_any (λ h. h == g) (x ∷ xs) ≡ true)
+    (λ g e. or_right (x == g) (list_any (λ h. h == g) xs) e) xs (found xs))
 
 entries_by : (m g : ℕ) (own last : Timestamp) (a b c : ℕ)
     (proposed : Option Proposal) (committed delivered : Option ℕ) (final : Option Timestamp)
@@ -42,10 +59,13 @@ entries_told_at-true plan delays run m g told goes known =
 entries_told-true : (plan : Plan) (delays : List ℕ) (run : Outcome) → IsRunOf plan delays run
     → entries_told plan run ≡ entries_of plan delays
 entries_told-true plan delays run told =
-    flat_map_same _ _ (message_numbers plan) (λ m i.
-    flat_map_same _ _ (message_at plan m).destinations (λ g j.
-    entries_told_at-true plan delays run m g told (goes_from_in plan m g j)
-    (let within = (in_of_range m 0 (length plan.multicasts) i).1 in omega arith)))
+    flat_map_same (λ m. flat_map (entries_told_at run m) (message_at plan m).destinations)
+    (λ m. flat_map (entries_at plan delays m) (message_at plan m).destinations) (message_numbers plan)
+    (All-weaker (λ m. m < length plan.multicasts) _ (λ m known.
+    flat_map_same (entries_told_at run m) (entries_at plan delays m) (message_at plan m).destinations
+    (All-weaker (GoesTo plan m) _ (λ g goes. entries_told_at-true plan delays run m g told goes known)
+    (message_at plan m).destinations (found (message_at plan m).destinations)))
+    (message_numbers plan) (below (length plan.multicasts)))
 
 pub text_told-true : (plan : Plan) (delays : List ℕ) (run : Outcome) → IsRunOf plan delays run
     → text_told plan run ≡ timeline_text plan delays
