@@ -1,4 +1,4 @@
-ghost use Rattle.std.specs.Prelude.{◌≡◌, ◌≤◌, ◌<◌, ◌↔◌, length, IfOk, IsTrue, MatchResult};
+ghost use Rattle.std.specs.Prelude.{◌≡◌, ◌≤◌, ◌<◌, ◌↔◌, length, slice_set, IfOk, IsTrue, MatchResult};
 ghost use Rattle.convoy_scenario.specs.Plan.{Plan};
 ghost use Rattle.convoy_packets.specs.Table.{table_of};
 ghost use Rattle.convoy_intervals.specs.Boxes.{AreRanges, IsBox, IsIn, IsPoint};
@@ -87,6 +87,19 @@ impl DelayBox {
         Ok(DelayBox {
             ranges: self.ranges.clone()?,
         })
+    }
+
+    /// Gives a packet another range, in ticks, and answers the one that it had.
+    pub fn replace(&mut self, packet: usize, range: (u16, u16)) -> (u16, u16)
+        requires place { packet < length self.old }
+        requires ordered { range.0 ≤ range.1 }
+        ensures replaced { self.new ≡ slice_set self.old packet range }
+        ensures earlier { result ≡ range_at self.old packet }
+        ensures ordered { result.0 ≤ result.1 }
+    {
+        let earlier = self.range(packet);
+        self.ranges[packet] = range;
+        earlier
     }
 
     /// Parts the box at a packet: into the box in which its delay is at most `at` ticks, and the
