@@ -1,0 +1,79 @@
+-- A box over which a right tree stands: no member of it has a greater latency than the stated one.
+use Rattle.std.specs.Prelude.{ℕ, ◌≤◌, List, [], ◌∷◌, ◌++◌, All}
+use Rattle.std.proofs.Common.{get_or, inl, inr}
+use Rattle.std.proofs.lemmas.Bool.{cases_lt}
+use Rattle.std.proofs.lemmas.List.Elements.{All-nil, All-cons, All-head, All-tail, All-append}
+use Rattle.convoy_scenario.specs.Plan.{Plan}
+use Rattle.convoy_scenario.specs.WellFormed.{IsScenario}
+use Rattle.convoy_sim.specs.Delivery.{latency_of}
+use Rattle.convoy_intervals.specs.Boxes.{IsBox, IsIn, lower_half, upper_half}
+use Rattle.convoy_intervals.specs.Laws.{CanPart, HalvesAreBoxes, HalvesPart}
+use Rattle.convoy_certificate.specs.declared.node.Node.{Node}
+use Rattle.convoy_certificate.specs.declared.node.Node.TheVariants.{Split, Bound, Point}
+use Rattle.convoy_checker.specs.Laws.{BoundLeavesCover, PointLeavesCover}
+use Rattle.convoy_checker.specs.Leaves.{IsRight}
+use Rattle.convoy_checker.specs.Trees.{Box, AreTrees, boxes_below}
+
+-- what a tree rests on: the halves of a box, and a law for each kind of leaf
+pub record Grounds : Type 0 where
+  pub halves : HalvesAreBoxes
+  pub part : HalvesPart
+  pub bound : BoundLeavesCover
+  pub point : PointLeavesCover
+
+-- no member of the box has a greater latency
+pub record IsCovered (plan : Plan) (latency : ℕ) (box : Box) : Type 0 where
+  pub at : (delays : List ℕ) → IsIn box delays → latency_of plan delays ≤ latency
+
+module _ (grounds : Grounds) (plan : Plan) (lawful : IsScenario plan) (latency : ℕ) where
+  -- the boxes below a right node are boxes
+  below_are_boxes : (node : Node) (box : Box) → IsBox plan box → IsRight plan latency node box → All (IsBox plan) (boxes_below node box)
+  below_are_boxes (Split packet at) box is_box right =
+      let halves = grounds.halves plan box packet at is_box right in
+      let upper = upper_half box packet at in
+      All-cons (IsBox plan) (lower_half box packet at) (upper ∷ []) halves.0 (All-cons (IsBox plan) upper [] halves.1 (All-nil (IsBox plan)))
+  below_are_boxes Bound box is_box right = All-nil (IsBox plan)
+  below_are_boxes Point box is_box right = All-nil (IsBox plan)
+
+  -- a box that is parted is covered where both halves are
+  split_covers : (packet at : ℕ) (box : Box) → CanPart box packet at → IsCovered plan latency (lower_half box packet at) → IsCovered plan latency (upper_half box packet at) → IsCovered plan latency box
+  split_covers packet at box right lower upper = record { at = members } where
+    members : (delays : List ℕ) → IsIn box delays → latency_of plan delays ≤ latency
+    members delays member =
+        let part = grounds.part box packet at delays right in
+        elim (cases_lt at (get_or delays packet 0)) [
+          | inl above ↦ upper.at delays (part.1.1 (member, above))
+          | inr within ↦ lower.at delays (part.0.1 (member, within))
+        ]
+
+  -- a box is covered where its node is right and the boxes below are covered
+  node_covers : (node : Node) (box : Box) → IsBox plan box → IsRight plan latency node box → All (IsCovered plan latency) (boxes_below node box) → IsCovered plan latency box
+  node_covers (Split packet at) box is_box right below =
+      let Covered = IsCovered plan latency in
+      let lower = lower_half box packet at in
+      let upper = upper_half box packet at in
+      split_covers packet at box right (All-head Covered lower (upper ∷ []) below) (All-head Covered upper [] (All-tail Covered lower (upper ∷ []) below))
+  node_covers Bound box is_box right below =
+      record { at = λ delays member. grounds.bound plan latency box delays lawful is_box right member }
+  node_covers Point box is_box right below =
+      record { at = λ delays member. grounds.point plan latency box delays lawful is_box right member }
+
+  -- the two parts of what holds of each of a list of boxes
+  parts : (boxes others : List Box) → All (IsCovered plan latency) (boxes ++ others) → All (IsCovered plan latency) boxes × All (IsCovered plan latency) others
+  parts [] others all = (All-nil (IsCovered plan latency), all)
+  parts (box ∷ boxes) others all =
+      let Covered = IsCovered plan latency in
+      let rest = parts boxes others (All-tail Covered box (boxes ++ others) all) in
+      (All-cons Covered box boxes (All-head Covered box (boxes ++ others) all) rest.0, rest.1)
+
+  -- right trees over a list of boxes cover each of them
+  pub trees_cover : (boxes : List Box) (nodes : List Node) → All (IsBox plan) boxes → AreTrees boxes_below (IsRight plan latency) boxes nodes → All (IsCovered plan latency) boxes
+  trees_cover [] nodes are_boxes trees = All-nil (IsCovered plan latency)
+  trees_cover (box ∷ boxes) [] are_boxes trees = absurd trees
+  trees_cover (box ∷ boxes) (node ∷ nodes) are_boxes trees =
+      let Covered = IsCovered plan latency in
+      let is_box = All-head (IsBox plan) box boxes are_boxes in
+      let below = boxes_below node box in
+      let open_boxes = All-append (IsBox plan) below boxes (below_are_boxes node box is_box trees.0) (All-tail (IsBox plan) box boxes are_boxes) in
+      let covered = parts below boxes (trees_cover (below ++ boxes) nodes open_boxes trees.1) in
+      All-cons Covered box boxes (node_covers node box is_box trees.0 covered.0) covered.1

@@ -1,0 +1,103 @@
+-- There is no fault just where all is right: of a node, of trees over boxes, and of a certificate.
+use Rattle.std.specs.Prelude.{◌≡◌, ◌↔◌, ℕ, ◌+◌, ◌==◌, ◌≤◌, ◌<◌, nat_le, nat_lt, ◌&&◌, Bool, true, false, if◌then◌else◌, List, [], ◌∷◌, ◌++◌, length, Option, Some, None, Result, Ok, Err}
+use Rattle.std.specs.Bool.{Decides}
+use Rattle.std.specs.Option.{option_or}
+use Rattle.std.proofs.Common.{refl}
+use Rattle.std.proofs.lemmas.Bool.{leb-true, le-leb}
+use Rattle.std.proofs.lemmas.Bool.Decides.{Decides-like, Decides-and, Decides-by_and, Decides-eqb, Decides-ltb}
+use Rattle.convoy_scenario.specs.Plan.{Plan}
+use Rattle.convoy_sim.specs.Delivery.{latency_of}
+use Rattle.convoy_intervals.specs.Boxes.{IsPoint, range_at, greatest_of, root_of}
+use Rattle.convoy_intervals.specs.Bounds.{plain_bound}
+use Rattle.convoy_intervals.specs.Laws.{CanPart}
+use Rattle.convoy_certificate.specs.Contents.{Contents}
+use Rattle.convoy_certificate.specs.declared.node.Node.{Node}
+use Rattle.convoy_certificate.specs.declared.node.Node.TheVariants.{Split, Bound, Point}
+use Rattle.convoy_checker.specs.declared.refused.Refused.{Refused}
+use Rattle.convoy_checker.specs.declared.refused.Refused.TheVariants as refused
+use Rattle.convoy_checker.specs.Checks.{unless, can_part, is_point, node_fault, first_fault, checked_tree, checked}
+use Rattle.convoy_checker.specs.Leaves.{IsRight}
+use Rattle.convoy_checker.specs.Trees.{Box, AreTrees, boxes_below}
+use Rattle.convoy_checker.specs.Validity.{IsValid}
+
+-- the tests say what the relations say
+Decides-le : (a b : ℕ) → Decides (nat_le a b) (a ≤ b)
+Decides-le a b = (leb-true a b, le-leb a b)
+
+Decides-can_part : (box : Box) (packet at : ℕ) → Decides (can_part box packet at) (CanPart box packet at)
+Decides-can_part box packet at =
+    let range = range_at box packet in
+    let place = nat_lt packet (length box) in
+    let low = nat_le range.0 at in
+    let high = nat_lt at range.1 in
+    Decides-like (can_part box packet at)
+    (λ (all : ((packet < length box) × (range.0 ≤ at)) × (at < range.1)). record { place = all.0.0; low = all.0.1; high = all.1 })
+    (λ part. ((part.place, part.low), part.high))
+    (Decides-and (place && low) high (Decides-and place low (Decides-ltb packet (length box)) (Decides-le range.0 at)) (Decides-ltb at range.1))
+
+pub Decides-is_point : (box : Box) → Decides (is_point box) (IsPoint box)
+Decides-is_point box =
+    Decides-by_and (λ range. range.0 == range.1) (λ range. range.0 ≡ range.1) is_point (λ range. Decides-eqb range.0 range.1) refl (λ _ _. refl) box
+
+-- a test has no fault just where it says yes
+unless_none : (fault : Refused) (test : Bool) (Holds : Type 0) → Decides test Holds → (unless fault test ≡ None) ↔ Holds
+unless_none fault true Holds decides = (λ none. decides.0 refl, λ holds. refl)
+unless_none fault false Holds decides =
+    (λ none. absurd cc, λ holds. let held = decides.1 holds in absurd cc)
+
+-- a node has no fault just where it is right over its box
+pub node_none : (plan : Plan) (latency number : ℕ) (node : Node) (box : Box) → (node_fault plan latency number node box ≡ None) ↔ IsRight plan latency node box
+node_none plan latency number (Split packet at) box =
+    unless_none (refused.Split number) (can_part box packet at) (CanPart box packet at) (Decides-can_part box packet at)
+node_none plan latency number Bound box =
+    let bound = plain_bound plan box in
+    unless_none (refused.BoundLeaf number bound) (nat_le bound latency) (bound ≤ latency) (Decides-le bound latency)
+node_none plan latency number Point box =
+    let tried = latency_of plan (greatest_of box) in
+    let low = nat_le tried latency in
+    unless_none (refused.PointLeaf number) (is_point box && low) (IsPoint box × (tried ≤ latency)) (Decides-and (is_point box) low (Decides-is_point box) (Decides-le tried latency))
+
+-- neither of two faults is there just where their first is not
+or_none : (first second : Option Refused) → (option_or first second ≡ None) ↔ (first ≡ None) × (second ≡ None)
+or_none None second = (λ none. (refl, none), λ both. both.1)
+or_none (Some fault) second = (λ none. absurd cc, λ both. absurd (let none = both.0 in cc))
+
+-- trees have no fault just where each node is right over its box
+pub trees_none : (plan : Plan) (latency number : ℕ) (boxes : List Box) (nodes : List Node) → (first_fault plan latency number boxes nodes ≡ None) ↔ AreTrees boxes_below (IsRight plan latency) boxes nodes
+trees_none plan latency number [] [] = (λ none. tt, λ trees. refl)
+trees_none plan latency number [] (node ∷ nodes) = (λ none. absurd cc, λ trees. absurd trees)
+trees_none plan latency number (box ∷ boxes) [] = (λ none. absurd cc, λ trees. absurd trees)
+trees_none plan latency number (box ∷ boxes) (node ∷ nodes) =
+    let open_boxes = boxes_below node box ++ boxes in
+    let here = node_none plan latency number node box in
+    let rest = trees_none plan latency (number + 1) open_boxes nodes in
+    let neither = or_none (node_fault plan latency number node box) (first_fault plan latency (number + 1) open_boxes nodes) in (
+      λ none. let both = neither.0 none in (here.0 both.0, rest.0 both.1),
+      λ trees. neither.1 (here.1 trees.0, rest.1 trees.1),
+    )
+
+-- a tree's latency is answered just where it has no fault
+tree_answer : (certificate : Contents) (fault : Option Refused) → (checked_tree certificate fault ≡ Ok certificate.latency) ↔ (fault ≡ None)
+tree_answer certificate None = (λ answer. refl, λ none. refl)
+tree_answer certificate (Some fault) = (λ answer. absurd cc, λ none. absurd cc)
+
+-- a number is answered behind a test just where the test says yes and the number is answered there
+if_answer : (test : Bool) (Holds : Type 0) (answer : Result ℕ Refused) (fault : Refused) (latency : ℕ) → Decides test Holds → ((if test then answer else Err fault) ≡ Ok latency) ↔ Holds × (answer ≡ Ok latency)
+if_answer true Holds answer fault latency decides = (λ answers. (decides.0 refl, answers), λ both. both.1)
+if_answer false Holds answer fault latency decides =
+    (λ answers. absurd cc, λ both. let held = decides.1 both.0 in absurd cc)
+
+-- checking answers the latency just where the certificate is valid
+pub checked_valid : (certificate : Contents) → (checked certificate ≡ Ok certificate.latency) ↔ IsValid certificate
+unfolding checked
+checked_valid certificate =
+    let plan = certificate.scenario in
+    let latency = certificate.latency in
+    let simulated = latency_of plan certificate.delays in
+    let fault = first_fault plan latency 0 (root_of plan ∷ []) certificate.nodes in
+    let trees = trees_none plan latency 0 (root_of plan ∷ []) certificate.nodes in
+    let answer = tree_answer certificate fault in
+    let same = if_answer (simulated == latency) (simulated ≡ latency) (checked_tree certificate fault) (refused.Latency simulated) latency (Decides-eqb simulated latency) in (
+      λ accepted. let both = same.0 accepted in record { latency = both.0; tree = trees.0 (answer.0 both.1) },
+      λ valid. same.1 (valid.latency, answer.1 (trees.1 valid.tree)),
+    )

@@ -1,0 +1,6 @@
+pub mod Accepting
+pub mod Covering
+pub mod Faults
+pub mod NextNode
+pub mod OpenBoxes
+pub mod Rows

@@ -1,0 +1,89 @@
+-- Worked rows of what checking answers, computed from the definitions alone.
+use Rattle.std.specs.Prelude.{Ok, Err}
+use Rattle.std.proofs.Common.{◌≡◌, ℕ, List, [], ◌∷◌, replicate, refl, codes}
+use Rattle.convoy_scenario.specs.declared.sender.Sender.{Sender}
+use Rattle.convoy_scenario.specs.declared.sender.Sender.TheVariants.{Client, Group}
+use Rattle.convoy_scenario.specs.Plan.{Message, Plan}
+use Rattle.convoy_packets.specs.Packets.{packets_of}
+use Rattle.convoy_packets.specs.Assignment.{delay_of, ranges_of}
+use Rattle.convoy_sim.specs.Times.{arrive, settle}
+use Rattle.convoy_sim.specs.Moments.{moments_of}
+use Rattle.convoy_sim.specs.Stamps.{clocks_of, local_stamp, final_stamp}
+use Rattle.convoy_sim.specs.Delivery.{holds_back, deliver, latency_at, latency_of}
+use Rattle.convoy_intervals.specs.Bounds.{plain_bound}
+use Rattle.convoy_certificate.specs.Contents.{Contents}
+use Rattle.convoy_certificate.specs.declared.node.Node.{Node}
+use Rattle.convoy_certificate.specs.declared.node.Node.TheVariants.{Split, Bound, Point}
+use Rattle.convoy_checker.specs.declared.refused.Refused.TheVariants as refused
+use Rattle.convoy_checker.specs.Checks.{checked}
+
+message : List ℕ → Sender → List ℕ → ℕ → Message
+message name sender destinations at =
+    record { name = name; sender = sender; destinations = destinations; at = at }
+
+-- the base scenario, with its greatest delay and the tick at which y is issued
+base_with : ℕ → ℕ → Plan
+base_with delay at = record {
+  delay = delay;
+  groups = codes "a" ∷ codes "b" ∷ [];
+  multicasts = message (codes "x") Client (1 ∷ []) 0 ∷ message (codes "t") Client (0 ∷ 1 ∷ []) 0
+      ∷ message (codes "y") (Group 0) (0 ∷ 1 ∷ []) at ∷ [];
+  target_message = 1;
+  target_group = 0;
+}
+
+-- the base with its groups in the order b, a
+swapped : Plan
+swapped = record {
+  delay = 3;
+  groups = codes "b" ∷ codes "a" ∷ [];
+  multicasts = message (codes "x") Client (0 ∷ []) 0 ∷ message (codes "t") Client (0 ∷ 1 ∷ []) 0
+      ∷ message (codes "y") (Group 1) (0 ∷ 1 ∷ []) 6 ∷ [];
+  target_message = 1;
+  target_group = 1;
+}
+
+-- the certificate whose schedule gives each of the eight packets its greatest delay
+all_greatest : Plan → ℕ → List Node → Contents
+all_greatest plan latency nodes =
+    record { scenario = plan; latency = latency; delays = replicate 8 plan.delay; nodes = nodes }
+
+one_bound : checked (all_greatest (base_with 3 6) 12 (Bound ∷ [])) ≡ Ok 12
+unfolding base_with all_greatest message packets_of ranges_of delay_of arrive settle moments_of clocks_of local_stamp final_stamp holds_back deliver latency_at latency_of plain_bound checked
+one_bound = refl
+
+other_latency : checked (all_greatest (base_with 3 6) 11 (Bound ∷ [])) ≡ Err (refused.Latency 12)
+unfolding base_with all_greatest message packets_of ranges_of delay_of arrive settle moments_of clocks_of local_stamp final_stamp holds_back deliver latency_at latency_of plain_bound checked
+other_latency = refl
+
+a_bound_too_many : checked (all_greatest (base_with 3 6) 12 (Bound ∷ Bound ∷ [])) ≡ Err refused.TreeCount
+unfolding base_with all_greatest message packets_of ranges_of delay_of arrive settle moments_of clocks_of local_stamp final_stamp holds_back deliver latency_at latency_of plain_bound checked
+a_bound_too_many = refl
+
+a_half_too_few : checked (all_greatest (base_with 3 6) 12 (Split 0 1 ∷ Bound ∷ [])) ≡ Err refused.TreeCount
+unfolding base_with all_greatest message packets_of ranges_of delay_of arrive settle moments_of clocks_of local_stamp final_stamp holds_back deliver latency_at latency_of plain_bound checked
+a_half_too_few = refl
+
+no_nodes : checked (all_greatest (base_with 3 6) 12 []) ≡ Err refused.TreeCount
+unfolding base_with all_greatest message packets_of ranges_of delay_of arrive settle moments_of clocks_of local_stamp final_stamp holds_back deliver latency_at latency_of plain_bound checked
+no_nodes = refl
+
+a_split : checked (all_greatest (base_with 3 6) 12 (Split 0 1 ∷ Bound ∷ Bound ∷ [])) ≡ Ok 12
+unfolding base_with all_greatest message packets_of ranges_of delay_of arrive settle moments_of clocks_of local_stamp final_stamp holds_back deliver latency_at latency_of plain_bound checked
+a_split = refl
+
+no_point : checked (all_greatest (base_with 3 6) 12 (Point ∷ [])) ≡ Err (refused.PointLeaf 0)
+unfolding base_with all_greatest message packets_of ranges_of delay_of arrive settle moments_of clocks_of local_stamp final_stamp holds_back deliver latency_at latency_of plain_bound checked
+no_point = refl
+
+bound_above : checked (all_greatest swapped 6 (Bound ∷ [])) ≡ Err (refused.BoundLeaf 0 12)
+unfolding swapped all_greatest message packets_of ranges_of delay_of arrive settle moments_of clocks_of local_stamp final_stamp holds_back deliver latency_at latency_of plain_bound checked
+bound_above = refl
+
+one_point : checked (all_greatest (base_with 1 2) 4 (Point ∷ [])) ≡ Ok 4
+unfolding base_with all_greatest message packets_of ranges_of delay_of arrive settle moments_of clocks_of local_stamp final_stamp holds_back deliver latency_at latency_of plain_bound checked
+one_point = refl
+
+no_split_of_a_point : checked (all_greatest (base_with 1 2) 4 (Split 0 1 ∷ Point ∷ Point ∷ [])) ≡ Err (refused.Split 0)
+unfolding base_with all_greatest message packets_of ranges_of delay_of arrive settle moments_of clocks_of local_stamp final_stamp holds_back deliver latency_at latency_of plain_bound checked
+no_split_of_a_point = refl

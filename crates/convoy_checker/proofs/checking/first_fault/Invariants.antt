@@ -1,0 +1,12 @@
+use Rattle.std.proofs.Common.{◌≡◌, [], ◌∷◌, drop}
+use Rattle.std.specs.List.{All}
+use Rattle.convoy_intervals.specs.Boxes.{IsBox, root_of}
+use Rattle.convoy_checker.specs.Checks.{first_fault}
+use Rattle.convoy_checker.proofs.checking.first_fault.Given as goal
+
+abbrev pub invariant-loop-number : goal.invariant-loop-number
+invariant-loop-number l = record {
+  so_far : first_fault l.scenario l.latency l.number l.walk (drop l.number l.nodes)
+      ≡ first_fault l.scenario l.latency 0 (root_of l.scenario ∷ []) l.nodes;
+  boxes : All (IsBox l.scenario) l.walk;
+}

@@ -1,0 +1,18 @@
+use Rattle.std.specs.Prelude.{[], ◌∷◌}
+use Rattle.std.proofs.lemmas.List.Elements.{All-nil, All-cons, All-head}
+use Rattle.convoy_intervals.specs.Boxes.{IsBox, root_of}
+use Rattle.convoy_checker.proofs.Covering.{Grounds, IsCovered, trees_cover}
+use Rattle.convoy_checker.proofs.laws.trees_cover.Goals as goal
+
+pub returns : goal.returns
+returns c plan latency nodes lawful tree delays assigned =
+    let grounds : Grounds = record {
+      halves = c.halves_are_boxes.ensures;
+      part = c.halves_part.ensures;
+      bound = c.bound_leaves_cover.ensures;
+      point = c.point_leaves_cover.ensures;
+    } in
+    let root = root_of plan in
+    let is_box = All-cons (IsBox plan) root [] (c.root_is_box.ensures plan lawful) (All-nil (IsBox plan)) in
+    let covered = All-head (IsCovered plan latency) root [] (trees_cover grounds plan lawful latency (root ∷ []) nodes is_box tree) in
+    covered.at delays ((c.root_holds_all.ensures plan delays).0 assigned)

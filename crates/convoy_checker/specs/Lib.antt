@@ -1,0 +1,15 @@
+pub use Rattle.convoy_scenario.specs.Memory
+pub use Rattle.convoy_scenario.specs.Plan
+pub use Rattle.convoy_scenario.specs.WellFormed
+pub use Rattle.convoy_packets.specs.Assignment
+pub use Rattle.convoy_packets.specs.Table
+pub use Rattle.convoy_sim.specs.Delivery
+pub use Rattle.convoy_intervals.specs.Boxes
+pub use Rattle.convoy_intervals.specs.Bounds
+pub use Rattle.convoy_certificate.specs.Contents
+pub mod Trees
+pub mod Leaves
+pub mod Validity
+pub mod Checks
+pub mod Walks
+pub mod Laws

@@ -1,0 +1,159 @@
+ghost use Rattle.std.specs.Prelude.{◌≡◌, ◌&&◌, nat_le, [], ◌∷◌, Ok, IfOk};
+ghost use Rattle.convoy_scenario.specs.Memory.{IsUnlessMemory};
+ghost use Rattle.convoy_packets.specs.Table.{table_of};
+ghost use Rattle.convoy_sim.specs.Delivery.{latency_of};
+ghost use Rattle.convoy_intervals.specs.Boxes.{IsBox, root_of, greatest_of};
+ghost use Rattle.convoy_certificate.specs.Contents.{IsCertificate};
+ghost use Rattle.convoy_checker.specs.Checks.{can_part, checked, first_fault, is_point, node_fault};
+ghost use Rattle.convoy_checker.specs.Validity.{IsGreatest, IsValid};
+
+use super::accepted::Accepted;
+use super::laws::{checked_is_valid, valid_is_greatest};
+use super::refused::Refused;
+use super::walk::Walk;
+use convoy_certificate::{Certificate, Node};
+use convoy_intervals::laws::{halves_are_boxes, members_are_assignments};
+use convoy_intervals::{DelayBox, bound};
+use convoy_packets::PacketTable;
+use convoy_scenario::Scenario;
+use convoy_sim::simulate;
+use std::alloc::{AllocError, Global};
+
+/// Checks a certificate: that its schedule has the stated latency, and that its nodes are one tree
+/// over the root box of which every leaf is right (docs/PROTOCOL.md). Then no schedule has a
+/// greater latency.
+///
+/// The bound of each leaf is computed from scratch. Memory grows with the depth of the tree. A
+/// certificate that isn't valid is refused with its first fault, in the order of `Refused`; where
+/// memory is refused, `Refused::Memory` is the answer, and says nothing of the certificate.
+pub fn check(alloc: Global, certificate: &Certificate) -> Result<Accepted, Refused>
+    // What is accepted is valid, and has the latency that is answered.
+    ensures valid { IfOk result (λ accepted. IsValid certificate.now × (accepted ≡ certificate.now.latency)) }
+    // So that latency is the greatest of the scenario.
+    ensures greatest { IfOk result (λ accepted. IsGreatest certificate.now.scenario accepted) }
+    // What is valid is accepted, unless memory runs out.
+    ensures only { IsValid certificate.now
+        → IsUnlessMemory Refused.Memory (Ok certificate.now.latency) result }
+    // Which fault it is.
+    ensures exact { IsUnlessMemory Refused.Memory (checked certificate.now) result }
+{
+    checked_is_valid();
+    valid_is_greatest();
+    check_all(alloc, certificate)
+}
+
+/// The latency of the certificate, or its first fault.
+#[tactic(auto, unfolding(crate::specs::Checks::checked))]
+fn check_all(alloc: Global, certificate: &Certificate) -> Result<Accepted, Refused>
+    ensures lawful { IsCertificate certificate.now }
+    ensures exact { IsUnlessMemory Refused.Memory (checked certificate.now) result }
+{
+    let scenario = certificate.scenario();
+    let latency = certificate.latency();
+    let delays = certificate.delays();
+    let table = PacketTable::of(alloc, scenario)?;
+    let simulated = simulate(alloc, scenario, &table, delays)?.latency();
+    if simulated != latency {
+        return Err(Refused::Latency(simulated));
+    }
+    match first_fault(alloc, scenario, &table, latency, certificate.nodes())? {
+        None => Ok(Accepted::new(latency)),
+        Some(fault) => Err(fault),
+    }
+}
+
+/// The first fault of the nodes as a tree over the root box.
+fn first_fault(
+    alloc: Global,
+    scenario: &Scenario,
+    table: &PacketTable,
+    latency: u32,
+    nodes: &[Node],
+) -> Result<Option<Refused>, AllocError>
+    requires packets { table.now ≡ table_of scenario.now }
+    ensures { IfOk result (λ fault. fault
+        ≡ first_fault scenario.now latency 0 (root_of scenario.now ∷ []) nodes.now) }
+{
+    halves_are_boxes();
+    let mut walk = Walk::over(alloc, DelayBox::root(alloc, table)?);
+    for (number, node) in nodes.iter().enumerate() {
+        let Some(delay_box) = walk.next_box() else {
+            return Ok(Some(Refused::TreeCount));
+        };
+        let fault = node_fault(alloc, scenario, table, latency, number, *node, delay_box)?;
+        if fault.is_some() {
+            return Ok(fault);
+        }
+        walk.pass(*node)?;
+    }
+    Ok(walk.next_box().is_some().then_some(Refused::TreeCount))
+}
+
+/// The fault of the node of that number over its box.
+fn node_fault(
+    alloc: Global,
+    scenario: &Scenario,
+    table: &PacketTable,
+    latency: u32,
+    number: usize,
+    node: Node,
+    delay_box: &DelayBox,
+) -> Result<Option<Refused>, AllocError>
+    requires packets { table.now ≡ table_of scenario.now }
+    requires inside { IsBox scenario.now delay_box.now }
+    ensures { IfOk result (λ fault. fault
+        ≡ node_fault scenario.now latency number node delay_box.now) }
+{
+    let (holds, fault) = match node {
+        Node::Split { packet, at } => (can_part(delay_box, packet, at), Refused::Split(number)),
+        Node::Bound => {
+            let bound = bound(scenario, table, delay_box);
+            (bound <= latency, Refused::BoundLeaf(number, bound))
+        }
+        Node::Point => (
+            is_within(alloc, scenario, table, latency, delay_box)?,
+            Refused::PointLeaf(number),
+        ),
+    };
+    Ok((!holds).then_some(fault))
+}
+
+/// Whether the packet has a place in the box, and delays on both sides of the split.
+fn can_part(delay_box: &DelayBox, packet: u16, at: u16) -> bool
+    ensures { result ≡ can_part delay_box.now packet at }
+{
+    let packet = usize::from(packet);
+    if packet >= delay_box.len() {
+        return false;
+    }
+    let (least, most) = delay_box.range(packet);
+    least <= at && at < most
+}
+
+/// Whether the box has one member, whose latency is at most that.
+fn is_within(
+    alloc: Global,
+    scenario: &Scenario,
+    table: &PacketTable,
+    latency: u32,
+    delay_box: &DelayBox,
+) -> Result<bool, AllocError>
+    requires packets { table.now ≡ table_of scenario.now }
+    requires inside { IsBox scenario.now delay_box.now }
+    ensures { IfOk result (λ holds. holds ≡ (is_point delay_box.now
+        && nat_le (latency_of scenario.now (greatest_of delay_box.now)) latency)) }
+{
+    if !is_point(delay_box) {
+        return Ok(false);
+    }
+    members_are_assignments();
+    let delays = delay_box.greatest(alloc)?;
+    Ok(simulate(alloc, scenario, table, &delays)?.latency() <= latency)
+}
+
+/// Whether each packet has one delay left.
+fn is_point(delay_box: &DelayBox) -> bool
+    ensures { result ≡ is_point delay_box.now }
+{
+    delay_box.is_point()
+}

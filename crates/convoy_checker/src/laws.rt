@@ -1,0 +1,50 @@
+//! The laws of trees and certificates. Each is the one clause of a function that does nothing; a
+//! caller that needs the law calls the function.
+
+ghost use Rattle.convoy_checker.specs.Laws.{BoundLeavesCover, PointLeavesCover, TreesCover};
+ghost use Rattle.convoy_checker.specs.Laws.{ValidIsGreatest, CheckedIsValid};
+
+use convoy_intervals::laws::{
+    greatest_is_member, halves_are_boxes, halves_part, plain_bound_holds, point_has_one_member,
+    root_holds_all, root_is_box,
+};
+
+/// Where a box is closed by its plain bound, no member of it has a greater latency than the stated
+/// one.
+pub fn bound_leaves_cover()
+    ensures { BoundLeavesCover }
+{
+    plain_bound_holds();
+}
+
+/// Where a box is closed as a point, no member of it has a greater latency than the stated one.
+pub fn point_leaves_cover()
+    ensures { PointLeavesCover }
+{
+    greatest_is_member();
+    point_has_one_member();
+}
+
+/// Where a tree over the root is right for a latency, no assignment has a greater one.
+pub fn trees_cover()
+    ensures { TreesCover }
+{
+    root_is_box();
+    root_holds_all();
+    halves_are_boxes();
+    halves_part();
+    bound_leaves_cover();
+    point_leaves_cover();
+}
+
+/// The latency of a valid certificate is the greatest of its scenario.
+pub fn valid_is_greatest()
+    ensures { ValidIsGreatest }
+{
+    trees_cover();
+}
+
+/// Checking answers the latency of a certificate just where the certificate is valid.
+pub fn checked_is_valid()
+    ensures { CheckedIsValid }
+{}

@@ -1,0 +1,14 @@
+//! The checker: whoever made a certificate, a yes means that no schedule has a greater latency.
+#![tactic(auto)]
+
+pub use accepted::Accepted;
+pub use checking::check;
+pub use refused::Refused;
+
+mod accepted;
+mod checking;
+pub mod laws;
+mod refused;
+#[cfg(test)]
+mod tests;
+mod walk;
