@@ -1,0 +1,9 @@
+pub mod Tries
+pub mod FrontTrees
+pub mod FrontCounts
+pub mod BetterRecords
+pub mod SplitNodes
+pub mod SearchSteps
+pub mod SearchOutcomes
+pub mod LeftBounds
+pub mod FrontUppers

@@ -1,0 +1,17 @@
+use Rattle.std.proofs.Common.{◌∙◌, ap, arith, length}
+use Rattle.convoy_branch.specs.Searching.{work_after, nodes_after}
+use Rattle.convoy_branch.specs.declared.search.Search.{Search}
+use Rattle.convoy_branch.proofs.SearchSteps.{IsSearching-taken, length-work_after}
+use Rattle.convoy_branch.proofs.search.Search.take_up.Goals as goal
+
+pub returns : goal.returns
+returns c =
+    let turn = c.in-Ok.step.turn in
+    let best = c.in_ok-follow.ensures.best ∙ ap (λ (s : Search). s.best) c.note.ensures in
+    let work = c.in_ok-follow.ensures.work ∙ ap (λ (s : Search). work_after s.work.items turn) c.note.ensures in
+    let nodes = c.in_ok-follow.ensures.nodes ∙ ap (λ (s : Search). nodes_after s.nodes.items turn) c.note.ensures in
+    record {
+      searching = IsSearching-taken c.args.scenario.now c.args.self.now.best c.follow.new.self.best c.args.self.now.work.items c.follow.new.self.work.items c.args.self.now.nodes.items c.follow.new.self.nodes.items c.args.self.now.tickets c.latency.result c.args.branch c.args.table.now c.in-Ok.step c.halves_are_boxes.ensures c.requires.packets c.requires.lawful c.latency.ensures.value c.in-Ok.ensures.value best work nodes c.requires.searching;
+      ticket = c.in_ok-follow.ensures.tickets ∙ ap (λ (s : Search). s.tickets) c.note.ensures;
+      few = omega (arith, ap length work, length-work_after c.args.self.now.work.items turn);
+    }

@@ -1,0 +1,17 @@
+pub use Rattle.convoy_scenario.specs.Memory
+pub use Rattle.convoy_scenario.specs.Plan
+pub use Rattle.convoy_packets.specs.Assignment
+pub use Rattle.convoy_packets.specs.Table
+pub use Rattle.convoy_sim.specs.Delivery
+pub use Rattle.convoy_sim.specs.Record
+pub use Rattle.convoy_intervals.specs.Boxes
+pub use Rattle.convoy_intervals.specs.Bounds
+pub use Rattle.convoy_certificate.specs.Contents
+pub use Rattle.convoy_checker.specs.Trees
+pub use Rattle.convoy_checker.specs.Leaves
+pub use Rattle.convoy_checker.specs.Validity
+pub mod Steps
+pub mod Fronts
+pub mod Searching
+pub mod Outcomes
+pub mod Laws

@@ -1,0 +1,22 @@
+use convoy_certificate::Certificate;
+use convoy_sim::Record;
+
+/// How a search ended.
+#[derive(Drop)]
+pub enum Outcome {
+    /// The greatest latency is known: the certificate shows it. A ticket was spent for each node,
+    /// `tickets` in all; `by_worker` has those of each worker.
+    Proved {
+        certificate: Certificate,
+        tickets: u64,
+        by_worker: Vec<u64>,
+    },
+    /// The tickets ended with boxes left. The greatest latency is that of `best` or more, and at
+    /// most `upper`, in ticks.
+    Open {
+        best: Record,
+        upper: u32,
+        tickets: u64,
+        by_worker: Vec<u64>,
+    },
+}

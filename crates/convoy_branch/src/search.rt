@@ -1,0 +1,215 @@
+ghost use Rattle.std.specs.Prelude.{◌≡◌, ℕ, ◌+◌, ◌<◌, ◌≤◌, [], ◌∷◌, ◌++◌, length, map};
+ghost use Rattle.std.specs.Prelude.{IfOk, OnOk, unwrap_or};
+ghost use Rattle.std.specs.List.{All};
+ghost use Rattle.convoy_packets.specs.Table.{IsTable, table_of};
+ghost use Rattle.convoy_sim.specs.Times.{greatest};
+ghost use Rattle.convoy_intervals.specs.Bounds.{plain_bound};
+ghost use Rattle.convoy_branch.specs.Fronts.{left_in};
+ghost use Rattle.convoy_branch.specs.Outcomes.{IsOutcome};
+ghost use Rattle.convoy_branch.specs.Searching.{IsSearching, IsWork, front_of};
+ghost use Rattle.convoy_branch.specs.Searching.{work_after, nodes_after};
+
+use super::outcome::Outcome;
+use super::step::{Turn, step_branch};
+use convoy_certificate::{Certificate, Node};
+use convoy_intervals::laws::halves_are_boxes;
+use convoy_intervals::{DelayBox, bound};
+use convoy_packets::{Delays, PacketTable};
+use convoy_scenario::Scenario;
+use convoy_sim::Record;
+use std::alloc::{AllocError, Global};
+
+#[cfg(test)]
+mod tests;
+
+/// Searches for the greatest latency of a scenario with one worker, by branch and bound
+/// (docs/PROTOCOL.md). It starts from the record of the least delays, takes up the upper half of
+/// each split first, and spends a ticket for each box that it takes up, at most `limit` of them.
+///
+/// `Outcome::Open` is the answer only where a box is left when all tickets are spent.
+pub fn search_alone(
+    alloc: Global,
+    scenario: &Scenario,
+    table: &PacketTable,
+    limit: u64,
+) -> Result<Outcome, AllocError>
+    requires packets { table.now ≡ table_of scenario.now }
+    ensures { IfOk result (λ outcome. IsOutcome scenario.now limit outcome) }
+{
+    let mut search = Search::start(alloc, scenario, table)?;
+    while let Some(work) = search.work.pop() {
+        match work {
+            Work::Write(node) => search.nodes.push(node)?,
+            Work::Branch(branch) if search.tickets < limit => {
+                search.take_up(alloc, scenario, table, branch)?;
+            }
+            Work::Branch(branch) => return search.into_open(alloc, scenario, table, branch),
+        }
+    }
+    search.into_proved(alloc, scenario)
+}
+
+/// What a search has still to do.
+#[derive(Drop)]
+enum Work {
+    /// To take up a box.
+    Branch(DelayBox),
+    /// To write a split: both its halves are done.
+    Write(Node),
+}
+
+/// Where a search stands.
+#[derive(Drop)]
+struct Search {
+    /// The record of the greatest latency that it has seen.
+    best: Record,
+    /// The work that is left. What is done first stands last.
+    work: Vec<Work>,
+    /// The nodes of the tree that are done, from the last one back.
+    nodes: Vec<Node>,
+    /// How many boxes were taken up.
+    tickets: u64,
+}
+
+impl Search {
+    /// A search of the root box that has seen the least delays.
+    fn start(alloc: Global, scenario: &Scenario, table: &PacketTable) -> Result<Search, AllocError>
+        requires packets { table.now ≡ table_of scenario.now }
+        ensures searching { IfOk result
+            (λ s. IsSearching scenario.now s.best s.work.items s.nodes.items 0) }
+        ensures tickets { IfOk result (λ s. s.tickets ≡ 0) }
+        ensures lawful { IfOk result (λ _. IsTable table.now) }
+    {
+        let delays = Delays::least(alloc, table)?;
+        let best = match Record::of(alloc, scenario, table, delays) {
+            Ok(best) => best,
+            Err((_, error)) => return Err(error),
+        };
+        let mut work = Vec::with_capacity(alloc, table.len())?;
+        work.push(Work::Branch(DelayBox::root(alloc, table)?))?;
+        Ok(Search {
+            best,
+            work,
+            nodes: Vec::new(alloc),
+            tickets: 0,
+        })
+    }
+
+    /// Spends a ticket for a box.
+    fn take_up(
+        &mut self,
+        alloc: Global,
+        scenario: &Scenario,
+        table: &PacketTable,
+        branch: DelayBox,
+    ) -> Result<(), AllocError>
+        requires packets { table.now ≡ table_of scenario.now }
+        requires lawful { IsTable table.now }
+        requires searching { IsSearching scenario.now self.old.best
+            (self.old.work.items ++ Work.Branch branch ∷ []) self.old.nodes.items self.old.tickets }
+        requires ticket { self.old.tickets < u64.MAX }
+        ensures searching { OnOk result (IsSearching scenario.now self.new.best
+            self.new.work.items self.new.nodes.items (self.old.tickets + 1)) }
+        ensures ticket { OnOk result (self.new.tickets ≡ self.old.tickets + 1) }
+        ensures few { OnOk result (length self.new.work.items ≤ length self.old.work.items + 3) }
+    {
+        halves_are_boxes();
+        let step = match step_branch(alloc, scenario, table, branch, self.best.latency()) {
+            Ok(step) => step,
+            Err((_, error)) => return Err(error),
+        };
+        self.tickets += 1;
+        self.note(step.found);
+        self.follow(step.turn)?;
+        Ok(())
+    }
+
+    /// Keeps the record that a step has found.
+    fn note(&mut self, found: Option<Record>)
+        ensures { self.new ≡ record self.old { best = unwrap_or found self.old.best } }
+    {
+        if let Some(found) = found {
+            self.best = found;
+        }
+    }
+
+    /// Writes the leaf that closes a box, or else leaves the halves to be taken up, the upper one
+    /// first, and then the split to be written.
+    fn follow(&mut self, turn: Turn) -> Result<(), AllocError>
+        ensures work { OnOk result (self.new.work.items ≡ work_after self.old.work.items turn) }
+        ensures nodes { OnOk result (self.new.nodes.items ≡ nodes_after self.old.nodes.items turn) }
+        ensures best { OnOk result (self.new.best ≡ self.old.best) }
+        ensures tickets { OnOk result (self.new.tickets ≡ self.old.tickets) }
+    {
+        match turn {
+            Turn::Closed(node) => self.nodes.push(node)?,
+            Turn::Halves {
+                packet,
+                at,
+                lower,
+                upper,
+            } => {
+                self.work.push(Work::Write(Node::Split { packet, at }))?;
+                self.work.push(Work::Branch(lower))?;
+                self.work.push(Work::Branch(upper))?;
+            }
+        }
+        Ok(())
+    }
+
+    /// The outcome of a search with no work left.
+    fn into_proved(self, alloc: Global, scenario: &Scenario) -> Result<Outcome, AllocError>
+        requires { IsSearching scenario.now self.best [] self.nodes.items self.tickets }
+        ensures { (limit : ℕ) → self.tickets ≤ limit
+            → IfOk result (λ outcome. IsOutcome scenario.now limit outcome) }
+    {
+        let mut nodes = self.nodes;
+        nodes.reverse();
+        let latency = self.best.latency();
+        let delays = self.best.delays().copy()?;
+        Ok(Outcome::Proved {
+            certificate: Certificate::new(scenario.copy()?, latency, delays, nodes),
+            tickets: self.tickets,
+            by_worker: Vec::from_slice(alloc, &[self.tickets])?,
+        })
+    }
+
+    /// The outcome of a search that has no ticket left for a box.
+    fn into_open(
+        mut self,
+        alloc: Global,
+        scenario: &Scenario,
+        table: &PacketTable,
+        branch: DelayBox,
+    ) -> Result<Outcome, AllocError>
+        requires packets { table.now ≡ table_of scenario.now }
+        requires searching { IsSearching scenario.now self.best
+            (self.work.items ++ Work.Branch branch ∷ []) self.nodes.items self.tickets }
+        ensures { IfOk result (λ outcome. IsOutcome scenario.now self.tickets outcome) }
+    {
+        self.work.push(Work::Branch(branch))?;
+        let upper = greatest_bound(scenario, table, &self.work, self.best.latency());
+        Ok(Outcome::Open {
+            best: self.best,
+            upper,
+            tickets: self.tickets,
+            by_worker: Vec::from_slice(alloc, &[self.tickets])?,
+        })
+    }
+}
+
+/// The greatest of a number of ticks and the bounds of the boxes that are left.
+fn greatest_bound(scenario: &Scenario, table: &PacketTable, work: &[Work], seen: u32) -> u32
+    requires packets { table.now ≡ table_of scenario.now }
+    requires inside { All (IsWork scenario.now) work.now }
+    ensures { let boxes = left_in (map front_of work.now) in result
+        ≡ greatest (seen ∷ map (plain_bound scenario.now) boxes) }
+{
+    let mut greatest = seen;
+    for piece in work {
+        if let Work::Branch(branch) = piece {
+            greatest = greatest.max(bound(scenario, table, branch));
+        }
+    }
+    greatest
+}

@@ -1,0 +1,148 @@
+use super::search_alone;
+use crate::outcome::Outcome;
+use convoy_certificate::Node;
+use convoy_packets::PacketTable;
+use convoy_scenario::{Scenario, read_toml};
+use std::alloc::Global;
+use std::test::Fail;
+
+/// How a search ended.
+#[derive(Clone, Copy, Debug, PartialEq, Eq)]
+enum Ending {
+    /// The latency of the certificate, its number of nodes, and the tickets.
+    Proved(u32, usize, u64),
+    /// The best latency, the upper bound, and the tickets.
+    Open(u32, u32, u64),
+    /// The tickets of the workers are not those of the search.
+    WrongTickets,
+}
+
+/// The base scenario of docs/PROTOCOL.md, with that greatest delay, its groups in that order, and y
+/// issued at that tick.
+fn base(alloc: Global, delay: u16, groups: &str, at: u32) -> Result<Scenario, Fail> {
+    let text = format!(in alloc;
+        "delay = {delay}
+groups = [{groups}]
+multicast = [
+    {{ name = \"x\", to = [\"b\"], at = 0 }},
+    {{ name = \"t\", to = [\"a\", \"b\"], at = 0 }},
+    {{ name = \"y\", from = \"a\", to = [\"a\", \"b\"], at = {at} }},
+]
+target = {{ message = \"t\", group = \"a\" }}
+"
+    )?;
+    Ok(read_toml(alloc, text.as_bytes())?.scenario)
+}
+
+/// What a search of a scenario answers.
+fn outcome_of(alloc: Global, scenario: &Scenario, limit: u64) -> Result<Outcome, Fail> {
+    let table = PacketTable::of(alloc, scenario)?;
+    Ok(search_alone(alloc, scenario, &table, limit)?)
+}
+
+fn ending_of(outcome: &Outcome) -> Ending {
+    match outcome {
+        Outcome::Proved {
+            certificate,
+            tickets,
+            by_worker,
+        } => {
+            if by_worker.as_slice() == [*tickets].as_slice() {
+                Ending::Proved(certificate.latency(), certificate.nodes().len(), *tickets)
+            } else {
+                Ending::WrongTickets
+            }
+        }
+        Outcome::Open {
+            best,
+            upper,
+            tickets,
+            by_worker,
+        } => {
+            if by_worker.as_slice() == [*tickets].as_slice() {
+                Ending::Open(best.latency(), *upper, *tickets)
+            } else {
+                Ending::WrongTickets
+            }
+        }
+    }
+}
+
+#[test]
+fn base_is_one_leaf(rt: HostRuntime) -> Result<(), Fail> {
+    let alloc = rt.alloc();
+    let scenario = base(alloc, 3, "\"a\", \"b\"", 6)?;
+    for limit in [1, 1_000_000] {
+        let outcome = outcome_of(alloc, &scenario, limit)?;
+        assert_eq!(rt;
+            ending_of(&outcome),
+            Ending::Proved(12, 1, 1),
+            "limit {limit}"
+        );
+        if let Outcome::Proved { certificate, .. } = &outcome {
+            assert_eq!(rt; certificate.nodes(), [Node::Bound].as_slice());
+            assert_eq!(rt; certificate.delays().as_slice(), [3; 8].as_slice());
+        }
+    }
+    Ok(())
+}
+
+#[test]
+fn no_ticket_at_all(rt: HostRuntime) -> Result<(), Fail> {
+    let alloc = rt.alloc();
+    let scenario = base(alloc, 3, "\"a\", \"b\"", 6)?;
+    let outcome = outcome_of(alloc, &scenario, 0)?;
+    assert_eq!(rt; ending_of(&outcome), Ending::Open(2, 12, 0));
+    Ok(())
+}
+
+#[test]
+fn swapped_groups(rt: HostRuntime) -> Result<(), Fail> {
+    let alloc = rt.alloc();
+    let scenario = base(alloc, 3, "\"b\", \"a\"", 6)?;
+    for limit in [1_469, 1_000_000] {
+        let outcome = outcome_of(alloc, &scenario, limit)?;
+        assert_eq!(rt;
+            ending_of(&outcome),
+            Ending::Proved(6, 1_469, 1_469),
+            "limit {limit}"
+        );
+    }
+    Ok(())
+}
+
+#[test]
+fn swapped_groups_limited(rt: HostRuntime) -> Result<(), Fail> {
+    let alloc = rt.alloc();
+    let scenario = base(alloc, 3, "\"b\", \"a\"", 6)?;
+    for limit in [1, 10] {
+        let outcome = outcome_of(alloc, &scenario, limit)?;
+        assert_eq!(rt;
+            ending_of(&outcome),
+            Ending::Open(6, 12, limit),
+            "limit {limit}"
+        );
+    }
+    match outcome_of(alloc, &scenario, 1_468)? {
+        Outcome::Open { best, tickets, .. } => {
+            assert_eq!(rt; (best.latency(), tickets), (6, 1_468));
+        }
+        Outcome::Proved { .. } => assert!(rt; false, "one ticket is missing"),
+    }
+    Ok(())
+}
+
+#[test]
+fn neighbours_of_the_base(rt: HostRuntime) -> Result<(), Fail> {
+    let alloc = rt.alloc();
+    for (delay, at, want) in [(3, 5, 11), (3, 7, 6), (1, 2, 4)] {
+        let scenario = base(alloc, delay, "\"a\", \"b\"", at)?;
+        match outcome_of(alloc, &scenario, 1_000_000)? {
+            Outcome::Proved { certificate, .. } => {
+                assert_eq!(rt; certificate.latency(), want, "y at {at}, delay {delay}");
+            }
+            Outcome::Open { .. } => assert!(rt; false, "y at {at}, delay {delay}"),
+        }
+    }
+    Ok(())
+}

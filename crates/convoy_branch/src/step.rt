@@ -1,0 +1,165 @@
+ghost use Rattle.std.specs.Prelude.{◌≡◌, ◌↔◌, ℕ, length, nat_le, if◌then◌else◌};
+ghost use Rattle.std.specs.Prelude.{IfErr, IfOk, IfSome, IsNone};
+ghost use Rattle.convoy_scenario.specs.Plan.{Plan};
+ghost use Rattle.convoy_packets.specs.Table.{table_of};
+ghost use Rattle.convoy_sim.specs.Delivery.{latency_of};
+ghost use Rattle.convoy_sim.specs.Record.{attained_by};
+ghost use Rattle.convoy_intervals.specs.Boxes.{IsBox, IsPoint, greatest_of};
+ghost use Rattle.convoy_intervals.specs.Laws.{CanPart};
+ghost use Rattle.convoy_branch.specs.Steps.{known_after, IsStep, IsTurn, StaysOpen};
+
+use convoy_certificate::Node;
+use convoy_intervals::laws::members_are_assignments;
+use convoy_intervals::{DelayBox, bound};
+use convoy_packets::PacketTable;
+use convoy_scenario::Scenario;
+use convoy_sim::Record;
+use std::alloc::{AllocError, Global};
+
+#[cfg(test)]
+mod tests;
+
+/// What a step over a box gave.
+#[derive(Drop)]
+pub struct Step {
+    /// A record of a greater latency than was seen, if the box has shown one.
+    pub found: Option<Record>,
+    /// What becomes of the box.
+    pub turn: Turn,
+}
+
+/// What becomes of a box.
+#[derive(Drop)]
+pub enum Turn {
+    /// No member has a greater latency than is known: the leaf that says why, never a split.
+    Closed(Node),
+    /// The box is parted at a packet: into the members whose delay of it is at most `at` ticks, and
+    /// those whose delay is more.
+    Halves {
+        packet: u16,
+        at: u16,
+        lower: DelayBox,
+        upper: DelayBox,
+    },
+}
+
+/// Takes up one box of a search, where the best record has the latency `seen`, in ticks.
+///
+/// The box is closed where its bound is at most `seen`. Else the schedule of its greatest delays is
+/// simulated, and a latency above `seen` is found; then the box is closed where its bound is at most
+/// that, or where it has one member, and else is parted (docs/PROTOCOL.md). Where memory is refused
+/// the box comes back as it was.
+pub fn step_branch(
+    alloc: Global,
+    scenario: &Scenario,
+    table: &PacketTable,
+    branch: DelayBox,
+    seen: u32,
+) -> Result<Step, (DelayBox, AllocError)>
+    requires packets { table.now ≡ table_of scenario.now }
+    requires inside { IsBox scenario.now branch }
+    ensures value { IfOk result (λ step. IsStep scenario.now branch seen step) }
+    ensures back { IfErr result (λ refused. refused.0 ≡ branch) }
+{
+    let bound = bound(scenario, table, &branch);
+    if bound <= seen {
+        return Ok(Step {
+            found: None,
+            turn: Turn::Closed(Node::Bound),
+        });
+    }
+    let found = match try_greatest(alloc, scenario, table, &branch, seen) {
+        Ok(found) => found,
+        Err(error) => return Err((branch, error)),
+    };
+    let known = known_after(seen, &found);
+    let turn = if bound <= known {
+        Turn::Closed(Node::Bound)
+    } else {
+        open_turn(table, branch)?
+    };
+    Ok(Step { found, turn })
+}
+
+/// The record of the greatest delays of a box, if their latency is above `seen`, in ticks.
+fn try_greatest(
+    alloc: Global,
+    scenario: &Scenario,
+    table: &PacketTable,
+    branch: &DelayBox,
+    seen: u32,
+) -> Result<Option<Record>, AllocError>
+    requires packets { table.now ≡ table_of scenario.now }
+    requires inside { IsBox scenario.now branch.now }
+    ensures { let delays = greatest_of branch.now in IfOk result (λ found. found
+        ≡ (if nat_le (latency_of scenario.now delays) seen
+        then None else Some (attained_by scenario.now delays))) }
+{
+    members_are_assignments();
+    let delays = branch.greatest(alloc)?;
+    match Record::of(alloc, scenario, table, delays) {
+        Ok(tried) => {
+            if tried.latency() > seen {
+                Ok(Some(tried))
+            } else {
+                Ok(None)
+            }
+        }
+        Err((_, error)) => Err(error),
+    }
+}
+
+/// The greatest latency known, in ticks: that of the record found, or else the one seen before.
+fn known_after(seen: u32, found: &Option<Record>) -> u32
+    ensures { result ≡ known_after seen found.now }
+{
+    match found {
+        Some(best) => best.latency(),
+        None => seen,
+    }
+}
+
+/// What becomes of a box that its bound does not close: a leaf where it has one member, and else
+/// its halves. Where memory is refused the box comes back as it was.
+fn open_turn(table: &PacketTable, branch: DelayBox) -> Result<Turn, (DelayBox, AllocError)>
+    requires one_each { length branch ≡ length table.now.ranges }
+    ensures value { (plan : Plan) (known : ℕ) → StaysOpen plan branch known
+        → IfOk result (λ turn. IsTurn plan branch known turn) }
+    ensures back { IfErr result (λ refused. refused.0 ≡ branch) }
+{
+    match place_to_split(table, &branch) {
+        None => Ok(Turn::Closed(Node::Point)),
+        Some((packet, at)) => {
+            let (lower, upper) = branch.halves(usize::from(packet), at)?;
+            Ok(Turn::Halves {
+                packet,
+                at,
+                lower,
+                upper,
+            })
+        }
+    }
+}
+
+/// Where to part a box: the packet of the widest range, the first where several are as wide, and
+/// the middle of its range in ticks, rounded down. None where each packet has one delay left.
+fn place_to_split(table: &PacketTable, branch: &DelayBox) -> Option<(u16, u16)>
+    requires one_each { length branch.now ≡ length table.now.ranges }
+    ensures point { IsNone result ↔ IsPoint branch.now }
+    ensures part { IfSome result (λ place. CanPart branch.now place.0 place.1) }
+{
+    let mut widest = 0;
+    let mut width = 0;
+    for packet in 0..table.len() {
+        let (least, most) = branch.range(packet);
+        if most - least > width {
+            widest = packet;
+            width = most - least;
+        }
+    }
+    if width == 0 {
+        return None;
+    }
+    let (least, _) = branch.range(widest);
+    Some((widest as u16, least + width / 2))
+}

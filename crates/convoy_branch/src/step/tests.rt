@@ -1,0 +1,138 @@
+ghost use Rattle.std.specs.Prelude.{◌≡◌, ◌<◌, length, IfOk};
+ghost use Rattle.convoy_scenario.specs.Plan.{Plan};
+ghost use Rattle.convoy_packets.specs.Table.{table_of};
+ghost use Rattle.convoy_intervals.specs.Boxes.{IsBox};
+
+use super::{Step, Turn, step_branch};
+use convoy_certificate::Node;
+use convoy_intervals::DelayBox;
+use convoy_packets::PacketTable;
+use convoy_scenario::{Scenario, read_toml};
+use std::alloc::{AllocError, Global};
+use std::test::Fail;
+
+/// The base scenario of docs/PROTOCOL.md, with its groups in that order.
+fn base(alloc: Global, groups: &str) -> Result<Scenario, Fail> {
+    let text = format!(in alloc;
+        "delay = 3
+groups = [{groups}]
+multicast = [
+    {{ name = \"x\", to = [\"b\"], at = 0 }},
+    {{ name = \"t\", to = [\"a\", \"b\"], at = 0 }},
+    {{ name = \"y\", from = \"a\", to = [\"a\", \"b\"], at = 6 }},
+]
+target = {{ message = \"t\", group = \"a\" }}
+"
+    )?;
+    Ok(read_toml(alloc, text.as_bytes())?.scenario)
+}
+
+/// The latency that the step found, and the node that stands for the box.
+fn summary(step: &Step) -> (Option<u32>, Node) {
+    let found = match &step.found {
+        Some(best) => Some(best.latency()),
+        None => None,
+    };
+    let node = match &step.turn {
+        Turn::Closed(leaf) => *leaf,
+        Turn::Halves { packet, at, .. } => {
+            Node::Split {
+                packet: *packet,
+                at: *at,
+            }
+        }
+    };
+    (found, node)
+}
+
+/// What a step over the box gives.
+fn step_over(
+    alloc: Global,
+    scenario: &Scenario,
+    table: &PacketTable,
+    branch: DelayBox,
+    seen: u32,
+) -> Result<(Option<u32>, Node), Fail>
+    requires packets { table.now ≡ table_of scenario.now }
+    requires inside { IsBox scenario.now branch }
+{
+    match step_branch(alloc, scenario, table, branch, seen) {
+        Ok(step) => Ok(summary(&step)),
+        Err((_, error)) => Err(error.into()),
+    }
+}
+
+/// What a step over the whole box of a scenario gives.
+fn root_step(alloc: Global, scenario: &Scenario, seen: u32) -> Result<(Option<u32>, Node), Fail> {
+    let table = PacketTable::of(alloc, scenario)?;
+    let root = DelayBox::root(alloc, &table)?;
+    step_over(alloc, scenario, &table, root, seen)
+}
+
+/// What a step over the box of the greatest delays alone gives.
+fn point_step(alloc: Global, scenario: &Scenario, seen: u32) -> Result<(Option<u32>, Node), Fail> {
+    let table = PacketTable::of(alloc, scenario)?;
+    let point = greatest_point(alloc, scenario, &table)?;
+    step_over(alloc, scenario, &table, point, seen)
+}
+
+/// The box with only the greatest delay of each packet.
+fn greatest_point(
+    alloc: Global,
+    scenario: &Scenario,
+    table: &PacketTable,
+) -> Result<DelayBox, AllocError>
+    requires { table.now ≡ table_of scenario.now }
+    ensures { IfOk result (λ b. IsBox scenario.now b) }
+{
+    let mut point = DelayBox::root(alloc, table)?;
+    for packet in 0..point.len() {
+        point = at_greatest(point, packet)?;
+    }
+    Ok(point)
+}
+
+/// The box with only the greatest delay of that packet.
+fn at_greatest(branch: DelayBox, packet: usize) -> Result<DelayBox, AllocError>
+    requires { packet < length branch }
+    ensures same_length { IfOk result (λ b. length b ≡ length branch) }
+    ensures is_box { IfOk result (λ b. (plan : Plan) → IsBox plan branch → IsBox plan b) }
+{
+    let (least, most) = branch.range(packet);
+    if least == most {
+        return Ok(branch);
+    }
+    match branch.halves(packet, most - 1) {
+        Ok((_, upper)) => Ok(upper),
+        Err((_, error)) => Err(error),
+    }
+}
+
+#[test]
+fn closes_by_the_latency_found(rt: HostRuntime) -> Result<(), Fail> {
+    let alloc = rt.alloc();
+    let scenario = base(alloc, "\"a\", \"b\"")?;
+    assert_eq!(rt; root_step(alloc, &scenario, 2)?, (Some(12), Node::Bound));
+    assert_eq!(rt; root_step(alloc, &scenario, 12)?, (None, Node::Bound));
+    Ok(())
+}
+
+#[test]
+fn parts_the_first_of_the_widest(rt: HostRuntime) -> Result<(), Fail> {
+    let alloc = rt.alloc();
+    let scenario = base(alloc, "\"b\", \"a\"")?;
+    let split = Node::Split { packet: 0, at: 2 };
+    assert_eq!(rt; root_step(alloc, &scenario, 2)?, (Some(6), split));
+    assert_eq!(rt; root_step(alloc, &scenario, 6)?, (None, split));
+    Ok(())
+}
+
+#[test]
+fn closes_a_point(rt: HostRuntime) -> Result<(), Fail> {
+    let alloc = rt.alloc();
+    let scenario = base(alloc, "\"b\", \"a\"")?;
+    assert_eq!(rt; point_step(alloc, &scenario, 2)?, (Some(6), Node::Point));
+    assert_eq!(rt; point_step(alloc, &scenario, 6)?, (None, Node::Point));
+    assert_eq!(rt; point_step(alloc, &scenario, 12)?, (None, Node::Bound));
+    Ok(())
+}
