@@ -7,10 +7,10 @@ use Rattle.convoy_engine.specs.declared.fault.Fault.TheVariants.{Memory, Read, W
 use Rattle.convoy_engine.specs.Devices.{Answer, Moved, Failed, IsPiece, failures}
 use Rattle.convoy_engine.specs.Reads.{ReadsText, StopsReading}
 use Rattle.convoy_engine.specs.Faults.{row_of}
-use Rattle.convoy_engine.specs.Commands.{text_for}
+use Rattle.convoy_engine.specs.Commands.{longest_for, says_for}
 use Rattle.convoy_engine.specs.declared.command.Command.{Command}
-use Rattle.convoy_engine.proofs.CommandTexts.{text_number}
-use Rattle.convoy_engine.specs.Runs.{Refuses}
+use Rattle.convoy_engine.proofs.CommandTexts.{says_number}
+use Rattle.convoy_engine.specs.Runs.{Replied}
 use Rattle.convoy_engine.specs.Laws.{told_reads, FailuresAreTold}
 
 -- pieces are no failures
@@ -27,16 +27,17 @@ after_pieces (Moved bytes ∷ pieces) last each = after_pieces pieces last (All-
 after_pieces (Failed ∷ pieces) last each = absurd (All-head IsPiece Failed pieces each)
 
 -- where a text was read
-in_text : (reads : List Answer) (text : List ℕ) → ReadsText reads text → failures reads ≡ 0
-in_text reads text read = rw read.end (after_pieces read.pieces (Moved []) read.given.each)
+in_text : (longest : ℕ) (reads : List Answer) (text : List ℕ) → ReadsText longest reads text → failures reads ≡ 0
+in_text longest reads text read = rw read.end (after_pieces read.pieces (Moved []) read.given.each)
 
 -- where reading stopped
-in_stop : (turns : ℕ) (reads : List Answer) (fault : Fault) → StopsReading turns reads fault → failures reads ≡ told_reads (Err fault)
-in_stop turns reads Read stop = rw stop.last (after_pieces stop.pieces Failed stop.given.each)
-in_stop turns reads JobTooLong stop = rw stop.last (after_pieces stop.pieces (Moved stop.bytes) stop.given.each)
-in_stop turns reads ReadTurns stop = none_in_pieces reads stop.0.each
-in_stop turns reads Memory stop = none_in_pieces reads stop.each
-in_stop turns reads other stop = absurd stop
+in_stop : (longest turns : ℕ) (reads : List Answer) (fault : Fault) →
+    StopsReading longest turns reads fault → failures reads ≡ told_reads (Err fault)
+in_stop longest turns reads Read stop = rw stop.last (after_pieces stop.pieces Failed stop.given.each)
+in_stop longest turns reads JobTooLong stop = rw stop.last (after_pieces stop.pieces (Moved stop.bytes) stop.given.each)
+in_stop longest turns reads ReadTurns stop = none_in_pieces reads stop.0.each
+in_stop longest turns reads Memory stop = none_in_pieces reads stop.each
+in_stop longest turns reads other stop = absurd stop
 
 -- where the text has a fault, which is no device's
 in_refusal : (fault : Fault) → (row_of fault).0 ≤ 13 → 0 ≡ told_reads (Err fault)
@@ -48,21 +49,26 @@ in_nothing : (writes : List Answer) → writes ≡ [] → failures writes ≡ 0
 in_nothing writes none = rw none refl
 
 in_fault : (command : Command) (turns : ℕ) (reads writes : List Answer) (fault : Fault) →
-    StopsReading turns reads fault ⊎ Refuses (text_for command) reads fault → writes ≡ [] →
-    (failures reads ≡ told_reads (Err fault)) × (failures writes ≡ 0)
-in_fault command turns reads writes fault (inl stop) none = (in_stop turns reads fault stop, in_nothing writes none)
-in_fault command turns reads writes fault (inr text) none =
-    (in_text reads text.text text.read ∙ in_refusal fault (text_number command text.text fault text.refused), in_nothing writes none)
+    StopsReading (longest_for command) turns reads fault ⊎ Replied (longest_for command) (says_for command) reads (Err fault) →
+    writes ≡ [] → (failures reads ≡ told_reads (Err fault)) × (failures writes ≡ 0)
+in_fault command turns reads writes fault (inl stop) none =
+    (in_stop (longest_for command) turns reads fault stop, in_nothing writes none)
+in_fault command turns reads writes fault (inr replied) none = (
+  in_text (longest_for command) reads replied.text replied.read
+      ∙ in_refusal fault (says_number command replied.text fault replied.allowed),
+  in_nothing writes none,
+)
 
-in_memory : (turns : ℕ) (reads : List Answer) → StopsReading turns reads Memory ⊎ ((text : List ℕ) × ReadsText reads text) →
-    failures reads ≡ 0
-in_memory turns reads (inl stop) = in_stop turns reads Memory stop
-in_memory turns reads (inr text) = in_text reads text.0 text.1
+in_memory : (longest turns : ℕ) (reads : List Answer) →
+    StopsReading longest turns reads Memory ⊎ ((text : List ℕ) × ReadsText longest reads text) → failures reads ≡ 0
+in_memory longest turns reads (inl stop) = in_stop longest turns reads Memory stop
+in_memory longest turns reads (inr text) = in_text longest reads text.0 text.1
 
-pub failures_told : (command : Command) → FailuresAreTold (text_for command)
+pub failures_told : (command : Command) → FailuresAreTold (longest_for command) (says_for command)
 failures_told command turns reads writes (Ok done) ran =
-    (in_text reads ran.1.text ran.1.read, none_in_pieces writes ran.2.each)
+    (in_text (longest_for command) reads ran.1.text ran.1.read, none_in_pieces writes ran.2.each)
 failures_told command turns reads writes (Err Write) ran =
-    (in_text reads ran.1.text ran.1.read, rw ran.2.last (after_pieces ran.2.pieces Failed ran.2.each))
-failures_told command turns reads writes (Err Memory) ran = (in_memory turns reads ran.0, in_nothing writes ran.1)
+    (in_text (longest_for command) reads ran.2.text ran.2.read, rw ran.3.last (after_pieces ran.3.pieces Failed ran.3.each))
+failures_told command turns reads writes (Err Memory) ran =
+    (in_memory (longest_for command) turns reads ran.0, in_nothing writes ran.1)
 failures_told command turns reads writes (Err other) ran = in_fault command turns reads writes other ran.0 ran.1

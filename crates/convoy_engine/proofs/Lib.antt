@@ -1,4 +1,6 @@
+pub mod Acceptance
 pub mod CaseTexts
+pub mod CheckTexts
 pub mod CommandTexts
 pub mod Failures
 pub mod FirstTexts

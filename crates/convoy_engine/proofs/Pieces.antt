@@ -5,7 +5,6 @@ use Rattle.std.proofs.lemmas.Grind.{flat_map-append}
 use Rattle.std.proofs.lemmas.List.{append-nil, take_rest}
 use Rattle.std.proofs.lemmas.List.Elements.{All-push, All-nil}
 use Rattle.std.proofs.lemmas.Fn.{FoldsTo-push}
-use Rattle.convoy_engine.specs.declared.reading.TheConstants.{LONGEST_JOB}
 use Rattle.convoy_engine.specs.Devices.{Answer, Moved, Failed, IsPiece, joined, taken, HasRun}
 use Rattle.convoy_engine.specs.Reads.{ArePieces, ReadsText, FailsReading, ReadsTooMuch}
 use Rattle.convoy_engine.specs.Writes.{FailsWithin, WritesPiece}
@@ -65,9 +64,9 @@ failed_writing step old mid new bytes rest text count p failed is more = record 
 }
 
 -- How reading ends: the pieces so far are within the limit, and one more call was made of those that may be.
-module _ {S : Type 0} (step : S → Answer → S → Type 0) (old mid new : S) (bytes : List ℕ) (count turns : ℕ)
-    (p : MovesPieces step old bytes count mid) (short : length bytes ≤ LONGEST_JOB) (below : count < turns) where
-  given : ArePieces p.answers
+module _ {S : Type 0} (step : S → Answer → S → Type 0) (old mid new : S) (bytes : List ℕ) (count turns longest : ℕ)
+    (p : MovesPieces step old bytes count mid) (short : length bytes ≤ longest) (below : count < turns) where
+  given : ArePieces longest p.answers
   given = record { each = p.each; short = rw p.whole short }
 
   ended : (Says : List Answer → Type 0) (answer : Answer) → step mid answer new → Says (p.answers ++ answer ∷ []) →
@@ -80,21 +79,21 @@ module _ {S : Type 0} (step : S → Answer → S → Type 0) (old mid new : S) (
 
   -- with the end of the input
   pub ended_by_text : (more : List ℕ) → step mid (Moved more) new → length more ≡ 0 →
-      HasRun step old new (λ answers. (length answers ≤ turns) × ReadsText answers bytes)
+      HasRun step old new (λ answers. (length answers ≤ turns) × ReadsText longest answers bytes)
   ended_by_text (b ∷ more) moved none = absurd (omega arith)
   ended_by_text [] moved none =
-      ended (λ answers. ReadsText answers bytes) (Moved []) moved
+      ended (λ answers. ReadsText longest answers bytes) (Moved []) moved
       (record { pieces = p.answers; end = refl; given = given; whole = p.whole })
 
   -- with a failure of the device
-  pub ended_by_failure : step mid Failed new → HasRun step old new (λ answers. (length answers ≤ turns) × FailsReading answers)
-  ended_by_failure failed = ended FailsReading Failed failed (record { pieces = p.answers; last = refl; given = given })
+  pub ended_by_failure : step mid Failed new → HasRun step old new (λ answers. (length answers ≤ turns) × FailsReading longest answers)
+  ended_by_failure failed = ended (FailsReading longest) Failed failed (record { pieces = p.answers; last = refl; given = given })
 
   -- with the first byte past the limit
-  pub ended_by_length : (more : List ℕ) → step mid (Moved more) new → LONGEST_JOB < length bytes + length more →
-      HasRun step old new (λ answers. (length answers ≤ turns) × ReadsTooMuch answers)
+  pub ended_by_length : (more : List ℕ) → step mid (Moved more) new → longest < length bytes + length more →
+      HasRun step old new (λ answers. (length answers ≤ turns) × ReadsTooMuch longest answers)
   ended_by_length more moved long =
-      ended ReadsTooMuch (Moved more) moved
+      ended (ReadsTooMuch longest) (Moved more) moved
       (record {
         pieces = p.answers;
         bytes = more;
@@ -104,10 +103,10 @@ module _ {S : Type 0} (step : S → Answer → S → Type 0) (old mid new : S) (
       })
 
   -- with memory refused for the last piece, which is within the limit too
-  pub ended_by_memory : (more : List ℕ) → step mid (Moved more) new → 0 < length more → length bytes + length more ≤ LONGEST_JOB →
-      HasRun step old new (λ answers. (length answers ≤ turns) × ArePieces answers)
+  pub ended_by_memory : (more : List ℕ) → step mid (Moved more) new → 0 < length more → length bytes + length more ≤ longest →
+      HasRun step old new (λ answers. (length answers ≤ turns) × ArePieces longest answers)
   ended_by_memory more moved some within =
-      ended ArePieces (Moved more) moved
+      ended (ArePieces longest) (Moved more) moved
       (record {
         each = All-push IsPiece p.answers (Moved more) p.each (piece more some);
         short = rw (joined_push, p.whole, length-append) within;

@@ -1,13 +1,29 @@
--- What each command writes for a text.
-use Rattle.std.specs.Prelude.{ℕ, List, Result}
+-- What each command may answer for a text, and how long the text may be.
+use Rattle.std.specs.Prelude.{ℕ}
 use Rattle.convoy_engine.specs.declared.command.Command.{Command}
-use Rattle.convoy_engine.specs.declared.command.Command.TheVariants.{First, Simulate, Timeline}
-use Rattle.convoy_engine.specs.declared.fault.Fault.{Fault}
-use Rattle.convoy_engine.specs.First.{first_text}
-use Rattle.convoy_engine.specs.Simulate.{simulate_text}
-use Rattle.convoy_engine.specs.Timelines.{timeline_of_text}
+use Rattle.convoy_engine.specs.declared.command.Command.TheVariants.{First, Simulate, Timeline, Check, Analyse, Latency}
+use Rattle.convoy_engine.specs.declared.reading.TheConstants.{LONGEST_CERTIFICATE, LONGEST_JOB}
+use Rattle.convoy_engine.specs.Checks.{CheckSays}
+use Rattle.convoy_engine.specs.First.{FirstSays}
+use Rattle.convoy_engine.specs.Replies.{Rule}
+use Rattle.convoy_engine.specs.Searches.{AnalyseSays, LatencySays}
+use Rattle.convoy_engine.specs.Simulate.{SimulateSays}
+use Rattle.convoy_engine.specs.Timelines.{TimelineSays}
 
-abbrev pub text_for : Command → List ℕ → Result (List ℕ) Fault
-text_for First text = first_text text
-text_for Simulate text = simulate_text text
-text_for Timeline text = timeline_of_text text
+-- the rule of a command
+abbrev pub says_for : Command → Rule
+says_for First = FirstSays
+says_for Simulate = SimulateSays
+says_for Timeline = TimelineSays
+says_for Check = CheckSays
+says_for (Analyse options) = AnalyseSays options.limit
+says_for (Latency options) = LatencySays options.limit
+
+-- how many bytes its text has at most
+abbrev pub longest_for : Command → ℕ
+longest_for First = LONGEST_JOB
+longest_for Simulate = LONGEST_JOB
+longest_for Timeline = LONGEST_JOB
+longest_for Check = LONGEST_CERTIFICATE
+longest_for (Analyse options) = LONGEST_JOB
+longest_for (Latency options) = LONGEST_JOB

@@ -9,6 +9,7 @@ use Rattle.convoy_scenario.specs.Reading.{scenario_of_text}
 use Rattle.convoy_engine.specs.declared.fault.Fault.{Fault}
 use Rattle.convoy_engine.specs.Faults.{told_of}
 use Rattle.convoy_engine.specs.Lines.{attained_line, schedule_line}
+use Rattle.convoy_engine.specs.Replies.{Answers, Rule, fine}
 
 -- the schedule in which each packet takes its least delay
 abbrev pub least_delays : Plan → List ℕ
@@ -22,3 +23,7 @@ attained_text plan delays = attained_line (latency_of plan delays) ++ schedule_l
 unfoldable pub first_text : List ℕ → Result (List ℕ) Fault
 first_text text =
     result_map_both (λ plan. attained_text plan (least_delays plan)) told_of (scenario_of_text text)
+
+-- what `first` may answer: just that
+abbrev pub FirstSays : Rule
+FirstSays = Answers (λ text. fine (first_text text))

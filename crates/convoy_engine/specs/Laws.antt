@@ -4,6 +4,7 @@ use Rattle.convoy_engine.specs.declared.done.Done.{Done}
 use Rattle.convoy_engine.specs.declared.fault.Fault.{Fault}
 use Rattle.convoy_engine.specs.declared.fault.Fault.TheVariants.{Read, Write}
 use Rattle.convoy_engine.specs.Devices.{Answer, failures}
+use Rattle.convoy_engine.specs.Replies.{Rule}
 use Rattle.convoy_engine.specs.Runs.{RunsTo}
 
 -- how often a result says that the source failed
@@ -18,9 +19,9 @@ told_writes (Err Write) = 1
 told_writes (Err other) = 0
 told_writes (Ok done) = 0
 
--- In runs of a command that answers so, each failure of a device is told, and no failure is told that was none.
-abbrev pub FailuresAreTold : (List ℕ → Result (List ℕ) Fault) → Type 0
-FailuresAreTold answer =
+-- In runs of a command with that limit and that rule, each failure of a device is told, and no failure is told that was none.
+abbrev pub FailuresAreTold : ℕ → Rule → Type 0
+FailuresAreTold longest says =
     (turns : ℕ) (reads writes : List Answer) (result : Result Done Fault) →
-    RunsTo answer turns reads writes result →
+    RunsTo longest says turns reads writes result →
     (failures reads ≡ told_reads result) × (failures writes ≡ told_writes result)

@@ -6,38 +6,34 @@ use Rattle.convoy_engine.specs.declared.fault.Fault.{Fault}
 use Rattle.convoy_engine.specs.declared.fault.Fault.TheVariants.{Memory, Write}
 use Rattle.convoy_engine.specs.Devices.{Answer}
 use Rattle.convoy_engine.specs.Reads.{ReadsText, StopsReading}
+use Rattle.convoy_engine.specs.Replies.{Reply, Rule}
 use Rattle.convoy_engine.specs.Writes.{WritesAll, FailsWithin}
 
--- the reads gave a text whole, and this is what is to be written for it
-pub record Answers (answer : List ℕ → Result (List ℕ) Fault) (reads : List Answer) (out : List ℕ) : Type 0 where
+-- the reads gave a text whole, of at most so many bytes, and the rule allows this reply to it
+pub record Replied (longest : ℕ) (says : Rule) (reads : List Answer) (reply : Reply) : Type 0 where
   pub text : List ℕ
-  pub read : ReadsText reads text
-  pub answered : answer text ≡ Ok out
+  pub read : ReadsText longest reads text
+  pub allowed : says text reply
 
--- the reads gave a text whole, and this is its fault
-pub record Refuses (answer : List ℕ → Result (List ℕ) Fault) (reads : List Answer) (fault : Fault) : Type 0 where
-  pub text : List ℕ
-  pub read : ReadsText reads text
-  pub refused : answer text ≡ Err fault
-
--- What a run gives, by what its reads and its writes answered, where at most so many reads are made.
-abbrev pub RunsTo : (List ℕ → Result (List ℕ) Fault) → ℕ → List Answer → List Answer → Result Done Fault → Type 0
+-- What a run gives, by what its reads and its writes answered, where the input has at most so many
+-- bytes and at most so many reads are made.
+abbrev pub RunsTo : ℕ → Rule → ℕ → List Answer → List Answer → Result Done Fault → Type 0
 -- all that is to be written went out
-RunsTo answer turns reads writes (Ok done) =
-    (out : List ℕ) × Answers answer reads out × WritesAll out writes
+RunsTo longest says turns reads writes (Ok done) =
+    (out : List ℕ) × Replied longest says reads (Ok (done, out)) × WritesAll out writes
 -- a front of it went out, and then the sink failed
-RunsTo answer turns reads writes (Err Write) =
-    (out : List ℕ) × Answers answer reads out × FailsWithin out writes
+RunsTo longest says turns reads writes (Err Write) =
+    (done : Done) × (out : List ℕ) × Replied longest says reads (Ok (done, out)) × FailsWithin out writes
 -- memory was refused, in reading or after the text was read, and nothing was written
-RunsTo answer turns reads writes (Err Memory) =
-    (StopsReading turns reads Memory ⊎ ((text : List ℕ) × ReadsText reads text)) × (writes ≡ [])
+RunsTo longest says turns reads writes (Err Memory) =
+    (StopsReading longest turns reads Memory ⊎ ((text : List ℕ) × ReadsText longest reads text)) × (writes ≡ [])
 -- reading stopped, or the text has a fault, and nothing was written
-RunsTo answer turns reads writes (Err fault) =
-    (StopsReading turns reads fault ⊎ Refuses answer reads fault) × (writes ≡ [])
+RunsTo longest says turns reads writes (Err fault) =
+    (StopsReading longest turns reads fault ⊎ Replied longest says reads (Err fault)) × (writes ≡ [])
 
 -- Over a source and a sink that may answer so, from their old states to their new ones, there is
 -- a run that gives this result.
-pub record IsRun {S K : Type 0} (answer : List ℕ → Result (List ℕ) Fault) (turns : ℕ)
+pub record IsRun {S K : Type 0} (longest : ℕ) (says : Rule) (turns : ℕ)
     (may_read : S → Answer → S → Type 0) (may_write : K → Answer → K → Type 0)
     (source new_source : S) (sink new_sink : K) (result : Result Done Fault) : Type 0 where
   pub reads : List Answer
@@ -45,4 +41,4 @@ pub record IsRun {S K : Type 0} (answer : List ℕ → Result (List ℕ) Fault) 
   pub read : FoldsTo may_read source reads new_source
   pub few : length reads ≤ turns
   pub wrote : FoldsTo may_write sink writes new_sink
-  pub outcome : RunsTo answer turns reads writes result
+  pub outcome : RunsTo longest says turns reads writes result

@@ -5,6 +5,7 @@ use Rattle.convoy_sim.specs.Delivery.{latency_of}
 use Rattle.convoy_engine.specs.declared.fault.Fault.{Fault}
 use Rattle.convoy_engine.specs.Cases.{Case, case_of_text}
 use Rattle.convoy_engine.specs.Lines.{latency_line, schedule_line}
+use Rattle.convoy_engine.specs.Replies.{Answers, Rule, fine}
 
 -- the latency of the case's run, and its schedule
 abbrev pub simulated_text : Case → List ℕ
@@ -13,3 +14,7 @@ simulated_text case = latency_line (latency_of case.scenario case.delays) ++ sch
 -- What is written for a text: that of its case, or else the first fault.
 unfoldable pub simulate_text : List ℕ → Result (List ℕ) Fault
 simulate_text text = result_map_both simulated_text (λ fault. fault) (case_of_text text)
+
+-- what `simulate` may answer: just that
+abbrev pub SimulateSays : Rule
+SimulateSays = Answers (λ text. fine (simulate_text text))

@@ -1,25 +1,33 @@
+ghost use Rattle.std.specs.Prelude.{◌≡◌};
 ghost use Rattle.std.specs.Result.{result_map_both};
-ghost use Rattle.convoy_engine.specs.declared.fault.Fault.TheVariants.{Memory};
-ghost use Rattle.convoy_engine.specs.Memory.{IsUnlessMemory};
-ghost use Rattle.convoy_engine.specs.Commands.{text_for};
+ghost use Rattle.convoy_engine.specs.declared.done.Done.TheVariants.{Fine};
+ghost use Rattle.convoy_engine.specs.Commands.{longest_for, says_for};
+ghost use Rattle.convoy_engine.specs.Replies.{SaysUnlessMemory, reply_of};
 ghost use Rattle.convoy_engine.specs.Runs.{IsRun};
 
+use super::analyse::analyse_answer;
+use super::checking::check_answer;
 use super::device::{Sink, Source};
 use super::done::Done;
 use super::fault::Fault;
 use super::first::first_answer;
-use super::reading::read_to_end;
+use super::latency::latency_answer;
+use super::options::Options;
+use super::reading::{LONGEST_CERTIFICATE, LONGEST_JOB, read_to_end};
 use super::simulate::simulate_answer;
 use super::timeline::timeline_answer;
 use super::writing::write_all;
 use std::alloc::Global;
 
-/// What is to be written for a text.
+/// What is to be answered for a text.
 #[derive(Clone, Copy)]
 pub(crate) enum Command {
     First,
     Simulate,
     Timeline,
+    Check,
+    Analyse(Options),
+    Latency(Options),
 }
 
 /// Reads a text to the end of the source, in at most `turns` reads, and writes what the command
@@ -31,24 +39,48 @@ pub(crate) fn run_command<S: Source, K: Sink>(
     sink: &mut K,
     turns: u64,
 ) -> Result<Done, Fault>
-    ensures { IsRun (text_for command) turns S.reads K.writes source.old source.new sink.old sink.new result }
+    ensures { IsRun (longest_for command) (says_for command) turns
+        S.reads K.writes source.old source.new sink.old sink.new result }
 {
-    let text = read_to_end(alloc, source, turns)?;
-    let answer = answer_of(alloc, command, &text)?;
+    let text = read_to_end(alloc, source, longest_of(&command), turns)?;
+    let (done, answer) = answer_of(alloc, &command, &text)?;
     if write_all(sink, &answer).is_err() {
         return Err(Fault::Write);
     }
-    Ok(Done::Fine)
+    Ok(done)
 }
 
-/// What is written for a text.
-fn answer_of(alloc: Global, command: Command, text: &[u8]) -> Result<Vec<u8>, Fault>
-    ensures { IsUnlessMemory Memory (text_for command text.now)
-        (result_map_both (λ answer. answer.items) (λ fault. fault) result) }
+/// How many bytes the command's text has at most.
+fn longest_of(command: &Command) -> usize
+    ensures { result ≡ longest_for command.now }
 {
     match command {
-        Command::First => first_answer(alloc, text),
-        Command::Simulate => simulate_answer(alloc, text),
-        Command::Timeline => timeline_answer(alloc, text),
+        Command::First
+        | Command::Simulate
+        | Command::Timeline
+        | Command::Analyse(_)
+        | Command::Latency(_) => LONGEST_JOB,
+        Command::Check => LONGEST_CERTIFICATE,
     }
+}
+
+/// How the command ends for a text, and what is written for it.
+fn answer_of(alloc: Global, command: &Command, text: &[u8]) -> Result<(Done, Vec<u8>), Fault>
+    ensures { SaysUnlessMemory (says_for command.now) text.now (reply_of result) }
+{
+    match command {
+        Command::First => fine(first_answer(alloc, text)),
+        Command::Simulate => fine(simulate_answer(alloc, text)),
+        Command::Timeline => fine(timeline_answer(alloc, text)),
+        Command::Check => check_answer(alloc, text),
+        Command::Analyse(options) => analyse_answer(alloc, text, options.limit()),
+        Command::Latency(options) => latency_answer(alloc, text, options.limit()),
+    }
+}
+
+/// The answer of a command that ends well whenever it has one.
+fn fine(answer: Result<Vec<u8>, Fault>) -> Result<(Done, Vec<u8>), Fault>
+    ensures { result ≡ result_map_both (λ out. (Fine, out)) (λ fault. fault) answer }
+{
+    Ok((Done::Fine, answer?))
 }

@@ -104,7 +104,7 @@ impl From<ListFault> for Fault {
 }
 
 /// What ends a fault's text, after its phrase.
-enum Ending {
+pub(crate) enum Ending {
     Word(&'static str),
     Number(usize),
 }
@@ -133,7 +133,7 @@ fn line_of(alloc: Global, fault: &Fault) -> Result<String, AllocError>
 }
 
 /// A fault's number, and its text: a phrase and what ends it.
-fn row(fault: &Fault) -> (u8, &'static str, Ending)
+pub(crate) fn row(fault: &Fault) -> (u8, &'static str, Ending)
     ensures number { result.0 ≡ (row_of fault.now).0 }
     ensures text { result.1.now ++ ending_text result.2 ≡ (row_of fault.now).1 }
 {

@@ -1,8 +1,9 @@
 ghost use Rattle.std.specs.Prelude.{◌≡◌, IfOk};
 ghost use Rattle.std.specs.Result.{result_map_both};
 ghost use Rattle.convoy_engine.specs.declared.fault.Fault.TheVariants.{Memory};
+ghost use Rattle.convoy_engine.specs.declared.reading.TheConstants.{LONGEST_JOB};
 ghost use Rattle.convoy_engine.specs.Memory.{IsUnlessMemory};
-ghost use Rattle.convoy_engine.specs.First.{attained_text, first_text, least_delays};
+ghost use Rattle.convoy_engine.specs.First.{FirstSays, attained_text, first_text, least_delays};
 ghost use Rattle.convoy_engine.specs.Runs.{IsRun};
 
 use super::command::{Command, run_command};
@@ -30,7 +31,7 @@ pub fn run_first<S: Source, K: Sink>(
     sink: &mut K,
     turns: u64,
 ) -> Result<Done, Fault>
-    ensures { IsRun first_text turns S.reads K.writes source.old source.new sink.old sink.new result }
+    ensures { IsRun LONGEST_JOB FirstSays turns S.reads K.writes source.old source.new sink.old sink.new result }
 {
     run_command(alloc, Command::First, source, sink, turns)
 }

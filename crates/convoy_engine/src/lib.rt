@@ -1,27 +1,36 @@
 //! The engines: what each command writes for what it reads, over devices that may fail.
 #![tactic(auto)]
 
+pub use analyse::run_analyse;
+pub use checking::run_check;
 pub use device::{DeviceFailed, Sink, Source};
 pub use done::Done;
 pub use fault::{Fault, fault_line};
 pub use first::run_first;
+pub use latency::run_latency;
 pub use memory::{SliceSource, VecSink};
-pub use reading::LONGEST_JOB;
+pub use options::{DEFAULT_LIMIT, MOST_TICKETS, MOST_WORKERS, Options};
+pub use reading::{LONGEST_CERTIFICATE, LONGEST_JOB};
 pub use simulate::run_simulate;
 pub use stream::{StreamSink, StreamSource};
 pub use timeline::run_timeline;
 pub use writing::write_all;
 
+mod analyse;
 mod case;
+mod checking;
 mod command;
 mod device;
 mod done;
 mod fault;
 mod first;
+mod latency;
 pub mod laws;
 mod lines;
 mod memory;
+mod options;
 mod reading;
+mod refusal;
 mod simulate;
 mod stream;
 #[cfg(test)]

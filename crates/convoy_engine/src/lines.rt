@@ -1,6 +1,8 @@
 ghost use Rattle.std.specs.Prelude.{◌≡◌, ◌++◌, OnOk, decimal};
 ghost use Rattle.std.specs.List.{flat_map};
+ghost use Rattle.convoy_engine.specs.Checks.{accepted_line};
 ghost use Rattle.convoy_engine.specs.Lines.{attained_line, delay_word, latency_line, schedule_line};
+ghost use Rattle.convoy_engine.specs.Searches.{greatest_line, open_line};
 
 use convoy_packets::Delays;
 use itoa::Buffer;
@@ -24,6 +26,41 @@ pub(crate) fn append_latency(latency: u32, out: &mut Vec<u8>) -> Result<(), Allo
 {
     out.extend_from_slice(b"latency ")?;
     append_number(latency, out)?;
+    out.push(b'\n')?;
+    Ok(())
+}
+
+/// Appends the yes to a certificate of that latency.
+#[tactic(auto, using(std::proofs::lemmas::List::append_assoc), unfolding(crate::specs::Checks::accepted_line))]
+pub(crate) fn append_accepted(latency: u32, out: &mut Vec<u8>) -> Result<(), AllocError>
+    ensures { OnOk result (out.new.items ≡ out.old.items ++ accepted_line latency) }
+{
+    out.extend_from_slice(b"accepted ")?;
+    append_number(latency, out)?;
+    out.push(b'\n')?;
+    Ok(())
+}
+
+/// Appends the line of the greatest latency.
+#[tactic(auto, using(std::proofs::lemmas::List::append_assoc), unfolding(crate::specs::Searches::greatest_line))]
+pub(crate) fn append_greatest(latency: u32, out: &mut Vec<u8>) -> Result<(), AllocError>
+    ensures { OnOk result (out.new.items ≡ out.old.items ++ greatest_line latency) }
+{
+    out.extend_from_slice(b"greatest ")?;
+    append_number(latency, out)?;
+    out.push(b'\n')?;
+    Ok(())
+}
+
+/// Appends the line of a search that did not end: the best latency and the upper bound.
+#[tactic(auto, using(std::proofs::lemmas::List::append_assoc), unfolding(crate::specs::Searches::open_line))]
+pub(crate) fn append_open(best: u32, upper: u32, out: &mut Vec<u8>) -> Result<(), AllocError>
+    ensures { OnOk result (out.new.items ≡ out.old.items ++ open_line best upper) }
+{
+    out.extend_from_slice(b"open ")?;
+    append_number(best, out)?;
+    out.push(b' ')?;
+    append_number(upper, out)?;
     out.push(b'\n')?;
     Ok(())
 }

@@ -9,18 +9,22 @@ use std::alloc::Global;
 /// How many bytes the text of a job has at most (docs/FORMATS.md, "Scenario text").
 pub const LONGEST_JOB: usize = 65_536;
 
-/// How many bytes are read at most in one call.
-const BUFFER_LENGTH: usize = 4_096;
+/// How many bytes the text of a certificate has at most (docs/FORMATS.md, "Certificate text").
+pub const LONGEST_CERTIFICATE: usize = 67_108_864;
 
-/// Reads a source to its end, in at most `turns` reads. The faults are `Read`, `JobTooLong`,
-/// `ReadTurns` and `Memory`.
+/// How many bytes are read at most in one call.
+const BUFFER_LENGTH: usize = 65_536;
+
+/// Reads a source to its end, in at most `turns` reads. The faults are `Read`; `JobTooLong` where it
+/// has more than `longest` bytes; `ReadTurns`; and `Memory`.
 pub(crate) fn read_to_end<S: Source>(
     alloc: Global,
     source: &mut S,
+    longest: usize,
     turns: u64,
 ) -> Result<Vec<u8>, Fault>
     ensures { HasRun S.reads source.old source.new (λ answers. (length answers ≤ turns)
-        × MatchResult result (λ text. ReadsText answers text.items) (StopsReading turns answers)) }
+        × MatchResult result (λ text. ReadsText longest answers text.items) (StopsReading longest turns answers)) }
 {
     let mut text = Vec::new(alloc);
     let mut buffer = [0; BUFFER_LENGTH];
@@ -31,7 +35,7 @@ pub(crate) fn read_to_end<S: Source>(
         if piece.is_empty() {
             return Ok(text);
         }
-        if piece.len() > LONGEST_JOB - text.len() {
+        if piece.len() > longest - text.len() {
             return Err(Fault::JobTooLong);
         }
         text.extend_from_slice(piece)?;

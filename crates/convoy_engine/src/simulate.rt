@@ -3,9 +3,10 @@ ghost use Rattle.std.specs.Result.{result_map_both};
 ghost use Rattle.convoy_packets.specs.Assignment.{IsAssignment};
 ghost use Rattle.convoy_packets.specs.Table.{table_of};
 ghost use Rattle.convoy_engine.specs.declared.fault.Fault.TheVariants.{Memory};
+ghost use Rattle.convoy_engine.specs.declared.reading.TheConstants.{LONGEST_JOB};
 ghost use Rattle.convoy_engine.specs.Memory.{IsUnlessMemory};
 ghost use Rattle.convoy_engine.specs.Runs.{IsRun};
-ghost use Rattle.convoy_engine.specs.Simulate.{simulate_text, simulated_text};
+ghost use Rattle.convoy_engine.specs.Simulate.{SimulateSays, simulate_text, simulated_text};
 
 use super::case::{Case, read_case};
 use super::command::{Command, run_command};
@@ -29,7 +30,7 @@ pub fn run_simulate<S: Source, K: Sink>(
     sink: &mut K,
     turns: u64,
 ) -> Result<Done, Fault>
-    ensures { IsRun simulate_text turns S.reads K.writes source.old source.new sink.old sink.new result }
+    ensures { IsRun LONGEST_JOB SimulateSays turns S.reads K.writes source.old source.new sink.old sink.new result }
 {
     run_command(alloc, Command::Simulate, source, sink, turns)
 }

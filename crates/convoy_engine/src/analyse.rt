@@ -1,0 +1,89 @@
+ghost use Rattle.std.specs.Prelude.{◌≡◌, ◌≤◌, ◌++◌, IfOk};
+ghost use Rattle.convoy_certificate.specs.Text.{certificate_text};
+ghost use Rattle.convoy_engine.specs.declared.reading.TheConstants.{LONGEST_JOB};
+ghost use Rattle.convoy_engine.specs.declared.options.TheConstants.{MOST_TICKETS};
+ghost use Rattle.convoy_engine.specs.Lines.{schedule_line};
+ghost use Rattle.convoy_engine.specs.Replies.{SaysUnlessMemory, reply_of};
+ghost use Rattle.convoy_engine.specs.Runs.{IsRun};
+ghost use Rattle.convoy_engine.specs.Searches.{AnalyseSays, open_line};
+
+use super::command::{Command, run_command};
+use super::device::{Sink, Source};
+use super::done::Done;
+use super::fault::Fault;
+use super::lines::{append_open, append_schedule};
+use super::options::Options;
+use convoy_branch::{Outcome, search_alone};
+use convoy_certificate::laws::texts_are_read;
+use convoy_certificate::{Certificate, write};
+use convoy_checker::laws::{checked_is_valid, valid_is_greatest};
+use convoy_packets::PacketTable;
+use convoy_scenario::read_toml;
+use convoy_sim::Record;
+use std::alloc::{AllocError, Global};
+
+/// The command `analyse`: reads a scenario to the end of the source, and writes the certificate of its
+/// greatest latency (docs/FORMATS.md, "What `analyse` writes").
+///
+/// At `Done::Fine` what was written is the text of a certificate of the scenario that was read. Its
+/// schedule has the stated latency, and no assignment of delays to the packets has a greater one. The
+/// command `check` accepts the text. At `Done::Open` the search spent as many tickets as the options
+/// allow and boxes are left: what was written is the line `open LEAST MOST`, where the greatest
+/// latency is at least LEAST ticks and at most MOST, and then the line of a schedule that has the
+/// latency LEAST.
+///
+/// At most `options.turns()` reads are made. Nothing is written before the answer is known. The
+/// faults are those of [`run_first`](super::run_first). The search has one worker.
+pub fn run_analyse<S: Source, K: Sink>(
+    alloc: Global,
+    source: &mut S,
+    sink: &mut K,
+    options: &Options,
+) -> Result<Done, Fault>
+    requires alone { options.now.workers ≡ 1 }
+    ensures { IsRun LONGEST_JOB (AnalyseSays options.now.limit) options.now.turns
+        S.reads K.writes source.old source.new sink.old sink.new result }
+{
+    let turns = options.turns();
+    run_command(alloc, Command::Analyse(*options), source, sink, turns)
+}
+
+/// What is written for a text, where at most `limit` tickets are spent, and how the command ends.
+pub(crate) fn analyse_answer(
+    alloc: Global,
+    text: &[u8],
+    limit: u64,
+) -> Result<(Done, Vec<u8>), Fault>
+    requires { limit ≤ MOST_TICKETS }
+    ensures { SaysUnlessMemory (AnalyseSays limit) text.now (reply_of result) }
+{
+    texts_are_read();
+    checked_is_valid();
+    valid_is_greatest();
+    let scenario = read_toml(alloc, text)?.scenario;
+    let table = PacketTable::of(alloc, &scenario)?;
+    match search_alone(alloc, &scenario, &table, limit)? {
+        Outcome::Proved { certificate, .. } => Ok((Done::Fine, proof_text(alloc, &certificate)?)),
+        Outcome::Open { best, upper, .. } => Ok((Done::Open, open_text(alloc, &best, upper)?)),
+    }
+}
+
+/// The certificate.
+fn proof_text(alloc: Global, certificate: &Certificate) -> Result<Vec<u8>, AllocError>
+    ensures { IfOk result (λ text. text.items ≡ certificate_text certificate.now) }
+{
+    let mut text = Vec::new(alloc);
+    write(alloc, certificate, &mut text)?;
+    Ok(text)
+}
+
+/// The best latency and the upper bound, and a schedule of that latency.
+fn open_text(alloc: Global, best: &Record, upper: u32) -> Result<Vec<u8>, AllocError>
+    ensures { IfOk result (λ text. text.items
+        ≡ open_line best.now.latency upper ++ schedule_line best.now.delays) }
+{
+    let mut text = Vec::new(alloc);
+    append_open(best.latency(), upper, &mut text)?;
+    append_schedule(best.delays(), &mut text)?;
+    Ok(text)
+}
