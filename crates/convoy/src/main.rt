@@ -2,15 +2,17 @@
 //! by the functions of `convoy_engine`.
 #![tactic(auto)]
 
+ghost use Rattle.std.specs.Prelude.{◌≡◌};
 ghost use Rattle.convoy.specs.declared.TheConstants.{MOST_READS};
-ghost use Rattle.convoy.specs.Verdicts.{Obeys, Tells, task_text};
+ghost use Rattle.convoy.specs.Verdicts.{IsLimit, IsTask, IsVerdict, Obeys, Tells};
+ghost use Rattle.convoy.specs.Verdicts.{status_of, task_longest, task_says};
 ghost use Rattle.convoy_engine.specs.Runs.{IsRun};
 
 mod judge;
 
 use convoy_engine::{
-    DeviceFailed, Done, Fault, Sink, Source, StreamSink, StreamSource, fault_line, run_first,
-    run_simulate, run_timeline, write_all,
+    DeviceFailed, Done, Fault, Options, Sink, Source, StreamSink, StreamSource, fault_line,
+    run_analyse, run_check, run_first, run_latency, run_simulate, run_timeline, write_all,
 };
 use judge::{Task, Verdict, judge, judge_bytes};
 use std::alloc::Global;
@@ -27,6 +29,12 @@ const FINE: u8 = 0;
 
 /// The status of a run that ended with a fault.
 const FAULT: u8 = 1;
+
+/// The status of a search that did not end within its limit.
+const OPEN: u8 = 3;
+
+/// The status of a certificate that is refused.
+const NOT_VALID: u8 = 4;
 
 fn main(rt: HostRuntime) -> ExitCode {
     let alloc = rt.alloc();
@@ -45,7 +53,9 @@ fn main(rt: HostRuntime) -> ExitCode {
 }
 
 /// What is to be done, by the command line.
-fn verdict<R: Env + AllocGlobal>(rt: &R) -> Verdict {
+fn verdict<R: Env + AllocGlobal>(rt: &R) -> Verdict
+    ensures { IsVerdict result }
+{
     match words(rt) {
         Ok(words) => judge(rt.alloc(), &words),
         Err(error) if error.kind() == ErrorKind::OutOfMemory => Verdict::Memory,
@@ -67,17 +77,27 @@ fn obey<S: Source, K: Sink>(
     source: &mut S,
     sink: &mut K,
 ) -> Result<u8, Fault>
+    requires { IsVerdict verdict.now }
     ensures { Obeys S.reads K.writes verdict.now source.old source.new sink.old sink.new result }
 {
     match verdict {
-        Verdict::Run(task) => match run_task(alloc, *task, source, sink)? {
-            Done::Fine => Ok(FINE),
-        },
+        Verdict::Run(task) => Ok(status_of(run_task(alloc, *task, source, sink)?)),
         Verdict::Text { text, status } => match write_all(sink, text.as_bytes()) {
             Ok(()) => Ok(*status),
             Err(DeviceFailed) => Err(Fault::Write),
         },
         Verdict::Memory => Err(Fault::Memory),
+    }
+}
+
+/// The exit status of a run, by how it ended.
+fn status_of(done: Done) -> u8
+    ensures { result ≡ status_of done }
+{
+    match done {
+        Done::Fine => FINE,
+        Done::Open => OPEN,
+        Done::Refused => NOT_VALID,
     }
 }
 
@@ -88,12 +108,28 @@ fn run_task<S: Source, K: Sink>(
     source: &mut S,
     sink: &mut K,
 ) -> Result<Done, Fault>
-    ensures { IsRun (task_text task) MOST_READS S.reads K.writes source.old source.new sink.old sink.new result }
+    requires { IsTask task }
+    ensures { IsRun (task_longest task) (task_says task) MOST_READS
+        S.reads K.writes source.old source.new sink.old sink.new result }
 {
     match task {
         Task::First => run_first(alloc, source, sink, MOST_READS),
         Task::Simulate => run_simulate(alloc, source, sink, MOST_READS),
         Task::Timeline => run_timeline(alloc, source, sink, MOST_READS),
+        Task::Check => run_check(alloc, source, sink, MOST_READS),
+        Task::Analyse(limit) => run_analyse(alloc, source, sink, &options(limit)),
+        Task::Latency(limit) => run_latency(alloc, source, sink, &options(limit)),
+    }
+}
+
+/// The options of a search with one worker and that limit.
+fn options(limit: u64) -> Options
+    requires { IsLimit limit }
+    ensures { result ≡ record { workers = 1; limit = limit; turns = MOST_READS } }
+{
+    match Options::new(1, limit, MOST_READS) {
+        Some(options) => options,
+        None => unreachable!(),
     }
 }
 

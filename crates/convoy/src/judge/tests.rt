@@ -25,6 +25,14 @@ fn tasks(rt: HostRuntime) {
         (["first"].as_slice(), Task::First),
         (["simulate"].as_slice(), Task::Simulate),
         (["timeline"].as_slice(), Task::Timeline),
+        (["check"].as_slice(), Task::Check),
+        (["analyse"].as_slice(), Task::Analyse(1_000_000)),
+        (["latency"].as_slice(), Task::Latency(1_000_000)),
+        (["analyse", "--limit", "1"].as_slice(), Task::Analyse(1)),
+        (
+            ["latency", "--limit=4000000"].as_slice(),
+            Task::Latency(4_000_000),
+        ),
     ] {
         assert_eq!(rt; task_run(rt.alloc(), words), Some(task), "at {words:?}");
     }
@@ -37,6 +45,13 @@ fn command_lines(rt: HostRuntime) {
         (["-h"].as_slice(), 0),
         (["first", "--help"].as_slice(), 0),
         (["simulate", "--help"].as_slice(), 0),
+        (["check", "--help"].as_slice(), 0),
+        (["analyse", "--help"].as_slice(), 0),
+        (["analyse", "--limit", "0"].as_slice(), 2),
+        (["analyse", "--limit", "4000001"].as_slice(), 2),
+        (["latency", "--limit", "all"].as_slice(), 2),
+        (["latency", "--limit"].as_slice(), 2),
+        (["check", "--limit", "3"].as_slice(), 2),
         (["second"].as_slice(), 2),
         (["--limit", "3"].as_slice(), 2),
         (["first", "first"].as_slice(), 2),
@@ -56,10 +71,14 @@ fn help(rt: HostRuntime) {
             "Usage: convoy",
             "  first  ",
             "  simulate  ",
+            "  check  ",
+            "  analyse  ",
+            "  latency  ",
             "standard input",
             "TOML",
-            "convoy first < scenario.toml",
+            "convoy analyse < scenario.toml | convoy check",
             "Exit status:",
+            "  4  a certificate that is refused",
         ] {
             assert!(rt; text.as_str().contains(part), "{part} in {text}");
         }
