@@ -2,7 +2,8 @@
 //! they answer goes to standard output, and how long each took to standard error.
 //!
 //! `convoy_bench [TURNS]` takes a scenario from standard input and makes each call that many times.
-//! `convoy_bench certificate` takes the text of a certificate, reads it and writes it again.
+//! `convoy_bench search [LIMIT]` takes a scenario and searches it, with at most that many tickets.
+//! `convoy_bench certificate` takes the text of a certificate, reads it, checks it and writes it again.
 #![tactic(auto)]
 
 mod timing;
@@ -10,20 +11,25 @@ mod timing;
 use anyhow::{Context, Result, bail};
 use convoy_intervals::DelayBox;
 use convoy_packets::{Delays, PacketTable};
-use convoy_scenario::read_toml;
+use convoy_scenario::{Scenario, read_toml};
 use std::alloc::Global;
 use std::env;
 use std::io::Read;
-use timing::{time_bound, time_certificate, time_simulate};
+use timing::{time_bound, time_certificate, time_search, time_simulate};
 
 /// How many turns are made where no number is given.
 const ONE_TURN: u32 = 1;
+
+/// How many tickets a search has where no number is given.
+const MOST_TICKETS: u32 = 4_000_000;
 
 /// What is timed.
 #[derive(Clone, Copy)]
 enum Task {
     /// The calls on a scenario, so many times each.
     Scenario(u32),
+    /// A search with at most so many tickets.
+    Search(u32),
     /// The calls on a certificate.
     Certificate,
 }
@@ -34,6 +40,7 @@ fn main(rt: HostRuntime) -> Result<()> {
     rt.stdin().read_to_end(&mut text)?;
     match task {
         Task::Scenario(turns) => time_scenario(&rt, rt.alloc(), &text, turns),
+        Task::Search(limit) => time_tree(&rt, rt.alloc(), &text, limit),
         Task::Certificate => time_certificate(&rt, rt.alloc(), &text),
     }
 }
@@ -45,21 +52,43 @@ fn asked_for(rt: &HostRuntime) -> Result<Task> {
     let Some(word) = words.next() else {
         return Ok(Task::Scenario(ONE_TURN));
     };
-    if word.as_str() == "certificate" {
-        return Ok(Task::Certificate);
+    match word.as_str() {
+        "certificate" => Ok(Task::Certificate),
+        "search" => match words.next() {
+            Some(limit) => Ok(Task::Search(number_of(&limit)?)),
+            None => Ok(Task::Search(MOST_TICKETS)),
+        },
+        _ => Ok(Task::Scenario(number_of(&word)?)),
     }
-    let turns = word.as_str().parse::<u32>();
-    Ok(Task::Scenario(turns.context("the number of turns is no number")?))
+}
+
+/// The number that a word is.
+fn number_of(word: &String) -> Result<u32> {
+    let number = word.as_str().parse::<u32>();
+    Ok(number.context("a word of the command line is no number")?)
+}
+
+/// The scenario of a text.
+fn read_scenario(alloc: Global, text: &[u8]) -> Result<Scenario> {
+    match read_toml(alloc, text) {
+        Ok(input) => Ok(input.scenario),
+        Err(_) => bail!("standard input has no scenario"),
+    }
 }
 
 /// Times the calls on a scenario.
 fn time_scenario(rt: &HostRuntime, alloc: Global, text: &[u8], turns: u32) -> Result<()> {
-    let Ok(input) = read_toml(alloc, text) else {
-        bail!("standard input has no scenario");
-    };
-    let table = PacketTable::of(alloc, &input.scenario)?;
+    let scenario = read_scenario(alloc, text)?;
+    let table = PacketTable::of(alloc, &scenario)?;
     let root = DelayBox::root(alloc, &table)?;
     let least = Delays::least(alloc, &table)?;
-    time_bound(rt, &input.scenario, &table, &root, turns)?;
-    time_simulate(rt, alloc, &input.scenario, &table, &least, turns)
+    time_bound(rt, &scenario, &table, &root, turns)?;
+    time_simulate(rt, alloc, &scenario, &table, &least, turns)
+}
+
+/// Times a search.
+fn time_tree(rt: &HostRuntime, alloc: Global, text: &[u8], limit: u32) -> Result<()> {
+    let scenario = read_scenario(alloc, text)?;
+    let table = PacketTable::of(alloc, &scenario)?;
+    time_search(rt, alloc, &scenario, &table, limit)
 }
