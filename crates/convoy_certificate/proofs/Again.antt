@@ -38,7 +38,7 @@ latency_word : IsWord (codes "latency")
 latency_word = record { some = omega arith; spaceless = refl; endless = refl }
 
 -- delays that fit the form
-abbrev Small : List ℕ → Type 0
+abbrev pub Small : List ℕ → Type 0
 Small delays = AllByRecursion (λ d. d ≤ greatest_number_of_delay) delays
 
 small_within : (plan : Plan) (packets : List Packet) (delays : List ℕ) → plan.delay ≤ GREATEST_DELAY → AreWithin (map (range_of plan) packets) delays → Small delays
@@ -47,7 +47,7 @@ small_within plan [] (d ∷ ds) low within = absurd within
 small_within plan (p ∷ ps) [] low within = absurd within
 small_within plan (p ∷ ps) (d ∷ ds) low within = (omega (arith, within.0.1), small_within plan ps ds low within.1)
 
-small_assigned : (plan : Plan) (delays : List ℕ) → plan.delay ≤ GREATEST_DELAY → IsAssignment plan delays → Small delays
+pub small_assigned : (plan : Plan) (delays : List ℕ) → plan.delay ≤ GREATEST_DELAY → IsAssignment plan delays → Small delays
 unfolding ranges_of
 small_assigned plan delays low within = small_within plan (packets_of plan) delays low within
 

@@ -5,4 +5,5 @@ pub mod LineLaws
 pub mod Taken
 pub mod NodeLaws
 pub mod Again
+pub mod Lengths
 mod Rows

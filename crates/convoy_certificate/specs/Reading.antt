@@ -8,7 +8,7 @@ use Rattle.convoy_scenario.specs.LineForms.{number_line}
 use Rattle.convoy_scenario.specs.LineReading.{Place, place_before, form_at, scenario_at, is_at_end}
 use Rattle.convoy_scenario.specs.Plan.{Plan}
 use Rattle.convoy_packets.specs.Assignment.{ranges_of}
-use Rattle.convoy_certificate.specs.declared.certificate.TheConstants.{MOST_NODES}
+use Rattle.convoy_certificate.specs.declared.certificate.TheConstants.{LONGEST_TEXT, MOST_NODES}
 use Rattle.convoy_certificate.specs.declared.node.Node.{Node}
 use Rattle.convoy_certificate.specs.declared.text_fault.TextFault.{TextFault}
 use Rattle.convoy_certificate.specs.declared.text_fault.TextFault.TheVariants as faults
@@ -82,6 +82,14 @@ TextsAreRead =
     → IsCertificate certificate
     → length certificate.nodes ≤ MOST_NODES
     → certificate_of (certificate_text certificate) ≡ Ok certificate
+
+-- the text of a certificate that has no more nodes than may be read is within the limit of bytes
+abbrev pub TextsAreShort : Type 0
+TextsAreShort =
+    (certificate : Contents)
+    → IsCertificate certificate
+    → length certificate.nodes ≤ MOST_NODES
+    → length (certificate_text certificate) ≤ LONGEST_TEXT
 
 -- a certificate that is read from a text has this text
 abbrev pub TextsAreKept : Type 0

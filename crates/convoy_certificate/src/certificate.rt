@@ -11,6 +11,9 @@ use std::marker::Model;
 /// How many nodes a certificate that is read has at most.
 pub const MOST_NODES: usize = 4_000_000;
 
+/// How many bytes the text of a certificate has at most, where it has at most `MOST_NODES` nodes.
+pub const LONGEST_TEXT: usize = 67_108_864;
+
 /// What a certificate says: a scenario, the greatest latency of its target, in ticks, a schedule that
 /// has it, and the nodes of a tree that shows that no other schedule has a greater one.
 ///

@@ -1,7 +1,8 @@
 //! What always holds of certificates: functions that do nothing, and whose contracts are the laws.
 
-ghost use Rattle.convoy_certificate.specs.Reading.{TextsDiffer, TextsAreRead, TextsAreKept};
+ghost use Rattle.convoy_certificate.specs.Reading.{TextsDiffer, TextsAreRead, TextsAreShort, TextsAreKept};
 
+use convoy_packets::laws::{delays_are_one_each, packets_are_few};
 use convoy_scenario::laws::{
     decimals_are_words, labelled_lines, lines_of_texts, number_lines, numbers_are_decimals,
     scenario_lines_are_lines, scenarios_are_their_lines, words_make_lines, words_of_lines,
@@ -35,6 +36,14 @@ pub fn texts_are_read()
     lines_of_texts();
     scenario_lines_are_lines();
     scenarios_are_their_lines();
+}
+
+/// The text of a certificate with no more nodes than may be read has at most `LONGEST_TEXT` bytes.
+pub fn texts_are_short()
+    ensures { TextsAreShort }
+{
+    packets_are_few();
+    delays_are_one_each();
 }
 
 /// A certificate that is read from a text has this text, and no more nodes than may be read.

@@ -1,7 +1,7 @@
 //! Certificates, what they say, and the one text of each: a writer and a strict reader.
 #![tactic(auto)]
 
-pub use certificate::{Certificate, MOST_NODES};
+pub use certificate::{Certificate, LONGEST_TEXT, MOST_NODES};
 pub use node::{GREATEST_PACKET, Node};
 pub use reading::read;
 pub use text_fault::TextFault;

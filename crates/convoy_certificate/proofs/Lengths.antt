@@ -1,0 +1,214 @@
+-- How many bytes the lines of a certificate have at most, and its text.
+use Rattle.std.proofs.Common.{◌≡◌, ℕ, zero, suc, ◌+◌, ◌*◌, ◌<◌, ◌≤◌, ◌^◌, nat_le, true, ◌&&◌, not, List, [], ◌∷◌, ◌++◌, length, length-append, map, get_or, All, ap, ◌∙◌, add-one, arith, codes, decimal}
+use Rattle.std.specs.List.{AllByRecursion, flat_map, list_all}
+use Rattle.std.specs.List.Sorted.{IsStrictlyIncreasing}
+use Rattle.std.specs.Str.{bytes_eq}
+use Rattle.std.proofs.lemmas.Bool.{and_parts, leb-true}
+use Rattle.std.proofs.lemmas.Fmt.{length-decimal-le}
+use Rattle.std.proofs.lemmas.List.{length-map}
+use Rattle.std.proofs.lemmas.List.Concat.{flat_map-append}
+use Rattle.std.proofs.lemmas.List.Elements.{recursion_from_All}
+use Rattle.convoy_scenario.specs.declared.limits.TheConstants.{LONGEST_NAME, MOST_GROUPS}
+use Rattle.convoy_scenario.specs.declared.sender.Sender.{Sender}
+use Rattle.convoy_scenario.specs.declared.sender.Sender.TheVariants.{Client, Group}
+use Rattle.convoy_scenario.specs.Lines.{spaced, line_of, ended, text_of, sender_word, delay_line, groups_line, multicast_line, target_line, scenario_lines}
+use Rattle.convoy_scenario.specs.Plan.{Message, Plan, message_at, group_name_at, no_message}
+use Rattle.convoy_scenario.specs.WellFormed.{is_letter, is_name_byte, is_name, client_word, is_group_name, IsMulticast, IsScenario}
+use Rattle.convoy_packets.specs.Laws.{PacketsAreFew, DelaysAreOneEach}
+use Rattle.convoy_certificate.specs.declared.certificate.TheConstants.{LONGEST_TEXT, MOST_NODES}
+use Rattle.convoy_certificate.specs.declared.node.Node.{Node}
+use Rattle.convoy_certificate.specs.declared.node.Node.TheVariants.{Split, Bound, Point}
+use Rattle.convoy_certificate.specs.Contents.{Contents, IsNode, IsCertificate}
+use Rattle.convoy_certificate.specs.Text.{version_line, latency_line, schedule_line, node_line, end_line, certificate_text}
+use Rattle.convoy_certificate.proofs.Again.{Small, small_assigned}
+
+-- ---- words, lines and texts
+
+-- words of at most 16 bytes, as names are, and numbers of 32 bits
+abbrev AreShort : List (List ℕ) → Type 0
+AreShort words = AllByRecursion (λ word. length word ≤ 16) words
+
+-- lines of at most 300 bytes, as those of a scenario are
+abbrev AreShortLines : List (List ℕ) → Type 0
+AreShortLines lines = AllByRecursion (λ line. length line ≤ 300) lines
+
+number_length : (n : ℕ) → n < 2 ^ 32 → length (decimal n) ≤ 16
+number_length n fits = length-decimal-le 16 n (omega arith) (omega (arith, fits)) (omega (arith, fits))
+
+words_length : (words : List (List ℕ)) → AreShort words → length (flat_map spaced words) ≤ length words * 17
+words_length [] short = omega arith
+words_length (word ∷ words) short =
+    let sum = length-append (spaced word) (flat_map spaced words) in
+    let rest = words_length words short.1 in
+    let first = short.0 in
+    omega arith
+
+line_length : (label : List ℕ) (words : List (List ℕ)) → AreShort words → length (line_of label words) ≤ length label + length words * 17
+line_length label words short =
+    let sum = length-append label (flat_map spaced words) in
+    let rest = words_length words short in
+    omega arith
+
+ended_length : (line : List ℕ) → length (ended line) ≡ length line + 1
+ended_length line = length-append line (10 ∷ [])
+
+text_length : (lines : List (List ℕ)) → AreShortLines lines → length (text_of lines) ≤ length lines * 301
+text_length [] short = omega arith
+text_length (line ∷ lines) short =
+    let sum = length-append (ended line) (text_of lines) in
+    let here = ended_length line in
+    let rest = text_length lines short.1 in
+    let first = short.0 in
+    omega arith
+
+texts_append : (xs ys : List (List ℕ)) → length (text_of (xs ++ ys)) ≡ length (text_of xs) + length (text_of ys)
+texts_append xs ys = ap length (flat_map-append ended xs ys) ∙ length-append (text_of xs) (text_of ys)
+
+-- ---- the nodes
+
+node_length : (node : Node) → IsNode node → length (node_line node) ≤ 9
+node_length (Split packet at) is =
+    let packet_within = is.0 in
+    let at_within = is.2 in
+    let four : length (decimal packet) ≤ 4 = length-decimal-le 4 packet (omega arith) (omega arith) (omega arith) in
+    let two : length (decimal at) ≤ 2 = length-decimal-le 2 at (omega arith) (omega arith) (omega arith) in
+    let both = length-append (spaced (decimal packet)) (spaced (decimal at) ++ []) in
+    let last = length-append (spaced (decimal at)) [] in
+    omega arith
+node_length Bound is = omega arith
+node_length Point is = omega arith
+
+nodes_length : (nodes : List Node) → AllByRecursion IsNode nodes → length (text_of (map node_line nodes)) ≤ length nodes * 10
+nodes_length [] are = omega arith
+nodes_length (node ∷ nodes) are =
+    let sum = length-append (ended (node_line node)) (text_of (map node_line nodes)) in
+    let here = ended_length (node_line node) in
+    let rest = nodes_length nodes are.1 in
+    let first = node_length node are.0 in
+    omega arith
+
+-- ---- the scenario
+
+name_length : (name : List ℕ) → is_name name ≡ true → length name ≤ 16
+name_length [] good = omega arith
+name_length (c ∷ cs) good =
+    let long = and_parts (is_letter c && list_all is_name_byte cs) (nat_le (length (c ∷ cs)) LONGEST_NAME) good in
+    leb-true (length (c ∷ cs)) LONGEST_NAME long.1
+
+groups_short : (names : List (List ℕ)) → AllByRecursion (λ name. is_group_name name ≡ true) names → AreShort names
+groups_short [] good = tt
+groups_short (name ∷ names) good =
+    let parts = and_parts (is_name name) (not (bytes_eq name client_word)) good.0 in
+    (name_length name parts.0, groups_short names good.1)
+
+word_at : (words : List (List ℕ)) (i : ℕ) → AreShort words → length (get_or words i []) ≤ 16
+word_at [] i short = omega arith
+word_at (word ∷ words) zero short = short.0
+word_at (word ∷ words) (suc i) short = word_at words i short.1
+
+names_at : (words : List (List ℕ)) (numbers : List ℕ) → AreShort words → AreShort (map (λ i. get_or words i []) numbers)
+names_at words [] short = tt
+names_at words (i ∷ numbers) short = (word_at words i short, names_at words numbers short)
+
+message_name_at : (groups : ℕ) (messages : List Message) (i : ℕ) → AllByRecursion (IsMulticast groups) messages → length (get_or messages i no_message).name ≤ 16
+message_name_at groups [] i are = omega arith
+message_name_at groups (message ∷ messages) zero are = name_length message.name are.0.name
+message_name_at groups (message ∷ messages) (suc i) are = message_name_at groups messages i are.1
+
+sender_length : (plan : Plan) (sender : Sender) → AreShort plan.groups → length (sender_word plan sender) ≤ 16
+sender_length plan Client short = omega arith
+sender_length plan (Group g) short = word_at plan.groups g short
+
+rises : (xs : List ℕ) → IsStrictlyIncreasing xs → (k : ℕ) → k < length xs → k ≤ get_or xs k 0
+rises xs rising zero within = omega arith
+rises xs rising (suc k) within =
+    let before = rises xs rising k (omega arith) in
+    let step = rw add-one at (rising k (omega arith)) in
+    omega arith
+
+-- rising numbers below n are no more than n
+rising_length : (xs : List ℕ) (n : ℕ) → IsStrictlyIncreasing xs → All (λ x. x < n) xs → length xs ≤ n
+rising_length [] n rising below = omega arith
+rising_length (x ∷ xs) n rising below =
+    let last = rises (x ∷ xs) rising (length xs) (omega arith) in
+    let under = below (length xs) 0 (omega arith) in
+    omega arith
+
+multicast_length : (plan : Plan) (message : Message) → length plan.groups ≤ MOST_GROUPS → AreShort plan.groups → IsMulticast (length plan.groups) message → length (multicast_line plan message) ≤ 300
+multicast_length plan message few short is =
+    let at_within = is.at in
+    let names : List (List ℕ) = map (group_name_at plan) message.destinations in
+    let number = number_length message.at (omega arith) in
+    let words : List (List ℕ) = message.name ∷ sender_word plan message.sender ∷ decimal message.at ∷ names in
+    let line = line_length (codes "multicast") words (name_length message.name is.name, (sender_length plan message.sender short, (number, names_at plan.groups message.destinations short))) in
+    let count = length-map message.destinations (group_name_at plan) in
+    let known = rising_length message.destinations (length plan.groups) is.ascending is.known in
+    omega arith
+
+multicasts_short : (plan : Plan) (messages : List Message) → length plan.groups ≤ MOST_GROUPS → AreShort plan.groups → AllByRecursion (IsMulticast (length plan.groups)) messages
+    → AreShortLines (map (multicast_line plan) messages)
+multicasts_short plan [] few short are = tt
+multicasts_short plan (message ∷ messages) few short are =
+    (multicast_length plan message few short are.0, multicasts_short plan messages few short are.1)
+
+lines_append : (xs ys : List (List ℕ)) → AreShortLines xs → AreShortLines ys → AreShortLines (xs ++ ys)
+lines_append [] ys a b = b
+lines_append (x ∷ xs) ys a b = (a.0, lines_append xs ys a.1 b)
+
+-- the text of a scenario has at most 19 lines of at most 301 bytes, their ends among them
+scenario_length : (plan : Plan) → IsScenario plan → length (text_of (scenario_lines plan)) ≤ 5_719
+scenario_length plan is =
+    let delay_within = is.delay_high in
+    let groups_within = is.groups_high in
+    let multicasts_within = is.multicasts_high in
+    let short = groups_short plan.groups (recursion_from_All (λ name. is_group_name name ≡ true) plan.groups is.group_names) in
+    let messages = recursion_from_All (IsMulticast (length plan.groups)) plan.multicasts is.messages in
+    let number = number_length plan.delay (omega arith) in
+    let delay = line_length (codes "delay") (decimal plan.delay ∷ []) (number, tt) in
+    let groups = line_length (codes "groups") plan.groups short in
+    let name = message_name_at (length plan.groups) plan.multicasts plan.target_message messages in
+    let target = line_length (codes "target") ((message_at plan plan.target_message).name ∷ group_name_at plan plan.target_group ∷ []) (name, (word_at plan.groups plan.target_group short, tt)) in
+    let multicasts = multicasts_short plan plan.multicasts groups_within short messages in
+    let delay_short : length (delay_line plan) ≤ 300 = omega arith in
+    let groups_short : length (groups_line plan) ≤ 300 = omega arith in
+    let target_short : length (target_line plan) ≤ 300 = omega arith in
+    let lines = lines_append (map (multicast_line plan) plan.multicasts) (target_line plan ∷ []) multicasts (target_short, tt) in
+    let text = text_length (scenario_lines plan) (delay_short, (groups_short, lines)) in
+    let count = length-append (map (multicast_line plan) plan.multicasts) (target_line plan ∷ []) in
+    let many = length-map plan.multicasts (multicast_line plan) in
+    omega arith
+
+-- ---- the certificate
+
+delays_short : (delays : List ℕ) → Small delays → AreShort (map decimal delays)
+delays_short [] small = tt
+delays_short (d ∷ ds) small =
+    let within = small.0 in
+    (number_length d (omega arith), delays_short ds small.1)
+
+schedule_length : PacketsAreFew → DelaysAreOneEach → (c : Contents) → IsCertificate c → length (schedule_line c.delays) ≤ 17_416
+schedule_length few one_each c is =
+    let packets = few c.scenario is.scenario in
+    let each = one_each c.scenario c.delays is.assigned in
+    let line = line_length (codes "schedule") (map decimal c.delays) (delays_short c.delays (small_assigned c.scenario c.delays is.scenario.delay_high is.assigned)) in
+    let count = length-map c.delays decimal in
+    omega arith
+
+-- the text of a certificate is within the limit
+pub certificate_length : PacketsAreFew → DelaysAreOneEach → (c : Contents) → IsCertificate c → length c.nodes ≤ MOST_NODES → length (certificate_text c) ≤ LONGEST_TEXT
+certificate_length few one_each c is nodes_within =
+    let nodes : List (List ℕ) = map node_line c.nodes in
+    let foot : List (List ℕ) = end_line ∷ [] in
+    let tail : List (List ℕ) = latency_line c.latency ∷ schedule_line c.delays ∷ (nodes ++ foot) in
+    let latency = line_length (codes "latency") (decimal c.latency ∷ []) (number_length c.latency is.latency, tt) in
+    let schedule = schedule_length few one_each c is in
+    let scenario = scenario_length c.scenario is.scenario in
+    let all_nodes = nodes_length c.nodes (recursion_from_All IsNode c.nodes is.nodes) in
+    let s0 : length (certificate_text c) ≡ 9 + length (text_of (scenario_lines c.scenario ++ tail)) = length-append (ended (version_line 1)) (text_of (scenario_lines c.scenario ++ tail)) in
+    let s1 : length (text_of (scenario_lines c.scenario ++ tail)) ≡ length (text_of (scenario_lines c.scenario)) + length (text_of tail) = texts_append (scenario_lines c.scenario) tail in
+    let s2 : length (text_of tail) ≡ length (ended (latency_line c.latency)) + length (text_of (schedule_line c.delays ∷ (nodes ++ foot))) = length-append (ended (latency_line c.latency)) (text_of (schedule_line c.delays ∷ (nodes ++ foot))) in
+    let s3 : length (text_of (schedule_line c.delays ∷ (nodes ++ foot))) ≡ length (ended (schedule_line c.delays)) + length (text_of (nodes ++ foot)) = length-append (ended (schedule_line c.delays)) (text_of (nodes ++ foot)) in
+    let s4 : length (text_of (nodes ++ foot)) ≡ length (text_of nodes) + 4 = texts_append nodes foot in
+    let e0 = ended_length (latency_line c.latency) in
+    let e1 = ended_length (schedule_line c.delays) in
+    omega arith
