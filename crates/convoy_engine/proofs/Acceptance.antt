@@ -5,7 +5,7 @@ use Rattle.convoy_scenario.specs.Plan.{Plan}
 use Rattle.convoy_scenario.specs.Reading.{scenario_of_text}
 use Rattle.convoy_scenario.specs.declared.fault.ScenarioFault.TheVariants as scenario
 use Rattle.convoy_certificate.specs.Contents.{Contents, IsCertificate}
-use Rattle.convoy_certificate.specs.Reading.{TextsAreRead}
+use Rattle.convoy_certificate.specs.Reading.{TextsAreRead, TextsAreShort}
 use Rattle.convoy_certificate.specs.Text.{certificate_text}
 use Rattle.convoy_certificate.specs.declared.certificate.TheConstants.{MOST_NODES}
 use Rattle.convoy_checker.specs.Laws.{CheckedIsValid, ValidIsGreatest}
@@ -31,11 +31,12 @@ scenario_given text plan (inl is) = rw (← is) refl
 scenario_given text plan (inr is) = cc
 
 -- the text of a proved outcome's certificate
-pub proof_written : TextsAreRead → CheckedIsValid → ValidIsGreatest → (text out : List ℕ) (plan : Plan) (limit : ℕ)
+pub proof_written : TextsAreRead → TextsAreShort → CheckedIsValid → ValidIsGreatest → (text out : List ℕ) (plan : Plan) (limit : ℕ)
     (certificate : Contents) (tickets : ℕ) (by_worker : List ℕ) → scenario_of_text text ≡ Ok plan →
     IsProved plan limit certificate tickets by_worker → limit ≤ MOST_TICKETS → IsCertificate certificate →
     out ≡ certificate_text certificate → IsProof text out
-proof_written are_read is_valid is_greatest text out plan limit certificate tickets by_worker read proved few lawful written =
+proof_written are_read are_short is_valid is_greatest text out plan limit certificate tickets by_worker read proved few lawful written =
+    let nodes_few : length certificate.nodes ≤ MOST_NODES = omega (arith, proved.nodes, proved.few) in
     record {
       certificate = certificate;
       lawful = lawful;
@@ -43,5 +44,6 @@ proof_written are_read is_valid is_greatest text out plan limit certificate tick
       written = written;
       latency = proved.valid.latency;
       none_greater = (is_greatest certificate lawful proved.valid).upper;
-      accepted = rw written (accepts are_read is_valid certificate lawful (omega (arith, proved.nodes, proved.few)) proved.valid);
+      fits = rw written (are_short certificate lawful nodes_few);
+      accepted = rw written (accepts are_read is_valid certificate lawful nodes_few proved.valid);
     }

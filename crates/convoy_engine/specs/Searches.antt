@@ -1,5 +1,5 @@
 -- What the commands `analyse` and `latency` write.
-use Rattle.std.specs.Prelude.{◌≡◌, ℕ, List, [], ◌∷◌, ◌++◌, codes, decimal, Ok, Err}
+use Rattle.std.specs.Prelude.{◌≡◌, ℕ, ◌≤◌, List, [], ◌∷◌, ◌++◌, length, codes, decimal, Ok, Err}
 use Rattle.convoy_scenario.specs.Plan.{Plan}
 use Rattle.convoy_scenario.specs.Reading.{scenario_of_text}
 use Rattle.convoy_scenario.specs.declared.fault.ScenarioFault.{ScenarioFault}
@@ -11,6 +11,7 @@ use Rattle.convoy_checker.specs.Validity.{IsGreatest, IsUpper}
 use Rattle.convoy_branch.specs.Fronts.{IsFront}
 use Rattle.convoy_engine.specs.declared.done.Done.TheVariants.{Fine, Open, Refused}
 use Rattle.convoy_engine.specs.declared.fault.Fault.{Fault}
+use Rattle.convoy_engine.specs.declared.reading.TheConstants.{LONGEST_CERTIFICATE}
 use Rattle.convoy_engine.specs.Faults.{told_of}
 use Rattle.convoy_engine.specs.Checks.{accepted_line, check_reply}
 use Rattle.convoy_engine.specs.Lines.{schedule_line}
@@ -38,6 +39,8 @@ pub record IsProof (text out : List ℕ) : Type 0 where
   pub written : out ≡ certificate_text certificate
   pub latency : latency_of certificate.scenario certificate.delays ≡ certificate.latency
   pub none_greater : IsUpper certificate.scenario certificate.latency
+  -- the checker reads it whole: it is within the limit of bytes
+  pub fits : length out ≤ LONGEST_CERTIFICATE
   pub accepted : check_reply out ≡ Ok (Fine, accepted_line certificate.latency)
 
 -- What is written is the best latency that the search found, the upper bound of its front after as many tickets as the limit, and a schedule of that latency.

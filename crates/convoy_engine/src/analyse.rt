@@ -14,7 +14,7 @@ use super::fault::Fault;
 use super::lines::{append_open, append_schedule};
 use super::options::Options;
 use convoy_branch::{Outcome, search_alone};
-use convoy_certificate::laws::texts_are_read;
+use convoy_certificate::laws::{texts_are_read, texts_are_short};
 use convoy_certificate::{Certificate, write};
 use convoy_checker::laws::{checked_is_valid, valid_is_greatest};
 use convoy_packets::PacketTable;
@@ -58,6 +58,7 @@ pub(crate) fn analyse_answer(
     ensures { SaysUnlessMemory (AnalyseSays limit) text.now (reply_of result) }
 {
     texts_are_read();
+    texts_are_short();
     checked_is_valid();
     valid_is_greatest();
     let scenario = read_toml(alloc, text)?.scenario;

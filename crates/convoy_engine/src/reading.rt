@@ -4,13 +4,14 @@ ghost use Rattle.convoy_engine.specs.Reads.{ReadsText, StopsReading};
 
 use super::device::{DeviceFailed, Source};
 use super::fault::Fault;
+use convoy_certificate::LONGEST_TEXT;
 use std::alloc::Global;
 
 /// How many bytes the text of a job has at most (docs/FORMATS.md, "Scenario text").
 pub const LONGEST_JOB: usize = 65_536;
 
 /// How many bytes the text of a certificate has at most (docs/FORMATS.md, "Certificate text").
-pub const LONGEST_CERTIFICATE: usize = 67_108_864;
+pub const LONGEST_CERTIFICATE: usize = LONGEST_TEXT;
 
 /// How many bytes are read at most in one call.
 const BUFFER_LENGTH: usize = 65_536;
