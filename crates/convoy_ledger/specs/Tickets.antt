@@ -1,0 +1,43 @@
+-- What contracts see of a ledger and of a clerk.
+use Rattle.std.specs.Prelude.{ℕ, ◌≡◌, ◌≤◌, List, Bool, true, length, ◌==◌, nat_lt, if◌then◌else◌}
+use Rattle.std.specs.List.{count_by}
+use Rattle.atomic_table.specs.Seated.{TableId}
+
+-- which ledger it is, and how many tickets it has
+pub record LedgerId : Type 0 where
+  pub table : TableId
+  pub most : ℕ
+
+-- a clerk: its ledger, the tickets that it drew, its share, and whether it is done, as it found that all tickets are drawn
+pub record Account : Type 0 where
+  pub ledger : LedgerId
+  pub tickets : List ℕ
+  pub share : ℕ
+  pub done : Bool
+
+-- the share of the one clerk of a new ledger, and of all clerks of a ledger together
+abbrev pub whole : ℕ
+whole = 4294967296
+
+-- the most tickets that a ledger may have
+abbrev pub most_tickets : ℕ
+most_tickets = 281474976710656
+
+-- how often the number stands in the list
+abbrev pub times : ℕ → List ℕ → ℕ
+times x numbers = count_by (λ number. number == x) numbers
+
+-- once where the number is below n, and else never
+abbrev pub once_below : ℕ → ℕ → ℕ
+once_below x n = if nat_lt x n then 1 else 0
+
+-- they are the numbers below n, each once
+abbrev pub AreAllBelow : ℕ → List ℕ → Type 0
+AreAllBelow n numbers = (x : ℕ) → times x numbers ≡ once_below x n
+
+-- of a clerk with the whole share, and of the number of tickets drawn in all: its tickets are those below that number, each once, and where it is done these are all that the ledger has
+pub record HasAll (clerk : Account) (drawn : ℕ) : Type 0 where
+  pub within : drawn ≤ clerk.ledger.most
+  pub count : length clerk.tickets ≡ drawn
+  pub once : AreAllBelow drawn clerk.tickets
+  pub done : clerk.done ≡ true → drawn ≡ clerk.ledger.most

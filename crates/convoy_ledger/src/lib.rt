@@ -1,0 +1,11 @@
+//! A ledger of numbered tickets that threads draw from: each ticket goes to one clerk, with no lock.
+#![tactic(auto)]
+
+pub use fault::{ClerksOut, ShareTooSmall};
+pub use ledger::{Clerk, Ledger};
+
+mod fault;
+mod ledger;
+mod rule;
+#[cfg(test)]
+mod tests;
