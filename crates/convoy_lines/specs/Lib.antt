@@ -1,0 +1,7 @@
+pub mod Labels
+pub mod Laws
+pub mod Options
+pub mod Places
+pub mod Results
+pub mod Texts
+pub mod Words

@@ -1,0 +1,15 @@
+//! Words, lines and texts of lines: a reader, and what writes them.
+#![tactic(auto)]
+
+pub use labels::{begins_with, number_in, words_after};
+pub use line_reader::LineReader;
+pub use words::{Words, number_of};
+pub use writing::{push_further_word, push_number, push_number_line};
+
+mod labels;
+pub mod laws;
+mod line_reader;
+#[cfg(test)]
+mod tests;
+mod words;
+mod writing;
