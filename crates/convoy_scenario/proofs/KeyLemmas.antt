@@ -6,10 +6,10 @@ use Rattle.std.specs.Str.{bytes_eq}
 use Rattle.toml.specs.View.{members_view}
 use Rattle.toml.specs.declared.value.Value.{Value}
 use Rattle.convoy_scenario.specs.declared.fault.Key.{Key}
-use Rattle.convoy_scenario.specs.Shape.{word_of, has_only}
+use Rattle.convoy_scenario.specs.Shape.{key_word, has_only}
 
 abbrev pub is_one_of : List Key → String Global → Bool
-is_one_of keys word = list_any (λ key. bytes_eq (word_of key) (string_bytes word)) keys
+is_one_of keys word = list_any (λ key. bytes_eq (key_word key) (string_bytes word)) keys
 
 pub has_only-members_view : (keys : List Key) (es : List (String Global × Value)) → list_all (is_one_of keys) (keys_of es) ≡ has_only keys (members_view es)
 has_only-members_view keys [] = refl

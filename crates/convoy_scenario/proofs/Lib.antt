@@ -1,15 +1,13 @@
 mod Rows
-pub mod Cutting
-pub mod Digits
 pub mod KeyLemmas
 pub mod NumberLemmas
 pub mod NumberedLemmas
+pub mod GivenScenarios
 pub mod PlaceLemmas
-pub mod Splitting
 pub mod Texts
 pub mod Messages
-pub mod Spelling
 pub mod FormLaws
+pub mod LineLaws
 pub mod ScenarioTakes
 pub mod NumberedAgain
 pub mod DraftAgain

@@ -7,7 +7,7 @@ use Rattle.std.proofs.lemmas.Bool.{cases_Bool, cases_order, ne_eqb, eqb-true, eq
 use Rattle.std.proofs.lemmas.List.Elements.{All-head, All-tail}
 use Rattle.convoy_scenario.specs.Checks.{is_among}
 use Rattle.convoy_scenario.specs.Numbering.{place, numbers_of}
-use Rattle.convoy_scenario.proofs.FormLaws.{itself, same_bytes}
+use Rattle.convoy_scenario.proofs.LineLaws.{itself, same_bytes}
 use Rattle.convoy_scenario.proofs.PlaceLemmas.{place_within, name_at_place}
 
 pub any_at : {X : Type 0} (p : X → Bool) (xs : List X) (k : ℕ) (d : X) → k < length xs → p (get_or xs k d) ≡ true → list_any p xs ≡ true

@@ -10,11 +10,11 @@ use Rattle.std.proofs.lemmas.List.Sums.{AllPass-from_list_all}
 use Rattle.std.proofs.lemmas.Slice.Eq.{bytes_eq-Decides}
 use Rattle.convoy_scenario.specs.declared.fault.ScenarioFault.{ScenarioFault}
 use Rattle.convoy_scenario.specs.declared.limits.TheConstants.{GREATEST_AT, GREATEST_DELAY, MOST_GROUPS, MOST_MULTICASTS}
-use Rattle.convoy_scenario.specs.Plan.{Message, message_at, no_message}
+use Rattle.convoy_scenario.specs.Scenario.{Message, message_at, no_message}
 use Rattle.convoy_scenario.specs.WellFormed.{is_name, is_group_name, IsSender, IsMulticast, IsScenario}
 use Rattle.convoy_scenario.specs.Draft.{Draft, DraftMessage}
 use Rattle.convoy_scenario.specs.Checks.{is_within, is_count, is_among, all_differ, is_message, messages_differ, is_known_sender, knows, is_target_addressed, checks, judge, Check}
-use Rattle.convoy_scenario.specs.Numbering.{place, message_place, ticks, sender_of, numbers_of, message_of, plan_of}
+use Rattle.convoy_scenario.specs.Numbering.{place, message_place, ticks, sender_of, numbers_of, message_of, scenario_of}
 use Rattle.convoy_scenario.proofs.NumberLemmas.{numbers_have, numbers_some, numbers_rise, numbers_below}
 use Rattle.convoy_scenario.proofs.PlaceLemmas.{place_within, find_place, name_at_place}
 
@@ -134,8 +134,8 @@ abbrev nothing : DraftMessage
 nothing = record { name = []; sender = None; to = []; at = pos 0 }
 
 -- a draft that passes the checks is a scenario
-pub plan_formed : (draft : Draft) → judge (checks draft) ≡ Ok tt → IsScenario (plan_of draft)
-plan_formed draft h =
+pub scenario_formed : (draft : Draft) → judge (checks draft) ≡ Ok tt → IsScenario (scenario_of draft)
+scenario_formed draft h =
     let p = passes draft h in
     let delay = ticks-within 1 GREATEST_DELAY draft.delay p.delay in
     let groups = and_parts (nat_le 1 (length draft.groups)) _ p.groups in
@@ -154,7 +154,7 @@ plan_formed draft h =
     let g = place draft.target_group draft.groups in
     let g_within : g < length draft.groups = place_within (bytes_eq draft.target_group) draft.groups p.target_group in
     let at_g : get_or draft.groups g [] ≡ draft.target_group = name_at_place draft.target_group draft.groups p.target_group in
-    let stands : message_at (plan_of draft) t ≡ message_of draft.groups target = get_or-map (message_of draft.groups) draft.messages t nothing no_message t_within in
+    let stands : message_at (scenario_of draft) t ≡ message_of draft.groups target = get_or-map (message_of draft.groups) draft.messages t nothing no_message t_within in
     record {
       delay_low = delay.0;
       delay_high = delay.1;
@@ -179,4 +179,4 @@ pub parts_formed : (draft : Draft) (delay : ℤ) (groups : List (List ℕ)) (mes
     → sent ≡ messages → t ≡ message_place message sent → lent' ≡ groups → g ≡ place group lent'
     → IsScenario (record { delay = d; groups = groups; multicasts = multicasts; target_message = t; target_group = g })
 parts_formed draft delay groups messages message group seen h a b c d e f i j =
-    rw (b, a, d, c, f, e, j, i) (plan_formed (record { delay = delay; groups = groups; messages = messages; target_message = message; target_group = group }) (subst (λ (d : Draft). judge (checks d) ≡ Ok tt) (sym seen) h))
+    rw (b, a, d, c, f, e, j, i) (scenario_formed (record { delay = delay; groups = groups; messages = messages; target_message = message; target_group = group }) (subst (λ (d : Draft). judge (checks d) ≡ Ok tt) (sym seen) h))

@@ -5,7 +5,7 @@ use Rattle.convoy_scenario.specs.declared.fault.ScenarioFault.TheVariants.{Shape
 use Rattle.convoy_scenario.specs.declared.fault.Key.TheVariants as key
 use Rattle.convoy_scenario.specs.declared.fault.Limit.TheVariants as limit
 use Rattle.convoy_scenario.specs.declared.sender.Sender.TheVariants.{Client, Group}
-use Rattle.convoy_scenario.specs.Plan.{Plan}
+use Rattle.convoy_scenario.specs.Scenario.{Scenario}
 use Rattle.convoy_scenario.specs.Draft.{Draft}
 use Rattle.convoy_scenario.specs.Numbering.{scenario_of_draft}
 use Rattle.convoy_scenario.specs.Reading.{input_of_table, scenario_of_table}
@@ -24,8 +24,8 @@ base = record {
   target_group = codes "a";
 }
 
-abbrev base_plan : Plan
-base_plan = record {
+abbrev base_scenario : Scenario
+base_scenario = record {
   delay = 3;
   groups = codes "a" ∷ codes "b" ∷ [];
   multicasts =
@@ -37,7 +37,7 @@ base_plan = record {
   target_group = 0;
 }
 
-base_numbered : scenario_of_draft base ≡ Ok base_plan
+base_numbered : scenario_of_draft base ≡ Ok base_scenario
 base_numbered = refl
 
 -- one message

@@ -13,20 +13,23 @@ use Rattle.convoy_scenario.specs.declared.line_fault.Expected.TheVariants.{Delay
 use Rattle.convoy_scenario.specs.declared.line_fault.LineFault.{LineFault}
 use Rattle.convoy_scenario.specs.declared.sender.Sender.{Sender}
 use Rattle.convoy_scenario.specs.declared.sender.Sender.TheVariants.{Client, Group}
-use Rattle.convoy_scenario.specs.Plan.{Plan, Message, message_at, group_name_at, no_message}
+use Rattle.convoy_scenario.specs.Scenario.{Scenario, Message, message_at, group_name_at, no_message}
 use Rattle.convoy_scenario.specs.WellFormed.{is_letter, is_digit, is_name_byte, is_name, is_group_name, client_word, IsSender, IsMulticast, IsScenario}
 use Rattle.convoy_scenario.specs.Checks.{is_among}
 use Rattle.convoy_scenario.specs.Numbering.{scenario_of_draft}
 use Rattle.convoy_scenario.specs.Lines.{sender_word, delay_line, groups_line, multicast_line, target_line, scenario_lines}
-use Rattle.convoy_scenario.specs.LineForms as forms
-use Rattle.convoy_scenario.specs.LineWords.{Lacks, words_of}
-use Rattle.convoy_scenario.specs.LineReading.{◌>>=◌, Place, form_at, is_multicast_due, messages_in, messages_at, draft_of, told, is_ordered, first_unordered, where_ordered, scenario_at}
-use Rattle.convoy_scenario.proofs.DraftAgain.{draft_for, draft_message, sender_name, plan_again, passes_again}
-use Rattle.convoy_scenario.proofs.FormLaws.{label_again, number_line_again}
+use Rattle.convoy_lines.specs.Labels.{greatest_number, begins_with, number_in}
+use Rattle.convoy_scenario.specs.LineForms.{name_of, named_sender, groups_in, multicast_in, target_in}
+use Rattle.convoy_lines.specs.Words.{Lacks, words_of}
+use Rattle.convoy_lines.specs.Results.{◌>>=◌}
+use Rattle.convoy_lines.specs.Places.{Place}
+use Rattle.convoy_scenario.specs.LineReading.{form_at, is_multicast_due, messages_in, messages_at, draft_of, told, is_ordered, first_unordered, where_ordered, scenario_at}
+use Rattle.convoy_scenario.specs.Naming.{draft_for, draft_message, sender_name}
+use Rattle.convoy_scenario.proofs.DraftAgain.{made_again}
 use Rattle.convoy_scenario.proofs.NumberedAgain.{numbers_again}
 use Rattle.convoy_scenario.proofs.ScenarioTakes.{named, count_lines}
-use Rattle.convoy_scenario.specs.Laws.{IsWord}
-use Rattle.convoy_scenario.proofs.Spelling.{AreWords, AreLines, line_lacks, words_again, number_again, decimal_word}
+use Rattle.convoy_lines.specs.Laws.{IsWord}
+use Rattle.convoy_scenario.proofs.LineLaws.{LineLaws, AreWords, AreLines, delay_word, groups_word, multicast_word, target_word, number_again, decimal_word, words_again, line_made, label_again, number_line_again}
 
 -- ---- names are words
 
@@ -69,7 +72,7 @@ name_word name e =
     let b = name_bytes name e in
     record { some = b.0; spaceless = bytes_lack 32 name (omega arith) b.1; endless = bytes_lack 10 name (omega arith) b.1 }
 
-name_again : (name : List ℕ) → is_name name ≡ true → forms.name_of name ≡ name
+name_again : (name : List ℕ) → is_name name ≡ true → name_of name ≡ name
 name_again name e =
     let utf8 = is_utf8-from_IsUtf8 name (IsUtf8-from_ascii name (bytes_ascii name (name_bytes name e).1)) in
     rw utf8 refl
@@ -77,7 +80,7 @@ name_again name e =
 group_name : (name : List ℕ) → is_group_name name ≡ true → (is_name name ≡ true) × (bytes_eq name client_word ≡ false)
 group_name name e = let p = and_parts (is_name name) (not (bytes_eq name client_word)) e in (p.0, not-true _ p.1)
 
-names_words : (names : List (List ℕ)) → All (λ name. is_group_name name ≡ true) names → AreWords names × (map forms.name_of names ≡ names)
+names_words : (names : List (List ℕ)) → All (λ name. is_group_name name ≡ true) names → AreWords names × (map name_of names ≡ names)
 names_words [] all = (tt, refl)
 names_words (n ∷ ns) all =
     let g = group_name n (All-head (λ name. is_group_name name ≡ true) n ns all) in
@@ -92,163 +95,149 @@ at_numbers groups (g ∷ ds) all known =
 
 -- ---- lines
 
-delay_word : IsWord (codes "delay")
-delay_word = record { some = omega arith; spaceless = refl; endless = refl }
-
-groups_word : IsWord (codes "groups")
-groups_word = record { some = omega arith; spaceless = refl; endless = refl }
-
-multicast_word : IsWord (codes "multicast")
-multicast_word = record { some = omega arith; spaceless = refl; endless = refl }
-
-target_word : IsWord (codes "target")
-target_word = record { some = omega arith; spaceless = refl; endless = refl }
-
 client_is : IsWord client_word
 client_is = record { some = omega arith; spaceless = refl; endless = refl }
 
-delay_again : (plan : Plan) → IsScenario plan → forms.number_line (codes "delay") (delay_line plan) ≡ Some plan.delay
-delay_again plan s = number_line_again (codes "delay") plan.delay delay_word (omega (arith, s.delay_high))
+module _ (laws : LineLaws) where
+  delay_again : (plan : Scenario) → IsScenario plan → number_in (codes "delay") (delay_line plan) ≡ Some plan.delay
+  delay_again plan s = number_line_again laws (codes "delay") plan.delay delay_word (omega (arith, s.delay_high))
 
-groups_again : (plan : Plan) → IsScenario plan → forms.groups_line (groups_line plan) ≡ Some plan.groups
-groups_again plan s =
-    let names = names_words plan.groups s.group_names in
-    rw (label_again (codes "groups") plan.groups groups_word names.0, le-leb 1 (length plan.groups) s.groups_low, names.1) refl
+  groups_again : (plan : Scenario) → IsScenario plan → groups_in (groups_line plan) ≡ Some plan.groups
+  groups_again plan s =
+      let names = names_words plan.groups s.group_names in
+      rw (label_again laws (codes "groups") plan.groups groups_word names.0, le-leb 1 (length plan.groups) s.groups_low, names.1) refl
 
-sender_is : (plan : Plan) (s : Sender) → All (λ name. is_group_name name ≡ true) plan.groups → IsSender (length plan.groups) s → IsWord (sender_word plan s) × (forms.sender_of (sender_word plan s) ≡ sender_name plan s)
-sender_is plan Client all is = (client_is, refl)
-sender_is plan (Group g) all is =
-    let n = group_name (group_name_at plan g) (All-get_or (λ name. is_group_name name ≡ true) plan.groups g [] is all) in
-    (name_word (group_name_at plan g) n.0, rw (n.1, name_again (group_name_at plan g) n.0) refl)
+  sender_is : (plan : Scenario) (s : Sender) → All (λ name. is_group_name name ≡ true) plan.groups → IsSender (length plan.groups) s → IsWord (sender_word plan s) × (named_sender (sender_word plan s) ≡ sender_name plan s)
+  sender_is plan Client all is = (client_is, refl)
+  sender_is plan (Group g) all is =
+      let n = group_name (group_name_at plan g) (All-get_or (λ name. is_group_name name ≡ true) plan.groups g [] is all) in
+      (name_word (group_name_at plan g) n.0, rw (n.1, name_again (group_name_at plan g) n.0) refl)
 
-pub message_line_again : (plan : Plan) (m : Message) → IsScenario plan → IsMulticast (length plan.groups) m → forms.multicast_line (multicast_line plan m) ≡ Some (draft_message plan m)
-message_line_again plan m s is =
-    let sender = sender_is plan m.sender s.group_names is.sender in
-    let to = names_words (map (group_name_at plan) m.destinations) (at_numbers plan.groups m.destinations s.group_names is.known) in
-    let words = label_again (codes "multicast") (m.name ∷ sender_word plan m.sender ∷ decimal m.at ∷ map (group_name_at plan) m.destinations) multicast_word
-    (name_word m.name is.name, (sender.0, (decimal_word m.at (omega (arith, is.at)), to.0))) in
-    rw (words, number_again forms.greatest_number m.at (omega (arith, is.at)) (omega (arith, is.at)), name_again m.name is.name, sender.1, to.1) refl
+  pub message_line_again : (plan : Scenario) (m : Message) → IsScenario plan → IsMulticast (length plan.groups) m → multicast_in (multicast_line plan m) ≡ Some (draft_message plan m)
+  message_line_again plan m s is =
+      let sender = sender_is plan m.sender s.group_names is.sender in
+      let to = names_words (map (group_name_at plan) m.destinations) (at_numbers plan.groups m.destinations s.group_names is.known) in
+      let words = label_again laws (codes "multicast") (m.name ∷ sender_word plan m.sender ∷ decimal m.at ∷ map (group_name_at plan) m.destinations) multicast_word
+      (name_word m.name is.name, (sender.0, (decimal_word laws m.at (omega (arith, is.at)), to.0))) in
+      rw (words, number_again laws greatest_number m.at (omega arith) (omega (arith, is.at)), name_again m.name is.name, sender.1, to.1) refl
 
-target_name_is : (plan : Plan) → IsScenario plan → is_name (message_at plan plan.target_message).name ≡ true
-target_name_is plan s = (All-get_or (IsMulticast (length plan.groups)) plan.multicasts plan.target_message no_message s.target s.messages).name
+  target_name_is : (plan : Scenario) → IsScenario plan → is_name (message_at plan plan.target_message).name ≡ true
+  target_name_is plan s = (All-get_or (IsMulticast (length plan.groups)) plan.multicasts plan.target_message no_message s.target s.messages).name
 
-target_line_again : (plan : Plan) → IsScenario plan → plan.target_group < length plan.groups → forms.target_line (target_line plan) ≡ Some ((message_at plan plan.target_message).name, group_name_at plan plan.target_group)
-target_line_again plan s within =
-    let m = target_name_is plan s in
-    let g = group_name (group_name_at plan plan.target_group) (All-get_or (λ name. is_group_name name ≡ true) plan.groups plan.target_group [] within s.group_names) in
-    rw (label_again (codes "target") ((message_at plan plan.target_message).name ∷ group_name_at plan plan.target_group ∷ []) target_word (name_word _ m, (name_word _ g.0, tt)), name_again _ m, name_again _ g.0) refl
+  target_line_again : (plan : Scenario) → IsScenario plan → plan.target_group < length plan.groups → target_in (target_line plan) ≡ Some ((message_at plan plan.target_message).name, group_name_at plan plan.target_group)
+  target_line_again plan s within =
+      let m = target_name_is plan s in
+      let g = group_name (group_name_at plan plan.target_group) (All-get_or (λ name. is_group_name name ≡ true) plan.groups plan.target_group [] within s.group_names) in
+      rw (label_again laws (codes "target") ((message_at plan plan.target_message).name ∷ group_name_at plan plan.target_group ∷ []) target_word (name_word _ m, (name_word _ g.0, tt)), name_again _ m, name_again _ g.0) refl
 
--- ---- lines, one after another
+  -- ---- lines, one after another
 
-ordered_again : (plan : Plan) (m : Message) → IsScenario plan → IsMulticast (length plan.groups) m → is_ordered plan.groups (draft_message plan m) ≡ true
-ordered_again plan m s is =
-    let to : List (List ℕ) = map (group_name_at plan) m.destinations in
-    let listed : filter (λ group. is_among group to) plan.groups ≡ to =
-    sym (named plan.groups to) ∙ ap (map (λ g. get_or plan.groups g [])) (numbers_again plan.groups m.destinations s.group_names_differ is.known is.ascending) in
-    (slice_eq-Decides bytes_eq-Decides to (filter (λ group. is_among group to) plan.groups) _ refl).1 (sym listed)
+  ordered_again : (plan : Scenario) (m : Message) → IsScenario plan → IsMulticast (length plan.groups) m → is_ordered plan.groups (draft_message plan m) ≡ true
+  ordered_again plan m s is =
+      let to : List (List ℕ) = map (group_name_at plan) m.destinations in
+      let listed : filter (λ group. is_among group to) plan.groups ≡ to =
+      sym (named plan.groups to) ∙ ap (map (λ g. get_or plan.groups g [])) (numbers_again plan.groups m.destinations s.group_names_differ is.known is.ascending) in
+      (slice_eq-Decides bytes_eq-Decides to (filter (λ group. is_among group to) plan.groups) _ refl).1 (sym listed)
 
-none_unordered : (plan : Plan) (number : ℕ) (ms : List Message) → IsScenario plan → All (IsMulticast (length plan.groups)) ms → first_unordered plan.groups number (map (draft_message plan) ms) ≡ None
-none_unordered plan number [] s are = refl
-none_unordered plan number (m ∷ ms) s are =
-    rw (ordered_again plan m s (All-head (IsMulticast (length plan.groups)) m ms are)) (none_unordered plan (number + 1) ms s (All-tail (IsMulticast (length plan.groups)) m ms are))
+  none_unordered : (plan : Scenario) (number : ℕ) (ms : List Message) → IsScenario plan → All (IsMulticast (length plan.groups)) ms → first_unordered plan.groups number (map (draft_message plan) ms) ≡ None
+  none_unordered plan number [] s are = refl
+  none_unordered plan number (m ∷ ms) s are =
+      rw (ordered_again plan m s (All-head (IsMulticast (length plan.groups)) m ms are)) (none_unordered plan (number + 1) ms s (All-tail (IsMulticast (length plan.groups)) m ms are))
 
-begins : (plan : Plan) (m : Message) → IsScenario plan → IsMulticast (length plan.groups) m → forms.begins_with (codes "multicast") (words_of (multicast_line plan m)) ≡ true
-begins plan m s is =
-    let sender = sender_is plan m.sender s.group_names is.sender in
-    let to = names_words (map (group_name_at plan) m.destinations) (at_numbers plan.groups m.destinations s.group_names is.known) in
-    ap (forms.begins_with (codes "multicast")) (words_again (codes "multicast") (m.name ∷ sender_word plan m.sender ∷ decimal m.at ∷ map (group_name_at plan) m.destinations) refl
-    (name_word m.name is.name, (sender.0, (decimal_word m.at (omega (arith, is.at)), to.0))))
+  begins : (plan : Scenario) (m : Message) → IsScenario plan → IsMulticast (length plan.groups) m → begins_with (codes "multicast") (words_of (multicast_line plan m)) ≡ true
+  begins plan m s is =
+      let sender = sender_is plan m.sender s.group_names is.sender in
+      let to = names_words (map (group_name_at plan) m.destinations) (at_numbers plan.groups m.destinations s.group_names is.known) in
+      ap (begins_with (codes "multicast")) (words_again laws (codes "multicast") (m.name ∷ sender_word plan m.sender ∷ decimal m.at ∷ map (group_name_at plan) m.destinations) multicast_word
+      (name_word m.name is.name, (sender.0, (decimal_word laws m.at (omega (arith, is.at)), to.0))))
 
-not_due : (plan : Plan) → IsScenario plan → plan.target_group < length plan.groups → (n : ℕ) → 0 < n → is_multicast_due n (target_line plan) ≡ false
-not_due plan s within n some =
-    let m = target_name_is plan s in
-    let g = group_name (group_name_at plan plan.target_group) (All-get_or (λ name. is_group_name name ≡ true) plan.groups plan.target_group [] within s.group_names) in
-    let words = words_again (codes "target") ((message_at plan plan.target_message).name ∷ group_name_at plan plan.target_group ∷ []) refl (name_word _ m, (name_word _ g.0, tt)) in
-    or_from (n == 0) (forms.begins_with (codes "multicast") (words_of (target_line plan))) (ne_eqb n 0 (λ e. omega arith)) (ap (forms.begins_with (codes "multicast")) words)
+  not_due : (plan : Scenario) → IsScenario plan → plan.target_group < length plan.groups → (n : ℕ) → 0 < n → is_multicast_due n (target_line plan) ≡ false
+  not_due plan s within n some =
+      let m = target_name_is plan s in
+      let g = group_name (group_name_at plan plan.target_group) (All-get_or (λ name. is_group_name name ≡ true) plan.groups plan.target_group [] within s.group_names) in
+      let words = words_again laws (codes "target") ((message_at plan plan.target_message).name ∷ group_name_at plan plan.target_group ∷ []) target_word (name_word _ m, (name_word _ g.0, tt)) in
+      or_from (n == 0) (begins_with (codes "multicast") (words_of (target_line plan))) (ne_eqb n 0 (λ e. omega arith)) (ap (begins_with (codes "multicast")) words)
 
-messages_again : (plan : Plan) (ms : List Message) (t : List ℕ) (more : List (List ℕ)) (rest : List ℕ) (count number : ℕ) → IsScenario plan → All (IsMulticast (length plan.groups)) ms
-    → ((n : ℕ) → 0 < n → is_multicast_due n t ≡ false) → count + length ms ≤ MOST_MULTICASTS → 0 < count + length ms
-    → messages_in count number rest (map (multicast_line plan) ms ++ t ∷ more) ≡ Ok (map (draft_message plan) ms, record { ended = t ∷ more; rest = rest; number = number + length ms })
-unfolding messages_in
-messages_again plan [] t more rest count number s are other few some =
-    let e : number + 0 ≡ number = omega arith in
-    rw (other count (omega arith), e) refl
-messages_again plan (m ∷ ms) t more rest count number s are other few some =
-    let is = All-head (IsMulticast (length plan.groups)) m ms are in
-    let due : is_multicast_due count (multicast_line plan m) ≡ true = or_right (count == 0) _ (begins plan m s is) in
-    let below : (count == MOST_MULTICASTS) ≡ false = ne_eqb count MOST_MULTICASTS (λ e. omega arith) in
-    let e : number + suc (length ms) ≡ (number + 1) + length ms = omega arith in
-    rw (due, message_line_again plan m s is, below, messages_again plan ms t more rest (count + 1) (number + 1) s (All-tail (IsMulticast (length plan.groups)) m ms are) other (omega arith) (omega arith), e) refl
+  messages_again : (plan : Scenario) (ms : List Message) (t : List ℕ) (more : List (List ℕ)) (rest : List ℕ) (count number : ℕ) → IsScenario plan → All (IsMulticast (length plan.groups)) ms
+      → ((n : ℕ) → 0 < n → is_multicast_due n t ≡ false) → count + length ms ≤ MOST_MULTICASTS → 0 < count + length ms
+      → messages_in count number rest (map (multicast_line plan) ms ++ t ∷ more) ≡ Ok (map (draft_message plan) ms, record { ended = t ∷ more; rest = rest; number = number + length ms })
+  unfolding messages_in
+  messages_again plan [] t more rest count number s are other few some =
+      let e : number + 0 ≡ number = omega arith in
+      rw (other count (omega arith), e) refl
+  messages_again plan (m ∷ ms) t more rest count number s are other few some =
+      let is = All-head (IsMulticast (length plan.groups)) m ms are in
+      let due : is_multicast_due count (multicast_line plan m) ≡ true = or_right (count == 0) _ (begins plan m s is) in
+      let below : (count == MOST_MULTICASTS) ≡ false = ne_eqb count MOST_MULTICASTS (λ e. omega arith) in
+      let e : number + suc (length ms) ≡ (number + 1) + length ms = omega arith in
+      rw (due, message_line_again plan m s is, below, messages_again plan ms t more rest (count + 1) (number + 1) s (All-tail (IsMulticast (length plan.groups)) m ms are) other (omega arith) (omega arith), e) refl
 
-then_ok : {A B : Type 0} (r : Result A LineFault) (f : A → Result B LineFault) (x : A) (y : Result B LineFault) → r ≡ Ok x → f x ≡ y → (r >>= f) ≡ y
-then_ok r f x y e g = ap (λ z. z >>= f) e ∙ g
+  then_ok : {A B : Type 0} (r : Result A LineFault) (f : A → Result B LineFault) (x : A) (y : Result B LineFault) → r ≡ Ok x → f x ≡ y → (r >>= f) ≡ y
+  then_ok r f x y e g = ap (λ z. z >>= f) e ∙ g
 
-form_again : {A : Type 0} (expected : Expected) (form : List ℕ → Option A) (number : ℕ) (rest line : List ℕ) (lines : List (List ℕ)) (x : A) → form line ≡ Some x
-    → form_at expected form (record { ended = line ∷ lines; rest = rest; number = number }) ≡ Ok (x, record { ended = lines; rest = rest; number = number + 1 })
-form_again expected form number rest line lines x e = rw e refl
+  form_again : {A : Type 0} (expected : Expected) (form : List ℕ → Option A) (number : ℕ) (rest line : List ℕ) (lines : List (List ℕ)) (x : A) → form line ≡ Some x
+      → form_at expected form (record { ended = line ∷ lines; rest = rest; number = number }) ≡ Ok (x, record { ended = lines; rest = rest; number = number + 1 })
+  form_again expected form number rest line lines x e = rw e refl
 
-told_again : (plan : Plan) → IsScenario plan → told (scenario_of_draft (draft_for plan)) ≡ Ok plan
-told_again plan s = rw (passes_again plan s) (ap (λ (p : Plan). Ok p) (plan_again plan s))
+  pub scenario_again : (plan : Scenario) (number : ℕ) (rest : List ℕ) (more : List (List ℕ)) → IsScenario plan → plan.target_group < length plan.groups
+      → scenario_at (record { ended = scenario_lines plan ++ more; rest = rest; number = number }) ≡ Ok (plan, record { ended = more; rest = rest; number = number + length (scenario_lines plan) })
+  unfolding scenario_at
+  scenario_again plan number rest more s within =
+      let ms = map (draft_message plan) plan.multicasts in
+      let target : List ℕ × List ℕ = ((message_at plan plan.target_message).name, group_name_at plan plan.target_group) in
+      let count = length plan.multicasts in
+      let lines : List (List ℕ) = map (multicast_line plan) plan.multicasts ++ target_line plan ∷ more in
+      let p0 : Place = record { ended = delay_line plan ∷ groups_line plan ∷ lines; rest = rest; number = number } in
+      let p1 : Place = record { ended = groups_line plan ∷ lines; rest = rest; number = number + 1 } in
+      let p2 : Place = record { ended = lines; rest = rest; number = number + 1 + 1 } in
+      let p3 : Place = record { ended = target_line plan ∷ more; rest = rest; number = number + 1 + 1 + count } in
+      let p4 : Place = record { ended = more; rest = rest; number = number + 1 + 1 + count + 1 } in
+      let start : record { ended = scenario_lines plan ++ more; rest = rest; number = number } ≡ p0 =
+      ap (λ (ls : List (List ℕ)). record { ended = delay_line plan ∷ groups_line plan ∷ ls; rest = rest; number = number }) (append_assoc (map (multicast_line plan) plan.multicasts) (target_line plan ∷ []) more) in
+      let read : scenario_at p0 ≡ Ok (plan, p4) =
+      then_ok (form_at Delay (number_in (codes "delay")) p0) (λ delay. form_at Groups groups_in delay.1 >>= λ groups. messages_at 0 groups.1 >>= λ messages. form_at Target target_in messages.1 >>= λ target.
+      told (scenario_of_draft (draft_of delay.0 groups.0 messages.0 target.0)) >>= λ plan. where_ordered (first_unordered groups.0 groups.1.number messages.0) plan >>= λ ordered. Ok (ordered, target.1))
+      (plan.delay, p1) (Ok (plan, p4)) (form_again Delay (number_in (codes "delay")) number rest (delay_line plan) (groups_line plan ∷ lines) plan.delay (delay_again plan s))
+      (then_ok (form_at Groups groups_in p1) (λ groups. messages_at 0 groups.1 >>= λ messages. form_at Target target_in messages.1 >>= λ target.
+      told (scenario_of_draft (draft_of plan.delay groups.0 messages.0 target.0)) >>= λ plan. where_ordered (first_unordered groups.0 groups.1.number messages.0) plan >>= λ ordered. Ok (ordered, target.1))
+      (plan.groups, p2) (Ok (plan, p4)) (form_again Groups groups_in (number + 1) rest (groups_line plan) lines plan.groups (groups_again plan s))
+      (then_ok (messages_at 0 p2) (λ messages. form_at Target target_in messages.1 >>= λ target.
+      told (scenario_of_draft (draft_of plan.delay plan.groups messages.0 target.0)) >>= λ plan'. where_ordered (first_unordered plan.groups p2.number messages.0) plan' >>= λ ordered. Ok (ordered, target.1))
+      (ms, p3) (Ok (plan, p4)) (messages_again plan plan.multicasts (target_line plan) more rest 0 (number + 1 + 1) s s.messages (not_due plan s within) (omega (arith, s.multicasts_high)) (omega (arith, s.multicasts_low)))
+      (then_ok (form_at Target target_in p3) (λ target.
+      told (scenario_of_draft (draft_of plan.delay plan.groups ms target.0)) >>= λ plan'. where_ordered (first_unordered plan.groups p2.number ms) plan' >>= λ ordered. Ok (ordered, target.1))
+      (target, p4) (Ok (plan, p4)) (form_again Target target_in p3.number rest (target_line plan) more target (target_line_again plan s within))
+      (then_ok (told (scenario_of_draft (draft_for plan))) (λ plan'. where_ordered (first_unordered plan.groups p2.number ms) plan' >>= λ ordered. Ok (ordered, p4))
+      plan (Ok (plan, p4)) (ap told (made_again plan s))
+      (ap (λ o. where_ordered o plan >>= λ ordered. Ok (ordered, p4)) (none_unordered plan p2.number plan.multicasts s s.messages)))))) in
+      let past : p4.number ≡ number + length (scenario_lines plan) = omega (arith, count_lines plan) in
+      ap scenario_at start ∙ read ∙ ap (λ n. Ok (plan, record { ended = more; rest = rest; number = n })) past
 
-pub scenario_again : (plan : Plan) (number : ℕ) (rest : List ℕ) (more : List (List ℕ)) → IsScenario plan → plan.target_group < length plan.groups
-    → scenario_at (record { ended = scenario_lines plan ++ more; rest = rest; number = number }) ≡ Ok (plan, record { ended = more; rest = rest; number = number + length (scenario_lines plan) })
-unfolding scenario_at
-scenario_again plan number rest more s within =
-    let ms = map (draft_message plan) plan.multicasts in
-    let target : List ℕ × List ℕ = ((message_at plan plan.target_message).name, group_name_at plan plan.target_group) in
-    let count = length plan.multicasts in
-    let lines : List (List ℕ) = map (multicast_line plan) plan.multicasts ++ target_line plan ∷ more in
-    let p0 : Place = record { ended = delay_line plan ∷ groups_line plan ∷ lines; rest = rest; number = number } in
-    let p1 : Place = record { ended = groups_line plan ∷ lines; rest = rest; number = number + 1 } in
-    let p2 : Place = record { ended = lines; rest = rest; number = number + 1 + 1 } in
-    let p3 : Place = record { ended = target_line plan ∷ more; rest = rest; number = number + 1 + 1 + count } in
-    let p4 : Place = record { ended = more; rest = rest; number = number + 1 + 1 + count + 1 } in
-    let start : record { ended = scenario_lines plan ++ more; rest = rest; number = number } ≡ p0 =
-    ap (λ (ls : List (List ℕ)). record { ended = delay_line plan ∷ groups_line plan ∷ ls; rest = rest; number = number }) (append_assoc (map (multicast_line plan) plan.multicasts) (target_line plan ∷ []) more) in
-    let read : scenario_at p0 ≡ Ok (plan, p4) =
-    then_ok (form_at Delay (forms.number_line (codes "delay")) p0) (λ delay. form_at Groups forms.groups_line delay.1 >>= λ groups. messages_at 0 groups.1 >>= λ messages. form_at Target forms.target_line messages.1 >>= λ target.
-    told (scenario_of_draft (draft_of delay.0 groups.0 messages.0 target.0)) >>= λ plan. where_ordered (first_unordered groups.0 groups.1.number messages.0) plan >>= λ ordered. Ok (ordered, target.1))
-    (plan.delay, p1) (Ok (plan, p4)) (form_again Delay (forms.number_line (codes "delay")) number rest (delay_line plan) (groups_line plan ∷ lines) plan.delay (delay_again plan s))
-    (then_ok (form_at Groups forms.groups_line p1) (λ groups. messages_at 0 groups.1 >>= λ messages. form_at Target forms.target_line messages.1 >>= λ target.
-    told (scenario_of_draft (draft_of plan.delay groups.0 messages.0 target.0)) >>= λ plan. where_ordered (first_unordered groups.0 groups.1.number messages.0) plan >>= λ ordered. Ok (ordered, target.1))
-    (plan.groups, p2) (Ok (plan, p4)) (form_again Groups forms.groups_line (number + 1) rest (groups_line plan) lines plan.groups (groups_again plan s))
-    (then_ok (messages_at 0 p2) (λ messages. form_at Target forms.target_line messages.1 >>= λ target.
-    told (scenario_of_draft (draft_of plan.delay plan.groups messages.0 target.0)) >>= λ plan'. where_ordered (first_unordered plan.groups p2.number messages.0) plan' >>= λ ordered. Ok (ordered, target.1))
-    (ms, p3) (Ok (plan, p4)) (messages_again plan plan.multicasts (target_line plan) more rest 0 (number + 1 + 1) s s.messages (not_due plan s within) (omega (arith, s.multicasts_high)) (omega (arith, s.multicasts_low)))
-    (then_ok (form_at Target forms.target_line p3) (λ target.
-    told (scenario_of_draft (draft_of plan.delay plan.groups ms target.0)) >>= λ plan'. where_ordered (first_unordered plan.groups p2.number ms) plan' >>= λ ordered. Ok (ordered, target.1))
-    (target, p4) (Ok (plan, p4)) (form_again Target forms.target_line p3.number rest (target_line plan) more target (target_line_again plan s within))
-    (then_ok (told (scenario_of_draft (draft_for plan))) (λ plan'. where_ordered (first_unordered plan.groups p2.number ms) plan' >>= λ ordered. Ok (ordered, p4))
-    plan (Ok (plan, p4)) (told_again plan s)
-    (ap (λ o. where_ordered o plan >>= λ ordered. Ok (ordered, p4)) (none_unordered plan p2.number plan.multicasts s s.messages)))))) in
-    let past : p4.number ≡ number + length (scenario_lines plan) = omega (arith, count_lines plan) in
-    ap scenario_at start ∙ read ∙ ap (λ n. Ok (plan, record { ended = more; rest = rest; number = n })) past
+  -- ---- no line has a byte 10 in it
 
--- ---- no line has a byte 10 in it
+  pub lines_append : (xs ys : List (List ℕ)) → AreLines xs → AreLines ys → AreLines (xs ++ ys)
+  lines_append [] ys a b = b
+  lines_append (x ∷ xs) ys a b = (a.0, lines_append xs ys a.1 b)
 
-pub lines_append : (xs ys : List (List ℕ)) → AreLines xs → AreLines ys → AreLines (xs ++ ys)
-lines_append [] ys a b = b
-lines_append (x ∷ xs) ys a b = (a.0, lines_append xs ys a.1 b)
+  message_lines : (plan : Scenario) (ms : List Message) → IsScenario plan → All (IsMulticast (length plan.groups)) ms → AreLines (map (multicast_line plan) ms)
+  message_lines plan [] s are = tt
+  message_lines plan (m ∷ ms) s are =
+      let is = All-head (IsMulticast (length plan.groups)) m ms are in
+      let sender = sender_is plan m.sender s.group_names is.sender in
+      let to = names_words (map (group_name_at plan) m.destinations) (at_numbers plan.groups m.destinations s.group_names is.known) in (
+        line_made laws (codes "multicast") (m.name ∷ sender_word plan m.sender ∷ decimal m.at ∷ map (group_name_at plan) m.destinations) multicast_word
+            (name_word m.name is.name, (sender.0, (decimal_word laws m.at (omega (arith, is.at)), to.0))),
+        message_lines plan ms s (All-tail (IsMulticast (length plan.groups)) m ms are),
+      )
 
-message_lines : (plan : Plan) (ms : List Message) → IsScenario plan → All (IsMulticast (length plan.groups)) ms → AreLines (map (multicast_line plan) ms)
-message_lines plan [] s are = tt
-message_lines plan (m ∷ ms) s are =
-    let is = All-head (IsMulticast (length plan.groups)) m ms are in
-    let sender = sender_is plan m.sender s.group_names is.sender in
-    let to = names_words (map (group_name_at plan) m.destinations) (at_numbers plan.groups m.destinations s.group_names is.known) in (
-      line_lacks (codes "multicast") (m.name ∷ sender_word plan m.sender ∷ decimal m.at ∷ map (group_name_at plan) m.destinations) refl
-          (name_word m.name is.name, (sender.0, (decimal_word m.at (omega (arith, is.at)), to.0))),
-      message_lines plan ms s (All-tail (IsMulticast (length plan.groups)) m ms are),
-    )
-
-pub scenario_lines_are : (plan : Plan) → IsScenario plan → plan.target_group < length plan.groups → AreLines (scenario_lines plan)
-scenario_lines_are plan s within =
-    let m = target_name_is plan s in
-    let g = group_name (group_name_at plan plan.target_group) (All-get_or (λ name. is_group_name name ≡ true) plan.groups plan.target_group [] within s.group_names) in
-    let target : Lacks 10 (target_line plan) = line_lacks (codes "target") ((message_at plan plan.target_message).name ∷ group_name_at plan plan.target_group ∷ []) refl (name_word _ m, (name_word _ g.0, tt)) in (
-      line_lacks (codes "delay") (decimal plan.delay ∷ []) refl (decimal_word plan.delay (omega (arith, s.delay_high)), tt),
-      (
-        line_lacks (codes "groups") plan.groups refl (names_words plan.groups s.group_names).0,
-        lines_append (map (multicast_line plan) plan.multicasts) (target_line plan ∷ []) (message_lines plan plan.multicasts s s.messages) (target, tt),
-      ),
-    )
+  pub scenario_lines_are : (plan : Scenario) → IsScenario plan → plan.target_group < length plan.groups → AreLines (scenario_lines plan)
+  scenario_lines_are plan s within =
+      let m = target_name_is plan s in
+      let g = group_name (group_name_at plan plan.target_group) (All-get_or (λ name. is_group_name name ≡ true) plan.groups plan.target_group [] within s.group_names) in
+      let target : Lacks 10 (target_line plan) = line_made laws (codes "target") ((message_at plan plan.target_message).name ∷ group_name_at plan plan.target_group ∷ []) target_word (name_word _ m, (name_word _ g.0, tt)) in (
+        line_made laws (codes "delay") (decimal plan.delay ∷ []) delay_word (decimal_word laws plan.delay (omega (arith, s.delay_high)), tt),
+        (
+          line_made laws (codes "groups") plan.groups groups_word (names_words plan.groups s.group_names).0,
+          lines_append (map (multicast_line plan) plan.multicasts) (target_line plan ∷ []) (message_lines plan plan.multicasts s s.messages) (target, tt),
+        ),
+      )

@@ -11,21 +11,26 @@ use Rattle.convoy_scenario.specs.declared.limits.TheConstants.{GREATEST_AT, GREA
 use Rattle.convoy_scenario.specs.declared.line_fault.Expected.{Expected}
 use Rattle.convoy_scenario.specs.declared.line_fault.Expected.TheVariants.{Delay, Groups, Multicast, Target}
 use Rattle.convoy_scenario.specs.declared.line_fault.LineFault.{LineFault}
-use Rattle.convoy_scenario.specs.declared.line_fault.LineFault.TheVariants.{Line, Scenario}
+use Rattle.convoy_scenario.specs.declared.line_fault.LineFault.TheVariants as faults
 use Rattle.convoy_scenario.specs.declared.fault.ScenarioFault.TheVariants.{OverLimit}
 use Rattle.convoy_scenario.specs.declared.fault.Limit.TheVariants.{Multicasts}
 use Rattle.convoy_scenario.specs.Draft.{Draft, DraftMessage}
-use Rattle.convoy_scenario.specs.Plan.{Plan, Message, message_at, no_message}
+use Rattle.convoy_scenario.specs.Scenario.{Scenario, Message, message_at, no_message}
 use Rattle.convoy_scenario.specs.WellFormed.{is_name, is_group_name, client_word, IsScenario}
 use Rattle.convoy_scenario.specs.Laws.{IsBetween}
 use Rattle.convoy_scenario.specs.Checks.{Check, checks, judge, is_within, is_among, is_known_sender, knows, is_message}
 use Rattle.convoy_scenario.specs.Numbering as numbering
-use Rattle.convoy_scenario.specs.Numbering.{place, message_place, ticks, numbers_of, message_of, plan_of, scenario_of_draft}
-use Rattle.convoy_scenario.specs.Lines.{line_of, sender_word, delay_line, groups_line, multicast_line, target_line, scenario_lines}
-use Rattle.convoy_scenario.specs.LineForms as forms
-use Rattle.convoy_scenario.specs.LineReading.{◌>>=◌, Place, form_at, messages_in, messages_at, is_multicast_due, draft_of, told, is_ordered, first_unordered, where_ordered, scenario_at}
-use Rattle.convoy_scenario.proofs.FormLaws.{Says, message_takes, name_takes, names_take, number_line_takes, groups_take, target_takes, same_bytes}
-use Rattle.convoy_scenario.proofs.NumberedLemmas.{plan_formed}
+use Rattle.convoy_scenario.specs.Numbering.{place, message_place, ticks, numbers_of, message_of, scenario_of, scenario_of_draft}
+use Rattle.convoy_lines.specs.Texts.{line_of}
+use Rattle.convoy_scenario.specs.Lines.{sender_word, delay_line, groups_line, multicast_line, target_line, scenario_lines}
+use Rattle.convoy_lines.specs.Labels.{number_in}
+use Rattle.convoy_scenario.specs.LineForms.{name_of, named_sender, groups_in, multicast_in, target_in}
+use Rattle.convoy_lines.specs.Results.{◌>>=◌}
+use Rattle.convoy_lines.specs.Places.{Place}
+use Rattle.convoy_scenario.specs.LineReading.{form_at, messages_in, messages_at, is_multicast_due, draft_of, told, is_ordered, first_unordered, where_ordered, scenario_at}
+use Rattle.convoy_scenario.proofs.FormLaws.{Says, message_takes, name_takes, names_take, groups_take, target_takes}
+use Rattle.convoy_scenario.proofs.LineLaws.{LineLaws, same_bytes, delay_word, number_line_takes}
+use Rattle.convoy_scenario.proofs.NumberedLemmas.{scenario_formed}
 use Rattle.convoy_scenario.proofs.PlaceLemmas.{place_within, place_passes, name_at_place}
 
 -- ---- the destinations
@@ -74,47 +79,47 @@ among_some name (g ∷ gs) e some =
 
 -- ---- a message
 
-sender_is : (draft : Draft) (from : List ℕ) → AllByRecursion (λ name. 0 < length name) draft.groups → is_known_sender draft.groups (forms.sender_of from) ≡ true
-    → from ≡ sender_word (plan_of draft) (numbering.sender_of draft.groups (forms.sender_of from))
+sender_is : (draft : Draft) (from : List ℕ) → AllByRecursion (λ name. 0 < length name) draft.groups → is_known_sender draft.groups (named_sender from) ≡ true
+    → from ≡ sender_word (scenario_of draft) (numbering.sender_of draft.groups (named_sender from))
 sender_is draft from some known =
     elim (cases_Bool (bytes_eq from client_word)) [
       | inl client ↦ rw client (same_bytes from client_word client)
       | inr group ↦
-          let among : is_among (forms.name_of from) draft.groups ≡ true = rw group at known in
-          rw group (name_takes from (among_some (forms.name_of from) draft.groups among some) ∙ sym (name_at_place (forms.name_of from) draft.groups among))
+          let among : is_among (name_of from) draft.groups ≡ true = rw group at known in
+          rw group (name_takes from (among_some (name_of from) draft.groups among some) ∙ sym (name_at_place (name_of from) draft.groups among))
     ]
 
 tick_is : (most t : ℕ) → is_within 0 most (pos t) ≡ true → decimal t ≡ decimal (ticks most (pos t))
 tick_is most t e = rw e refl
 
-to_is : (groups : List (List ℕ)) (message : DraftMessage) (to : List (List ℕ)) → AllByRecursion (λ name. 0 < length name) groups → is_ordered groups message ≡ true → message.to ≡ map forms.name_of to
+to_is : (groups : List (List ℕ)) (message : DraftMessage) (to : List (List ℕ)) → AllByRecursion (λ name. 0 < length name) groups → is_ordered groups message ≡ true → message.to ≡ map name_of to
     → to ≡ map (λ g. get_or groups g []) (numbers_of groups message.to)
 to_is groups message to some ordered said =
     let listed : message.to ≡ filter (λ group. is_among group message.to) groups = (slice_eq-Decides bytes_eq-Decides message.to _ _ refl).0 ordered in
-    let all : AllByRecursion (λ name. 0 < length name) (map forms.name_of to) = subst (AllByRecursion (λ name. 0 < length name)) (sym listed ∙ said) (filter_some (λ group. is_among group message.to) groups some) in
+    let all : AllByRecursion (λ name. 0 < length name) (map name_of to) = subst (AllByRecursion (λ name. 0 < length name)) (sym listed ∙ said) (filter_some (λ group. is_among group message.to) groups some) in
     names_take to all ∙ sym said ∙ listed ∙ sym (named groups message.to)
 
 abbrev four : List ℕ → List ℕ → List ℕ → List (List ℕ) → List ℕ
 four name from tick to = line_of (codes "multicast") (name ∷ from ∷ tick ∷ to)
 
 message_is : (draft : Draft) (line : List ℕ) (m : DraftMessage) → AllByRecursion (λ name. 0 < length name) draft.groups → is_name m.name ≡ true → knows draft.groups m ≡ true
-    → is_within 0 GREATEST_AT m.at ≡ true → is_ordered draft.groups m ≡ true → Says line m → line ≡ multicast_line (plan_of draft) (message_of draft.groups m)
+    → is_within 0 GREATEST_AT m.at ≡ true → is_ordered draft.groups m ≡ true → Says line m → line ≡ multicast_line (scenario_of draft) (message_of draft.groups m)
 message_is draft line m some name known within ordered s =
-    let name-said : m.name ≡ forms.name_of s.name = ap (λ (d : DraftMessage). d.name) s.said in
-    let sender-said : m.sender ≡ forms.sender_of s.from = ap (λ (d : DraftMessage). d.sender) s.said in
-    let to-said : m.to ≡ map forms.name_of s.to = ap (λ (d : DraftMessage). d.to) s.said in
+    let name-said : m.name ≡ name_of s.name = ap (λ (d : DraftMessage). d.name) s.said in
+    let sender-said : m.sender ≡ named_sender s.from = ap (λ (d : DraftMessage). d.sender) s.said in
+    let to-said : m.to ≡ map name_of s.to = ap (λ (d : DraftMessage). d.to) s.said in
     let at-said : m.at ≡ pos s.tick = ap (λ (d : DraftMessage). d.at) s.said in
     let name-is : s.name ≡ m.name = name_takes s.name (subst (λ (n : List ℕ). 0 < length n) name-said (name_some m.name name)) ∙ sym name-said in
-    let known-sender : is_known_sender draft.groups (forms.sender_of s.from) ≡ true = subst (λ (o : Option (List ℕ)). is_known_sender draft.groups o ≡ true) sender-said (and_parts (is_known_sender draft.groups m.sender) _ known).0 in
-    let from-is : s.from ≡ sender_word (plan_of draft) (numbering.sender_of draft.groups m.sender) =
-    sender_is draft s.from some known-sender ∙ ap (λ o. sender_word (plan_of draft) (numbering.sender_of draft.groups o)) (sym sender-said) in
+    let known-sender : is_known_sender draft.groups (named_sender s.from) ≡ true = subst (λ (o : Option (List ℕ)). is_known_sender draft.groups o ≡ true) sender-said (and_parts (is_known_sender draft.groups m.sender) _ known).0 in
+    let from-is : s.from ≡ sender_word (scenario_of draft) (numbering.sender_of draft.groups m.sender) =
+    sender_is draft s.from some known-sender ∙ ap (λ o. sender_word (scenario_of draft) (numbering.sender_of draft.groups o)) (sym sender-said) in
     let tick-is : decimal s.tick ≡ decimal (ticks GREATEST_AT m.at) =
     tick_is GREATEST_AT s.tick (subst (λ (z : ℤ). is_within 0 GREATEST_AT z ≡ true) at-said within) ∙ ap (λ z. decimal (ticks GREATEST_AT z)) (sym at-said) in
     let to-is : s.to ≡ map (λ g. get_or draft.groups g []) (numbers_of draft.groups m.to) = to_is draft.groups m s.to some ordered to-said in
     s.written ∙ ap (λ n. four n s.from (decimal s.tick) s.to) name-is
     ∙ ap (λ f. four m.name f (decimal s.tick) s.to) from-is
-    ∙ ap (λ t. four m.name (sender_word (plan_of draft) (numbering.sender_of draft.groups m.sender)) t s.to) tick-is
-    ∙ ap (λ t. four m.name (sender_word (plan_of draft) (numbering.sender_of draft.groups m.sender)) (decimal (ticks GREATEST_AT m.at)) t) to-is
+    ∙ ap (λ t. four m.name (sender_word (scenario_of draft) (numbering.sender_of draft.groups m.sender)) t s.to) tick-is
+    ∙ ap (λ t. four m.name (sender_word (scenario_of draft) (numbering.sender_of draft.groups m.sender)) (decimal (ticks GREATEST_AT m.at)) t) to-is
 
 -- ---- lines, one after another
 
@@ -142,14 +147,14 @@ took_at : {A : Type 0} (expected : Expected) (form : List ℕ → Option A) (num
 took_at expected form number rest [] x e = absurd cc
 took_at {A} expected form number rest (line ∷ lines) x e =
     let after : Place = record { ended = lines; rest = rest; number = number + 1 } in
-    let a = bind_ok (ok_or (form line) (Line number expected)) (λ value. Ok (value, after)) x e in
+    let a = bind_ok (ok_or (form line) (faults.Line number expected)) (λ value. Ok (value, after)) x e in
     let same : (a.0, after) ≡ x = same_ok (a.0, after) x a.2 in
     record {
       line = line;
       ended = ap (λ (y : A × Place). line ∷ y.1.ended) same;
       rest = ap (λ (y : A × Place). y.1.rest) same;
       number = ap (λ (y : A × Place). y.1.number) same;
-      has = ok_or_takes (form line) (Line number expected) a.0 a.1 ∙ ap (λ (y : A × Place). Some y.0) same;
+      has = ok_or_takes (form line) (faults.Line number expected) a.0 a.1 ∙ ap (λ (y : A × Place). Some y.0) same;
     }
 
 pub took : {A : Type 0} (expected : Expected) (form : List ℕ → Option A) (p : Place) (x : A × Place) → form_at expected form p ≡ Ok x → Took form p x
@@ -171,20 +176,20 @@ unless : {A : Type 0} (b : Bool) (fault : LineFault) (r : Result A LineFault) (x
 unless true fault r x e = absurd cc
 unless false fault r x e = e
 
-pub messages_take : (count number : ℕ) (rest : List ℕ) (ended : List (List ℕ)) (x : List DraftMessage × Place) → messages_in count number rest ended ≡ Ok x → TookMessages number rest ended x
+pub messages_take : (laws : LineLaws) (count number : ℕ) (rest : List ℕ) (ended : List (List ℕ)) (x : List DraftMessage × Place) → messages_in count number rest ended ≡ Ok x → TookMessages number rest ended x
 unfolding messages_in
-messages_take count number rest [] x e =
-    let same = stop (is_multicast_due count rest) (Line number Multicast) ([], record { ended = []; rest = rest; number = number }) x e in
+messages_take laws count number rest [] x e =
+    let same = stop (is_multicast_due count rest) (faults.Line number Multicast) ([], record { ended = []; rest = rest; number = number }) x e in
     subst (TookMessages number rest []) same (record { lines = []; before = refl; after = refl; past = omega arith; say = tt })
-messages_take count number rest (line ∷ lines) x e =
+messages_take laws count number rest (line ∷ lines) x e =
     elim (cases_Bool (is_multicast_due count line)) [
       | inl due ↦
-          let read : (ok_or (forms.multicast_line line) (Line number Multicast) >>= λ message. (if count == MOST_MULTICASTS then Err (Scenario (OverLimit Multicasts)) else messages_in (count + 1) (number + 1) rest lines) >>= λ more. Ok (message ∷ more.0, more.1)) ≡ Ok x = rw due at e in
-          let a = bind_ok (ok_or (forms.multicast_line line) (Line number Multicast)) (λ message. (if count == MOST_MULTICASTS then Err (Scenario (OverLimit Multicasts)) else messages_in (count + 1) (number + 1) rest lines) >>= λ more. Ok (message ∷ more.0, more.1)) x read in
-          let b = bind_ok (if count == MOST_MULTICASTS then Err (Scenario (OverLimit Multicasts)) else messages_in (count + 1) (number + 1) rest lines) (λ more. Ok (a.0 ∷ more.0, more.1)) x a.2 in
+          let read : (ok_or (multicast_in line) (faults.Line number Multicast) >>= λ message. (if count == MOST_MULTICASTS then Err (faults.Scenario (OverLimit Multicasts)) else messages_in (count + 1) (number + 1) rest lines) >>= λ more. Ok (message ∷ more.0, more.1)) ≡ Ok x = rw due at e in
+          let a = bind_ok (ok_or (multicast_in line) (faults.Line number Multicast)) (λ message. (if count == MOST_MULTICASTS then Err (faults.Scenario (OverLimit Multicasts)) else messages_in (count + 1) (number + 1) rest lines) >>= λ more. Ok (message ∷ more.0, more.1)) x read in
+          let b = bind_ok (if count == MOST_MULTICASTS then Err (faults.Scenario (OverLimit Multicasts)) else messages_in (count + 1) (number + 1) rest lines) (λ more. Ok (a.0 ∷ more.0, more.1)) x a.2 in
           let same : (a.0 ∷ b.0.0, b.0.1) ≡ x = same_ok (a.0 ∷ b.0.0, b.0.1) x b.2 in
-          let more = messages_take (count + 1) (number + 1) rest lines b.0 (unless (count == MOST_MULTICASTS) (Scenario (OverLimit Multicasts)) _ b.0 b.1) in
-          let says = message_takes line a.0 (ok_or_takes (forms.multicast_line line) (Line number Multicast) a.0 a.1) in
+          let more = messages_take laws (count + 1) (number + 1) rest lines b.0 (unless (count == MOST_MULTICASTS) (faults.Scenario (OverLimit Multicasts)) _ b.0 b.1) in
+          let says = message_takes laws line a.0 (ok_or_takes (multicast_in line) (faults.Line number Multicast) a.0 a.1) in
           subst (TookMessages number rest (line ∷ lines)) same (record { lines = line ∷ more.lines; before = ap (λ t. line ∷ t) more.before; after = more.after; past = omega (arith, more.past); say = (says, more.say) })
       | inr other ↦
           let read : Ok ([], record { ended = line ∷ lines; rest = rest; number = number }) ≡ Ok x = rw other at e in
@@ -209,13 +214,13 @@ each draft (m ∷ ms) a b c d =
     (record { name = a'.0; known = b'.0; within = c'.0; ordered = d'.0 }, each draft ms a'.1 b'.1 c'.1 d'.1)
 
 lines_are : (draft : Draft) (lines : List (List ℕ)) (ms : List DraftMessage) → AllByRecursion (λ name. 0 < length name) draft.groups → AllZip Says lines ms → AllByRecursion (Fine draft) ms
-    → lines ≡ map (multicast_line (plan_of draft)) (map (message_of draft.groups) ms)
+    → lines ≡ map (multicast_line (scenario_of draft)) (map (message_of draft.groups) ms)
 lines_are draft [] [] some say fine = refl
 lines_are draft [] (m ∷ ms) some say fine = absurd say
 lines_are draft (l ∷ ls) [] some say fine = absurd say
 lines_are draft (l ∷ ls) (m ∷ ms) some say fine =
     let one = message_is draft l m some fine.0.name fine.0.known fine.0.within fine.0.ordered say.0 in
-    ap (λ x. x ∷ ls) one ∙ ap (λ t. multicast_line (plan_of draft) (message_of draft.groups m) ∷ t) (lines_are draft ls ms some say.1 fine.1)
+    ap (λ x. x ∷ ls) one ∙ ap (λ t. multicast_line (scenario_of draft) (message_of draft.groups m) ∷ t) (lines_are draft ls ms some say.1 fine.1)
 
 all_ordered : (groups : List (List ℕ)) (number : ℕ) (ms : List DraftMessage) → first_unordered groups number ms ≡ None → list_all (is_ordered groups) ms ≡ true
 all_ordered groups number [] e = refl
@@ -237,11 +242,11 @@ all_hold (c ∷ cs) h =
     let next = next_holds c.0 c.1 (judge cs) h in
     (next.0, all_hold cs next.1)
 
-of_draft : (r : Result (Unit {0}) ScenarioFault) (made plan : Plan) → told (result_and r (Ok made)) ≡ Ok plan → (r ≡ Ok tt) × (made ≡ plan)
+of_draft : (r : Result (Unit {0}) ScenarioFault) (made plan : Scenario) → told (result_and r (Ok made)) ≡ Ok plan → (r ≡ Ok tt) × (made ≡ plan)
 of_draft (Ok u) made plan e = (refl, same_ok made plan e)
 of_draft (Err fault) made plan e = absurd cc
 
-of_order : (o : Option ℕ) (plan made : Plan) → where_ordered o plan ≡ Ok made → (o ≡ None) × (plan ≡ made)
+of_order : (o : Option ℕ) (plan made : Scenario) → where_ordered o plan ≡ Ok made → (o ≡ None) × (plan ≡ made)
 of_order None plan made e = (refl, same_ok plan made e)
 of_order (Some number) plan made e = absurd cc
 
@@ -254,12 +259,12 @@ abbrev nothing : DraftMessage
 nothing = record { name = []; sender = None; to = []; at = pos 0 }
 
 target_name : (draft : Draft) → is_message draft.target_message draft.messages ≡ true
-    → (message_at (plan_of draft) (message_place draft.target_message draft.messages)).name ≡ draft.target_message
+    → (message_at (scenario_of draft) (message_place draft.target_message draft.messages)).name ≡ draft.target_message
 target_name draft among =
     let by_name : DraftMessage → Bool = λ m. bytes_eq draft.target_message m.name in
     let t = message_place draft.target_message draft.messages in
     let within = place_within by_name draft.messages among in
-    let stands : message_at (plan_of draft) t ≡ message_of draft.groups (get_or draft.messages t nothing) = get_or-map (message_of draft.groups) draft.messages t nothing no_message within in
+    let stands : message_at (scenario_of draft) t ≡ message_of draft.groups (get_or draft.messages t nothing) = get_or-map (message_of draft.groups) draft.messages t nothing no_message within in
     ap (λ (m : Message). m.name) stands ∙ sym (same_bytes draft.target_message (get_or draft.messages t nothing).name (place_passes by_name draft.messages nothing among))
 
 name_among : (name : List ℕ) (ms : List DraftMessage) → is_message name ms ≡ true → list_all (λ m. is_name m.name) ms ≡ true → 0 < length name
@@ -274,7 +279,7 @@ name_among name (m ∷ ms) e all =
 -- ---- the scenario
 
 -- as many lines as messages, and three
-pub count_lines : (plan : Plan) → length (scenario_lines plan) ≡ length plan.multicasts + 3
+pub count_lines : (plan : Scenario) → length (scenario_lines plan) ≡ length plan.multicasts + 3
 count_lines plan =
     let messages = length-map plan.multicasts (multicast_line plan) in
     let last = length-append (map (multicast_line plan) plan.multicasts) (target_line plan ∷ []) in
@@ -282,54 +287,54 @@ count_lines plan =
 
 made : (draft : Draft) (delay : ℕ) (d g t : List ℕ) (ms rest : List (List ℕ)) → draft.delay ≡ pos delay
     → d ≡ line_of (codes "delay") (decimal delay ∷ []) → decimal delay ≡ decimal (ticks GREATEST_DELAY (pos delay))
-    → g ≡ groups_line (plan_of draft) → ms ≡ map (multicast_line (plan_of draft)) (plan_of draft).multicasts → t ≡ target_line (plan_of draft)
-    → d ∷ g ∷ (ms ++ t ∷ rest) ≡ scenario_lines (plan_of draft) ++ rest
+    → g ≡ groups_line (scenario_of draft) → ms ≡ map (multicast_line (scenario_of draft)) (scenario_of draft).multicasts → t ≡ target_line (scenario_of draft)
+    → d ∷ g ∷ (ms ++ t ∷ rest) ≡ scenario_lines (scenario_of draft) ++ rest
 made draft delay d g t ms rest said de tick ge me te =
-    let delay-line : d ≡ delay_line (plan_of draft) = de ∙ ap (λ w. line_of (codes "delay") (w ∷ [])) (tick ∙ ap (λ z. decimal (ticks GREATEST_DELAY z)) (sym said)) in
+    let delay-line : d ≡ delay_line (scenario_of draft) = de ∙ ap (λ w. line_of (codes "delay") (w ∷ [])) (tick ∙ ap (λ z. decimal (ticks GREATEST_DELAY z)) (sym said)) in
     ap (λ l. l ∷ g ∷ (ms ++ t ∷ rest)) delay-line
-    ∙ ap (λ l. delay_line (plan_of draft) ∷ l ∷ (ms ++ t ∷ rest)) ge
-    ∙ ap (λ ls. delay_line (plan_of draft) ∷ groups_line (plan_of draft) ∷ (ls ++ t ∷ rest)) me
-    ∙ ap (λ l. delay_line (plan_of draft) ∷ groups_line (plan_of draft) ∷ (map (multicast_line (plan_of draft)) (plan_of draft).multicasts ++ l ∷ rest)) te
-    ∙ sym (ap (λ ls. delay_line (plan_of draft) ∷ groups_line (plan_of draft) ∷ ls) (append_assoc (map (multicast_line (plan_of draft)) (plan_of draft).multicasts) (target_line (plan_of draft) ∷ []) rest))
+    ∙ ap (λ l. delay_line (scenario_of draft) ∷ l ∷ (ms ++ t ∷ rest)) ge
+    ∙ ap (λ ls. delay_line (scenario_of draft) ∷ groups_line (scenario_of draft) ∷ (ls ++ t ∷ rest)) me
+    ∙ ap (λ l. delay_line (scenario_of draft) ∷ groups_line (scenario_of draft) ∷ (map (multicast_line (scenario_of draft)) (scenario_of draft).multicasts ++ l ∷ rest)) te
+    ∙ sym (ap (λ ls. delay_line (scenario_of draft) ∷ groups_line (scenario_of draft) ∷ ls) (append_assoc (map (multicast_line (scenario_of draft)) (scenario_of draft).multicasts) (target_line (scenario_of draft) ∷ []) rest))
 
-pub scenario_takes : (p : Place) (x : Plan × Place) → scenario_at p ≡ Ok x → IsScenario x.0 × IsBetween x.0 p x.1
+pub scenario_takes : (laws : LineLaws) (p : Place) (x : Scenario × Place) → scenario_at p ≡ Ok x → IsScenario x.0 × IsBetween x.0 p x.1
 unfolding scenario_at
-scenario_takes p x e =
-    let a = bind_ok (form_at Delay (forms.number_line (codes "delay")) p) (λ delay. form_at Groups forms.groups_line delay.1 >>= λ groups. messages_at 0 groups.1 >>= λ messages. form_at Target forms.target_line messages.1 >>= λ target.
+scenario_takes laws p x e =
+    let a = bind_ok (form_at Delay (number_in (codes "delay")) p) (λ delay. form_at Groups groups_in delay.1 >>= λ groups. messages_at 0 groups.1 >>= λ messages. form_at Target target_in messages.1 >>= λ target.
     told (scenario_of_draft (draft_of delay.0 groups.0 messages.0 target.0)) >>= λ plan. where_ordered (first_unordered groups.0 groups.1.number messages.0) plan >>= λ ordered. Ok (ordered, target.1)) x e in
-    let b = bind_ok (form_at Groups forms.groups_line a.0.1) (λ groups. messages_at 0 groups.1 >>= λ messages. form_at Target forms.target_line messages.1 >>= λ target.
+    let b = bind_ok (form_at Groups groups_in a.0.1) (λ groups. messages_at 0 groups.1 >>= λ messages. form_at Target target_in messages.1 >>= λ target.
     told (scenario_of_draft (draft_of a.0.0 groups.0 messages.0 target.0)) >>= λ plan. where_ordered (first_unordered groups.0 groups.1.number messages.0) plan >>= λ ordered. Ok (ordered, target.1)) x a.2 in
-    let c = bind_ok (messages_at 0 b.0.1) (λ messages. form_at Target forms.target_line messages.1 >>= λ target.
+    let c = bind_ok (messages_at 0 b.0.1) (λ messages. form_at Target target_in messages.1 >>= λ target.
     told (scenario_of_draft (draft_of a.0.0 b.0.0 messages.0 target.0)) >>= λ plan. where_ordered (first_unordered b.0.0 b.0.1.number messages.0) plan >>= λ ordered. Ok (ordered, target.1)) x b.2 in
-    let d = bind_ok (form_at Target forms.target_line c.0.1) (λ target.
+    let d = bind_ok (form_at Target target_in c.0.1) (λ target.
     told (scenario_of_draft (draft_of a.0.0 b.0.0 c.0.0 target.0)) >>= λ plan. where_ordered (first_unordered b.0.0 b.0.1.number c.0.0) plan >>= λ ordered. Ok (ordered, target.1)) x c.2 in
     let draft = draft_of a.0.0 b.0.0 c.0.0 d.0.0 in
     let f = bind_ok (told (scenario_of_draft draft)) (λ plan. where_ordered (first_unordered b.0.0 b.0.1.number c.0.0) plan >>= λ ordered. Ok (ordered, d.0.1)) x d.2 in
     let g = bind_ok (where_ordered (first_unordered b.0.0 b.0.1.number c.0.0) f.0) (λ ordered. Ok (ordered, d.0.1)) x f.2 in
-    let sure = of_draft (judge (checks draft)) (plan_of draft) f.0 f.1 in
+    let sure = of_draft (judge (checks draft)) (scenario_of draft) f.0 f.1 in
     let order = of_order (first_unordered b.0.0 b.0.1.number c.0.0) f.0 g.0 g.1 in
-    let same : (plan_of draft, d.0.1) ≡ x = ap (λ (plan : Plan). (plan, d.0.1)) (sure.1 ∙ order.1) ∙ same_ok (g.0, d.0.1) x g.2 in
+    let same : (scenario_of draft, d.0.1) ≡ x = ap (λ (plan : Scenario). (plan, d.0.1)) (sure.1 ∙ order.1) ∙ same_ok (g.0, d.0.1) x g.2 in
     let all = all_hold (checks draft) sure.0 in
     let names = all.1.1.1.1 in
     let refs = names.1.1.1.1 in
     let some = groups_some b.0.0 names.0 in
     let fine = each draft c.0.0 names.1.0 refs.0 all.1.1.1.0 (all_ordered b.0.0 b.0.1.number c.0.0 order.0) in
-    let t-delay = took Delay (forms.number_line (codes "delay")) p a.0 a.1 in
-    let t-groups = took Groups forms.groups_line a.0.1 b.0 b.1 in
-    let t-messages = messages_take 0 b.0.1.number b.0.1.rest b.0.1.ended c.0 c.1 in
-    let t-target = took Target forms.target_line c.0.1 d.0 d.1 in
-    let delay = number_line_takes (codes "delay") t-delay.line a.0.0 t-delay.has in
-    let groups = groups_take t-groups.line b.0.0 t-groups.has some in
+    let t-delay = took Delay (number_in (codes "delay")) p a.0 a.1 in
+    let t-groups = took Groups groups_in a.0.1 b.0 b.1 in
+    let t-messages = messages_take laws 0 b.0.1.number b.0.1.rest b.0.1.ended c.0 c.1 in
+    let t-target = took Target target_in c.0.1 d.0 d.1 in
+    let delay = number_line_takes laws (codes "delay") t-delay.line a.0.0 delay_word t-delay.has in
+    let groups = groups_take laws t-groups.line b.0.0 t-groups.has some in
     let lines = lines_are draft t-messages.lines c.0.0 some t-messages.say fine in
-    let target = target_takes t-target.line d.0.0 t-target.has (name_among d.0.0.0 c.0.0 refs.1.1.1.1.0 names.1.0) (among_some d.0.0.1 b.0.0 refs.1.0 some) in
-    let target-is : t-target.line ≡ target_line (plan_of draft) =
+    let target = target_takes laws t-target.line d.0.0 t-target.has (name_among d.0.0.0 c.0.0 refs.1.1.1.1.0 names.1.0) (among_some d.0.0.1 b.0.0 refs.1.0 some) in
+    let target-is : t-target.line ≡ target_line (scenario_of draft) =
     target ∙ ap (λ w. line_of (codes "target") (w ∷ d.0.0.1 ∷ [])) (sym (target_name draft refs.1.1.1.1.0))
-    ∙ ap (λ w. line_of (codes "target") ((message_at (plan_of draft) (plan_of draft).target_message).name ∷ w ∷ [])) (sym (name_at_place d.0.0.1 b.0.0 refs.1.0)) in
+    ∙ ap (λ w. line_of (codes "target") ((message_at (scenario_of draft) (scenario_of draft).target_message).name ∷ w ∷ [])) (sym (name_at_place d.0.0.1 b.0.0 refs.1.0)) in
     let stood : p.ended ≡ t-delay.line ∷ t-groups.line ∷ (t-messages.lines ++ t-target.line ∷ d.0.1.ended) =
     t-delay.ended ∙ ap (λ ls. t-delay.line ∷ ls) (t-groups.ended ∙ ap (λ ls. t-groups.line ∷ ls) (t-messages.before ∙ ap (λ ls. t-messages.lines ++ ls) t-target.ended)) in
-    let whole = made draft a.0.0 t-delay.line t-groups.line t-target.line t-messages.lines d.0.1.ended refl delay.0 (delay_is a.0.0 all.0) groups lines target-is in
+    let whole = made draft a.0.0 t-delay.line t-groups.line t-target.line t-messages.lines d.0.1.ended refl delay (delay_is a.0.0 all.0) groups lines target-is in
     let messages = length-map c.0.0 (message_of b.0.0) in
-    let past : p.number + length (scenario_lines (plan_of draft)) ≡ d.0.1.number =
-    omega (arith, count_lines (plan_of draft), t-delay.number, t-groups.number, t-messages.past, t-target.number) in
-    subst (λ (y : Plan × Place). IsScenario y.0 × IsBetween y.0 p y.1) same
-    (plan_formed draft sure.0, record { ended = stood ∙ whole; rest = t-delay.rest ∙ t-groups.rest ∙ t-messages.after ∙ t-target.rest; number = past })
+    let past : p.number + length (scenario_lines (scenario_of draft)) ≡ d.0.1.number =
+    omega (arith, count_lines (scenario_of draft), t-delay.number, t-groups.number, t-messages.past, t-target.number) in
+    subst (λ (y : Scenario × Place). IsScenario y.0 × IsBetween y.0 p y.1) same
+    (scenario_formed draft sure.0, record { ended = stood ∙ whole; rest = t-delay.rest ∙ t-groups.rest ∙ t-messages.after ∙ t-target.rest; number = past })

@@ -5,16 +5,17 @@ use Rattle.std.proofs.lemmas.Bool.{or_cases, eqb-true}
 use Rattle.std.proofs.lemmas.List.{append-nil, take_all}
 use Rattle.std.proofs.lemmas.List.Concat.{flat_map-append}
 use Rattle.std.proofs.lemmas.List.Elements.{All-head, All-tail, All-get_or}
-use Rattle.convoy_scenario.specs.Plan.{Plan, message_at, no_message}
+use Rattle.convoy_scenario.specs.Scenario.{Scenario, message_at, no_message}
 use Rattle.convoy_scenario.specs.WellFormed.{IsScenario, IsMulticast}
-use Rattle.convoy_scenario.specs.Lines.{ended, text_of, delay_line, groups_line, multicast_line, target_line, scenario_text}
+use Rattle.convoy_lines.specs.Texts.{ended, text_of}
+use Rattle.convoy_scenario.specs.Lines.{delay_line, groups_line, multicast_line, target_line, scenario_text}
 
 pub flat_map_map : {A B C : Type 0} (f : B → List C) (g : A → B) (xs : List A) → flat_map f (map g xs) ≡ flat_map (λ x. f (g x)) xs
 flat_map_map f g [] = refl
 flat_map_map f g (x ∷ xs) = ap (λ rest. f (g x) ++ rest) (flat_map_map f g xs)
 
 -- the text of a scenario, line by line
-pub pieces : (plan : Plan) → scenario_text plan ≡ ended (delay_line plan) ++ (ended (groups_line plan) ++ (text_of (map (multicast_line plan) plan.multicasts) ++ ended (target_line plan)))
+pub pieces : (plan : Scenario) → scenario_text plan ≡ ended (delay_line plan) ++ (ended (groups_line plan) ++ (text_of (map (multicast_line plan) plan.multicasts) ++ ended (target_line plan)))
 pieces plan =
     let end : text_of (target_line plan ∷ []) ≡ ended (target_line plan) = append-nil (ended (target_line plan)) in
     let rest : text_of (map (multicast_line plan) plan.multicasts ++ target_line plan ∷ []) ≡ text_of (map (multicast_line plan) plan.multicasts) ++ ended (target_line plan) =
@@ -25,7 +26,7 @@ regroup : (a b m e : List ℕ) → ((a ++ b) ++ m) ++ e ≡ a ++ (b ++ (m ++ e))
 regroup a b m e = simp append_assoc
 
 -- the text of a scenario that is appended line by line
-pub in_pieces : (plan : Plan) (t0 t1 t2 t3 t4 : List ℕ) → t0 ≡ [] → t1 ≡ t0 ++ ended (delay_line plan) → t2 ≡ t1 ++ ended (groups_line plan)
+pub in_pieces : (plan : Scenario) (t0 t1 t2 t3 t4 : List ℕ) → t0 ≡ [] → t1 ≡ t0 ++ ended (delay_line plan) → t2 ≡ t1 ++ ended (groups_line plan)
     → t3 ≡ t2 ++ text_of (map (multicast_line plan) plan.multicasts) → t4 ≡ t3 ++ ended (target_line plan) → t4 ≡ scenario_text plan
 in_pieces plan t0 t1 t2 t3 t4 e0 e1 e2 e3 e4 =
     let all : t4 ≡ ((ended (delay_line plan) ++ ended (groups_line plan)) ++ text_of (map (multicast_line plan) plan.multicasts)) ++ ended (target_line plan) = rw (e4, e3, e2, e1, e0) refl in
@@ -44,7 +45,7 @@ known n g (d ∷ ds) all any =
     ]
 
 -- the target's group is a group
-pub target_known : (plan : Plan) → IsScenario plan → plan.target_group < length plan.groups
+pub target_known : (plan : Scenario) → IsScenario plan → plan.target_group < length plan.groups
 target_known plan s =
     known (length plan.groups) plan.target_group (message_at plan plan.target_message).destinations
     (All-get_or (IsMulticast (length plan.groups)) plan.multicasts plan.target_message no_message s.target s.messages).known s.addressed

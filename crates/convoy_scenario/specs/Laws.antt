@@ -1,77 +1,40 @@
--- What is proved of words, of lines and of the lines of scenarios. Each is the one clause of the function of its name in the crate's module `laws`.
+-- What is proved of drafts, of scenario texts and of the lines of scenarios. Each is the one clause of the function of its name in the crate's module `laws`.
 use Rattle.std.specs.Prelude.{◌≡◌, ℕ, ◌+◌, ◌<◌, ◌≤◌, ◌^◌, ◌↔◌, List, [], ◌∷◌, ◌++◌, length, decimal, Some, Ok, All}
-use Rattle.convoy_scenario.specs.LineForms.{greatest_number, words_after, number_line}
-use Rattle.convoy_scenario.specs.LineReading.{Place, lines_in, scenario_at}
-use Rattle.convoy_scenario.specs.LineWords.{Lacks, words_of, number_of}
-use Rattle.convoy_scenario.specs.Lines.{line_of, text_of, scenario_lines}
-use Rattle.convoy_scenario.specs.Plan.{Plan}
+use Rattle.convoy_lines.specs.Laws.{IsLine}
+use Rattle.convoy_lines.specs.Places.{Place}
+use Rattle.convoy_scenario.specs.Draft.{Draft}
+use Rattle.convoy_scenario.specs.LineReading.{scenario_at}
+use Rattle.convoy_scenario.specs.Lines.{scenario_lines}
+use Rattle.convoy_scenario.specs.Naming.{draft_for}
+use Rattle.convoy_scenario.specs.Numbering.{scenario_of_draft}
+use Rattle.convoy_scenario.specs.Reading.{scenario_of_text}
+use Rattle.convoy_scenario.specs.Scenario.{Scenario}
 use Rattle.convoy_scenario.specs.WellFormed.{IsScenario}
 
--- a word: one byte or more, none of them a space or byte 10
-pub record IsWord (word : List ℕ) : Type 0 where
-  pub some : 0 < length word
-  pub spaceless : Lacks 32 word
-  pub endless : Lacks 10 word
+-- what is made of a draft is a well-formed scenario
+abbrev pub DraftsGiveScenarios : Type 0
+DraftsGiveScenarios = (draft : Draft) (scenario : Scenario) → scenario_of_draft draft ≡ Ok scenario → IsScenario scenario
 
--- a line: bytes, none of them byte 10
-abbrev pub IsLine : List ℕ → Type 0
-IsLine line = Lacks 10 line
+-- each well-formed scenario is made of its draft
+abbrev pub ScenariosHaveDrafts : Type 0
+ScenariosHaveDrafts = (scenario : Scenario) → IsScenario scenario → scenario_of_draft (draft_for scenario) ≡ Ok scenario
 
--- up to a limit of 64 bits, the word that is read as a number is the number in decimal digits, and no other word is read as it
-abbrev pub NumbersAreDecimals : Type 0
-NumbersAreDecimals =
-    (most : ℕ) (word : List ℕ) (number : ℕ)
-    → most < 2 ^ 64
-    → (number_of most word ≡ Some number) ↔ ((word ≡ decimal number) × (number ≤ most))
-
--- a number of 64 bits in decimal digits is a word
-abbrev pub DecimalsAreWords : Type 0
-DecimalsAreWords = (number : ℕ) → number < 2 ^ 64 → IsWord (decimal number)
-
--- the words read from a line, with one space between them, are the line again; and words are read from the line that they make
-abbrev pub WordsOfLines : Type 0
-WordsOfLines =
-    (line word : List ℕ) (words : List (List ℕ))
-    → (words_of line ≡ word ∷ words → line ≡ line_of word words)
-    × (All IsWord (word ∷ words) → line ≡ line_of word words → words_of line ≡ word ∷ words)
-
--- words with one space between them make a line
-abbrev pub WordsMakeLines : Type 0
-WordsMakeLines =
-    (word : List ℕ) (words : List (List ℕ)) → All IsWord (word ∷ words) → IsLine (line_of word words)
-
--- the words read after a label, with the label before them, are the line again; and words are read after the label of the line that they make with it
-abbrev pub LabelledLines : Type 0
-LabelledLines =
-    (label line : List ℕ) (words : List (List ℕ))
-    → (words_after label line ≡ Some words → line ≡ line_of label words)
-    × (All IsWord (label ∷ words) → line ≡ line_of label words → words_after label line ≡ Some words)
-
--- the line LABEL NUMBER is read as its number, where the number has 32 bits, and no other line is read as it
-abbrev pub NumberLines : Type 0
-NumberLines =
-    (label line : List ℕ) (number : ℕ)
-    → IsWord label
-    → (number_line label line ≡ Some number) ↔ ((line ≡ line_of label (decimal number ∷ [])) × (number ≤ greatest_number))
-
--- a text has these lines and nothing after them just where it is these lines in a row, each ended by byte 10, and none of them has a byte 10 in it
-abbrev pub LinesOfTexts : Type 0
-LinesOfTexts =
-    (text : List ℕ) (lines : List (List ℕ))
-    → (lines_in text ≡ record { ended = lines; rest = [] }) ↔ ((text ≡ text_of lines) × All IsLine lines)
+-- what a text is read as is a well-formed scenario
+abbrev pub TextsGiveScenarios : Type 0
+TextsGiveScenarios = (text : List ℕ) (scenario : Scenario) → scenario_of_text text ≡ Ok scenario → IsScenario scenario
 
 -- the lines of a well-formed scenario are lines
 abbrev pub ScenarioLinesAreLines : Type 0
-ScenarioLinesAreLines = (plan : Plan) → IsScenario plan → All IsLine (scenario_lines plan)
+ScenarioLinesAreLines = (scenario : Scenario) → IsScenario scenario → All IsLine (scenario_lines scenario)
 
 -- the lines of a scenario stand between two places
-pub record IsBetween (plan : Plan) (place past : Place) : Type 0 where
-  pub ended : place.ended ≡ scenario_lines plan ++ past.ended
+pub record IsBetween (scenario : Scenario) (place past : Place) : Type 0 where
+  pub ended : place.ended ≡ scenario_lines scenario ++ past.ended
   pub rest : place.rest ≡ past.rest
-  pub number : place.number + length (scenario_lines plan) ≡ past.number
+  pub number : place.number + length (scenario_lines scenario) ≡ past.number
 
 -- a scenario is read at a place, up to another, just where it is well formed and its lines stand between them
 abbrev pub ScenariosAreTheirLines : Type 0
 ScenariosAreTheirLines =
-    (plan : Plan) (place past : Place)
-    → (scenario_at place ≡ Ok (plan, past)) ↔ (IsScenario plan × IsBetween plan place past)
+    (scenario : Scenario) (place past : Place)
+    → (scenario_at place ≡ Ok (scenario, past)) ↔ (IsScenario scenario × IsBetween scenario place past)

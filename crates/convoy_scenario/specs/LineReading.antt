@@ -1,7 +1,9 @@
 -- What reading the lines of a scenario answers: the scenario, or the first fault in the order of the lines.
-use Rattle.std.specs.Prelude.{ℕ, pos, ◌+◌, ◌==◌, Bool, ◌&&◌, ◌||◌, if◌then◌else◌, List, [], ◌∷◌, length, filter, codes, Option, Some, None, ok_or, Result, Ok, Err}
+use Rattle.std.specs.Prelude.{ℕ, pos, ◌+◌, ◌==◌, Bool, ◌||◌, if◌then◌else◌, List, [], ◌∷◌, length, filter, codes, Option, Some, None, ok_or, Result, Ok, Err}
 use Rattle.std.specs.Cmp.Lexicographic.{pointwise}
 use Rattle.std.specs.Str.{bytes_eq}
+use Rattle.convoy_lines.specs.Places.{Place, line_at, past_line}
+use Rattle.convoy_lines.specs.Results.{◌>>=◌}
 use Rattle.convoy_scenario.specs.declared.fault.ScenarioFault.{ScenarioFault}
 use Rattle.convoy_scenario.specs.declared.fault.ScenarioFault.TheVariants.{OverLimit}
 use Rattle.convoy_scenario.specs.declared.fault.Limit.TheVariants.{Multicasts}
@@ -9,79 +11,20 @@ use Rattle.convoy_scenario.specs.declared.limits.TheConstants.{MOST_MULTICASTS}
 use Rattle.convoy_scenario.specs.declared.line_fault.Expected.{Expected}
 use Rattle.convoy_scenario.specs.declared.line_fault.Expected.TheVariants.{Delay, Groups, Multicast, Target}
 use Rattle.convoy_scenario.specs.declared.line_fault.LineFault.{LineFault}
-use Rattle.convoy_scenario.specs.declared.line_fault.LineFault.TheVariants.{Line, Scenario}
+use Rattle.convoy_scenario.specs.declared.line_fault.LineFault.TheVariants as faults
 use Rattle.convoy_scenario.specs.Checks.{is_among}
 use Rattle.convoy_scenario.specs.Draft.{Draft, DraftMessage}
-use Rattle.convoy_scenario.specs.LineForms.{begins_with, number_line, groups_line, multicast_line, target_line}
-use Rattle.convoy_scenario.specs.LineWords.{words_of}
+use Rattle.convoy_lines.specs.Labels.{begins_with, number_in}
+use Rattle.convoy_scenario.specs.LineForms.{groups_in, multicast_in, target_in}
+use Rattle.convoy_lines.specs.Words.{words_of}
 use Rattle.convoy_scenario.specs.Numbering.{scenario_of_draft}
-use Rattle.convoy_scenario.specs.Plan.{Plan}
-
--- a text: the lines that are ended by byte 10, and what follows the last of them
-pub record Lines : Type 0 where
-  pub ended : List (List ℕ)
-  pub rest : List ℕ
-
--- a byte, not 10, put in front of a text
-abbrev pub in_front : ℕ → List (List ℕ) → List ℕ → Lines
-in_front byte [] rest = record { ended = []; rest = byte ∷ rest }
-in_front byte (line ∷ lines) rest = record { ended = (byte ∷ line) ∷ lines; rest = rest }
-
--- a byte put in front of a text
-abbrev pub with_byte : ℕ → Lines → Lines
-with_byte byte lines = if byte == 10 then record { ended = [] ∷ lines.ended; rest = lines.rest } else in_front byte lines.ended lines.rest
-
--- the lines of a text
-abbrev pub lines_in : List ℕ → Lines
-lines_in [] = record { ended = []; rest = [] }
-lines_in (byte ∷ bytes) = with_byte byte (lines_in bytes)
-
--- where a reader stands: what is left, and the number of the next line
-pub record Place : Type 0 where
-  pub ended : List (List ℕ)
-  pub rest : List ℕ
-  pub number : ℕ
-
--- the place before a text whose first line has this number
-abbrev pub place_before : List ℕ → ℕ → Place
-place_before text number = record { ended = (lines_in text).ended; rest = (lines_in text).rest; number = number }
-
--- the next line, if it is there and ended
-abbrev pub line_at : Place → Option (List ℕ)
-line_at place = first place.ended where
-  first : List (List ℕ) → Option (List ℕ)
-  first [] = None
-  first (line ∷ lines) = Some line
-
--- the place after the next line, or the same place where there is no ended line
-abbrev pub past_line : Place → Place
-past_line place = past place.ended where
-  past : List (List ℕ) → Place
-  past [] = place
-  past (line ∷ lines) = record { ended = lines; rest = place.rest; number = place.number + 1 }
-
--- what comes next: a line, ended or not
-abbrev pub upcoming : Place → List ℕ
-upcoming place = first place.ended where
-  first : List (List ℕ) → List ℕ
-  first [] = place.rest
-  first (line ∷ lines) = line
-
--- nothing is left
-abbrev pub is_at_end : Place → Bool
-is_at_end place = (length place.ended == 0) && (length place.rest == 0)
-
--- then: the first fault ends it
-infixl 10 ◌>>=◌
-abbrev pub ◌>>=◌ : {A B : Type 0} → Result A LineFault → (A → Result B LineFault) → Result B LineFault
-Ok x >>= f = f x
-Err fault >>= f = Err fault
+use Rattle.convoy_scenario.specs.Scenario.{Scenario}
 
 -- what the next line says, if it is there, ended and of its form
 abbrev pub form_at : {A : Type 0} → Expected → (List ℕ → Option A) → Place → Result (A × Place) LineFault
 form_at expected form place = do
-  line ← ok_or (line_at place) (Line place.number expected)
-  value ← ok_or (form line) (Line place.number expected)
+  line ← ok_or (line_at place) (faults.Line place.number expected)
+  value ← ok_or (form line) (faults.Line place.number expected)
   Ok (value, past_line place)
 
 -- a line `multicast` is due: it is the first of them, or what comes next begins with that word
@@ -91,12 +34,12 @@ is_multicast_due count line = count == 0 || begins_with (codes "multicast") (wor
 -- The messages of the lines `multicast` that come next, after so many: the first line has to be one, and each that begins with that word.
 unfoldable pub messages_in : ℕ → ℕ → List ℕ → List (List ℕ) → Result (List DraftMessage × Place) LineFault
 messages_in count number rest [] =
-    if is_multicast_due count rest then Err (Line number Multicast)
+    if is_multicast_due count rest then Err (faults.Line number Multicast)
     else Ok ([], record { ended = []; rest = rest; number = number })
 messages_in count number rest (line ∷ lines) =
     if is_multicast_due count line then (do
-      message ← ok_or (multicast_line line) (Line number Multicast)
-      more ← if count == MOST_MULTICASTS then Err (Scenario (OverLimit Multicasts)) else messages_in (count + 1) (number + 1) rest lines
+      message ← ok_or (multicast_in line) (faults.Line number Multicast)
+      more ← if count == MOST_MULTICASTS then Err (faults.Scenario (OverLimit Multicasts)) else messages_in (count + 1) (number + 1) rest lines
       Ok (message ∷ more.0, more.1))
     else Ok ([], record { ended = line ∷ lines; rest = rest; number = number })
 
@@ -109,9 +52,9 @@ draft_of delay groups messages target =
     record { delay = pos delay; groups = groups; messages = messages; target_message = target.0; target_group = target.1 }
 
 -- the fault of a scenario, told of lines
-abbrev pub told : Result Plan ScenarioFault → Result Plan LineFault
-told (Ok plan) = Ok plan
-told (Err fault) = Err (Scenario fault)
+abbrev pub told : Result Scenario ScenarioFault → Result Scenario LineFault
+told (Ok scenario) = Ok scenario
+told (Err fault) = Err (faults.Scenario fault)
 
 -- the destinations stand in the order of the groups: they are the groups that are named, in their order
 abbrev pub is_ordered : List (List ℕ) → DraftMessage → Bool
@@ -124,17 +67,17 @@ first_unordered groups number (message ∷ messages) =
     if is_ordered groups message then first_unordered groups (number + 1) messages else Some number
 
 -- the scenario, where no line has destinations out of order
-abbrev pub where_ordered : Option ℕ → Plan → Result Plan LineFault
-where_ordered None plan = Ok plan
-where_ordered (Some number) plan = Err (Line number Multicast)
+abbrev pub where_ordered : Option ℕ → Scenario → Result Scenario LineFault
+where_ordered None scenario = Ok scenario
+where_ordered (Some number) scenario = Err (faults.Line number Multicast)
 
 -- the scenario of the next lines, from `delay` to `target`, and the place after them; else the first fault
-unfoldable pub scenario_at : Place → Result (Plan × Place) LineFault
+unfoldable pub scenario_at : Place → Result (Scenario × Place) LineFault
 scenario_at place = do
-  delay ← form_at Delay (number_line (codes "delay")) place
-  groups ← form_at Groups groups_line delay.1
+  delay ← form_at Delay (number_in (codes "delay")) place
+  groups ← form_at Groups groups_in delay.1
   messages ← messages_at 0 groups.1
-  target ← form_at Target target_line messages.1
-  plan ← told (scenario_of_draft (draft_of delay.0 groups.0 messages.0 target.0))
-  ordered ← where_ordered (first_unordered groups.0 groups.1.number messages.0) plan
+  target ← form_at Target target_in messages.1
+  scenario ← told (scenario_of_draft (draft_of delay.0 groups.0 messages.0 target.0))
+  ordered ← where_ordered (first_unordered groups.0 groups.1.number messages.0) scenario
   Ok (ordered, target.1)

@@ -8,7 +8,7 @@ use Rattle.convoy_scenario.specs.declared.fault.ScenarioFault.{ScenarioFault}
 use Rattle.convoy_scenario.specs.declared.limits.TheConstants.{GREATEST_AT, GREATEST_DELAY}
 use Rattle.convoy_scenario.specs.declared.sender.Sender.{Sender}
 use Rattle.convoy_scenario.specs.declared.sender.Sender.TheVariants.{Client, Group}
-use Rattle.convoy_scenario.specs.Plan.{Message, Plan}
+use Rattle.convoy_scenario.specs.Scenario.{Message, Scenario}
 use Rattle.convoy_scenario.specs.Draft.{Draft, DraftMessage}
 use Rattle.convoy_scenario.specs.Checks.{is_within, is_among, checks, judge}
 
@@ -43,8 +43,8 @@ message_of groups message = record {
 }
 
 -- a scenario with numbers
-abbrev pub plan_of : Draft → Plan
-plan_of draft = record {
+abbrev pub scenario_of : Draft → Scenario
+scenario_of draft = record {
   delay = ticks GREATEST_DELAY draft.delay;
   groups = draft.groups;
   multicasts = map (message_of draft.groups) draft.messages;
@@ -53,5 +53,5 @@ plan_of draft = record {
 }
 
 -- the scenario of a draft, or the fault of the first check that does not hold
-abbrev pub scenario_of_draft : Draft → Result Plan ScenarioFault
-scenario_of_draft draft = result_and (judge (checks draft)) (Ok (plan_of draft))
+abbrev pub scenario_of_draft : Draft → Result Scenario ScenarioFault
+scenario_of_draft draft = result_and (judge (checks draft)) (Ok (scenario_of draft))

@@ -8,6 +8,7 @@ use Rattle.std.specs.Prelude.{Vec, String, map, Bool, true, ◌&&◌, if◌then�
 use Rattle.std.specs.List.{list_any}
 use Rattle.std.specs.Str.{bytes_eq}
 use Rattle.toml.specs.Data.{Data, Items, no_items, item, Members, no_members, member, get_member, as_str, as_integer, as_array, as_table}
+use Rattle.convoy_lines.specs.Results.{◌>>=◌}
 use Rattle.convoy_scenario.specs.declared.fault.Key.{Key}
 use Rattle.convoy_scenario.specs.declared.fault.Key.TheVariants.{Delay, Groups, Multicast, Name, From, To, At, Target, Message, Group, Schedule, Unknown}
 use Rattle.convoy_scenario.specs.declared.fault.ScenarioFault.{ScenarioFault}
@@ -15,25 +16,19 @@ use Rattle.convoy_scenario.specs.declared.fault.ScenarioFault.TheVariants.{Shape
 use Rattle.convoy_scenario.specs.Draft.{Draft, DraftMessage}
 
 -- the word for a key
-abbrev pub word_of : Key → List ℕ
-word_of Delay = codes "delay"
-word_of Groups = codes "groups"
-word_of Multicast = codes "multicast"
-word_of Name = codes "name"
-word_of From = codes "from"
-word_of To = codes "to"
-word_of At = codes "at"
-word_of Target = codes "target"
-word_of Message = codes "message"
-word_of Group = codes "group"
-word_of Schedule = codes "schedule"
-word_of Unknown = codes "unknown"
-
--- then: the first fault ends it
-infixl 10 ◌>>=◌
-abbrev pub ◌>>=◌ : {A B : Type 0} → Result A ScenarioFault → (A → Result B ScenarioFault) → Result B ScenarioFault
-Ok x >>= f = f x
-Err fault >>= f = Err fault
+abbrev pub key_word : Key → List ℕ
+key_word Delay = codes "delay"
+key_word Groups = codes "groups"
+key_word Multicast = codes "multicast"
+key_word Name = codes "name"
+key_word From = codes "from"
+key_word To = codes "to"
+key_word At = codes "at"
+key_word Target = codes "target"
+key_word Message = codes "message"
+key_word Group = codes "group"
+key_word Schedule = codes "schedule"
+key_word Unknown = codes "unknown"
 
 -- what `kind` gives of each item, where it gives something of all
 abbrev pub all_of : {A : Type 0} → (Data → Option A) → Items → Option (List A)
@@ -42,7 +37,7 @@ all_of kind (item d ds) = option_and_then (λ x. option_map (λ xs. x ∷ xs) (a
 
 -- the value of a key that has to be there, of its kind
 abbrev pub need : {A : Type 0} → Key → (Data → Option A) → Members → Result A ScenarioFault
-need key kind table = ok_or (option_and_then kind (get_member (word_of key) table)) (Shape key)
+need key kind table = ok_or (option_and_then kind (get_member (key_word key) table)) (Shape key)
 
 -- what stands in an array that has to be there, each item of its kind
 abbrev pub need_all : {A : Type 0} → Key → (Data → Option A) → Members → Result (List A) ScenarioFault
@@ -50,7 +45,7 @@ need_all key kind table = need key as_array table >>= λ items. ok_or (all_of ki
 
 -- the value of a key that may be absent, of its kind
 abbrev pub wish : {A : Type 0} → Key → (Data → Option A) → Members → Result (Option A) ScenarioFault
-wish {A} key kind table = if_there (get_member (word_of key) table) where
+wish {A} key kind table = if_there (get_member (key_word key) table) where
   if_there : Option Data → Result (Option A) ScenarioFault
   if_there None = Ok None
   if_there (Some d) = ok_or (option_map Some (kind d)) (Shape key)
@@ -62,7 +57,7 @@ wish_all key kind table = wish key (λ d. option_and_then (all_of kind) (as_arra
 -- each key of the table is one of these
 abbrev pub has_only : List Key → Members → Bool
 has_only keys no_members = true
-has_only keys (member word d rest) = list_any (λ key. bytes_eq (word_of key) word) keys && has_only keys rest
+has_only keys (member word d rest) = list_any (λ key. bytes_eq (key_word key) word) keys && has_only keys rest
 
 -- an unknown key is a fault
 abbrev pub need_only : List Key → Members → Result (Unit {0}) ScenarioFault

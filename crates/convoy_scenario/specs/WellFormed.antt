@@ -6,7 +6,7 @@ use Rattle.std.specs.Str.{bytes_eq}
 use Rattle.convoy_scenario.specs.declared.sender.Sender.{Sender}
 use Rattle.convoy_scenario.specs.declared.sender.Sender.TheVariants.{Client, Group}
 use Rattle.convoy_scenario.specs.declared.limits.TheConstants.{GREATEST_AT, GREATEST_DELAY, LONGEST_NAME, MOST_GROUPS, MOST_MULTICASTS}
-use Rattle.convoy_scenario.specs.Plan.{Message, Plan, message_at, is_addressed}
+use Rattle.convoy_scenario.specs.Scenario.{Message, Scenario, message_at, is_addressed}
 
 -- a letter from a to z
 abbrev pub is_letter : ℕ → Bool
@@ -48,16 +48,16 @@ pub record IsMulticast (groups : ℕ) (message : Message) : Type 0 where
   pub at : message.at ≤ GREATEST_AT
 
 -- the limits hold, names are names and differ, and all that is referred to is there
-pub record IsScenario (plan : Plan) : Type 0 where
-  pub delay_low : 1 ≤ plan.delay
-  pub delay_high : plan.delay ≤ GREATEST_DELAY
-  pub groups_low : 1 ≤ length plan.groups
-  pub groups_high : length plan.groups ≤ MOST_GROUPS
-  pub multicasts_low : 1 ≤ length plan.multicasts
-  pub multicasts_high : length plan.multicasts ≤ MOST_MULTICASTS
-  pub group_names : All (λ name. IsTrue (is_group_name name)) plan.groups
-  pub group_names_differ : IsDistinct bytes_eq plan.groups
-  pub message_names_differ : IsDistinct (λ a b. bytes_eq a.name b.name) plan.multicasts
-  pub messages : All (IsMulticast (length plan.groups)) plan.multicasts
-  pub target : plan.target_message < length plan.multicasts
-  pub addressed : IsTrue (is_addressed (message_at plan plan.target_message) plan.target_group)
+pub record IsScenario (scenario : Scenario) : Type 0 where
+  pub delay_low : 1 ≤ scenario.delay
+  pub delay_high : scenario.delay ≤ GREATEST_DELAY
+  pub groups_low : 1 ≤ length scenario.groups
+  pub groups_high : length scenario.groups ≤ MOST_GROUPS
+  pub multicasts_low : 1 ≤ length scenario.multicasts
+  pub multicasts_high : length scenario.multicasts ≤ MOST_MULTICASTS
+  pub group_names : All (λ name. IsTrue (is_group_name name)) scenario.groups
+  pub group_names_differ : IsDistinct bytes_eq scenario.groups
+  pub message_names_differ : IsDistinct (λ a b. bytes_eq a.name b.name) scenario.multicasts
+  pub messages : All (IsMulticast (length scenario.groups)) scenario.multicasts
+  pub target : scenario.target_message < length scenario.multicasts
+  pub addressed : IsTrue (is_addressed (message_at scenario scenario.target_message) scenario.target_group)

@@ -56,17 +56,17 @@ pub enum ScenarioFault {
     UnknownTarget,
     /// The target's message does not go to the target's group.
     TargetNotAddressed,
-    /// Memory was refused, which says nothing of the text.
+    /// Memory ran out, which says nothing of the text.
     Memory,
 }
 
 impl Key {
     ghost use Rattle.std.specs.Prelude.{◌≡◌};
-    ghost use Rattle.convoy_scenario.specs.Shape.{word_of};
+    ghost use Rattle.convoy_scenario.specs.Shape.{key_word};
 
     /// The key as a scenario text has it, and `unknown` for any other.
     pub fn word(self) -> &'static str
-        ensures { result.now ≡ word_of self }
+        ensures { result.now ≡ key_word self }
     {
         match self {
             Key::Delay => "delay",

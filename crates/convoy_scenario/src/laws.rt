@@ -1,55 +1,50 @@
-//! The laws of words, of lines and of the lines of scenarios. Each is the one clause of a function
-//! that does nothing; a caller that needs the law calls the function.
+//! The laws of drafts, of scenario texts, of words, of lines and of the lines of scenarios. Each is
+//! the one clause of a function that does nothing; a caller that needs the law calls the function.
 
-ghost use Rattle.convoy_scenario.specs.Laws.{NumbersAreDecimals, DecimalsAreWords};
-ghost use Rattle.convoy_scenario.specs.Laws.{WordsOfLines, WordsMakeLines};
-ghost use Rattle.convoy_scenario.specs.Laws.{LabelledLines, NumberLines, LinesOfTexts};
+ghost use Rattle.convoy_scenario.specs.Laws.{DraftsGiveScenarios, ScenariosHaveDrafts, TextsGiveScenarios};
 ghost use Rattle.convoy_scenario.specs.Laws.{ScenarioLinesAreLines, ScenariosAreTheirLines};
 
-/// A number in decimal digits is read as that number, up to the limit, and from no other word.
-pub fn numbers_are_decimals()
-    ensures { NumbersAreDecimals }
+use convoy_lines::laws::{
+    decimals_are_words, labelled_lines, number_lines, numbers_are_decimals, words_make_lines,
+    words_of_lines,
+};
+
+/// What is made of a draft is a well-formed scenario.
+pub fn drafts_give_scenarios()
+    ensures { DraftsGiveScenarios }
 {}
 
-/// A number in decimal digits is a word.
-pub fn decimals_are_words()
-    ensures { DecimalsAreWords }
+/// Each well-formed scenario is made of its draft.
+pub fn scenarios_have_drafts()
+    ensures { ScenariosHaveDrafts }
 {}
 
-/// A line is the words read from it with one space between them, and words are read from the line
-/// that they make so.
-pub fn words_of_lines()
-    ensures { WordsOfLines }
-{}
-
-/// Words with one space between them make a line: it has no byte 10 in it.
-pub fn words_make_lines()
-    ensures { WordsMakeLines }
-{}
-
-/// A line is its label and the words read after it, and words are read after the label of the line
-/// that they make with it.
-pub fn labelled_lines()
-    ensures { LabelledLines }
-{}
-
-/// The line of a label and a number of 32 bits is read as that number, and no other line is.
-pub fn number_lines()
-    ensures { NumberLines }
-{}
-
-/// A text has just the lines of which it is made, each ended by byte 10.
-pub fn lines_of_texts()
-    ensures { LinesOfTexts }
+/// What a text is read as is a well-formed scenario.
+pub fn texts_give_scenarios()
+    ensures { TextsGiveScenarios }
 {}
 
 /// The lines of a well-formed scenario are lines: none has a byte 10 in it.
 pub fn scenario_lines_are_lines()
     ensures { ScenarioLinesAreLines }
-{}
+{
+    numbers_are_decimals();
+    decimals_are_words();
+    words_of_lines();
+    words_make_lines();
+    labelled_lines();
+    number_lines();
+}
 
 /// The lines of a well-formed scenario are read as that scenario, whatever comes after them, and no
 /// other lines are.
 pub fn scenarios_are_their_lines()
     ensures { ScenariosAreTheirLines }
-{}
+{
+    numbers_are_decimals();
+    decimals_are_words();
+    words_of_lines();
+    words_make_lines();
+    labelled_lines();
+    number_lines();
+}

@@ -23,7 +23,7 @@ pub enum LineFault {
     Line(usize, Expected),
     /// The lines have their form, but there is no such scenario.
     Scenario(ScenarioFault),
-    /// Memory was refused, which says nothing of the text.
+    /// Memory ran out, which says nothing of the text.
     Memory,
 }
 

@@ -1,56 +1,13 @@
 ghost use Rattle.std.specs.Prelude.{◌≡◌, ◌==◌, Ok, map, codes, length, option_map, ok_or, IfOk};
 ghost use Rattle.std.specs.Result.{result_map_both};
 ghost use Rattle.convoy_scenario.specs.Memory.{IsUnlessMemory};
-ghost use Rattle.convoy_scenario.specs.LineWords.{words_of};
-ghost use Rattle.convoy_scenario.specs.LineForms.{is_spaced, begins_with, words_after, number_line, name_of, sender_of, groups_line, multicast_line, target_line};
+ghost use Rattle.convoy_scenario.specs.LineForms.{name_of, named_sender, groups_in, multicast_in, target_in};
 
 use super::draft::DraftMulticast;
 use super::line_fault::LineFault;
 use super::name::Name;
-use super::words::{Words, number_of};
+use convoy_lines::{Words, number_of, words_after};
 use std::alloc::{AllocError, Global};
-
-/// Whether the first word of a line is this label.
-pub fn begins_with(line: &[u8], label: &[u8]) -> bool
-    ensures { result ≡ begins_with label.now (words_of line.now) }
-{
-    match Words::of(line).next() {
-        Some(word) => word == label,
-        None => false,
-    }
-}
-
-/// The words of a line after its label; None where it has another label, or two spaces in a row, or a
-/// space at its end.
-pub fn words_after<'a>(line: &'a [u8], label: &[u8]) -> Option<Words<'a>>
-    ensures { result ≡ words_after label.now line.now }
-{
-    let mut words = Words::of(line);
-    let first = words.next()?;
-    (first == label && is_spaced(line)).then_some(words)
-}
-
-/// Whether the words of a line are parted by exactly one space: none of them is empty.
-fn is_spaced(line: &[u8]) -> bool
-    ensures { result ≡ is_spaced (words_of line.now) }
-{
-    let mut words = Words::of(line);
-    while let Some(word) = words.next() {
-        if word.is_empty() {
-            return false;
-        }
-    }
-    true
-}
-
-/// The number of a line `LABEL NUMBER`.
-pub fn number_line(line: &[u8], label: &[u8]) -> Option<u32>
-    ensures { result ≡ number_line label.now line.now }
-{
-    let mut words = words_after(line, label)?;
-    let number = number_of(words.next()?, u32::MAX)?;
-    words.are_over().then_some(number)
-}
 
 /// A word as a name; one that is not UTF-8, which is no name, as the name of no bytes, which is none,
 /// either.
@@ -64,8 +21,8 @@ fn name_of(alloc: Global, word: &[u8]) -> Result<Name, AllocError>
 }
 
 /// The sender that a word names: None for a client.
-fn sender_of(alloc: Global, word: &[u8]) -> Result<Option<Name>, AllocError>
-    ensures { IfOk result (λ sender. sender ≡ sender_of word.now) }
+fn named_sender(alloc: Global, word: &[u8]) -> Result<Option<Name>, AllocError>
+    ensures { IfOk result (λ sender. sender ≡ named_sender word.now) }
 {
     if word == b"client".as_slice() {
         return Ok(None);
@@ -86,8 +43,8 @@ fn names_of(alloc: Global, words: Words) -> Result<Vec<Name>, AllocError>
 }
 
 /// The names of a line `groups`; `wrong` where the line has not its form.
-pub fn groups_line(alloc: Global, line: &[u8], wrong: LineFault) -> Result<Vec<Name>, LineFault>
-    ensures { IsUnlessMemory LineFault.Memory (ok_or (groups_line line.now) wrong)
+pub fn groups_in(alloc: Global, line: &[u8], wrong: LineFault) -> Result<Vec<Name>, LineFault>
+    ensures { IsUnlessMemory LineFault.Memory (ok_or (groups_in line.now) wrong)
         (result_map_both (λ groups. groups.items) (λ fault. fault) result) }
 {
     let words = words_after(line, b"groups").ok_or(wrong)?;
@@ -99,12 +56,12 @@ pub fn groups_line(alloc: Global, line: &[u8], wrong: LineFault) -> Result<Vec<N
 }
 
 /// The message of a line `multicast`; `wrong` where the line has not its form.
-pub fn multicast_line(
+pub fn multicast_in(
     alloc: Global,
     line: &[u8],
     wrong: LineFault,
 ) -> Result<DraftMulticast, LineFault>
-    ensures { IsUnlessMemory LineFault.Memory (ok_or (multicast_line line.now) wrong) result }
+    ensures { IsUnlessMemory LineFault.Memory (ok_or (multicast_in line.now) wrong) result }
 {
     let mut words = words_after(line, b"multicast").ok_or(wrong)?;
     let name = words.next().ok_or(wrong)?;
@@ -113,15 +70,15 @@ pub fn multicast_line(
     let at = number_of(at, u32::MAX).ok_or(wrong)?;
     Ok(DraftMulticast {
         name: name_of(alloc, name)?,
-        sender: sender_of(alloc, from)?,
+        sender: named_sender(alloc, from)?,
         to: names_of(alloc, words)?,
         at: i64::from(at),
     })
 }
 
 /// The message and the group of a line `target`; `wrong` where the line has not its form.
-pub fn target_line(alloc: Global, line: &[u8], wrong: LineFault) -> Result<(Name, Name), LineFault>
-    ensures { IsUnlessMemory LineFault.Memory (ok_or (target_line line.now) wrong) result }
+pub fn target_in(alloc: Global, line: &[u8], wrong: LineFault) -> Result<(Name, Name), LineFault>
+    ensures { IsUnlessMemory LineFault.Memory (ok_or (target_in line.now) wrong) result }
 {
     let mut words = words_after(line, b"target").ok_or(wrong)?;
     let message = words.next().ok_or(wrong)?;

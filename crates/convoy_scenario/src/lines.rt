@@ -1,15 +1,16 @@
-ghost use Rattle.std.specs.Prelude.{◌≡◌, ◌<◌, ◌++◌, length, map, decimal, IfOk, OnOk, OnErr};
+ghost use Rattle.std.specs.Prelude.{◌≡◌, ◌<◌, ◌++◌, length, map, IfOk, OnOk, OnErr};
 ghost use Rattle.std.specs.List.{flat_map};
-ghost use Rattle.convoy_scenario.specs.Plan.{message_at, group_name_at};
-ghost use Rattle.convoy_scenario.specs.Lines.{ended, spaced, sender_word, delay_line, groups_line, multicast_line, target_line, text_of, scenario_text};
+ghost use Rattle.convoy_scenario.specs.Scenario.{message_at, group_name_at};
+ghost use Rattle.convoy_lines.specs.Texts.{ended, spaced, text_of};
+ghost use Rattle.convoy_scenario.specs.Lines.{sender_word, delay_line, groups_line, multicast_line, target_line, scenario_text};
 
 use super::scenario::Scenario;
 use super::sender::Sender;
-use itoa::Buffer;
+use convoy_lines::{push_further_word, push_number, push_number_line};
 use std::alloc::{AllocError, Global};
 
 /// Appends the canonical lines of a scenario, from the line `delay` to the line `target`
-/// (docs/FORMATS.md, "Certificate text"). Where memory is refused, `out` stays as it was.
+/// (docs/FORMATS.md, "Certificate text"). Where memory runs out, `out` stays as it was.
 pub fn write_lines(alloc: Global, scenario: &Scenario, out: &mut Vec<u8>) -> Result<(), AllocError>
     ensures ok { OnOk result (out.new.items ≡ out.old.items ++ scenario_text scenario.now) }
     ensures err { OnErr result (out.new.items ≡ out.old.items) }
@@ -22,19 +23,11 @@ fn lines_of(alloc: Global, scenario: &Scenario) -> Result<Vec<u8>, AllocError>
     ensures { IfOk result (λ text. text.items ≡ scenario_text scenario.now) }
 {
     let mut text = Vec::new(alloc);
-    push_delay(&mut text, scenario)?;
+    push_number_line(&mut text, "delay", u32::from(scenario.delay()))?;
     push_groups(&mut text, scenario)?;
     push_multicasts(&mut text, scenario)?;
     push_target(&mut text, scenario)?;
     Ok(text)
-}
-
-fn push_delay(text: &mut Vec<u8>, scenario: &Scenario) -> Result<(), AllocError>
-    ensures { OnOk result (text.new.items ≡ text.old.items ++ ended (delay_line scenario.now)) }
-{
-    text.extend_from_slice(b"delay ")?;
-    push_number(text, u32::from(scenario.delay()))?;
-    Ok(text.push(b'\n')?)
 }
 
 fn push_groups(text: &mut Vec<u8>, scenario: &Scenario) -> Result<(), AllocError>
@@ -105,20 +98,4 @@ fn push_target(text: &mut Vec<u8>, scenario: &Scenario) -> Result<(), AllocError
     push_further_word(text, scenario.message_name(scenario.target_message()))?;
     push_further_word(text, scenario.group_name(scenario.target_group()))?;
     Ok(text.push(b'\n')?)
-}
-
-/// Appends a space and a word.
-fn push_further_word(text: &mut Vec<u8>, word: &str) -> Result<(), AllocError>
-    ensures { OnOk result (text.new.items ≡ text.old.items ++ spaced word.now) }
-{
-    text.push(b' ')?;
-    text.extend_from_slice(word.as_bytes())
-}
-
-/// Appends a number in decimal digits.
-pub fn push_number(text: &mut Vec<u8>, number: u32) -> Result<(), AllocError>
-    ensures { OnOk result (text.new.items ≡ text.old.items ++ decimal number) }
-{
-    let mut buffer = Buffer::new();
-    text.extend_from_slice(buffer.format(number).as_bytes())
 }

@@ -1,3 +1,4 @@
+ghost use Rattle.std.specs.Prelude.{◌≡◌, Ok, IfOk, option_map};
 ghost use Rattle.std.specs.Result.{result_map_both};
 ghost use Rattle.toml.specs.View.{table_view};
 ghost use Rattle.convoy_scenario.specs.Memory.{IsUnlessMemory};
@@ -13,8 +14,8 @@ use toml::Table;
 
 /// Reads a scenario text, which is TOML (docs/FORMATS.md, "Scenario text").
 ///
-/// A text with a fault is refused with the first one, in the order of `ScenarioFault`; where memory
-/// is refused, `ScenarioFault::Memory` is the answer, and says nothing of the text. The members of
+/// Of a faulty text the first fault is told, in the order of `ScenarioFault`; where memory runs out,
+/// `ScenarioFault::Memory` is the answer, and says nothing of the text. The members of
 /// `schedule` are given as they are written: whether they are delays of the scenario's packets is
 /// not asked here.
 pub fn read_toml(alloc: Global, text: &[u8]) -> Result<Input, ScenarioFault>
@@ -22,6 +23,9 @@ pub fn read_toml(alloc: Global, text: &[u8]) -> Result<Input, ScenarioFault>
         (scenario_of_text text.now) (scenario_read result) }
     ensures input { IsUnlessMemory ScenarioFault.Memory
         (input_of_text text.now) (input_read result) }
+    ensures read { IfOk result (λ input. scenario_of_text text.now ≡ Ok input.scenario) }
+    ensures given { IfOk result (λ input. input_of_text text.now
+        ≡ Ok (record { scenario = input.scenario; schedule = option_map (λ delays. delays.items) input.schedule })) }
 {
     let table = read_table(alloc, text)?;
     let written = written_of_table(alloc, &table)?;

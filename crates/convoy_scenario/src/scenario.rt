@@ -1,5 +1,5 @@
 ghost use Rattle.std.specs.Prelude.{◌≡◌, ◌<◌, length, IfOk};
-ghost use Rattle.convoy_scenario.specs.Plan.{message_at, group_name_at};
+ghost use Rattle.convoy_scenario.specs.Scenario.{message_at, group_name_at};
 ghost use Rattle.convoy_scenario.specs.WellFormed.{IsScenario};
 
 use super::checks::check;
@@ -8,6 +8,7 @@ use super::fault::ScenarioFault;
 use super::limits::GREATEST_DELAY;
 use super::name::Name;
 use super::numbering::{message_place, multicasts_of, place, ticks};
+use super::parts::ScenarioParts;
 use super::sender::Sender;
 use std::alloc::{AllocError, Global};
 use std::marker::Model;
@@ -22,7 +23,7 @@ pub struct Multicast {
 }
 
 impl Model for Multicast {
-    ghost use Rattle.convoy_scenario.specs.Plan.{Message};
+    ghost use Rattle.convoy_scenario.specs.Scenario.{Message};
 
     ghost Value = { Message };
 
@@ -63,10 +64,10 @@ pub struct Scenario {
 }
 
 impl Model for Scenario {
-    ghost use Rattle.convoy_scenario.specs.Plan.{Plan};
+    ghost use Rattle.convoy_scenario.specs.Scenario.{Scenario};
     ghost use Rattle.convoy_scenario.specs.WellFormed.{IsScenario};
 
-    ghost Value = { Plan };
+    ghost Value = { Scenario };
 
     ghost view = { λ s. record {
       delay = s.delay;
@@ -88,6 +89,18 @@ impl Model for Scenario {
 impl Scenario {
     ghost use Rattle.convoy_scenario.specs.Memory.{IsUnlessMemory};
     ghost use Rattle.convoy_scenario.specs.Numbering.{scenario_of_draft};
+
+    /// The scenario of these parts (docs/FORMATS.md, "Scenario text").
+    ///
+    /// The answer is the scenario where the parts are those of a well-formed one, with names in place
+    /// of numbers. Else it is the first fault in the order of `ScenarioFault`, never `NotToml` or
+    /// `Shape`; where memory runs out, it is `ScenarioFault::Memory`, and says nothing of the parts.
+    pub fn new(alloc: Global, parts: &ScenarioParts) -> Result<Scenario, ScenarioFault>
+        ensures value { IsUnlessMemory ScenarioFault.Memory (scenario_of_draft parts.now) result }
+        ensures lawful { IfOk result (λ scenario. IsScenario scenario) }
+    {
+        Scenario::from_draft(alloc, parts.draft(alloc)?)
+    }
 
     /// The scenario of a draft, or the first rule that the draft breaks.
     pub(crate) fn from_draft(alloc: Global, draft: DraftScenario) -> Result<Scenario, ScenarioFault>

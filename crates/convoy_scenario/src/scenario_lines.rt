@@ -2,8 +2,10 @@ ghost use Rattle.std.specs.Prelude.{◌≡◌, ◌==◌, ◌≤◌, ◌^◌, Ok,
 ghost use Rattle.std.specs.Cmp.Lexicographic.{pointwise};
 ghost use Rattle.std.specs.Result.{result_map_both};
 ghost use Rattle.convoy_scenario.specs.Memory.{IsUnlessMemory};
-ghost use Rattle.convoy_scenario.specs.LineForms.{number_line, groups_line, multicast_line, target_line};
-ghost use Rattle.convoy_scenario.specs.LineReading.{form_at, messages_at, is_multicast_due, upcoming, is_ordered, first_unordered, told, scenario_at};
+ghost use Rattle.convoy_lines.specs.Labels.{number_in};
+ghost use Rattle.convoy_scenario.specs.LineForms.{groups_in, multicast_in, target_in};
+ghost use Rattle.convoy_scenario.specs.LineReading.{form_at, messages_at, is_multicast_due, is_ordered, first_unordered, told, scenario_at};
+ghost use Rattle.convoy_lines.specs.Places.{upcoming};
 ghost use Rattle.convoy_scenario.specs.Numbering.{scenario_of_draft};
 
 use super::checks::is_among;
@@ -11,16 +13,32 @@ use super::draft::{DraftMulticast, DraftScenario};
 use super::fault::{Limit, ScenarioFault};
 use super::limits::MOST_MULTICASTS;
 use super::line_fault::{Expected, LineFault};
-use super::line_forms::{groups_line, multicast_line, number_line, target_line};
-use super::line_reader::LineReader;
+use super::line_forms::{groups_in, multicast_in, target_in};
 use super::name::Name;
 use super::scenario::Scenario;
+use convoy_lines::{LineReader, number_in};
 use std::alloc::Global;
 
-/// Reads the lines of a scenario, from `delay` to `target`. After a fault the reader stands somewhere
-/// among them.
+/// Reads the lines of a scenario, from `delay` to `target` (docs/FORMATS.md, "Certificate text").
+///
+/// A fault is the first in the order of the lines: a line that is absent, not ended or not of its
+/// form; then, at the line `target`, a scenario that is none; then a line whose destinations are
+/// not in the order of the groups. The reader then stands where it stood, as it does where memory
+/// runs out.
+pub fn read_lines(alloc: Global, reader: &mut LineReader) -> Result<Scenario, LineFault>
+    ensures value { IsUnlessMemory LineFault.Memory (scenario_at reader.old)
+        (result_map_both (λ scenario. (scenario, reader.new)) (λ fault. fault) result) }
+    ensures err { OnErr result (reader.new ≡ reader.old) }
+{
+    let mut ahead = reader.copy();
+    let scenario = read_scenario(alloc, &mut ahead)?;
+    *reader = ahead;
+    Ok(scenario)
+}
+
+/// Reads the lines of a scenario. After a fault the reader stands somewhere among them.
 #[tactic(auto, unfolding(crate::specs::LineReading::scenario_at))]
-pub fn read_scenario(alloc: Global, reader: &mut LineReader) -> Result<Scenario, LineFault>
+fn read_scenario(alloc: Global, reader: &mut LineReader) -> Result<Scenario, LineFault>
     ensures { IsUnlessMemory LineFault.Memory (scenario_at reader.old)
         (result_map_both (λ scenario. (scenario, reader.new)) (λ fault. fault) result) }
 {
@@ -56,29 +74,29 @@ fn scenario_of(alloc: Global, draft: DraftScenario) -> Result<Scenario, LineFaul
 
 fn read_delay(reader: &mut LineReader) -> Result<u32, LineFault>
     ensures { result_map_both (λ delay. (delay, reader.new)) (λ fault. fault) result
-        ≡ form_at Expected.Delay (number_line (codes "delay")) reader.old }
+        ≡ form_at Expected.Delay (number_in (codes "delay")) reader.old }
 {
     let wrong = LineFault::Line(reader.number(), Expected::Delay);
     let line = reader.line().ok_or(wrong)?;
-    number_line(line, b"delay").ok_or(wrong)
+    number_in(line, b"delay").ok_or(wrong)
 }
 
 fn read_groups(alloc: Global, reader: &mut LineReader) -> Result<Vec<Name>, LineFault>
-    ensures { IsUnlessMemory LineFault.Memory (form_at Expected.Groups groups_line reader.old)
+    ensures { IsUnlessMemory LineFault.Memory (form_at Expected.Groups groups_in reader.old)
         (result_map_both (λ groups. (groups.items, reader.new)) (λ fault. fault) result) }
 {
     let wrong = LineFault::Line(reader.number(), Expected::Groups);
     let line = reader.line().ok_or(wrong)?;
-    groups_line(alloc, line, wrong)
+    groups_in(alloc, line, wrong)
 }
 
 fn read_multicast(alloc: Global, reader: &mut LineReader) -> Result<DraftMulticast, LineFault>
-    ensures { IsUnlessMemory LineFault.Memory (form_at Expected.Multicast multicast_line reader.old)
+    ensures { IsUnlessMemory LineFault.Memory (form_at Expected.Multicast multicast_in reader.old)
         (result_map_both (λ message. (message, reader.new)) (λ fault. fault) result) }
 {
     let wrong = LineFault::Line(reader.number(), Expected::Multicast);
     let line = reader.line().ok_or(wrong)?;
-    multicast_line(alloc, line, wrong)
+    multicast_in(alloc, line, wrong)
 }
 
 fn read_multicasts(alloc: Global, reader: &mut LineReader) -> Result<Vec<DraftMulticast>, LineFault>
@@ -105,12 +123,12 @@ fn is_multicast_due(reader: &LineReader, count: usize) -> bool
 }
 
 fn read_target(alloc: Global, reader: &mut LineReader) -> Result<(Name, Name), LineFault>
-    ensures { IsUnlessMemory LineFault.Memory (form_at Expected.Target target_line reader.old)
+    ensures { IsUnlessMemory LineFault.Memory (form_at Expected.Target target_in reader.old)
         (result_map_both (λ target. (target, reader.new)) (λ fault. fault) result) }
 {
     let wrong = LineFault::Line(reader.number(), Expected::Target);
     let line = reader.line().ok_or(wrong)?;
-    target_line(alloc, line, wrong)
+    target_in(alloc, line, wrong)
 }
 
 /// The number of the first line whose destinations are not in the order of the groups, where `number`

@@ -5,7 +5,7 @@ ghost use Rattle.std.specs.Result.{result_map_both};
 ghost use Rattle.toml.specs.Data.{as_integer, as_str, as_array, as_table, get_member};
 ghost use Rattle.toml.specs.View.{view, array_view, table_view};
 ghost use Rattle.convoy_scenario.specs.Memory.{IsUnlessMemory};
-ghost use Rattle.convoy_scenario.specs.Shape.{word_of, all_of, need, need_all, wish, wish_all, has_only, need_only, message_of_table, messages_of, draft_of_table, written_of_table, listed, listed_if_there, tables_listed};
+ghost use Rattle.convoy_scenario.specs.Shape.{key_word, all_of, need, need_all, wish, wish_all, has_only, need_only, message_of_table, messages_of, draft_of_table, written_of_table, listed, listed_if_there, tables_listed};
 
 use super::draft::{DraftInput, DraftMulticast, DraftScenario};
 use super::fault::{Key, ScenarioFault};
@@ -17,7 +17,7 @@ use toml::{Table, Value};
 /// The value at a key.
 fn value_at(table: &Table, key: Key) -> Option<&Value>
     ensures { option_map (λ v. view v.now) result
-        ≡ get_member (word_of key) (table_view table.now) }
+        ≡ get_member (key_word key) (table_view table.now) }
 {
     table.get(key.word())
 }
@@ -138,7 +138,7 @@ fn schedule(alloc: Global, table: &Table) -> Result<Option<Vec<i64>>, ScenarioFa
 }
 
 fn is_one_of(word: &str, keys: &[Key]) -> bool
-    ensures { result ≡ list_any (λ key. bytes_eq (word_of key) word.now) keys.now }
+    ensures { result ≡ list_any (λ key. bytes_eq (key_word key) word.now) keys.now }
 {
     keys.iter().any(|key| key.word() == word)
 }

@@ -1,5 +1,6 @@
 use super::read_toml;
 use crate::fault::{Key, Limit, ScenarioFault};
+use crate::parts::{MessageParts, ScenarioParts};
 use crate::scenario::Scenario;
 use crate::sender::Sender;
 use std::alloc::Global;
@@ -63,6 +64,46 @@ fn base(rt: HostRuntime) -> Result<(), Fail> {
     assert_eq!(rt; scenario.target_message(), 1);
     assert_eq!(rt; scenario.target_group(), 0);
     assert_messages(&rt, scenario);
+    Ok(())
+}
+
+#[test]
+fn base_in_parts(rt: HostRuntime) -> Result<(), Fail> {
+    let messages = [
+        MessageParts {
+            name: "x",
+            sender: None,
+            to: &["b"],
+            at: 0,
+        },
+        MessageParts {
+            name: "t",
+            sender: None,
+            to: &["b", "a"],
+            at: 0,
+        },
+        MessageParts {
+            name: "y",
+            sender: Some("a"),
+            to: &["a", "b"],
+            at: 6,
+        },
+    ];
+    let mut parts = ScenarioParts {
+        delay: 3,
+        groups: &["a", "b"],
+        messages: &messages,
+        target_message: "t",
+        target_group: "a",
+    };
+    let scenario = Scenario::new(rt.alloc(), &parts)?;
+    assert_eq!(rt; scenario.target_message(), 1);
+    assert_messages(&rt, &scenario);
+    parts.target_group = "c";
+    assert_eq!(rt;
+        Scenario::new(rt.alloc(), &parts).err(),
+        Some(ScenarioFault::UnknownGroup)
+    );
     Ok(())
 }
 

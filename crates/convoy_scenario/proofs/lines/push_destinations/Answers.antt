@@ -1,5 +1,5 @@
-use Rattle.convoy_scenario.specs.Lines.{spaced}
-use Rattle.convoy_scenario.specs.Plan.{message_at, group_name_at}
+use Rattle.convoy_lines.specs.Texts.{spaced}
+use Rattle.convoy_scenario.specs.Scenario.{message_at, group_name_at}
 use Rattle.convoy_scenario.proofs.Texts.{in_map}
 use Rattle.convoy_scenario.proofs.lines.push_destinations.Goals as goal
 

@@ -1,7 +1,7 @@
 use Rattle.std.proofs.Common.{◌≡◌, ◌++◌, take}
 use Rattle.std.specs.List.{flat_map}
-use Rattle.convoy_scenario.specs.Lines.{spaced}
-use Rattle.convoy_scenario.specs.Plan.{message_at, group_name_at}
+use Rattle.convoy_lines.specs.Texts.{spaced}
+use Rattle.convoy_scenario.specs.Scenario.{message_at, group_name_at}
 use Rattle.convoy_scenario.proofs.lines.push_destinations.Given as goal
 
 abbrev pub invariant-loop-g : goal.invariant-loop-g

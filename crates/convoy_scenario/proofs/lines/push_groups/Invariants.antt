@@ -1,6 +1,6 @@
 use Rattle.std.proofs.Common.{◌≡◌, ◌++◌, codes, take}
 use Rattle.std.specs.List.{flat_map}
-use Rattle.convoy_scenario.specs.Lines.{spaced}
+use Rattle.convoy_lines.specs.Texts.{spaced}
 use Rattle.convoy_scenario.proofs.lines.push_groups.Given as goal
 
 abbrev pub invariant-loop-g : goal.invariant-loop-g

@@ -1,5 +1,6 @@
 use Rattle.std.proofs.Common.{arith}
-use Rattle.convoy_scenario.specs.Lines.{ended, multicast_line}
+use Rattle.convoy_lines.specs.Texts.{ended}
+use Rattle.convoy_scenario.specs.Lines.{multicast_line}
 use Rattle.convoy_scenario.proofs.Texts.{in_map}
 use Rattle.convoy_scenario.proofs.lines.push_multicasts.Goals as goal
 

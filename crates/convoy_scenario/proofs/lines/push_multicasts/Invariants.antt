@@ -1,6 +1,7 @@
 use Rattle.std.proofs.Common.{◌≡◌, ◌++◌, take}
 use Rattle.std.specs.List.{flat_map}
-use Rattle.convoy_scenario.specs.Lines.{ended, multicast_line}
+use Rattle.convoy_lines.specs.Texts.{ended}
+use Rattle.convoy_scenario.specs.Lines.{multicast_line}
 use Rattle.convoy_scenario.proofs.lines.push_multicasts.Given as goal
 
 abbrev pub invariant-loop-m : goal.invariant-loop-m

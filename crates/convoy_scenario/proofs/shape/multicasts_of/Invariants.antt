@@ -1,6 +1,7 @@
 use Rattle.std.proofs.Common.{◌≡◌, ◌++◌, drop, map, Ok}
 use Rattle.toml.specs.View.{table_view}
-use Rattle.convoy_scenario.specs.Shape.{◌>>=◌, messages_of}
+use Rattle.convoy_lines.specs.Results.{◌>>=◌}
+use Rattle.convoy_scenario.specs.Shape.{messages_of}
 use Rattle.convoy_scenario.proofs.shape.multicasts_of.Given as goal
 
 abbrev pub invariant-loop-table : goal.invariant-loop-table

@@ -1,5 +1,5 @@
 -- What a scenario says, as plain data: groups and messages go by number, from 0, in the order of the text.
-use Rattle.std.specs.Prelude.{ℕ, Bool, false, ◌==◌, List, [], length, slice_index_or}
+use Rattle.std.specs.Prelude.{ℕ, Bool, false, ◌==◌, List, [], length, slice_index_or, IsTrue}
 use Rattle.std.specs.List.{list_any, range_with_len}
 use Rattle.convoy_scenario.specs.declared.sender.Sender.{Sender}
 use Rattle.convoy_scenario.specs.declared.sender.Sender.TheVariants.{Client, Group}
@@ -12,7 +12,7 @@ pub record Message : Type 0 where
   pub at : ℕ
 
 -- a scenario: D, the groups' names, the messages, and the message and the group of which the latency is asked
-pub record Plan : Type 0 where
+pub record Scenario : Type 0 where
   pub delay : ℕ
   pub groups : List (List ℕ)
   pub multicasts : List Message
@@ -24,16 +24,16 @@ abbrev pub no_message : Message
 no_message = record { name = []; sender = Client; destinations = []; at = 0 }
 
 -- the message of that number
-abbrev pub message_at : Plan → ℕ → Message
-message_at plan m = slice_index_or plan.multicasts m no_message
+abbrev pub message_at : Scenario → ℕ → Message
+message_at scenario m = slice_index_or scenario.multicasts m no_message
 
 -- the name of the group of that number
-abbrev pub group_name_at : Plan → ℕ → List ℕ
-group_name_at plan g = slice_index_or plan.groups g []
+abbrev pub group_name_at : Scenario → ℕ → List ℕ
+group_name_at scenario g = slice_index_or scenario.groups g []
 
 -- the numbers of the messages
-abbrev pub message_numbers : Plan → List ℕ
-message_numbers plan = range_with_len 0 (length plan.multicasts)
+abbrev pub message_numbers : Scenario → List ℕ
+message_numbers scenario = range_with_len 0 (length scenario.multicasts)
 
 -- the group sends the message itself
 abbrev pub is_sent_by : Message → ℕ → Bool
@@ -45,3 +45,7 @@ is_sent_by message g = is_group message.sender g where
 -- the message goes to the group
 abbrev pub is_addressed : Message → ℕ → Bool
 is_addressed message g = list_any (λ h. h == g) message.destinations
+
+-- group g is a destination of message m
+abbrev pub GoesTo : Scenario → ℕ → ℕ → Type 0
+GoesTo scenario m g = IsTrue (is_addressed (message_at scenario m) g)

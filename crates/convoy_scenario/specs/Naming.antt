@@ -1,0 +1,30 @@
+-- A scenario with names in place of numbers: the draft of which it is the scenario.
+use Rattle.std.specs.Prelude.{ℕ, pos, List, map, Option, Some, None}
+use Rattle.convoy_scenario.specs.declared.sender.Sender.{Sender}
+use Rattle.convoy_scenario.specs.declared.sender.Sender.TheVariants.{Client, Group}
+use Rattle.convoy_scenario.specs.Draft.{Draft, DraftMessage}
+use Rattle.convoy_scenario.specs.Scenario.{Scenario, Message, message_at, group_name_at}
+
+-- who sends a message, by name
+abbrev pub sender_name : Scenario → Sender → Option (List ℕ)
+sender_name scenario Client = None
+sender_name scenario (Group g) = Some (group_name_at scenario g)
+
+-- a message by names
+abbrev pub draft_message : Scenario → Message → DraftMessage
+draft_message scenario message = record {
+  name = message.name;
+  sender = sender_name scenario message.sender;
+  to = map (group_name_at scenario) message.destinations;
+  at = pos message.at;
+}
+
+-- a scenario by names: what is written of it
+abbrev pub draft_for : Scenario → Draft
+draft_for scenario = record {
+  delay = pos scenario.delay;
+  groups = scenario.groups;
+  messages = map (draft_message scenario) scenario.multicasts;
+  target_message = (message_at scenario scenario.target_message).name;
+  target_group = group_name_at scenario scenario.target_group;
+}

@@ -1,0 +1,110 @@
+ghost use Rattle.std.specs.Prelude.{◌≡◌, map, option_map, IfOk};
+
+use super::draft::{DraftMulticast, DraftScenario};
+use super::name::Name;
+use std::alloc::{AllocError, Global};
+use std::marker::Model;
+
+/// A message in plain parts: groups by name, whether there are such groups or not.
+#[derive(Debug, Drop)]
+pub struct MessageParts<'a> {
+    pub name: &'a str,
+    /// The group that sends it, or none where a client does.
+    pub sender: Option<&'a str>,
+    /// The groups that it goes to, in any order.
+    pub to: &'a [&'a str],
+    /// The tick at which it is issued.
+    pub at: u32,
+}
+
+impl<'a> Model for MessageParts<'a> {
+    ghost use Rattle.std.specs.Prelude.{map, pos, option_map};
+    ghost use Rattle.convoy_scenario.specs.Draft.{DraftMessage};
+
+    ghost Value = { DraftMessage };
+
+    ghost view = { λ m. record {
+      name = m.name.now;
+      sender = option_map (λ name. name.now) m.sender;
+      to = map (λ name. name.now) m.to.now;
+      at = pos m.at;
+    } };
+}
+
+/// A scenario in plain parts, well formed or not.
+#[derive(Debug, Drop)]
+pub struct ScenarioParts<'a> {
+    /// The greatest delay of a packet, in ticks.
+    pub delay: u32,
+    /// The names of the groups.
+    pub groups: &'a [&'a str],
+    pub messages: &'a [MessageParts<'a>],
+    /// The name of the message of which the latency is asked.
+    pub target_message: &'a str,
+    /// The name of the group at which it is asked.
+    pub target_group: &'a str,
+}
+
+impl<'a> Model for ScenarioParts<'a> {
+    ghost use Rattle.std.specs.Prelude.{map, pos};
+    ghost use Rattle.convoy_scenario.specs.Draft.{Draft};
+
+    ghost Value = { Draft };
+
+    ghost view = { λ s. record {
+      delay = pos s.delay;
+      groups = map (λ name. name.now) s.groups.now;
+      messages = s.messages.now;
+      target_message = s.target_message.now;
+      target_group = s.target_group.now;
+    } };
+}
+
+impl<'a> ScenarioParts<'a> {
+    /// The same parts in memory of their own.
+    pub(crate) fn draft(&self, alloc: Global) -> Result<DraftScenario, AllocError>
+        ensures { IfOk result (λ draft. draft ≡ self.now) }
+    {
+        Ok(DraftScenario {
+            delay: i64::from(self.delay),
+            groups: names_of(alloc, self.groups)?,
+            multicasts: messages_of(alloc, self.messages)?,
+            target_message: Name::new(alloc, self.target_message)?,
+            target_group: Name::new(alloc, self.target_group)?,
+        })
+    }
+}
+
+fn names_of(alloc: Global, texts: &[&str]) -> Result<Vec<Name>, AllocError>
+    ensures { IfOk result (λ names. names.items ≡ map (λ text. text.now) texts.now) }
+{
+    let mut names = Vec::new(alloc);
+    for text in texts {
+        names.push(Name::new(alloc, text)?)?;
+    }
+    Ok(names)
+}
+
+fn sender_of(alloc: Global, sender: Option<&str>) -> Result<Option<Name>, AllocError>
+    ensures { IfOk result (λ name. name ≡ option_map (λ text. text.now) sender.entry) }
+{
+    match sender {
+        Some(text) => Ok(Some(Name::new(alloc, text)?)),
+        None => Ok(None),
+    }
+}
+
+fn messages_of(alloc: Global, parts: &[MessageParts]) -> Result<Vec<DraftMulticast>, AllocError>
+    ensures { IfOk result (λ messages. messages.items ≡ parts.now) }
+{
+    let mut messages = Vec::new(alloc);
+    for message in parts {
+        messages.push(DraftMulticast {
+            name: Name::new(alloc, message.name)?,
+            sender: sender_of(alloc, message.sender)?,
+            to: names_of(alloc, message.to)?,
+            at: i64::from(message.at),
+        })?;
+    }
+    Ok(messages)
+}
