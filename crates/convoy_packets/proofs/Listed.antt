@@ -10,7 +10,7 @@ use Rattle.std.proofs.lemmas.List.Filters.{length-filter_both}
 use Rattle.std.proofs.lemmas.List.FromFn.{length-enumerate_from}
 use Rattle.std.proofs.lemmas.List.Kept.{AllPairs-filter, AllPairs-from_increasing}
 use Rattle.std.proofs.lemmas.List.Sums.{length-filter, count_by-le-length, get_or-le-sum_by, sum_by-le}
-use Rattle.convoy_scenario.specs.Plan.{Message, Plan, is_sent_by}
+use Rattle.convoy_scenario.specs.Scenario.{Message, Scenario, is_sent_by}
 use Rattle.convoy_scenario.specs.WellFormed.{IsMulticast, IsScenario}
 use Rattle.convoy_packets.specs.declared.packet.Packet.{Packet}
 use Rattle.convoy_packets.specs.declared.packet.Packet.TheVariants.{Multicast, Propose}
@@ -137,7 +137,7 @@ module _ (m : ℕ) (message : Message) (groups : ℕ) (few : groups ≤ 8) (is :
       destinations_differ)
       (λ k d l i e h same. true≢false (sym (are_multicasts m message k d l) ∙ ap is_multicast same ∙ are_stamps m message i e h))
 
-module _ (plan : Plan) (is : IsScenario plan) where
+module _ (plan : Scenario) (is : IsScenario plan) where
   pub packets_within : HaveSlots (packets_of plan)
   unfolding packets_of
   packets_within =

@@ -1,18 +1,18 @@
 -- Ranges, and the delays of schedules by packet.
-use Rattle.std.proofs.Common.{◌≡◌, ℕ, zero, suc, ◌<◌, ◌≤◌, not, List, [], ◌∷◌, length, get_or, Option, Some, None, arith, refl, sym, ap, ◌∙◌, IsTrue}
-use Rattle.std.specs.List.{All}
+use Rattle.std.proofs.Common.{◌≡◌, ℕ, zero, suc, ◌<◌, ◌≤◌, not, List, [], ◌∷◌, length, get_or, slice_set, IfSome, Option, Some, None, arith, refl, sym, ap, ◌∙◌, IsTrue}
+use Rattle.std.specs.List.{All, slice_get}
 use Rattle.std.specs.Option.{is_some}
 use Rattle.std.proofs.lemmas.Bool.{true≢false, not-true}
 use Rattle.std.proofs.lemmas.List.{length-map, get_or-map}
 use Rattle.std.proofs.lemmas.List.Elements.{All-head, All-tail, All-map}
 use Rattle.std.proofs.lemmas.Option.{slice_get_within}
-use Rattle.convoy_scenario.specs.Plan.{Plan}
+use Rattle.convoy_scenario.specs.Scenario.{Scenario}
 use Rattle.convoy_scenario.specs.WellFormed.{IsScenario}
 use Rattle.convoy_packets.specs.declared.packet.Packet.{Packet}
 use Rattle.convoy_packets.specs.Packets.{packets_of, place_of}
 use Rattle.convoy_packets.specs.Assignment.{AreWithin, IsAssignment, IsWithin, delay_of, range_of, ranges_of}
 use Rattle.convoy_packets.specs.Laws.{is_sent}
-use Rattle.convoy_packets.specs.Table.{IsRange, least_of, most_of}
+use Rattle.convoy_packets.specs.Table.{IsRange, least_of, greatest_of}
 use Rattle.convoy_packets.proofs.Places.{stands_where_found}
 use Rattle.convoy_packets.proofs.Sent.{found_if_sent}
 
@@ -22,11 +22,11 @@ AreWithin-least (range ∷ ranges) h =
     let first = All-head IsRange range ranges h in
     ((omega arith, first.ordered), AreWithin-least ranges (All-tail IsRange range ranges h))
 
-pub AreWithin-most : (ranges : List (ℕ × ℕ)) → All IsRange ranges → AreWithin ranges (most_of ranges)
-AreWithin-most [] h = tt
-AreWithin-most (range ∷ ranges) h =
+pub AreWithin-greatest : (ranges : List (ℕ × ℕ)) → All IsRange ranges → AreWithin ranges (greatest_of ranges)
+AreWithin-greatest [] h = tt
+AreWithin-greatest (range ∷ ranges) h =
     let first = All-head IsRange range ranges h in
-    ((first.ordered, omega arith), AreWithin-most ranges (All-tail IsRange range ranges h))
+    ((first.ordered, omega arith), AreWithin-greatest ranges (All-tail IsRange range ranges h))
 
 pub length-within : (ranges : List (ℕ × ℕ)) (delays : List ℕ) → AreWithin ranges delays → length ranges ≡ length delays
 length-within [] [] h = refl
@@ -40,22 +40,29 @@ within_at (x ∷ xs) [] i d h l = absurd h
 within_at (x ∷ xs) (y ∷ ys) zero d h l = h.0
 within_at (x ∷ xs) (y ∷ ys) (suc i) d h l = within_at xs ys i d h.1 (omega arith)
 
-pub length-ranges_of : (plan : Plan) → length (ranges_of plan) ≡ length (packets_of plan)
+pub AreWithin-set : (ranges : List (ℕ × ℕ)) (delays : List ℕ) (i delay : ℕ) → i < length delays → AreWithin ranges delays → IfSome (slice_get ranges i) (λ range. IsWithin range delay) → AreWithin ranges (slice_set delays i delay)
+AreWithin-set [] [] i delay below h here = absurd (omega arith)
+AreWithin-set [] (y ∷ ys) i delay below h here = absurd h
+AreWithin-set (x ∷ xs) [] i delay below h here = absurd h
+AreWithin-set (x ∷ xs) (y ∷ ys) zero delay below h here = (here, h.1)
+AreWithin-set (x ∷ xs) (y ∷ ys) (suc i) delay below h here = (h.0, AreWithin-set xs ys i delay (omega arith) h.1 here)
+
+pub length-ranges_of : (plan : Scenario) → length (ranges_of plan) ≡ length (packets_of plan)
 unfolding ranges_of
 length-ranges_of plan = length-map (packets_of plan) (range_of plan)
 
-pub length-assignment : (plan : Plan) (delays : List ℕ) → IsAssignment plan delays → length delays ≡ length (packets_of plan)
+pub length-assignment : (plan : Scenario) (delays : List ℕ) → IsAssignment plan delays → length delays ≡ length (packets_of plan)
 length-assignment plan delays is = sym (length-within (ranges_of plan) delays is) ∙ length-ranges_of plan
 
-pub delay_at_place : (plan : Plan) (delays : List ℕ) (p : Packet) (i : ℕ) → place_of p (packets_of plan) ≡ Some i → delay_of plan delays p ≡ get_or delays i 0
+pub delay_at_place : (plan : Scenario) (delays : List ℕ) (p : Packet) (i : ℕ) → place_of p (packets_of plan) ≡ Some i → delay_of plan delays p ≡ get_or delays i 0
 unfolding delay_of
 delay_at_place plan delays p i found = rw found refl
 
-pub no_delay : (plan : Plan) (delays : List ℕ) (p : Packet) → place_of p (packets_of plan) ≡ None → delay_of plan delays p ≡ 0
+pub no_delay : (plan : Scenario) (delays : List ℕ) (p : Packet) → place_of p (packets_of plan) ≡ None → delay_of plan delays p ≡ 0
 unfolding delay_of
 no_delay plan delays p none = rw none refl
 
-within_at_place : (plan : Plan) (delays : List ℕ) (p : Packet) (i : ℕ) → IsAssignment plan delays → place_of p (packets_of plan) ≡ Some i → IsWithin (range_of plan p) (delay_of plan delays p)
+within_at_place : (plan : Scenario) (delays : List ℕ) (p : Packet) (i : ℕ) → IsAssignment plan delays → place_of p (packets_of plan) ≡ Some i → IsWithin (range_of plan p) (delay_of plan delays p)
 unfolding ranges_of
 within_at_place plan delays p i is found =
     let here = slice_get_within (packets_of plan) i p (stands_where_found (packets_of plan) i p found) in
@@ -63,7 +70,7 @@ within_at_place plan delays p i is found =
     let within = within_at (ranges_of plan) delays i (range_of plan p) is (omega arith) in
     rw (delay_at_place plan delays p i found) (rw (get_or-map (range_of plan) (packets_of plan) i p (range_of plan p) here) at within)
 
-module _ (plan : Plan) (delays : List ℕ) (p : Packet) where
+module _ (plan : Scenario) (delays : List ℕ) (p : Packet) where
   pub within_if_sent : IsAssignment plan delays → IsTrue (is_sent plan p) → IsWithin (range_of plan p) (delay_of plan delays p)
   within_if_sent is sent = by_place (place_of p (packets_of plan)) refl where
     by_place : (o : Option ℕ) → place_of p (packets_of plan) ≡ o → IsWithin (range_of plan p) (delay_of plan delays p)
@@ -82,7 +89,7 @@ module _ (plan : Plan) (delays : List ℕ) (p : Packet) where
     by_place None e = rw (no_delay plan delays p e) (omega arith)
     by_place (Some i) e = (within_at_place plan delays p i is e).1
 
-pub least_assignment : (plan : Plan) → IsScenario plan → IsAssignment plan (least_of (ranges_of plan))
+pub least_assignment : (plan : Scenario) → IsScenario plan → IsAssignment plan (least_of (ranges_of plan))
 unfolding ranges_of
 least_assignment plan is =
     AreWithin-least (ranges_of plan)

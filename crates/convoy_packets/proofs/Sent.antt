@@ -5,7 +5,7 @@ use Rattle.std.specs.Option.{is_some}
 use Rattle.std.proofs.lemmas.Bool.{cases_eq, ne_eqb, eq-eqb, and_right, lt-ltb, true≢false, false≢true}
 use Rattle.std.proofs.lemmas.Bool.Decides.{nat_tests}
 use Rattle.std.proofs.lemmas.List.Folds.{list_any-append, list_any_none}
-use Rattle.convoy_scenario.specs.Plan.{Message, Plan, message_at, no_message, is_sent_by, is_addressed}
+use Rattle.convoy_scenario.specs.Scenario.{Message, Scenario, message_at, no_message, is_sent_by, is_addressed}
 use Rattle.convoy_packets.specs.declared.packet.Packet.{Packet}
 use Rattle.convoy_packets.specs.declared.packet.Packet.TheVariants.{Multicast, Propose}
 use Rattle.convoy_packets.specs.Packets.{multicast_packets, propose_packets, message_packets, packets_of, is_packet, place_of}
@@ -146,7 +146,7 @@ is_some-position p xs = known (ltb (position_or_len p xs) (length xs)) ∙ sym (
   known true = refl
   known false = refl
 
-pub found_if_sent : (plan : Plan) (p : Packet) → is_some (place_of p (packets_of plan)) ≡ is_sent plan p
+pub found_if_sent : (plan : Scenario) (p : Packet) → is_some (place_of p (packets_of plan)) ≡ is_sent plan p
 unfolding packets_of
 found_if_sent plan p =
     is_some-position (is_packet p) (packets_of plan)

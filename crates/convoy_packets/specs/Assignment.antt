@@ -2,34 +2,38 @@
 use Rattle.std.specs.Prelude.{ℕ, ◌≤◌, List, map, slice_index}
 use Rattle.std.specs.List.{AllZip}
 use Rattle.std.specs.Option.{option_map_or}
-use Rattle.convoy_scenario.specs.Plan.{Plan}
+use Rattle.convoy_scenario.specs.Scenario.{Scenario}
 use Rattle.convoy_packets.specs.declared.packet.Packet.{Packet}
 use Rattle.convoy_packets.specs.Packets.{packets_of, place_of}
 
 -- the least and the greatest delay of a packet, in ticks: today 1 and D for each packet
-abbrev pub range_of : Plan → Packet → ℕ × ℕ
-range_of plan packet = (1, plan.delay)
+abbrev pub range_of : Scenario → Packet → ℕ × ℕ
+range_of scenario packet = (1, scenario.delay)
 
 -- the ranges of all packets, in the order of the packet list
-unfoldable pub ranges_of : Plan → List (ℕ × ℕ)
-ranges_of plan = map (range_of plan) (packets_of plan)
+unfoldable pub ranges_of : Scenario → List (ℕ × ℕ)
+ranges_of scenario = map (range_of scenario) (packets_of scenario)
 
 -- the delay is in the range
 abbrev pub IsWithin : ℕ × ℕ → ℕ → Type 0
 IsWithin range delay = (range.0 ≤ delay) × (delay ≤ range.1)
 
+-- a schedule: the delay of each packet in ticks, in the order of the packet list
+abbrev pub Schedule : Type 0
+Schedule = List ℕ
+
 -- there is one delay for each range, in its range
-abbrev pub AreWithin : List (ℕ × ℕ) → List ℕ → Type 0
+abbrev pub AreWithin : List (ℕ × ℕ) → Schedule → Type 0
 AreWithin ranges delays = AllZip IsWithin ranges delays
 
 -- an assignment gives each packet of the scenario a delay in its range
-abbrev pub IsAssignment : Plan → List ℕ → Type 0
-IsAssignment plan delays = AreWithin (ranges_of plan) delays
+abbrev pub IsAssignment : Scenario → Schedule → Type 0
+IsAssignment scenario delays = AreWithin (ranges_of scenario) delays
 
 -- the delay of a packet in a schedule, by its place in the list of packets; what is no packet, as what a group sends itself, takes no time
-abbrev pub delay_in : List Packet → List ℕ → Packet → ℕ
+abbrev pub delay_in : List Packet → Schedule → Packet → ℕ
 delay_in packets delays packet = option_map_or (λ i. slice_index delays i) (place_of packet packets) 0
 
 -- the delay of a packet in a schedule of the scenario
-unfoldable pub delay_of : Plan → List ℕ → Packet → ℕ
-delay_of plan delays packet = delay_in (packets_of plan) delays packet
+unfoldable pub delay_of : Scenario → Schedule → Packet → ℕ
+delay_of scenario delays packet = delay_in (packets_of scenario) delays packet

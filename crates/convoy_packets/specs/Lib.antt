@@ -1,9 +1,11 @@
 pub use Rattle.convoy_scenario.specs.Memory
-pub use Rattle.convoy_scenario.specs.Plan
+pub use Rattle.convoy_scenario.specs.Scenario
 pub use Rattle.convoy_scenario.specs.WellFormed
+-- What the promises rest on: the packet list, the schedules of their delays, a schedule as a list of numbers, and the laws of these.
 pub mod Packets
 pub mod Assignment
-pub mod Slots
 pub mod Table
 pub mod Given
 pub mod Laws
+-- How the program looks up packets: no promise above this crate rests on it.
+pub mod Slots

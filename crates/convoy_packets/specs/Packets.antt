@@ -1,7 +1,7 @@
 -- The packets of a scenario, in the order in which schedules list their delays.
 use Rattle.std.specs.Prelude.{ℕ, ◌==◌, Bool, false, ◌&&◌, not, List, ◌++◌, map, Option, position}
 use Rattle.std.specs.List.{filter, flat_map, enumerate_from}
-use Rattle.convoy_scenario.specs.Plan.{Message, Plan, is_sent_by}
+use Rattle.convoy_scenario.specs.Scenario.{Message, Scenario, is_sent_by}
 use Rattle.convoy_packets.specs.declared.packet.Packet.{Packet}
 use Rattle.convoy_packets.specs.declared.packet.Packet.TheVariants.{Multicast, Propose}
 
@@ -19,8 +19,8 @@ abbrev pub message_packets : ℕ → Message → List Packet
 message_packets m message = multicast_packets m message ++ flat_map (propose_packets m message) message.destinations
 
 -- all packets of a scenario, message by message
-unfoldable pub packets_of : Plan → List Packet
-packets_of plan = flat_map (λ p. message_packets p.0 p.1) (enumerate_from 0 plan.multicasts)
+unfoldable pub packets_of : Scenario → List Packet
+packets_of scenario = flat_map (λ p. message_packets p.0 p.1) (enumerate_from 0 scenario.multicasts)
 
 -- the two are one packet
 abbrev pub is_packet : Packet → Packet → Bool

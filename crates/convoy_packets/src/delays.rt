@@ -1,8 +1,9 @@
-ghost use Rattle.std.specs.Prelude.{◌≡◌, ◌<◌, ◌==◌, length, slice_index, IfOk};
+ghost use Rattle.std.specs.Prelude.{◌≡◌, ℕ, ◌<◌, ◌==◌, List, length, slice_index, slice_set, IfOk, IfSome};
+ghost use Rattle.std.specs.List.{slice_get};
 ghost use Rattle.std.specs.Option.{option_map_or};
 ghost use Rattle.std.specs.Result.{result_map_both};
-ghost use Rattle.convoy_packets.specs.Assignment.{AreWithin};
-ghost use Rattle.convoy_packets.specs.Table.{least_of, most_of};
+ghost use Rattle.convoy_packets.specs.Assignment.{AreWithin, IsWithin};
+ghost use Rattle.convoy_packets.specs.Table.{least_of, greatest_of};
 ghost use Rattle.convoy_packets.specs.Given.{delay_given, delays_given, schedule_of};
 ghost use Rattle.convoy_scenario.specs.Memory.{IsUnlessMemory};
 
@@ -36,8 +37,8 @@ impl Delays {
     }
 
     /// The schedule in which each packet takes the greatest time that it may take.
-    pub fn most(alloc: Global, table: &PacketTable) -> Result<Delays, AllocError>
-        ensures value { IfOk result (λ delays. delays ≡ most_of table.now.ranges) }
+    pub fn greatest(alloc: Global, table: &PacketTable) -> Result<Delays, AllocError>
+        ensures value { IfOk result (λ delays. delays ≡ greatest_of table.now.ranges) }
         ensures within { IfOk result (λ delays. AreWithin table.now.ranges delays) }
     {
         let delays = greatest_delays(alloc, table.ranges())?;
@@ -47,8 +48,8 @@ impl Delays {
     /// The schedule that a list of numbers gives: the delay of each packet in ticks, in the order of
     /// the table.
     ///
-    /// A list with a fault is refused with the first one, in the order of `ListFault`; where memory
-    /// is refused, `ListFault::Memory` is the answer, and says nothing of the list.
+    /// A list that is no schedule gives its first fault, in the order of `ListFault`. Where memory
+    /// runs out, the answer is `ListFault::Memory`, which says nothing of the list.
     pub fn from_list(alloc: Global, table: &PacketTable, list: &[i64]) -> Result<Delays, ListFault>
         ensures value { IsUnlessMemory ListFault.Memory
             (schedule_of table.now.ranges list.now) result }
@@ -75,6 +76,26 @@ impl Delays {
         ensures { result ≡ delays.items }
     {
         Delays { delays }
+    }
+
+    /// Gives the packet at a place another delay, in ticks. A schedule within some ranges stays within
+    /// them where the delay is in the one at that place.
+    pub fn set(&mut self, i: usize, delay: u16)
+        requires { i < length self.old }
+        ensures value { self.new ≡ slice_set self.old i delay }
+        ensures within { (ranges : List (ℕ × ℕ)) → AreWithin ranges self.old
+            → IfSome (slice_get ranges i) (λ range. IsWithin range delay)
+            → AreWithin ranges self.new }
+    {
+        self.delays[i] = delay;
+    }
+
+    /// Takes over the delays of another schedule of as many packets.
+    pub fn copy_from(&mut self, other: &Delays)
+        requires { length self.old ≡ length other.now }
+        ensures { self.new ≡ other.now }
+    {
+        self.delays.copy_from_slice(other.as_slice());
     }
 
     /// The delays in ticks, in the order of the packets.
@@ -107,7 +128,7 @@ impl Delays {
     }
 
     /// The delay of the packet at a place that was looked up, in ticks; 0 where there is none.
-    pub fn delay_at(&self, place: Option<u16>) -> u16
+    pub(crate) fn delay_at(&self, place: Option<u16>) -> u16
         ensures { result ≡ option_map_or (λ i. slice_index self.now i) place 0 }
     {
         place
@@ -126,7 +147,7 @@ fn least_delays(alloc: Global, ranges: &[(u16, u16)]) -> Result<Vec<u16>, AllocE
 
 /// The greatest delay of each range.
 fn greatest_delays(alloc: Global, ranges: &[(u16, u16)]) -> Result<Vec<u16>, AllocError>
-    ensures { IfOk result (λ delays. delays.items ≡ most_of ranges.now) }
+    ensures { IfOk result (λ delays. delays.items ≡ greatest_of ranges.now) }
 {
     ranges.iter().map(|range| range.1).collect(alloc)
 }

@@ -1,14 +1,14 @@
 use std::alloc::{AllocError, AllocFailed};
 
-/// Why a list of numbers is no schedule. Where it has several faults, the first in the order of
-/// these variants is told.
+/// Why a list of numbers is no schedule. Of several faults the first in the order of these variants
+/// is told.
 #[derive(Clone, Copy, Debug, PartialEq, Eq)]
 pub enum ListFault {
-    /// The list has not one number for each packet.
+    /// The list does not have one number for each packet.
     Length,
     /// A number is no delay that its packet may take, in ticks: the place of the first such packet.
     Range(usize),
-    /// Memory was refused, which says nothing of the list.
+    /// Memory ran out, which says nothing of the list.
     Memory,
 }
 

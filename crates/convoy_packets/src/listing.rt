@@ -1,6 +1,6 @@
 ghost use Rattle.std.specs.Prelude.{◌≡◌, ◌<◌, ◌≤◌, ◌++◌, length, OnOk, IfOk};
 ghost use Rattle.std.specs.List.{flat_map};
-ghost use Rattle.convoy_scenario.specs.Plan.{message_at, is_sent_by};
+ghost use Rattle.convoy_scenario.specs.Scenario.{message_at, is_sent_by};
 ghost use Rattle.convoy_packets.specs.Packets.{multicast_packets, propose_packets, packets_of};
 ghost use Rattle.convoy_packets.specs.Slots.{HaveSlots};
 
@@ -10,7 +10,7 @@ use std::alloc::{AllocError, Global};
 
 /// Lists the packets of a scenario: message by message, the message itself to each of its
 /// destinations, and then the local stamps by (from, to).
-pub fn list_packets(alloc: Global, scenario: &Scenario) -> Result<Vec<Packet>, AllocError>
+pub(crate) fn list_packets(alloc: Global, scenario: &Scenario) -> Result<Vec<Packet>, AllocError>
     ensures value { IfOk result (λ packets. packets.items ≡ packets_of scenario.now) }
     ensures few { IfOk result (λ packets. length packets.items ≤ MOST_PACKETS) }
     ensures known { IfOk result (λ packets. HaveSlots packets.items) }

@@ -29,7 +29,7 @@ fn slot_of(packet: Packet) -> Option<usize>
 }
 
 /// Makes the slots of a list of packets: each holds the first place of its packet in the list.
-pub fn slots_for(alloc: Global, packets: &[Packet]) -> Result<Vec<Option<u16>>, AllocError>
+pub(crate) fn slots_for(alloc: Global, packets: &[Packet]) -> Result<Vec<Option<u16>>, AllocError>
     requires { length packets.now < 2 ^ 16 }
     ensures { IfOk result (λ slots. HoldPlaces slots.items packets.now) }
 {
@@ -53,7 +53,7 @@ fn record_place(slots: &mut [Option<u16>], packet: Packet, place: u16)
 }
 
 /// The place that stands in a packet's slot.
-pub fn entry_of(slots: &[Option<u16>], packet: Packet) -> Option<u16>
+pub(crate) fn entry_of(slots: &[Option<u16>], packet: Packet) -> Option<u16>
     requires { length slots.now ≡ SLOT_COUNT }
     ensures { result ≡ entry_of slots.now packet }
 {

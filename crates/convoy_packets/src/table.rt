@@ -23,9 +23,9 @@ pub struct PacketTable {
 }
 
 impl Model for PacketTable {
-    ghost use Rattle.convoy_packets.specs.Table.{Table, IsIndexed};
+    ghost use Rattle.convoy_packets.specs.Table.{PacketTable, IsIndexed};
 
-    ghost Value = { Table };
+    ghost Value = { PacketTable };
 
     ghost view = { λ t. record { packets = t.packets.items; ranges = t.ranges.items } };
 

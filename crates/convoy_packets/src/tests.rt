@@ -185,13 +185,13 @@ fn lists_as_given(rt: HostRuntime) -> Result<(), Fail> {
 }
 
 #[test]
-fn takes_the_most(rt: HostRuntime) -> Result<(), Fail> {
+fn takes_the_greatest(rt: HostRuntime) -> Result<(), Fail> {
     let table = PacketTable::of(rt.alloc(), &scenario(BASE, rt.alloc())?)?;
-    let most = Delays::most(rt.alloc(), &table)?;
+    let greatest = Delays::greatest(rt.alloc(), &table)?;
     let given = base_given(rt.alloc(), &[3, 3, 3, 3, 3, 3, 3, 3])??;
-    assert_eq!(rt; most.len(), 8);
-    assert_eq!(rt; most.delay(0), 3);
-    assert_eq!(rt; most.delay(7), 3);
+    assert_eq!(rt; greatest.len(), 8);
+    assert_eq!(rt; greatest.delay(0), 3);
+    assert_eq!(rt; greatest.delay(7), 3);
     assert_eq!(rt; given.len(), 8);
     assert_eq!(rt; given.delay(0), 3);
     assert_eq!(rt; given.delay(7), 3);

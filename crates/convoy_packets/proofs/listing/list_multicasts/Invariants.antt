@@ -1,6 +1,6 @@
 use Rattle.std.proofs.Common.{◌≡◌, ◌++◌, not, map, take}
 use Rattle.std.specs.List.{filter}
-use Rattle.convoy_scenario.specs.Plan.{message_at, is_sent_by}
+use Rattle.convoy_scenario.specs.Scenario.{message_at, is_sent_by}
 use Rattle.convoy_packets.specs.declared.packet.Packet.TheVariants.{Multicast}
 use Rattle.convoy_packets.proofs.listing.list_multicasts.Given as goal
 

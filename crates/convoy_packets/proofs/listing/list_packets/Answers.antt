@@ -1,5 +1,5 @@
 use Rattle.std.proofs.Common.{◌≡◌, arith, append_assoc, ◌∙◌}
-use Rattle.convoy_scenario.specs.Plan.{no_message}
+use Rattle.convoy_scenario.specs.Scenario.{no_message}
 use Rattle.convoy_packets.specs.Packets.{message_packets, packets_of}
 use Rattle.convoy_packets.proofs.Listed.{packets_within, length-packets_of-le}
 use Rattle.convoy_packets.proofs.Lists.{flat_map_numbered_more, flat_map_numbered_all}

@@ -1,6 +1,6 @@
 use Rattle.std.proofs.Common.{◌≡◌, ◌++◌, take}
 use Rattle.std.specs.List.{flat_map}
-use Rattle.convoy_scenario.specs.Plan.{message_at}
+use Rattle.convoy_scenario.specs.Scenario.{message_at}
 use Rattle.convoy_packets.specs.Packets.{propose_packets}
 use Rattle.convoy_packets.proofs.listing.list_proposals.Given as goal
 
