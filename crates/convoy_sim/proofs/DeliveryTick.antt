@@ -1,15 +1,16 @@
 -- The tick of delivery: the first at which all that are ahead are committed.
 use Rattle.std.proofs.Common.{◌≡◌, ◌≢◌, ℕ, ◌+◌, ◌-◌, ◌<◌, ◌≤◌, zero, suc, Bool, true, ◌&&◌, nat_lt, nat_le, inl, inr, List, ◌∷◌, refl, ap, subst, ◌∙◌, arith}
 use Rattle.std.proofs.lemmas.Bool.{cases_Bool, cases_lt, both_ways, cond-true, cond-false, and_from, and_parts, le-leb, leb-true, lt-ltb, ltb-true, not_from_false, not-true, false_from_ne_true}
-use Rattle.convoy_scenario.specs.Plan.{Plan}
+use Rattle.convoy_scenario.specs.Scenario.{Scenario}
 use Rattle.convoy_scenario.specs.WellFormed.{IsScenario}
 use Rattle.convoy_sim.specs.Times.{arrive, settle}
 use Rattle.convoy_sim.specs.Stamps.{is_less, local_stamp, final_stamp}
-use Rattle.convoy_sim.specs.Delivery.{addressed_to, holds_back, is_free, first_tick, last_commit, deliver}
-use Rattle.convoy_sim.specs.Laws.{GoesTo, last_commit_of, ahead_of, come_by, DeliveryLaw, DeliveryBound, DeliveredByLastCommit, ComesAfterIssue, DeliveredAfterCommit, LatencyIsNeverNegative}
+use Rattle.convoy_sim.specs.Delivery.{last_commit, addressed_to, holds_back, is_free, first_tick, deliver}
+use Rattle.convoy_sim.specs.Laws.{ahead_of, arrive_by, DeliveryIsLeast, DeliveryLaw, DeliveryBound, DeliveredByLastCommit, ArrivesAfterIssue, DeliveredAfterCommit, LatencyIsNeverNegative}
+use Rattle.convoy_scenario.specs.Scenario.{GoesTo}
 use Rattle.convoy_sim.proofs.Membership.{IsIn, in-filter, in_of_filter, list_any_in, in_of_list_any, in_greatest, greatest_most, greatest_mono}
-use Rattle.convoy_sim.proofs.PlanMoments.{in-addressed, goes_of_addressed, arrive_settle}
-use Rattle.convoy_sim.proofs.StampLaws.{earlier_comes}
+use Rattle.convoy_sim.proofs.ScenarioMoments.{in-addressed, goes_of_addressed, arrive_settle}
+use Rattle.convoy_sim.proofs.StampLaws.{earlier_arrives}
 
 -- the first tick is the one that is not too far, passes the test, and before which none does
 pub first_tick_is : (test : ℕ → Bool) (more start tick : ℕ) → start ≤ tick → tick ≤ start + more
@@ -26,18 +27,18 @@ first_tick_is test (suc more) start tick l h least passes = elim (cases_Bool (te
 ]
 
 -- ---- what holds a message back
-pub in-ahead : (plan : Plan) (delays : List ℕ) (n m g : ℕ) → GoesTo plan n g
+pub in-ahead : (plan : Scenario) (delays : List ℕ) (n m g : ℕ) → GoesTo plan n g
     → is_less (local_stamp plan delays n g) (final_stamp plan delays m) ≡ true → IsIn n (ahead_of plan delays m g)
 in-ahead plan delays n m g h l =
     in-filter (λ k. is_less (local_stamp plan delays k g) (final_stamp plan delays m)) n (addressed_to plan g) (in-addressed plan n g h) l
 
-pub in_of_ahead : (plan : Plan) (delays : List ℕ) (n m g : ℕ) → IsIn n (ahead_of plan delays m g)
+pub in_of_ahead : (plan : Scenario) (delays : List ℕ) (n m g : ℕ) → IsIn n (ahead_of plan delays m g)
     → GoesTo plan n g × (is_less (local_stamp plan delays n g) (final_stamp plan delays m) ≡ true)
 in_of_ahead plan delays n m g i =
     let r = in_of_filter (λ k. is_less (local_stamp plan delays k g) (final_stamp plan delays m)) n (addressed_to plan g) i in
     (goes_of_addressed plan n g r.0, r.1)
 
-holds_parts : (plan : Plan) (delays : List ℕ) (m g tick n : ℕ) → holds_back plan delays m g tick n ≡ true
+holds_parts : (plan : Scenario) (delays : List ℕ) (m g tick n : ℕ) → holds_back plan delays m g tick n ≡ true
     → (arrive plan delays n g ≤ tick) × (is_less (local_stamp plan delays n g) (final_stamp plan delays m) ≡ true) × (tick < settle plan delays n g)
 unfolding holds_back
 holds_parts plan delays m g tick n h =
@@ -48,7 +49,7 @@ holds_parts plan delays m g tick n h =
     let inner = and_parts come less outer.0 in
     (leb-true _ _ inner.0, inner.1, ltb-true _ _ outer.1)
 
-holds_from : (plan : Plan) (delays : List ℕ) (m g tick n : ℕ) → arrive plan delays n g ≤ tick
+holds_from : (plan : Scenario) (delays : List ℕ) (m g tick n : ℕ) → arrive plan delays n g ≤ tick
     → is_less (local_stamp plan delays n g) (final_stamp plan delays m) ≡ true → tick < settle plan delays n g
     → holds_back plan delays m g tick n ≡ true
 unfolding holds_back
@@ -58,7 +59,7 @@ holds_from plan delays m g tick n h l w =
     let waits = nat_lt tick (settle plan delays n g) in
     and_from (come && less) waits (and_from come less (le-leb _ _ h) l) (lt-ltb _ _ w)
 
-free_when_last : (plan : Plan) (delays : List ℕ) (m g tick : ℕ) → last_commit_of plan delays g (m ∷ ahead_of plan delays m g) ≤ tick
+free_when_last : (plan : Scenario) (delays : List ℕ) (m g tick : ℕ) → last_commit plan delays g (m ∷ ahead_of plan delays m g) ≤ tick
     → is_free plan delays m g tick ≡ true
 free_when_last plan delays m g tick l = not_from_false _ (false_from_ne_true _ (λ any.
     let r = in_of_list_any (holds_back plan delays m g tick) (addressed_to plan g) any in
@@ -68,9 +69,9 @@ free_when_last plan delays m g tick l = not_from_false _ (false_from_ne_true _ (
     (inr (in-ahead plan delays n m g (goes_of_addressed plan n g r.1) parts.1)) in
     omega arith))
 
-last_when_free : (plan : Plan) (delays : List ℕ) → IsScenario plan → (m g tick : ℕ) → GoesTo plan m g
+last_when_free : (plan : Scenario) (delays : List ℕ) → IsScenario plan → (m g tick : ℕ) → GoesTo plan m g
     → settle plan delays m g ≤ tick → is_free plan delays m g tick ≡ true
-    → last_commit_of plan delays g (m ∷ ahead_of plan delays m g) ≤ tick
+    → last_commit plan delays g (m ∷ ahead_of plan delays m g) ≤ tick
 last_when_free plan delays well m g tick hm l free =
     greatest_most (λ k. settle plan delays k g) tick (m ∷ ahead_of plan delays m g) each where
       each : (n : ℕ) → IsIn n (m ∷ ahead_of plan delays m g) → settle plan delays n g ≤ tick
@@ -78,7 +79,7 @@ last_when_free plan delays well m g tick hm l free =
       each n (inr i) = elim (cases_lt tick (settle plan delays n g)) [
         | inl not_yet ↦ absurd (
             let r = in_of_ahead plan delays n m g i in
-            let come = earlier_comes plan delays well n m g r.0 hm r.1 in
+            let come = earlier_arrives plan delays well n m g r.0 hm r.1 in
             let holds : holds_back plan delays m g tick n ≡ true =
             holds_from plan delays m g tick n (omega arith) r.1 not_yet in
             both_ways _ (not-true _ free) (list_any_in (holds_back plan delays m g tick) n (addressed_to plan g) (in-addressed plan n g r.0) holds))
@@ -89,28 +90,39 @@ last_when_free plan delays well m g tick hm l free =
 pub delivery_law : DeliveryLaw
 unfolding deliver
 delivery_law plan delays well m g hm =
-    let last : ℕ = last_commit_of plan delays g (m ∷ ahead_of plan delays m g) in
+    let last : ℕ = last_commit plan delays g (m ∷ ahead_of plan delays m g) in
     let settled : ℕ = settle plan delays m g in
     let low : settled ≤ last = in_greatest (λ k. settle plan delays k g) m (m ∷ ahead_of plan delays m g) (inl refl) in
-    let high : last ≤ last_commit plan delays g = greatest_mono (λ k. settle plan delays k g) (m ∷ ahead_of plan delays m g) (addressed_to plan g)
+    let high : last ≤ last_commit plan delays g (addressed_to plan g) = greatest_mono (λ k. settle plan delays k g) (m ∷ ahead_of plan delays m g) (addressed_to plan g)
     (λ n i. elim i [
       | inl e ↦ subst (λ k. IsIn k (addressed_to plan g)) e (in-addressed plan m g hm)
       | inr j ↦ in-addressed plan n g (in_of_ahead plan delays n m g j).0
     ]) in
-    first_tick_is (is_free plan delays m g) (last_commit plan delays g - settled) settled last low (omega arith)
+    first_tick_is (is_free plan delays m g) (last_commit plan delays g (addressed_to plan g) - settled) settled last low (omega arith)
     (λ t l free. last_when_free plan delays well m g t hm l free)
     (free_when_last plan delays m g last (omega arith))
+
+-- what the look-out finds is the least free tick, by the law
+pub delivery_is_least : DeliveryIsLeast
+delivery_is_least plan delays well m g hm =
+    let law = delivery_law plan delays well m g hm in
+    let own = in_greatest (λ k. settle plan delays k g) m (m ∷ ahead_of plan delays m g) (inl refl) in
+    record {
+      committed = omega arith;
+      free = free_when_last plan delays m g (deliver plan delays m g) (omega arith);
+      least = λ sooner l free. let r = last_when_free plan delays well m g sooner hm l free in omega arith;
+    }
 
 pub delivery_bound : DeliveryBound
 delivery_bound plan delays well m g hm =
     rw (delivery_law plan delays well m g hm)
-    (greatest_mono (λ k. settle plan delays k g) (m ∷ ahead_of plan delays m g) (m ∷ come_by plan delays m g)
+    (greatest_mono (λ k. settle plan delays k g) (m ∷ ahead_of plan delays m g) (m ∷ arrive_by plan delays m g)
     (λ n i. elim i [
       | inl e ↦ inl e
       | inr j ↦
           let r = in_of_ahead plan delays n m g j in
           inr (in-filter (λ k. nat_le (arrive plan delays k g) (settle plan delays m g)) n (addressed_to plan g)
-          (in-addressed plan n g r.0) (le-leb _ _ (earlier_comes plan delays well n m g r.0 hm r.1)))
+          (in-addressed plan n g r.0) (le-leb _ _ (earlier_arrives plan delays well n m g r.0 hm r.1)))
     ]))
 
 pub delivered_by_last : DeliveredByLastCommit
@@ -122,9 +134,9 @@ delivered_by_last plan delays well m g hm =
       | inr j ↦ in-addressed plan n g (in_of_ahead plan delays n m g j).0
     ]))
 
-pub comes_after_issue : ComesAfterIssue
+pub arrives_after_issue : ArrivesAfterIssue
 unfolding arrive
-comes_after_issue plan delays m g = omega arith
+arrives_after_issue plan delays m g = omega arith
 
 pub delivered_after_commit : DeliveredAfterCommit
 delivered_after_commit plan delays well m g hm =
@@ -133,7 +145,7 @@ delivered_after_commit plan delays well m g hm =
 
 pub never_negative : LatencyIsNeverNegative
 never_negative plan delays well m g hm =
-    let come = comes_after_issue plan delays m g in
+    let come = arrives_after_issue plan delays m g in
     let commit = arrive_settle plan delays m g g hm in
     let last = delivered_after_commit plan delays well m g hm in
     omega arith

@@ -1,14 +1,14 @@
 -- The order of deliveries, and how far the latency goes.
 use Rattle.std.proofs.Common.{ℕ, ◌+◌, ◌*◌, ◌≤◌, inl, inr, List, ◌∷◌, sym, subst, arith}
-use Rattle.convoy_scenario.specs.Plan.{Plan, message_at}
+use Rattle.convoy_scenario.specs.Scenario.{Scenario, message_at}
 use Rattle.convoy_packets.specs.Assignment.{IsAssignment}
 use Rattle.convoy_sim.specs.Times.{arrive, settle}
 use Rattle.convoy_sim.specs.Stamps.{final_stamp}
-use Rattle.convoy_sim.specs.Delivery.{latency_at, latency_of}
-use Rattle.convoy_sim.specs.Laws.{last_commit_of, ahead_of, OrderLaw, LatencyWithinFourDelays, LoneLatencyWithinTwoDelays, TargetLatencyWithinFourDelays}
+use Rattle.convoy_sim.specs.Delivery.{last_commit, latency_at, latency_of}
+use Rattle.convoy_sim.specs.Laws.{ahead_of, OrderLaw, LatencyWithinFourDelays, LoneLatencyWithinTwoDelays, TargetLatencyWithinFourDelays}
 use Rattle.convoy_sim.proofs.Membership.{IsIn, greatest_most, greatest_mono}
 use Rattle.convoy_sim.proofs.MomentsOrder.{less_after, less_trans}
-use Rattle.convoy_sim.proofs.StampLaws.{earlier_comes, not_greater}
+use Rattle.convoy_sim.proofs.StampLaws.{earlier_arrives, not_greater}
 use Rattle.convoy_sim.proofs.DeliveryTick.{in-ahead, in_of_ahead, delivery_law}
 use Rattle.convoy_sim.proofs.PacketDelays.{committed_within}
 
@@ -23,8 +23,8 @@ order_law plan delays well m n less g hm hn =
           let r = in_of_ahead plan delays k m g i in
           inr (in-ahead plan delays k n g r.0 (less_trans _ (final_stamp plan delays m) _ r.1 less))
 
--- a message that comes by some tick is committed within 2 D of that
-committed_soon : (plan : Plan) (delays : List ℕ) → IsAssignment plan delays → (n g tick : ℕ)
+-- a message that arrives by some tick is committed within 2 D of that
+committed_soon : (plan : Scenario) (delays : List ℕ) → IsAssignment plan delays → (n g tick : ℕ)
     → arrive plan delays n g ≤ tick → settle plan delays n g ≤ tick + 2 * plan.delay
 unfolding arrive
 committed_soon plan delays h n g tick l = let r = committed_within plan delays h n g in omega arith
@@ -33,13 +33,13 @@ pub within_four : LatencyWithinFourDelays
 unfolding latency_at
 within_four plan delays well h m g hm =
     let mine = committed_within plan delays h m g in
-    let most : last_commit_of plan delays g (m ∷ ahead_of plan delays m g) ≤ (message_at plan m).at + 4 * plan.delay =
+    let most : last_commit plan delays g (m ∷ ahead_of plan delays m g) ≤ (message_at plan m).at + 4 * plan.delay =
     greatest_most (λ k. settle plan delays k g) ((message_at plan m).at + 4 * plan.delay) (m ∷ ahead_of plan delays m g)
     (λ k i. elim i [
       | inl e ↦ subst (λ j. settle plan delays j g ≤ (message_at plan m).at + 4 * plan.delay) e (omega arith)
       | inr j ↦
           let r = in_of_ahead plan delays k m g j in
-          let come = earlier_comes plan delays well k m g r.0 hm r.1 in
+          let come = earlier_arrives plan delays well k m g r.0 hm r.1 in
           let soon = committed_soon plan delays h k g (settle plan delays m g) come in
           omega arith
     ]) in
@@ -50,7 +50,7 @@ pub lone_within_two : LoneLatencyWithinTwoDelays
 unfolding latency_at
 lone_within_two plan delays well h m g hm lone =
     let mine = committed_within plan delays h m g in
-    let most : last_commit_of plan delays g (m ∷ ahead_of plan delays m g) ≤ (message_at plan m).at + 2 * plan.delay =
+    let most : last_commit plan delays g (m ∷ ahead_of plan delays m g) ≤ (message_at plan m).at + 2 * plan.delay =
     greatest_most (λ k. settle plan delays k g) ((message_at plan m).at + 2 * plan.delay) (m ∷ ahead_of plan delays m g)
     (λ k i. elim i [
       | inl e ↦ subst (λ j. settle plan delays j g ≤ (message_at plan m).at + 2 * plan.delay) e mine

@@ -3,7 +3,7 @@ use Rattle.std.proofs.Common.{All, ◌≡◌, ℕ, ◌+◌, ◌<◌, ◌≤◌, 
 use Rattle.std.specs.List.Sorted.{IsStrictlyIncreasing}
 use Rattle.std.proofs.lemmas.List.Elements.{All-head, All-tail}
 use Rattle.std.specs.List.{range_with_len, list_any}
-use Rattle.std.proofs.lemmas.Bool.{cases_Bool, cases_eq, cond-true, cond-false, or_left, or_right, or_cases, false≢true}
+use Rattle.std.proofs.lemmas.Bool.{cases_Bool, cases_lt, cases_eq, cond-true, cond-false, or_left, or_right, or_cases, false≢true}
 use Rattle.std.proofs.lemmas.Option.{none-some, same_Some}
 
 -- the list has the element
@@ -149,6 +149,20 @@ greatest_most f b xs h = fold_max_most 0 b (map f xs) (omega arith)
 -- the greatest over fewer elements is no greater
 pub greatest_mono : {X : Type 0} (f : X → ℕ) (xs ys : List X) → ((x : X) → IsIn x xs → IsIn x ys) → fold max 0 (map f xs) ≤ fold max 0 (map f ys)
 greatest_mono f xs ys h = greatest_most f _ xs (λ x i. in_greatest f x ys (h x i))
+
+fold_max_is : (a : ℕ) (xs : List ℕ) → (a ≡ fold max a xs) ⊎ IsIn (fold max a xs) xs
+fold_max_is a [] = inl refl
+fold_max_is a (x ∷ xs) = elim (fold_max_is (max a x) xs) [
+  | inl e ↦ elim (cases_lt a x) [ inl l ↦ inr (inl (omega arith)) | inr l ↦ inl (omega arith) ]
+  | inr i ↦ inr (inr i)
+]
+
+-- the greatest of some numbers is one of them
+pub greatest_is_one : {X : Type 0} (f : X → ℕ) (x : X) (xs : List X) → (y : X) × IsIn y (x ∷ xs) × (f y ≡ fold max 0 (map f (x ∷ xs)))
+greatest_is_one f x xs = elim (fold_max_is 0 (map f (x ∷ xs))) [
+  | inl e ↦ (x, inl refl, let low = in_greatest f x (x ∷ xs) (inl refl) in omega arith)
+  | inr i ↦ in_of_map f _ (x ∷ xs) i
+]
 
 -- ---- lists in which no element stands twice
 abbrev pub IsOnce : {X : Type 0} → List X → Type 0

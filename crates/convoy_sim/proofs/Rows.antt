@@ -2,7 +2,7 @@
 use Rattle.std.proofs.Common.{◌≡◌, ℕ, List, [], ◌∷◌, length, replicate, refl, codes}
 use Rattle.convoy_scenario.specs.declared.sender.Sender.{Sender}
 use Rattle.convoy_scenario.specs.declared.sender.Sender.TheVariants.{Client, Group}
-use Rattle.convoy_scenario.specs.Plan.{Message, Plan}
+use Rattle.convoy_scenario.specs.Scenario.{Message, Scenario}
 use Rattle.convoy_packets.specs.Packets.{packets_of}
 use Rattle.convoy_packets.specs.Assignment.{delay_of}
 use Rattle.convoy_sim.specs.Times.{arrive, settle}
@@ -15,7 +15,7 @@ message name sender destinations at =
     record { name = name; sender = sender; destinations = destinations; at = at }
 
 -- the base scenario, with the tick at which y is issued
-base_with_y_at : ℕ → Plan
+base_with_y_at : ℕ → Scenario
 base_with_y_at at = record {
   delay = 3;
   groups = codes "a" ∷ codes "b" ∷ [];
@@ -25,11 +25,11 @@ base_with_y_at at = record {
   target_group = 0;
 }
 
-base : Plan
+base : Scenario
 base = base_with_y_at 6
 
 -- the base with its groups in the order b, a
-swapped : Plan
+swapped : Scenario
 swapped = record {
   delay = 3;
   groups = codes "b" ∷ codes "a" ∷ [];
@@ -39,8 +39,8 @@ swapped = record {
   target_group = 1;
 }
 
--- x comes to b one tick before t, in its tick, or after it
-raced : Plan
+-- x arrives at b one tick before t, in its tick, or after it
+raced : Scenario
 raced = record {
   delay = 3;
   groups = codes "a" ∷ codes "b" ∷ [];
@@ -50,7 +50,7 @@ raced = record {
   target_group = 0;
 }
 
-lone : Sender → List ℕ → Plan
+lone : Sender → List ℕ → Scenario
 lone sender destinations = record {
   delay = 5;
   groups = codes "a" ∷ codes "b" ∷ [];
@@ -60,7 +60,7 @@ lone sender destinations = record {
 }
 
 -- u and v raise the clock of a, so that t has a stamp of time 4 and waits for n
-raised_twice : Plan
+raised_twice : Scenario
 raised_twice = record {
   delay = 3;
   groups = codes "c" ∷ codes "a" ∷ codes "b" ∷ [];
@@ -72,7 +72,7 @@ raised_twice = record {
 }
 
 -- as many groups and messages as there may be, each message from a client to all groups
-largest : Plan
+largest : Scenario
 largest = record {
   delay = 16;
   groups = replicate 8 (codes "g");

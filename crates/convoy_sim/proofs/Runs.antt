@@ -6,39 +6,39 @@ use Rattle.std.proofs.lemmas.List.Folds.{find-append}
 use Rattle.std.proofs.lemmas.Grind.{fold-append}
 use Rattle.convoy_sim.specs.declared.moment.Moment.{Moment}
 use Rattle.convoy_sim.specs.declared.moment.MomentKind.{MomentKind}
-use Rattle.convoy_sim.specs.declared.moment.MomentKind.TheVariants.{Coming, Commit}
+use Rattle.convoy_sim.specs.declared.moment.MomentKind.TheVariants.{Arrival, Commit}
 use Rattle.convoy_sim.specs.Moments.{is_before}
-use Rattle.convoy_sim.specs.Stamps.{Given, Clocks, is_less, no_stamp, clock_of, local_in, greatest_in, after_kind, after_moment}
+use Rattle.convoy_sim.specs.Stamps.{GivenStamp, Clocks, is_less, no_stamp, clock_of, local_in, greatest_in, after_kind, after_moment}
 use Rattle.convoy_sim.proofs.Membership.{IsIn, IsOnce, in_of_filter, in-filter, in_of_find, find-in, find_none}
 use Rattle.convoy_sim.proofs.MomentsOrder.{before_itself, before_trans, time_of_not_less, same_from_not_less}
 use Rattle.convoy_sim.proofs.MomentsInOrder.{IsOrdered, before, from_on, cut, filter_ordered}
-use Rattle.convoy_sim.proofs.ClocksGrow.{read, IsComingOf, IsNew, AreWithin, find_stays, given_cases, given_stays, coming_gives, reached, greatest_over, greatest_is, greatest_grows, greatest_time_grows, commit_raises, length_read, in_of_step, find_step, given_at}
+use Rattle.convoy_sim.proofs.ClocksGrow.{read, IsArrivalOf, IsNew, AreWithin, find_stays, given_cases, given_stays, coming_gives, reached, greatest_over, greatest_is, greatest_grows, greatest_time_grows, commit_raises, length_read, in_of_step, find_step, given_at}
 
--- moments in order, each of a group that has a clock, and no two that differ for one coming; from clocks with no stamp given
+-- moments in order, each of a group that has a clock, and no two that differ for one arrival; from clocks with no stamp given
 pub record IsRun (s : Clocks) (ms : List Moment) : Type 0 where
   pub ordered : IsOrdered ms
   pub within : AreWithin s ms
   pub same : (c d : Moment) → IsIn c ms → IsIn d ms → c.kind ≡ d.kind → c.message ≡ d.message → c.group ≡ d.group → c ≡ d
-  pub none : (x : Given) → IsIn x s.given → ⊥
+  pub none : (x : GivenStamp) → IsIn x s.given → ⊥
 
 -- ---- the stamp at a key
-abbrev pub is_for : ℕ → ℕ → Given → Bool
+abbrev pub is_for : ℕ → ℕ → GivenStamp → Bool
 is_for m g x = (x.message == m) && (x.stamp.group == g)
 
-pub is_for_from : (m g : ℕ) (x : Given) → x.message ≡ m → x.stamp.group ≡ g → is_for m g x ≡ true
+pub is_for_from : (m g : ℕ) (x : GivenStamp) → x.message ≡ m → x.stamp.group ≡ g → is_for m g x ≡ true
 is_for_from m g x e f = and_from (x.message == m) (x.stamp.group == g) (eq-eqb x.message m e) (eq-eqb x.stamp.group g f)
 
-pub is_for_parts : (m g : ℕ) (x : Given) → is_for m g x ≡ true → (x.message ≡ m) × (x.stamp.group ≡ g)
+pub is_for_parts : (m g : ℕ) (x : GivenStamp) → is_for m g x ≡ true → (x.message ≡ m) × (x.stamp.group ≡ g)
 is_for_parts m g x h =
     let p = and_parts (x.message == m) (x.stamp.group == g) h in
     (eqb-true x.message m p.0, eqb-true x.stamp.group g p.1)
 
 -- the local stamp of a message that has one stands in the list of stamps
-pub local_found : (s : Clocks) (m g : ℕ) (x : Given) → find (is_for m g) s.given ≡ Some x → local_in s m g ≡ x.stamp
+pub local_found : (s : Clocks) (m g : ℕ) (x : GivenStamp) → find (is_for m g) s.given ≡ Some x → local_in s m g ≡ x.stamp
 local_found s m g x e = ap (λ o. unwrap_or (option_map (λ y. y.stamp) o) no_stamp) e
 
-pub local_given : (s : Clocks) (m g : ℕ) (x : Given) → IsIn x s.given → x.message ≡ m → x.stamp.group ≡ g
-    → (y : Given) × IsIn y s.given × (y.message ≡ m) × (y.stamp.group ≡ g) × (find (is_for m g) s.given ≡ Some y)
+pub local_given : (s : Clocks) (m g : ℕ) (x : GivenStamp) → IsIn x s.given → x.message ≡ m → x.stamp.group ≡ g
+    → (y : GivenStamp) × IsIn y s.given × (y.message ≡ m) × (y.stamp.group ≡ g) × (find (is_for m g) s.given ≡ Some y)
 local_given s m g x i e f =
     let found = find-in (is_for m g) x s.given i (is_for_from m g x e f) in
     let there = in_of_find (is_for m g) found.0 s.given found.1 in
@@ -62,20 +62,20 @@ in_of_from_on : (p c : Moment) (ms : List Moment) → IsIn c (from_on p ms) → 
 in_of_from_on p c ms i = let r = in_of_filter (λ x. not (is_before x p)) c ms i in (r.0, not-true (is_before c p) r.1)
 
 -- every stamp of a run is new, and comes from one of its comings
-pub given_new : (s : Clocks) (ms : List Moment) → IsRun s ms → (x : Given) → IsIn x (read s ms).given → IsNew s ms x
+pub given_new : (s : Clocks) (ms : List Moment) → IsRun s ms → (x : GivenStamp) → IsIn x (read s ms).given → IsNew s ms x
 given_new s ms run x i = elim (given_cases s ms x i) [ inl old ↦ absurd (run.none x old) | inr n ↦ n ]
 
--- the local stamp of a coming
-pub local_of_coming : (s : Clocks) (ms : List Moment) (c : Moment) → IsIn c ms → c.kind ≡ Coming
-    → (x : Given) × IsIn x (read s ms).given × (x.message ≡ c.message) × (x.stamp.group ≡ c.group)
+-- the local stamp of an arrival
+pub local_of_coming : (s : Clocks) (ms : List Moment) (c : Moment) → IsIn c ms → c.kind ≡ Arrival
+    → (x : GivenStamp) × IsIn x (read s ms).given × (x.message ≡ c.message) × (x.stamp.group ≡ c.group)
     × (local_in (read s ms) c.message c.group ≡ x.stamp)
 local_of_coming s ms c i k =
     let g = coming_gives s ms c i k in
     let l = local_given (read s ms) c.message c.group g.0 g.1 g.2 g.3 in
     (l.0, l.1, l.2, l.3, local_found (read s ms) c.message c.group l.0 l.4)
 
--- the local stamp of a coming is past what the clock was just before it
-pub past_clock : (s : Clocks) (ms : List Moment) → IsRun s ms → (c : Moment) → IsIn c ms → c.kind ≡ Coming
+-- the local stamp of an arrival is past what the clock was just before it
+pub past_clock : (s : Clocks) (ms : List Moment) → IsRun s ms → (c : Moment) → IsIn c ms → c.kind ≡ Arrival
     → clock_of (read s (before c ms)) c.group < (local_in (read s ms) c.message c.group).time
 past_clock s ms run c i k =
     let early : Clocks = read s (before c ms) in
@@ -96,7 +96,7 @@ past_clock s ms run c i k =
 
 -- of two comings at one group the earlier has the lesser time
 pub comings_rise : (s : Clocks) (ms : List Moment) → IsRun s ms → (b c : Moment) → IsIn b ms → IsIn c ms
-    → b.kind ≡ Coming → c.kind ≡ Coming → b.group ≡ c.group → is_before b c ≡ true
+    → b.kind ≡ Arrival → c.kind ≡ Arrival → b.group ≡ c.group → is_before b c ≡ true
     → (local_in (read s ms) b.message b.group).time < (local_in (read s ms) c.message c.group).time
 comings_rise s ms run b c i j k l e h =
     let early : Clocks = read s (before c ms) in
@@ -112,10 +112,10 @@ comings_rise s ms run b c i j k l e h =
     let reaches : y.0.stamp.time ≤ clock_of early c.group = subst (λ n. y.0.stamp.time ≤ clock_of early n) (y.3 ∙ e) low in
     subst (λ t. t.time < (local_in (read s ms) c.message c.group).time) (sym mine) (omega arith)
 
--- a coming behind the commit of a message has a greater time than all stamps of that message, if all its comings stand before its commit
+-- an arrival behind the commit of a message has a greater time than all stamps of that message, if all its comings stand before its commit
 pub commit_rises : (s : Clocks) (ms : List Moment) → IsRun s ms → (a c : Moment) → IsIn a ms → IsIn c ms
-    → a.kind ≡ Commit → c.kind ≡ Coming → a.group ≡ c.group → is_before a c ≡ true
-    → ((d : Moment) → IsIn d ms → d.kind ≡ Coming → d.message ≡ a.message → is_before d a ≡ true)
+    → a.kind ≡ Commit → c.kind ≡ Arrival → a.group ≡ c.group → is_before a c ≡ true
+    → ((d : Moment) → IsIn d ms → d.kind ≡ Arrival → d.message ≡ a.message → is_before d a ≡ true)
     → (greatest_in (read s ms) a.message).time < (local_in (read s ms) c.message c.group).time
 commit_rises s ms run a c i j k l e h all =
     let part : List Moment = before c ms in
@@ -153,19 +153,19 @@ commit_rises s ms run a c i j k l e h all =
 -- ---- one stamp at a key
 -- each stamp is the one that is found at its key
 abbrev pub AreFound : Clocks → Type 0
-AreFound s = (x : Given) → IsIn x s.given → find (is_for x.message x.stamp.group) s.given ≡ Some x
+AreFound s = (x : GivenStamp) → IsIn x s.given → find (is_for x.message x.stamp.group) s.given ≡ Some x
 
-find_given_at : (k : MomentKind) (s : Clocks) (m h : ℕ) → k ≡ Coming → find (is_for m h) s.given ≡ None
+find_given_at : (k : MomentKind) (s : Clocks) (m h : ℕ) → k ≡ Arrival → find (is_for m h) s.given ≡ None
     → find (is_for m h) (after_kind k s m h).given ≡ Some (given_at s m h)
-find_given_at Coming s m h e none =
-    let last : List Given = given_at s m h ∷ [] in
+find_given_at Arrival s m h e none =
+    let last : List GivenStamp = given_at s m h ∷ [] in
     find-append (is_for m h) s.given last
     ∙ ap (λ o. option_or o (find (is_for m h) last)) none
     ∙ cond-true (is_for m h (given_at s m h)) (Some (given_at s m h)) None (is_for_from m h (given_at s m h) refl refl)
 find_given_at Commit s m h e none = absurd (cc)
 
 found_step : (k : MomentKind) (s : Clocks) (m h : ℕ) → AreFound s
-    → (k ≡ Coming → (x : Given) → IsIn x s.given → is_for m h x ≡ false) → AreFound (after_kind k s m h)
+    → (k ≡ Arrival → (x : GivenStamp) → IsIn x s.given → is_for m h x ≡ false) → AreFound (after_kind k s m h)
 found_step k s m h found apart x i = elim (in_of_step k s m h x i) [
   | inl old ↦ find_step k s m h (is_for x.message x.stamp.group) x (found x old)
   | inr n ↦ subst (λ y. find (is_for y.message y.stamp.group) (after_kind k s m h).given ≡ Some y) n.1
@@ -174,7 +174,7 @@ found_step k s m h found apart x i = elim (in_of_step k s m h x i) [
 
 pub all_found : (s : Clocks) (ms : List Moment) → IsOnce ms
     → ((c d : Moment) → IsIn c ms → IsIn d ms → c.kind ≡ d.kind → c.message ≡ d.message → c.group ≡ d.group → c ≡ d)
-    → ((x : Given) (c : Moment) → IsIn x s.given → IsIn c ms → IsComingOf x c → ⊥)
+    → ((x : GivenStamp) (c : Moment) → IsIn x s.given → IsIn c ms → IsArrivalOf x c → ⊥)
     → AreFound s → AreFound (read s ms)
 all_found s [] once same apart found = found
 all_found s (c ∷ cs) once same apart found =
@@ -182,7 +182,7 @@ all_found s (c ∷ cs) once same apart found =
     (found_step c.kind s c.message c.group found (λ k x i. false_from_ne_true _ (λ t.
     let parts = is_for_parts c.message c.group x t in
     apart x c i (inl refl) (k, sym parts.0, sym parts.1)))) where
-      still_apart : (x : Given) (d : Moment) → IsIn x (after_moment s c).given → IsIn d cs → IsComingOf x d → ⊥
+      still_apart : (x : GivenStamp) (d : Moment) → IsIn x (after_moment s c).given → IsIn d cs → IsArrivalOf x d → ⊥
       still_apart x d i j of = elim (in_of_step c.kind s c.message c.group x i) [
         | inl old ↦ apart x d old (inr j) of
         | inr n ↦
@@ -194,7 +194,7 @@ all_found s (c ∷ cs) once same apart found =
 
 -- ---- final stamps
 -- a stamp of a run is the local stamp of its message at its group
-pub local_of_given : (s : Clocks) (ms : List Moment) → IsRun s ms → IsOnce ms → (x : Given) → IsIn x (read s ms).given
+pub local_of_given : (s : Clocks) (ms : List Moment) → IsRun s ms → IsOnce ms → (x : GivenStamp) → IsIn x (read s ms).given
     → local_in (read s ms) x.message x.stamp.group ≡ x.stamp
 local_of_given s ms run once x i =
     local_found (read s ms) x.message x.stamp.group x
@@ -202,8 +202,8 @@ local_of_given s ms run once x i =
 
 -- the greatest stamp of a message that comes somewhere is the local stamp of one of its comings
 pub greatest_is_local : (s : Clocks) (ms : List Moment) → IsRun s ms → IsOnce ms
-    → (c : Moment) → IsIn c ms → c.kind ≡ Coming
-    → (d : Moment) × IsIn d ms × (d.kind ≡ Coming) × (d.message ≡ c.message)
+    → (c : Moment) → IsIn c ms → c.kind ≡ Arrival
+    → (d : Moment) × IsIn d ms × (d.kind ≡ Arrival) × (d.message ≡ c.message)
     × (local_in (read s ms) c.message d.group ≡ greatest_in (read s ms) c.message)
     × ((greatest_in (read s ms) c.message).group ≡ d.group)
 greatest_is_local s ms run once c i k = elim (greatest_is (read s ms) c.message) [
@@ -227,7 +227,7 @@ greatest_is_local s ms run once c i k = elim (greatest_is (read s ms) c.message)
 ]
 
 -- and no local stamp of the message is greater
-pub local_not_over : (s : Clocks) (ms : List Moment) (c : Moment) → IsIn c ms → c.kind ≡ Coming
+pub local_not_over : (s : Clocks) (ms : List Moment) (c : Moment) → IsIn c ms → c.kind ≡ Arrival
     → is_less (greatest_in (read s ms) c.message) (local_in (read s ms) c.message c.group) ≡ false
 local_not_over s ms c i k =
     let l = local_of_coming s ms c i k in
@@ -236,7 +236,7 @@ local_not_over s ms c i k =
 
 -- at a commit that stands behind all comings of its message, the greatest stamp of the message is the final one already
 pub greatest_at_commit : (s : Clocks) (ms : List Moment) → IsRun s ms → (a : Moment)
-    → ((d : Moment) → IsIn d ms → d.kind ≡ Coming → d.message ≡ a.message → is_before d a ≡ true)
+    → ((d : Moment) → IsIn d ms → d.kind ≡ Arrival → d.message ≡ a.message → is_before d a ≡ true)
     → greatest_in (read s (before a ms)) a.message ≡ greatest_in (read s ms) a.message
 greatest_at_commit s ms run a all =
     let early : Clocks = read s (before a ms) in

@@ -1,24 +1,23 @@
--- The laws of stamps in a scenario: how local and final stamps stand to comings and commits.
+-- The laws of stamps in a scenario: how local and final stamps stand to arrivals and commits.
 use Rattle.std.proofs.Common.{◌≡◌, ℕ, ◌<◌, ◌≤◌, true, inl, inr, List, [], ◌∷◌, length, get_or, refl, sym, ap, subst, subst₂, ◌∙◌, arith}
 use Rattle.std.proofs.lemmas.Bool.{cases_Bool, cases_lt, both_ways}
-use Rattle.convoy_scenario.specs.Plan.{Plan, message_at}
+use Rattle.convoy_scenario.specs.Scenario.{Scenario, message_at}
 use Rattle.convoy_scenario.specs.WellFormed.{IsScenario}
 use Rattle.convoy_sim.specs.declared.moment.Moment.{Moment}
-use Rattle.convoy_sim.specs.declared.moment.MomentKind.TheVariants.{Coming}
+use Rattle.convoy_sim.specs.declared.moment.MomentKind.TheVariants.{Arrival}
 use Rattle.convoy_sim.specs.Times.{arrive, settle}
-use Rattle.convoy_sim.specs.Moments.{is_before, moments_of}
-use Rattle.convoy_sim.specs.Stamps.{greatest_in, is_less, first_clocks, clocks_of, local_stamp, final_stamp}
-use Rattle.convoy_sim.specs.Laws.{GoesTo, coming_of, commit_of, EarlierComesBeforeCommit, StampsRise, StampsRisePastCommit, LocalStampNamesGroup, NoLocalStampIsGreater, FinalStampIsLocal, FinalStampsDiffer, FinalStampsAreOrdered}
+use Rattle.convoy_sim.specs.Moments.{arrival_of, commit_of, is_before, moments_of}
+use Rattle.convoy_sim.specs.Stamps.{is_less, first_clocks, clocks_of, local_stamp, final_stamp}
+use Rattle.convoy_sim.specs.Laws.{EarlierArrivesBeforeCommit, StampsRise, StampsRisePastCommit, LocalStampNamesGroup, NoLocalStampIsGreater, FinalStampIsLocal, FinalStampsDiffer, FinalStampsAreOrdered}
+use Rattle.convoy_scenario.specs.Scenario.{GoesTo}
 use Rattle.convoy_sim.proofs.Membership.{IsIn}
 use Rattle.convoy_sim.proofs.MomentsOrder.{before_by_tick, coming_before_commit, not_less_by_time, before_total, same_from_not_less}
-use Rattle.convoy_sim.proofs.MomentsInOrder.{before}
-use Rattle.convoy_sim.proofs.ClocksGrow.{read}
-use Rattle.convoy_sim.proofs.Runs.{greatest_at_commit, comings_rise, commit_rises, greatest_is_local, local_not_over, local_of_coming}
-use Rattle.convoy_sim.proofs.PlanMoments.{arrive_settle, coming_in, commit_in, coming_is, moments_run, moments_once, multicast_at, goes_from_in}
+use Rattle.convoy_sim.proofs.Runs.{comings_rise, commit_rises, greatest_is_local, local_not_over, local_of_coming}
+use Rattle.convoy_sim.proofs.ScenarioMoments.{arrive_settle, coming_in, commit_in, coming_is, moments_run, moments_once, multicast_at, goes_from_in}
 
--- all comings of a message stand before each of its commits
-pub comings_before_commit : (plan : Plan) (delays : List ℕ) (m g : ℕ) (d : Moment) → IsIn d (moments_of plan delays)
-    → d.kind ≡ Coming → d.message ≡ m → is_before d (commit_of plan delays m g) ≡ true
+-- all arrivals of a message stand before each of its commits
+pub comings_before_commit : (plan : Scenario) (delays : List ℕ) (m g : ℕ) (d : Moment) → IsIn d (moments_of plan delays)
+    → d.kind ≡ Arrival → d.message ≡ m → is_before d (commit_of plan delays m g) ≡ true
 comings_before_commit plan delays m g d i k e =
     let r = coming_is plan delays d i k in
     coming_before_commit d (commit_of plan delays m g)
@@ -30,28 +29,28 @@ pub rises : StampsRise
 unfolding local_stamp clocks_of
 rises plan delays well n z g hn hz h =
     comings_rise (first_clocks plan) (moments_of plan delays) (moments_run plan well delays)
-    (coming_of plan delays n g) (coming_of plan delays z g) (coming_in plan delays n g hn) (coming_in plan delays z g hz)
+    (arrival_of plan delays n g) (arrival_of plan delays z g) (coming_in plan delays n g hn) (coming_in plan delays z g hz)
     refl refl refl h
 
--- a message that comes to a group behind the commit of another there has a greater time than the final stamp of that
+-- a message that arrives at a group behind the commit of another there has a greater time than the final stamp of that
 pub rises_past : StampsRisePastCommit
 unfolding local_stamp final_stamp clocks_of
 rises_past plan delays well q z g hq hz h =
     commit_rises (first_clocks plan) (moments_of plan delays) (moments_run plan well delays)
-    (commit_of plan delays q g) (coming_of plan delays z g) (commit_in plan delays q g hq) (coming_in plan delays z g hz)
+    (commit_of plan delays q g) (arrival_of plan delays z g) (commit_in plan delays q g hq) (coming_in plan delays z g hz)
     refl refl refl h (comings_before_commit plan delays q g)
 
-pub earlier_comes : EarlierComesBeforeCommit
-earlier_comes plan delays well n m g hn hm h = elim (cases_lt (settle plan delays m g) (arrive plan delays n g)) [
+pub earlier_arrives : EarlierArrivesBeforeCommit
+earlier_arrives plan delays well n m g hn hm h = elim (cases_lt (settle plan delays m g) (arrive plan delays n g)) [
   | inl l ↦ absurd (
-      let past = rises_past plan delays well m n g hm hn (before_by_tick (commit_of plan delays m g) (coming_of plan delays n g) l) in
+      let past = rises_past plan delays well m n g hm hn (before_by_tick (commit_of plan delays m g) (arrival_of plan delays n g) l) in
       both_ways _ (not_less_by_time (local_stamp plan delays n g) (final_stamp plan delays m) past) h)
   | inr l ↦ l
 ]
 
 -- ---- final stamps
 -- each message goes somewhere
-pub destination_of : (plan : Plan) → IsScenario plan → (m : ℕ) → m < length plan.multicasts → (g : ℕ) × GoesTo plan m g
+pub destination_of : (plan : Scenario) → IsScenario plan → (m : ℕ) → m < length plan.multicasts → (g : ℕ) × GoesTo plan m g
 destination_of plan well m l =
     let some = (multicast_at plan well m l).destinations in
     let first : ℕ = get_or (message_at plan m).destinations 0 0 in
@@ -63,21 +62,21 @@ destination_of plan well m l =
 pub local_names : LocalStampNamesGroup
 unfolding local_stamp clocks_of
 local_names plan delays well m g h =
-    let l = local_of_coming (first_clocks plan) (moments_of plan delays) (coming_of plan delays m g) (coming_in plan delays m g h) refl in
+    let l = local_of_coming (first_clocks plan) (moments_of plan delays) (arrival_of plan delays m g) (coming_in plan delays m g h) refl in
     ap (λ t. t.group) l.4 ∙ l.3
 
 pub not_greater : NoLocalStampIsGreater
 unfolding local_stamp final_stamp clocks_of
 not_greater plan delays well m g h =
-    local_not_over (first_clocks plan) (moments_of plan delays) (coming_of plan delays m g) (coming_in plan delays m g h) refl
+    local_not_over (first_clocks plan) (moments_of plan delays) (arrival_of plan delays m g) (coming_in plan delays m g h) refl
 
-final_at : (plan : Plan) (delays : List ℕ) → IsScenario plan → (m : ℕ) → m < length plan.multicasts
+final_at : (plan : Scenario) (delays : List ℕ) → IsScenario plan → (m : ℕ) → m < length plan.multicasts
     → (g : ℕ) × GoesTo plan m g × (local_stamp plan delays m g ≡ final_stamp plan delays m) × ((final_stamp plan delays m).group ≡ g)
 unfolding local_stamp final_stamp clocks_of
 final_at plan delays well m l =
     let to = destination_of plan well m l in
     let r = greatest_is_local (first_clocks plan) (moments_of plan delays) (moments_run plan well delays) (moments_once plan well delays)
-    (coming_of plan delays m to.0) (coming_in plan delays m to.0 to.1) refl in
+    (arrival_of plan delays m to.0) (coming_in plan delays m to.0 to.1) refl in
     (r.0.group, subst (λ n. GoesTo plan n r.0.group) r.3 (coming_is plan delays r.0 r.1 r.2).1, r.4, r.5)
 
 pub final_is_local : FinalStampIsLocal
@@ -93,8 +92,8 @@ finals_differ plan delays well m n lm ln differ same =
     let stamps : local_stamp plan delays m g ≡ local_stamp plan delays n g =
     a.2 ∙ (same ∙ (sym b.2 ∙ ap (local_stamp plan delays n) here)) in
     let times : (local_stamp plan delays m g).time ≡ (local_stamp plan delays n g).time = ap (λ t. t.time) stamps in
-    let p : Moment = coming_of plan delays m g in
-    let q : Moment = coming_of plan delays n g in
+    let p : Moment = arrival_of plan delays m g in
+    let q : Moment = arrival_of plan delays n g in
     elim (cases_Bool (is_before p q)) [
       | inl e ↦ let up = rises plan delays well m n g a.1 goes e in absurd (omega arith)
       | inr e ↦ elim (cases_Bool (is_before q p)) [
@@ -114,11 +113,3 @@ finals_ordered plan delays well m n lm ln differ =
         | inr f ↦ absurd (finals_differ plan delays well m n lm ln differ (same_from_not_less a b e f))
       ]
     ]
-
--- at a commit of a message its greatest stamp is the final one already
-pub final_at_commit : (plan : Plan) (delays : List ℕ) → IsScenario plan → (m g : ℕ)
-    → greatest_in (read (first_clocks plan) (before (commit_of plan delays m g) (moments_of plan delays))) m ≡ final_stamp plan delays m
-unfolding final_stamp clocks_of
-final_at_commit plan delays well m g =
-    greatest_at_commit (first_clocks plan) (moments_of plan delays) (moments_run plan well delays) (commit_of plan delays m g)
-    (comings_before_commit plan delays m g)

@@ -1,20 +1,22 @@
 -- A schedule with its latency in a scenario.
-use Rattle.std.specs.Prelude.{◌≡◌, ℕ, List}
-use Rattle.convoy_scenario.specs.Plan.{Plan}
-use Rattle.convoy_packets.specs.Assignment.{IsAssignment}
+use Rattle.std.specs.Prelude.{◌≡◌, ℕ}
+use Rattle.convoy_scenario.specs.Scenario.{Scenario}
+use Rattle.convoy_scenario.specs.WellFormed.{IsScenario}
+use Rattle.convoy_packets.specs.Assignment.{Schedule, IsAssignment}
 use Rattle.convoy_sim.specs.Delivery.{latency_of}
 
--- a scenario, the delays of its packets, and a latency in ticks
-pub record Attained : Type 0 where
-  pub plan : Plan
-  pub delays : List ℕ
+-- a scenario, a schedule, and a latency in ticks
+pub record Record : Type 0 where
+  pub scenario : Scenario
+  pub delays : Schedule
   pub latency : ℕ
 
--- the scenario has that latency under those delays
-pub record IsAttained (attained : Attained) : Type 0 where
-  pub assignment : IsAssignment attained.plan attained.delays
-  pub latency : attained.latency ≡ latency_of attained.plan attained.delays
+-- the scenario is well formed, and has that latency under that schedule, which is an assignment
+pub record IsAttained (attained : Record) : Type 0 where
+  pub scenario : IsScenario attained.scenario
+  pub assignment : IsAssignment attained.scenario attained.delays
+  pub latency : attained.latency ≡ latency_of attained.scenario attained.delays
 
--- those delays, with the latency that the scenario has under them
-abbrev pub attained_by : Plan → List ℕ → Attained
-attained_by plan delays = record { plan = plan; delays = delays; latency = latency_of plan delays }
+-- the schedule, with the latency that the scenario has under it
+abbrev pub attained_by : Scenario → Schedule → Record
+attained_by scenario delays = record { scenario = scenario; delays = delays; latency = latency_of scenario delays }

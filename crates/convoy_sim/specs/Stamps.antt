@@ -4,9 +4,10 @@ use Rattle.std.specs.List.{fold, filter, find}
 use Rattle.std.specs.Option.{option_map}
 use Rattle.convoy_sim.specs.declared.moment.Moment.{Moment}
 use Rattle.convoy_sim.specs.declared.moment.MomentKind.{MomentKind}
-use Rattle.convoy_sim.specs.declared.moment.MomentKind.TheVariants.{Coming, Commit}
+use Rattle.convoy_sim.specs.declared.moment.MomentKind.TheVariants.{Arrival, Commit}
 use Rattle.convoy_sim.specs.declared.timestamp.Timestamp.{Timestamp}
-use Rattle.convoy_scenario.specs.Plan.{Plan}
+use Rattle.convoy_scenario.specs.Scenario.{Scenario}
+use Rattle.convoy_packets.specs.Assignment.{Schedule}
 use Rattle.convoy_sim.specs.Moments.{moments_of}
 
 -- stamp a is less than stamp b: by time, and then by group
@@ -22,18 +23,18 @@ abbrev pub no_stamp : Timestamp
 no_stamp = record { time = 0; group = 0 }
 
 -- a local stamp, and the message that it was given to
-pub record Given : Type 0 where
+pub record GivenStamp : Type 0 where
   pub message : ℕ
   pub stamp : Timestamp
 
 -- what stands when some moments have been read: each group's clock, and the local stamps given, in order
 pub record Clocks : Type 0 where
   pub numbers : List ℕ
-  pub given : List Given
+  pub given : List GivenStamp
 
 -- every clock at 0, and no stamp given
-abbrev pub first_clocks : Plan → Clocks
-first_clocks plan = record { numbers = replicate (length plan.groups) 0; given = [] }
+abbrev pub first_clocks : Scenario → Clocks
+first_clocks scenario = record { numbers = replicate (length scenario.groups) 0; given = [] }
 
 -- a group's clock
 abbrev pub clock_of : Clocks → ℕ → ℕ
@@ -48,9 +49,9 @@ local_in clocks m g =
 abbrev pub greatest_in : Clocks → ℕ → Timestamp
 greatest_in clocks m = fold later no_stamp (map (λ x. x.stamp) (filter (λ x. x.message == m) clocks.given))
 
--- a coming raises the clock by one and gives the stamp of that time
-abbrev pub after_coming : Clocks → ℕ → ℕ → Clocks
-after_coming clocks m g =
+-- an arrival raises the clock by one and gives the stamp of that time
+abbrev pub after_arrival : Clocks → ℕ → ℕ → Clocks
+after_arrival clocks m g =
     let time = clock_of clocks g + 1 in
     record {
       numbers = slice_set clocks.numbers g time;
@@ -63,7 +64,7 @@ after_commit clocks m g =
     record clocks { numbers = slice_set clocks.numbers g (max (clock_of clocks g) (greatest_in clocks m).time) }
 
 abbrev pub after_kind : MomentKind → Clocks → ℕ → ℕ → Clocks
-after_kind Coming clocks m g = after_coming clocks m g
+after_kind Arrival clocks m g = after_arrival clocks m g
 after_kind Commit clocks m g = after_commit clocks m g
 
 -- what stands after one more moment
@@ -71,13 +72,13 @@ abbrev pub after_moment : Clocks → Moment → Clocks
 after_moment clocks moment = after_kind moment.kind clocks moment.message moment.group
 
 -- what stands when all moments have been read
-unfoldable pub clocks_of : Plan → List ℕ → Clocks
-clocks_of plan delays = fold after_moment (first_clocks plan) (moments_of plan delays)
+unfoldable pub clocks_of : Scenario → Schedule → Clocks
+clocks_of scenario delays = fold after_moment (first_clocks scenario) (moments_of scenario delays)
 
 -- the local stamp of message m at group g
-unfoldable pub local_stamp : Plan → List ℕ → ℕ → ℕ → Timestamp
-local_stamp plan delays m g = local_in (clocks_of plan delays) m g
+unfoldable pub local_stamp : Scenario → Schedule → ℕ → ℕ → Timestamp
+local_stamp scenario delays m g = local_in (clocks_of scenario delays) m g
 
 -- the final stamp of message m, the greatest of its local ones: at each commit of m all of them are given
-unfoldable pub final_stamp : Plan → List ℕ → ℕ → Timestamp
-final_stamp plan delays m = greatest_in (clocks_of plan delays) m
+unfoldable pub final_stamp : Scenario → Schedule → ℕ → Timestamp
+final_stamp scenario delays m = greatest_in (clocks_of scenario delays) m

@@ -1,22 +1,26 @@
--- When a message comes to a group, and when it is committed there. No clock stands in either.
+-- When a message arrives at a group, and when it is committed there. No clock stands in either.
 use Rattle.std.specs.Prelude.{ℕ, ◌+◌, max, List, map}
 use Rattle.std.specs.List.{fold}
 use Rattle.convoy_packets.specs.declared.packet.Packet.TheVariants.{Multicast, Propose}
-use Rattle.convoy_scenario.specs.Plan.{Plan, message_at}
-use Rattle.convoy_packets.specs.Assignment.{delay_of}
+use Rattle.convoy_scenario.specs.Scenario.{Scenario, message_at}
+use Rattle.convoy_packets.specs.Assignment.{Schedule, delay_of}
+
+-- a tick: a point of time, counted from the start of the scenario
+abbrev pub Tick : Type 0
+Tick = ℕ
 
 -- the greatest of some numbers, 0 where there is none
 abbrev pub greatest : List ℕ → ℕ
 greatest xs = fold max 0 xs
 
--- Arrival, the tick at which message m comes to group g: its issue and the delay of its packet to g. To the group that sends it there is no packet, so it comes there as it is issued.
-unfoldable pub arrive : Plan → List ℕ → ℕ → ℕ → ℕ
-arrive plan delays m g = (message_at plan m).at + delay_of plan delays (Multicast m g)
+-- Arrival, the tick at which message m arrives at group g: its issue and the delay of its packet to g. To the group that sends it there is no packet, so it arrives there as it is issued.
+unfoldable pub arrive : Scenario → Schedule → ℕ → ℕ → Tick
+arrive scenario delays m g = (message_at scenario m).at + delay_of scenario delays (Multicast m g)
 
 -- the tick at which group g has the stamp that group h proposes for message m
-abbrev pub propose_arrive : Plan → List ℕ → ℕ → ℕ → ℕ → ℕ
-propose_arrive plan delays m g h = arrive plan delays m h + delay_of plan delays (Propose m h g)
+abbrev pub propose_arrive : Scenario → Schedule → ℕ → ℕ → ℕ → Tick
+propose_arrive scenario delays m g h = arrive scenario delays m h + delay_of scenario delays (Propose m h g)
 
--- Settling, the tick at which message m is committed at group g: that of the last proposal to come, the group's own among them.
-unfoldable pub settle : Plan → List ℕ → ℕ → ℕ → ℕ
-settle plan delays m g = greatest (map (propose_arrive plan delays m g) (message_at plan m).destinations)
+-- Settling, the tick at which message m is committed at group g: that of the last proposal to arrive, the group's own among them.
+unfoldable pub settle : Scenario → Schedule → ℕ → ℕ → Tick
+settle scenario delays m g = greatest (map (propose_arrive scenario delays m g) (message_at scenario m).destinations)

@@ -1,16 +1,18 @@
-//! The laws of the protocol: what holds of every scenario and every schedule of delays. Each is the
-//! one clause of a function that does nothing; a caller that needs the law calls the function.
+//! The laws of the protocol: what holds of every scenario, every schedule of delays and every run.
+//! Each is the one clause of a function that does nothing; a caller that needs the law calls the
+//! function.
 
 ghost use Rattle.convoy_sim.specs.Laws.{
-  ComesAfterIssue,
-  ComesBeforeCommit,
-  ComesWithinOneDelay,
+  ArrivesAfterIssue,
+  ArrivesBeforeCommit,
+  ArrivesWithinOneDelay,
   CommittedWithinTwoDelays,
   DeliveredAfterCommit,
   DeliveredByLastCommit,
+  DeliveryIsLeast,
   DeliveryBound,
   DeliveryLaw,
-  EarlierComesBeforeCommit,
+  EarlierArrivesBeforeCommit,
   FinalStampIsLocal,
   FinalStampsAreOrdered,
   FinalStampsDiffer,
@@ -25,6 +27,7 @@ ghost use Rattle.convoy_sim.specs.Laws.{
   StampsRisePastCommit,
   TargetLatencyWithinFourDelays,
 };
+ghost use Rattle.convoy_sim.specs.RunLaws.{RunsKeepTheLaws};
 
 use convoy_packets::laws::unsent_takes_no_time;
 
@@ -35,15 +38,21 @@ pub fn delivery_law()
     ensures { DeliveryLaw }
 {}
 
-/// A message that is ahead of another at a group comes there no later than the other is committed
+/// A message is delivered at a group at the least tick from its commit there on at which no message
+/// holds it back.
+pub fn delivery_is_least()
+    ensures { DeliveryIsLeast }
+{}
+
+/// A message that is ahead of another at a group arrives there no later than the other is committed
 /// there.
-#[tactic(auto, using(crate::proofs::StampLaws::earlier_comes))]
-pub fn earlier_comes_before_commit()
-    ensures { EarlierComesBeforeCommit }
+#[tactic(auto, using(crate::proofs::StampLaws::earlier_arrives))]
+pub fn earlier_arrives_before_commit()
+    ensures { EarlierArrivesBeforeCommit }
 {}
 
 /// A message is delivered at a group no later than the last commit there of itself and of all that
-/// come there by its commit.
+/// arrive there by its commit.
 #[tactic(auto, using(crate::proofs::DeliveryTick::delivery_bound))]
 pub fn delivery_bound()
     ensures { DeliveryBound }
@@ -62,10 +71,10 @@ pub fn order_law()
     ensures { OrderLaw }
 {}
 
-/// A message comes to a group no sooner than it is issued.
-#[tactic(auto, using(crate::proofs::DeliveryTick::comes_after_issue))]
-pub fn comes_after_issue()
-    ensures { ComesAfterIssue }
+/// A message arrives at a group no sooner than it is issued.
+#[tactic(auto, using(crate::proofs::DeliveryTick::arrives_after_issue))]
+pub fn arrives_after_issue()
+    ensures { ArrivesAfterIssue }
 {}
 
 /// A message is delivered at a group no sooner than it is committed there.
@@ -80,23 +89,23 @@ pub fn latency_is_never_negative()
     ensures { LatencyIsNeverNegative }
 {}
 
-/// A message comes to each of its destinations no later than it is committed at any of them.
-#[tactic(auto, using(crate::proofs::PlanMoments::arrive_settle))]
-pub fn comes_before_commit()
-    ensures { ComesBeforeCommit }
+/// A message arrives at each of its destinations no later than it is committed at any of them.
+#[tactic(auto, using(crate::proofs::ScenarioMoments::arrive_settle))]
+pub fn arrives_before_commit()
+    ensures { ArrivesBeforeCommit }
 {}
 
-/// A message comes to the group that sends it as it is issued.
+/// A message arrives at the group that sends it as it is issued.
 pub fn sender_has_it_at_once()
     ensures { SenderHasItAtOnce }
 {
     unsent_takes_no_time();
 }
 
-/// A message comes to a group within D ticks of its issue.
-#[tactic(auto, using(crate::proofs::PacketDelays::comes_within))]
-pub fn comes_within_one_delay()
-    ensures { ComesWithinOneDelay }
+/// A message arrives at a group within D ticks of its issue.
+#[tactic(auto, using(crate::proofs::PacketDelays::arrives_within))]
+pub fn arrives_within_one_delay()
+    ensures { ArrivesWithinOneDelay }
 {}
 
 /// A message is committed at a group within 2 D ticks of its issue.
@@ -123,13 +132,13 @@ pub fn lone_latency_within_two_delays()
     ensures { LoneLatencyWithinTwoDelays }
 {}
 
-/// Of two messages that come to one group, the one that comes first has the lesser time there.
+/// Of two messages that arrive at one group, the one that arrives first has the stamp of lesser time.
 #[tactic(auto, using(crate::proofs::StampLaws::rises))]
 pub fn stamps_rise()
     ensures { StampsRise }
 {}
 
-/// A message that comes to a group after another is committed there has a local stamp of greater
+/// A message that arrives at a group after another is committed there has a local stamp of greater
 /// time than the final stamp of that one.
 #[tactic(auto, using(crate::proofs::StampLaws::rises_past))]
 pub fn stamps_rise_past_commit()
@@ -164,4 +173,11 @@ pub fn final_stamps_differ()
 #[tactic(auto, using(crate::proofs::StampLaws::finals_ordered))]
 pub fn final_stamps_are_ordered()
     ensures { FinalStampsAreOrdered }
+{}
+
+/// Every run of a scenario under an assignment keeps the laws of the protocol, as far as its answers
+/// tell: where and when it delivers, in which order, and how late.
+#[tactic(auto, using(crate::proofs::RunLaws::runs_keep_the_laws))]
+pub fn runs_keep_the_laws()
+    ensures { RunsKeepTheLaws }
 {}

@@ -2,28 +2,28 @@
 #![tactic(auto)]
 
 pub use moment::{Moment, MomentKind};
-pub use plain::simulate_plainly;
 pub use record::Record;
 pub use run::{Proposal, Run};
 pub use simulation::simulate;
 pub use tag::Tag;
+pub use target::latency;
 pub use timestamp::Timestamp;
 
-mod calendar;
+mod agenda;
 mod delivery;
-mod given;
+mod key;
 pub mod laws;
 mod moment;
-mod moments;
-mod plain;
+mod place;
+mod progress;
 mod record;
-mod rival;
-mod rivals;
 mod run;
 mod simulation;
-mod stamping;
+mod stamps;
 mod tag;
+mod target;
 #[cfg(test)]
 mod tests;
 mod times;
 mod timestamp;
+mod timetable;

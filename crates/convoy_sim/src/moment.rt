@@ -1,8 +1,8 @@
 /// What a moment is: inside a tick, all comings are before all commits.
 #[derive(Clone, Copy, Debug, PartialEq, Eq)]
 pub enum MomentKind {
-    /// The message comes to the group, which proposes a local stamp for it.
-    Coming,
+    /// The message arrives at the group, which proposes a local stamp for it.
+    Arrival,
     /// The group has the proposals of all destinations and commits the message.
     Commit,
 }
@@ -16,13 +16,13 @@ impl MomentKind {
         ensures { result ≡ is_kind_before self other }
     {
         match (self, other) {
-            (MomentKind::Coming, MomentKind::Commit) => true,
+            (MomentKind::Arrival, MomentKind::Commit) => true,
             _ => false,
         }
     }
 }
 
-/// A message comes to a group or is committed there, at that tick.
+/// A message arrives at a group or is committed there, at that tick.
 #[derive(Clone, Copy, Debug, PartialEq, Eq)]
 pub struct Moment {
     /// In ticks.

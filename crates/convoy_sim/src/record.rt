@@ -1,9 +1,10 @@
-ghost use Rattle.std.specs.Prelude.{◌≡◌, IfErr, IfOk};
+ghost use Rattle.std.specs.Prelude.{◌≡◌, IfOk};
 ghost use Rattle.convoy_packets.specs.Assignment.{IsAssignment};
 ghost use Rattle.convoy_packets.specs.Table.{table_of};
+ghost use Rattle.convoy_scenario.specs.WellFormed.{IsScenario};
 
-use super::simulation::simulate;
 use super::tag::Tag;
+use super::target::latency;
 use convoy_packets::{Delays, PacketTable};
 use convoy_scenario::Scenario;
 use std::alloc::{AllocError, Global};
@@ -19,18 +20,18 @@ pub struct Record {
 }
 
 impl Model for Record {
-    ghost use Rattle.convoy_sim.specs.Record.{Attained, IsAttained};
+    ghost use Rattle.convoy_sim.specs.Record.{Record, IsAttained};
 
-    ghost Value = { Attained };
+    ghost Value = { Record };
 
     ghost view = { λ r. record {
-      plan = r.scenario.value;
+      scenario = r.scenario.value;
       delays = r.delays;
       latency = r.latency;
     } };
 
     ghost invariant = { λ r. IsAttained (record {
-      plan = r.scenario.value;
+      scenario = r.scenario.value;
       delays = r.delays;
       latency = r.latency;
     }) };
@@ -39,26 +40,18 @@ impl Model for Record {
 impl Record {
     ghost use Rattle.convoy_sim.specs.Record.{IsAttained, attained_by};
 
-    /// The record of a schedule in a scenario, with the packet table of the scenario. Gives the
-    /// schedule back where memory is refused, and else never fails.
-    pub fn of(
-        alloc: Global,
-        scenario: &Scenario,
-        table: &PacketTable,
-        delays: Delays,
-    ) -> Result<Record, (Delays, AllocError)>
+    /// The record of a schedule in a scenario, with the packet table of the scenario. Takes no
+    /// memory.
+    pub fn of(scenario: &Scenario, table: &PacketTable, delays: Delays) -> Record
         requires table { table.now ≡ table_of scenario.now }
         requires assignment { IsAssignment scenario.now delays }
-        ensures value { IfOk result (λ r. r ≡ attained_by scenario.now delays) }
-        ensures back { IfErr result (λ refused. refused.0 ≡ delays) }
+        ensures { result ≡ attained_by scenario.now delays }
     {
-        match simulate(alloc, scenario, table, &delays) {
-            Ok(run) => Ok(Record {
-                delays,
-                latency: run.latency(),
-                scenario: Tag::of(scenario),
-            }),
-            Err(error) => Err((delays, error)),
+        let latency = latency(scenario, table, &delays);
+        Record {
+            delays,
+            latency,
+            scenario: name_of(scenario),
         }
     }
 
@@ -80,7 +73,7 @@ impl Record {
 
     /// The name of the record's scenario.
     pub fn scenario(&self) -> Tag<Scenario>
-        ensures { result.value ≡ self.now.plan }
+        ensures { result.value ≡ self.now.scenario }
     {
         self.scenario.copy()
     }
@@ -95,4 +88,13 @@ impl Record {
             scenario: self.scenario.copy(),
         })
     }
+}
+
+/// The name of a scenario, which is well formed as each scenario is.
+fn name_of(scenario: &Scenario) -> Tag<Scenario>
+    ensures value { result.value ≡ scenario.now }
+    ensures lawful { IsScenario scenario.now }
+{
+    let _delay = scenario.delay();
+    Tag::of(scenario)
 }

@@ -1,4 +1,5 @@
-use crate::calendar::{Progress, place};
+use crate::place::place;
+use crate::progress::Progress;
 use crate::timestamp::Timestamp;
 use convoy_scenario::MOST_GROUPS;
 use std::marker::Model;
@@ -23,9 +24,9 @@ pub struct Run {
 }
 
 impl Model for Run {
-    ghost use Rattle.convoy_sim.specs.Run.{Outcome, IsTabled};
+    ghost use Rattle.convoy_sim.specs.Run.{Run, IsTabled};
 
-    ghost Value = { Outcome };
+    ghost Value = { Run };
 
     ghost view = { λ r. record {
       finals = r.finals.items;

@@ -4,14 +4,14 @@ ghost use Rattle.std.specs.Prelude.{◌≡◌, IsTrue};
 ghost use Rattle.convoy_packets.specs.Assignment.{AreWithin, IsAssignment};
 ghost use Rattle.convoy_packets.specs.Table.{table_of};
 
-use super::{Proposal, Record, Run, Timestamp, simulate, simulate_plainly};
+use super::{Proposal, Record, Run, Timestamp, latency, simulate};
 use convoy_packets::{Delays, PacketTable};
 use convoy_scenario::{Scenario, read_toml};
 use std::alloc::{AllocError, Global};
 use std::process::Abort;
 use std::test::Fail;
 
-/// The run of a scenario, once the plain program has found the same latency.
+/// The run of a scenario, once the call for the latency alone has found the same latency.
 fn run(
     rt: &impl Abort,
     alloc: Global,
@@ -23,10 +23,7 @@ fn run(
     requires assignment { IsAssignment scenario.now delays.now }
 {
     let run = simulate(alloc, scenario, table, delays)?;
-    assert_eq!(rt;
-        run.latency(),
-        simulate_plainly(alloc, scenario, table, delays)?
-    );
+    assert_eq!(rt; run.latency(), latency(scenario, table, delays));
     Ok(run)
 }
 
@@ -75,7 +72,7 @@ target = {{ message = \"t\", group = \"a\" }}
     )
 }
 
-// y comes to the group a as t is committed there, and is committed there two ticks later.
+// y arrives at the group a as t is committed there, and is committed there two ticks later.
 const HELD_BACK: &str = r#"
 delay = 1
 groups = ["a", "b"]
@@ -120,7 +117,7 @@ multicast = [{ name = "m", to = ["a", "b"], at = 7 }]
 target = { message = "m", group = "a" }
 "#;
 
-// x comes to the group b after t where it takes two ticks or more.
+// x arrives at the group b after t where it takes two ticks or more.
 const OVERTAKEN: &str = r#"
 delay = 3
 groups = ["a", "b"]
@@ -198,15 +195,10 @@ fn record_of_the_base(rt: HostRuntime) -> Result<(), Fail> {
     let scenario = read_toml(alloc, base(alloc, 6)?.as_bytes())?.scenario;
     let table = PacketTable::of(alloc, &scenario)?;
     let delays = Delays::least(alloc, &table)?;
-    match Record::of(alloc, &scenario, &table, delays) {
-        Ok(record) => {
-            let copy = record.copy()?;
-            assert_eq!(rt; copy.latency(), 2);
-            assert_eq!(rt; copy.delays().len(), 8);
-            Ok(())
-        }
-        Err((_, error)) => Err(error.into()),
-    }
+    let copy = Record::of(&scenario, &table, delays).copy()?;
+    assert_eq!(rt; copy.latency(), 2);
+    assert_eq!(rt; copy.delays().len(), 8);
+    Ok(())
 }
 
 /// Eight delays from 1 to 3, another mixture for each number.
@@ -220,7 +212,7 @@ fn mixed(number: u32) -> [u16; 8] {
     delays
 }
 
-// The run and the plain program agree on ninety-six runs: y is issued at twelve ticks, and each of these
+// The run and the call for the latency alone agree on ninety-six runs: y is issued at twelve ticks, and each of these
 // scenarios is run under eight schedules.
 #[test]
 fn mixed_schedules(rt: HostRuntime) -> Result<(), Fail> {

@@ -1,5 +1,5 @@
 use Rattle.std.proofs.Common.{◌≡◌, Bool, true, false, not, ◌&&◌, refl, arith}
-use Rattle.convoy_scenario.specs.Plan.{message_at, is_sent_by, is_addressed}
+use Rattle.convoy_scenario.specs.Scenario.{message_at, is_sent_by, is_addressed}
 use Rattle.convoy_packets.specs.declared.packet.Packet.TheVariants.{Multicast}
 use Rattle.convoy_packets.specs.Assignment.{delay_of}
 use Rattle.convoy_sim.specs.Times.{arrive}

@@ -1,62 +1,66 @@
-use Rattle.std.proofs.Common.{◌≡◌, ◌-◌, ◌*◌, ◌≤◌, length, sym, ap, subst, ◌∙◌}
-use Rattle.convoy_sim.specs.Moments.{moments_of}
+use Rattle.std.proofs.Common.{◌-◌, ◌*◌, ◌<◌, ◌≤◌, sym, ap, subst, ◌∙◌}
+use Rattle.std.specs.List.{All}
 use Rattle.convoy_sim.specs.Delivery.{latency_of}
+use Rattle.convoy_sim.specs.Run.{Run}
 use Rattle.convoy_sim.proofs.LatencyBounds.{target_within_four, lone_within_two}
-use Rattle.convoy_sim.specs.Scheduled.{Scheduled}
-use Rattle.convoy_sim.specs.CalendarTables.{first_tables, with_moments}
-use Rattle.convoy_sim.proofs.CalendarEnd.{end}
-use Rattle.convoy_sim.specs.Run.{Outcome, IsRunOf}
-use Rattle.convoy_sim.proofs.CalendarRuns.{target_group_below, target_message_below, tabled, target_delivered, target_late, target_latency, run_of}
+use Rattle.convoy_sim.proofs.StampsTold.{all_within}
+use Rattle.convoy_sim.proofs.TargetOf.{IsTarget, target_well, target_issued, target_latency}
+use Rattle.convoy_sim.proofs.TargetRun.{stamps_are, all_told, target_told, run_tabled, run_told}
+use Rattle.convoy_sim.proofs.WholeRun.{end}
 use Rattle.convoy_sim.proofs.simulation.simulate.Goals as goal
-use Rattle.convoy_sim.proofs.simulation.simulate.Goals.{In_ok-machine}
+use Rattle.convoy_sim.proofs.simulation.simulate.Goals.{After-of-times}
 
--- what the machine is in the end, in the words of the scenario and the schedule
-tables_end : (c : In_ok-machine)
-    → c.in_ok-machine.machine ≡ end c.args.scenario.now c.target_message-message.ensures.lawful c.args.delays.now
-tables_end c =
-    c.in_ok-machine.ensures
-    ∙ ap (λ (s : Scheduled). with_moments (first_tables (length s.plan.groups) (length s.plan.multicasts)) (moments_of s.plan s.delays))
-    c.new.ensures
+is_target : (c : After-of-times)
+    → IsTarget c.args.scenario.now c.args.delays.now c.of-times.result c.target_message-message.result c.target_group-group.result
+is_target c = record {
+  same = c.of-times.ensures ∙ c.new.ensures;
+  well = c.target_message-message.ensures.lawful;
+  message = c.target_message-message.ensures.value;
+  group = c.target_group-group.ensures.value;
+}
 
-pub delivery-delivered-requires-clause-group : goal.delivery-delivered-requires-clause-group
-delivery-delivered-requires-clause-group c =
-    target_group_below c.args.scenario.now c.target_message-message.ensures.lawful c.args.delays.now c.in_ok-machine.machine
-    (tables_end (goal.at.delivery-delivered-requires-clause-group c).In_ok-machine) c.target_message-message.result c.target_group-group.result
-    c.target_message-message.ensures.value c.target_group-group.ensures.value
+pub of-stamps-requires : goal.of-stamps-requires
+of-stamps-requires c =
+    let is = is_target (goal.at.of-stamps-requires c).After-of-times in
+    subst (λ ms. All (λ x. (x.message < 16) × (x.group < 8)) ms) (sym c.before-2.ensures)
+    (all_within c.of-times.result.scenario (target_well _ _ _ _ _ is) c.of-times.result.delays end)
 
-pub delivery-delivered-requires-clause-message : goal.delivery-delivered-requires-clause-message
-delivery-delivered-requires-clause-message c =
-    target_message_below c.args.scenario.now c.target_message-message.ensures.lawful c.args.delays.now c.in_ok-machine.machine
-    (tables_end (goal.at.delivery-delivered-requires-clause-message c).In_ok-machine) c.target_message-message.result c.target_message-message.ensures.value
+pub delivery_tick-delivered-requires-clause-told : goal.delivery_tick-delivered-requires-clause-told
+delivery_tick-delivered-requires-clause-told c =
+    let is = is_target (goal.at.delivery_tick-delivered-requires-clause-told c).After-of-times in
+    target_told _ _ _ _ _ is c.requires.assignment _ (stamps_are _ _ _ _ _ is c.requires.assignment _ _ c.of-stamps.ensures c.before-2.ensures)
 
-pub delivery-delivered-requires-clause-tabled : goal.delivery-delivered-requires-clause-tabled
-delivery-delivered-requires-clause-tabled c =
-    tabled c.args.scenario.now c.target_message-message.ensures.lawful c.args.delays.now c.in_ok-machine.machine (tables_end (goal.at.delivery-delivered-requires-clause-tabled c).In_ok-machine)
-
-pub into_run-requires : goal.into_run-requires
-into_run-requires c =
-    tabled c.args.scenario.now c.target_message-message.ensures.lawful c.args.delays.now c.in_ok-machine.machine (tables_end (goal.at.into_run-requires c).In_ok-machine)
-
-pub delivery-delivered-requires-clause-delivered : goal.delivery-delivered-requires-clause-delivered
-delivery-delivered-requires-clause-delivered c =
-    target_delivered c.args.scenario.now c.target_message-message.ensures.lawful c.args.delays.now c.in_ok-machine.machine
-    (tables_end (goal.at.delivery-delivered-requires-clause-delivered c).In_ok-machine) c.target_message-message.result c.target_group-group.result
-    c.target_message-message.ensures.value c.target_group-group.ensures.value
+pub list_progress-requires : goal.list_progress-requires
+list_progress-requires c =
+    let is = is_target (goal.at.list_progress-requires c).After-of-times in
+    all_told _ _ _ _ _ is c.requires.assignment _ (stamps_are _ _ _ _ _ is c.requires.assignment _ _ c.of-stamps.ensures c.before-2.ensures)
 
 pub overflow_sub-delivered : goal.overflow_sub-delivered
 overflow_sub-delivered c =
-    subst (λ at. at ≤ c.delivery-delivered.result) (sym c.issue_tick.ensures.value)
-    (target_late c.args.scenario.now c.target_message-message.ensures.lawful c.args.delays.now c.in_ok-machine.machine
-    (tables_end (goal.at.overflow_sub-delivered c).In_ok-machine) c.target_message-message.result c.target_group-group.result c.delivery-delivered.result
-    c.target_message-message.ensures.value c.target_group-group.ensures.value c.delivery-delivered.ensures)
+    target_issued _ _ _ _ _ (is_target (goal.at.overflow_sub-delivered c).After-of-times)
+    c.issue_tick.result c.delivery_tick-delivered.result c.issue_tick.ensures.value c.delivery_tick-delivered.ensures
+
+pub new-requires-2 : goal.new-requires-2
+new-requires-2 c =
+    let is = is_target (goal.at.new-requires-2 c).After-of-times in
+    let read = stamps_are _ _ _ _ _ is c.requires.assignment _ _ c.of-stamps.ensures c.before-2.ensures in
+    run_tabled _ _ _ _ _ is c.requires.assignment _ read c.in_ok-finals.finals.items c.in_ok-progress.progress.items c.message_count.result
+    (record { number = c.message_count.ensures.value; finals_are = c.in_ok-finals.ensures; progress_is = c.in_ok-progress.ensures })
+
+pub returns-clause-run : goal.returns-clause-run
+returns-clause-run c =
+    let is = is_target (goal.at.returns-clause-run c).After-of-times in
+    let read = stamps_are _ _ _ _ _ is c.requires.assignment _ _ c.of-stamps.ensures c.before-2.ensures in
+    run_told _ _ _ _ _ is c.requires.assignment _ read c.in_ok-finals.finals.items c.in_ok-progress.progress.items c.message_count.result
+    (record { number = c.message_count.ensures.value; finals_are = c.in_ok-finals.ensures; progress_is = c.in_ok-progress.ensures })
+    (c.delivery_tick-delivered.result - c.issue_tick.result) c.new-2.result c.new-2.ensures
+    (target_latency _ _ _ _ _ is c.issue_tick.result c.delivery_tick-delivered.result c.issue_tick.ensures.value c.delivery_tick-delivered.ensures)
 
 pub returns-clause-latency : goal.returns-clause-latency
 returns-clause-latency c =
-    ap (λ (r : Outcome). r.latency) c.into_run.ensures
-    ∙ ap (λ at. c.delivery-delivered.result - at) c.issue_tick.ensures.value
-    ∙ target_latency c.args.scenario.now c.target_message-message.ensures.lawful c.args.delays.now c.in_ok-machine.machine
-    (tables_end (goal.at.returns-clause-latency c).In_ok-machine) c.target_message-message.result c.target_group-group.result c.delivery-delivered.result
-    c.target_message-message.ensures.value c.target_group-group.ensures.value c.delivery-delivered.ensures
+    ap (λ (r : Run). r.latency) c.new-2.ensures
+    ∙ target_latency _ _ _ _ _ (is_target (goal.at.returns-clause-latency c).After-of-times)
+    c.issue_tick.result c.delivery_tick-delivered.result c.issue_tick.ensures.value c.delivery_tick-delivered.ensures
 
 pub returns-clause-four_delays : goal.returns-clause-four_delays
 returns-clause-four_delays c =
@@ -70,12 +74,6 @@ returns-clause-two_delays c alone =
     subst (λ latency. latency ≤ 2 * c.args.scenario.now.delay) (sym (returns-clause-latency c))
     (lone_within_two c.args.scenario.now c.args.delays.now well c.requires.assignment _ _ well.addressed alone)
 
-pub returns-clause-run : goal.returns-clause-run
-returns-clause-run c =
-    let latency = ap (λ at. c.delivery-delivered.result - at) c.issue_tick.ensures.value
-    ∙ target_latency c.args.scenario.now c.target_message-message.ensures.lawful c.args.delays.now c.in_ok-machine.machine
-    (tables_end (goal.at.returns-clause-run c).In_ok-machine) c.target_message-message.result c.target_group-group.result c.delivery-delivered.result
-    c.target_message-message.ensures.value c.target_group-group.ensures.value c.delivery-delivered.ensures in
-    subst (IsRunOf c.args.scenario.now c.args.delays.now) (sym c.into_run.ensures)
-    (run_of c.args.scenario.now c.target_message-message.ensures.lawful c.args.delays.now c.in_ok-machine.machine
-    (tables_end (goal.at.returns-clause-run c).In_ok-machine) (c.delivery-delivered.result - c.issue_tick.result) latency)
+pub returns-clause-laws : goal.returns-clause-laws
+returns-clause-laws c =
+    c.runs_keep_the_laws.ensures c.args.scenario.now c.args.delays.now _ c.target_message-message.ensures.lawful c.requires.assignment (returns-clause-run c)

@@ -1,0 +1,18 @@
+-- What it is to be the greatest latency of a scenario.
+use Rattle.std.specs.Prelude.{◌≡◌, ℕ, ◌≤◌, List}
+use Rattle.convoy_scenario.specs.Scenario.{Scenario}
+use Rattle.convoy_packets.specs.Assignment.{Schedule, IsAssignment}
+use Rattle.convoy_sim.specs.Delivery.{latency_of}
+
+-- some assignment has the latency
+abbrev pub IsReached : Scenario → ℕ → Type 0
+IsReached scenario latency = (delays : Schedule) × IsAssignment scenario delays × (latency_of scenario delays ≡ latency)
+
+-- no assignment has a greater latency
+abbrev pub IsUpper : Scenario → ℕ → Type 0
+IsUpper scenario latency = (delays : Schedule) → IsAssignment scenario delays → latency_of scenario delays ≤ latency
+
+-- the greatest latency of a scenario: some assignment has it, and none has a greater one
+pub record IsGreatest (scenario : Scenario) (latency : ℕ) : Type 0 where
+  pub reached : IsReached scenario latency
+  pub upper : IsUpper scenario latency

@@ -1,0 +1,33 @@
+ghost use Rattle.std.specs.Prelude.{◌≡◌};
+ghost use Rattle.convoy_packets.specs.Assignment.{IsAssignment};
+ghost use Rattle.convoy_packets.specs.Table.{table_of};
+ghost use Rattle.convoy_sim.specs.Delivery.{latency_of};
+
+use super::agenda::Agenda;
+use super::delivery::delivery_tick;
+use super::moment::{Moment, MomentKind};
+use super::stamps::Stamps;
+use super::times::Times;
+use super::timetable::Timetable;
+use convoy_packets::{Delays, PacketTable};
+use convoy_scenario::Scenario;
+
+/// The latency in ticks of a scenario under a schedule, with the packet table of the scenario. Takes
+/// no memory, and reads only the moments before the commit of the target at its group: what is ahead
+/// of the target there has come by then (docs/PROTOCOL.md).
+pub fn latency(scenario: &Scenario, table: &PacketTable, delays: &Delays) -> u32
+    requires table { table.now ≡ table_of scenario.now }
+    requires assignment { IsAssignment scenario.now delays.now }
+    ensures value { result ≡ latency_of scenario.now delays.now }
+{
+    let times = Timetable::of(Times::new(scenario, table, delays));
+    let (message, group) = (scenario.target_message(), scenario.target_group());
+    let commit = Moment {
+        tick: times.settling(message, group),
+        kind: MomentKind::Commit,
+        message,
+        group,
+    };
+    let stamps = Stamps::of(&Agenda::before(&times, &commit));
+    delivery_tick(&times, &stamps, message, group) - scenario.issue_tick(message)
+}
