@@ -6,11 +6,12 @@ use Rattle.std.proofs.lemmas.List.Elements.{All-head, All-tail}
 use Rattle.convoy_scenario.specs.declared.line_fault.Expected.{Expected}
 use Rattle.convoy_scenario.specs.declared.line_fault.Expected.TheVariants as expected
 use Rattle.convoy_scenario.specs.declared.limits.TheConstants.{GREATEST_DELAY}
-use Rattle.convoy_scenario.specs.Plan.{Plan}
+use Rattle.convoy_scenario.specs.Scenario.{Scenario}
 use Rattle.convoy_scenario.specs.WellFormed.{IsScenario}
-use Rattle.convoy_scenario.specs.LineForms as forms
-use Rattle.convoy_scenario.specs.Laws.{IsWord, IsLine}
-use Rattle.convoy_scenario.specs.LineReading.{Lines, Place, place_before, form_at, scenario_at, is_at_end, lines_in}
+use Rattle.convoy_lines.specs.Labels.{number_in}
+use Rattle.convoy_lines.specs.Laws.{IsWord, IsLine}
+use Rattle.convoy_lines.specs.Places.{Lines, Place, place_before, is_at_end, lines_in}
+use Rattle.convoy_scenario.specs.LineReading.{form_at, scenario_at}
 use Rattle.convoy_scenario.specs.Lines.{scenario_lines}
 use Rattle.convoy_packets.specs.Assignment.{AreWithin, IsAssignment, ranges_of, range_of}
 use Rattle.convoy_packets.specs.Packets.{packets_of}
@@ -20,9 +21,11 @@ use Rattle.convoy_certificate.specs.declared.node.Node.{Node}
 use Rattle.convoy_certificate.specs.declared.node.Node.TheVariants.{Split, Bound, Point}
 use Rattle.convoy_certificate.specs.declared.text_fault.TextFault.{TextFault}
 use Rattle.convoy_certificate.specs.declared.text_fault.TextFault.TheVariants as faults
-use Rattle.convoy_certificate.specs.Contents.{Contents, IsNode, IsCertificate}
+use Rattle.convoy_certificate.specs.Certificate.{Certificate, IsNode, IsCertificate}
 use Rattle.convoy_certificate.specs.Forms.{version_in, delays_in, schedule_in, node_or_end, greatest_number_of_delay}
-use Rattle.convoy_certificate.specs.Reading.{◌>>=◌, in_text, is_assignment, nodes_in, nodes_at, certificate_of, IsTextOf, TextsAreRead}
+use Rattle.convoy_lines.specs.Results.{◌>>=◌}
+use Rattle.convoy_certificate.specs.Reading.{in_text, is_assignment, nodes_in, nodes_at, certificate_of, IsTextOf}
+use Rattle.convoy_certificate.specs.Laws.{TextsAreRead}
 use Rattle.convoy_scenario.specs.Memory.{IsUnlessMemory}
 use Rattle.convoy_certificate.specs.Text.{version_line, latency_line, schedule_line, node_line, end_line, certificate_lines, certificate_text}
 use Rattle.convoy_certificate.proofs.Assigned.{passes}
@@ -41,13 +44,13 @@ latency_word = record { some = omega arith; spaceless = refl; endless = refl }
 abbrev pub Small : List ℕ → Type 0
 Small delays = AllByRecursion (λ d. d ≤ greatest_number_of_delay) delays
 
-small_within : (plan : Plan) (packets : List Packet) (delays : List ℕ) → plan.delay ≤ GREATEST_DELAY → AreWithin (map (range_of plan) packets) delays → Small delays
+small_within : (plan : Scenario) (packets : List Packet) (delays : List ℕ) → plan.delay ≤ GREATEST_DELAY → AreWithin (map (range_of plan) packets) delays → Small delays
 small_within plan [] [] low within = tt
 small_within plan [] (d ∷ ds) low within = absurd within
 small_within plan (p ∷ ps) [] low within = absurd within
 small_within plan (p ∷ ps) (d ∷ ds) low within = (omega (arith, within.0.1), small_within plan ps ds low within.1)
 
-pub small_assigned : (plan : Plan) (delays : List ℕ) → plan.delay ≤ GREATEST_DELAY → IsAssignment plan delays → Small delays
+pub small_assigned : (plan : Scenario) (delays : List ℕ) → plan.delay ≤ GREATEST_DELAY → IsAssignment plan delays → Small delays
 unfolding ranges_of
 small_assigned plan delays low within = small_within plan (packets_of plan) delays low within
 
@@ -58,7 +61,7 @@ form_again : {A : Type 0} (expected : Expected) (form : List ℕ → Option A) (
     → in_text (form_at expected form (record { ended = line ∷ lines; rest = rest; number = number })) ≡ Ok (x, record { ended = lines; rest = rest; number = number + 1 })
 form_again expected form number rest line lines x e = rw e refl
 
-assigned : (plan : Plan) (delays : List ℕ) → IsAssignment plan delays → is_assignment plan delays ≡ true
+assigned : (plan : Scenario) (delays : List ℕ) → IsAssignment plan delays → is_assignment plan delays ≡ true
 assigned plan delays is = passes (ranges_of plan) delays is
 
 parts : {A : Type 0} (x y : A) (xs ys : List A) → x ∷ xs ≡ y ∷ ys → (x ≡ y) × (xs ≡ ys)
@@ -73,7 +76,7 @@ same_some x y e = cc
 abbrev after_at : List (List ℕ) → ℕ → Place
 after_at ls n = record { ended = ls; rest = []; number = n }
 
-abbrev tail_of : Contents → List (List ℕ)
+abbrev tail_of : Certificate → List (List ℕ)
 tail_of c = latency_line c.latency ∷ schedule_line c.delays ∷ (map node_line c.nodes ++ end_line ∷ [])
 
 module _ (grounds : WrittenGrounds) where
@@ -115,7 +118,7 @@ module _ (grounds : WrittenGrounds) where
     one Bound is = refl
     one Point is = refl
 
-  lines_are : (c : Contents) → IsCertificate c → AreLines (certificate_lines c)
+  lines_are : (c : Certificate) → IsCertificate c → AreLines (certificate_lines c)
   lines_are c is =
       let small = small_assigned c.scenario c.delays is.scenario.delay_high is.assigned in (
         refl,
@@ -130,13 +133,13 @@ module _ (grounds : WrittenGrounds) where
 
   -- ---- the certificate
 
-  scenario_again : (plan : Plan) (more : List (List ℕ)) → IsScenario plan
+  scenario_again : (plan : Scenario) (more : List (List ℕ)) → IsScenario plan
       → scenario_at (record { ended = scenario_lines plan ++ more; rest = []; number = 2 }) ≡ Ok (plan, record { ended = more; rest = []; number = 2 + length (scenario_lines plan) })
   scenario_again plan more is =
       (grounds.scenarios plan (record { ended = scenario_lines plan ++ more; rest = []; number = 2 }) (record { ended = more; rest = []; number = 2 + length (scenario_lines plan) })).1
       (is, record { ended = refl; rest = refl; number = refl })
 
-  pub certificate_again : (c : Contents) → IsCertificate c → length c.nodes ≤ MOST_NODES → certificate_of (certificate_text c) ≡ Ok c
+  pub certificate_again : (c : Certificate) → IsCertificate c → length c.nodes ≤ MOST_NODES → certificate_of (certificate_text c) ≡ Ok c
   unfolding certificate_of
   certificate_again c is few =
       let nodes : List (List ℕ) = map node_line c.nodes ++ end_line ∷ [] in
@@ -152,22 +155,22 @@ module _ (grounds : WrittenGrounds) where
       let small = small_assigned c.scenario c.delays is.scenario.delay_high is.assigned in
       let start : place_before (certificate_text c) 1 ≡ p0 =
       ap (λ (l : Lines). record { ended = l.ended; rest = l.rest; number = 1 }) (lines_again grounds (certificate_lines c) (lines_are c is)) in
-      let from : Place → Result Contents TextFault = λ p. in_text (form_at expected.Convoy version_in p) >>= λ version. in_text (scenario_at version.1) >>= λ scenario. in_text (form_at expected.Latency (forms.number_line (codes "latency")) scenario.1) >>= λ latency.
+      let from : Place → Result Certificate TextFault = λ p. in_text (form_at expected.Convoy version_in p) >>= λ version. in_text (scenario_at version.1) >>= λ scenario. in_text (form_at expected.Latency (number_in (codes "latency")) scenario.1) >>= λ latency.
       in_text (form_at expected.Schedule schedule_in latency.1) >>= λ delays. cond (is_assignment scenario.0 delays.0) (nodes_at 0 delays.1) (Err faults.Schedule) >>= λ nodes.
       cond (is_at_end nodes.1) (Ok (record { scenario = scenario.0; latency = latency.0; delays = delays.0; nodes = nodes.0 })) (Err faults.AfterEnd) in
       let read : from p0 ≡ Ok c =
-      then_ok (in_text (form_at expected.Convoy version_in p0)) (λ version. in_text (scenario_at version.1) >>= λ scenario. in_text (form_at expected.Latency (forms.number_line (codes "latency")) scenario.1) >>= λ latency.
+      then_ok (in_text (form_at expected.Convoy version_in p0)) (λ version. in_text (scenario_at version.1) >>= λ scenario. in_text (form_at expected.Latency (number_in (codes "latency")) scenario.1) >>= λ latency.
       in_text (form_at expected.Schedule schedule_in latency.1) >>= λ delays. cond (is_assignment scenario.0 delays.0) (nodes_at 0 delays.1) (Err faults.Schedule) >>= λ nodes.
       cond (is_at_end nodes.1) (Ok (record { scenario = scenario.0; latency = latency.0; delays = delays.0; nodes = nodes.0 })) (Err faults.AfterEnd))
       (1, p1) (Ok c) refl
-      (then_ok (in_text (scenario_at p1)) (λ scenario. in_text (form_at expected.Latency (forms.number_line (codes "latency")) scenario.1) >>= λ latency.
+      (then_ok (in_text (scenario_at p1)) (λ scenario. in_text (form_at expected.Latency (number_in (codes "latency")) scenario.1) >>= λ latency.
       in_text (form_at expected.Schedule schedule_in latency.1) >>= λ delays. cond (is_assignment scenario.0 delays.0) (nodes_at 0 delays.1) (Err faults.Schedule) >>= λ nodes.
       cond (is_at_end nodes.1) (Ok (record { scenario = scenario.0; latency = latency.0; delays = delays.0; nodes = nodes.0 })) (Err faults.AfterEnd))
       (c.scenario, p2) (Ok c) (ap in_text scenario)
-      (then_ok (in_text (form_at expected.Latency (forms.number_line (codes "latency")) p2)) (λ latency.
+      (then_ok (in_text (form_at expected.Latency (number_in (codes "latency")) p2)) (λ latency.
       in_text (form_at expected.Schedule schedule_in latency.1) >>= λ delays. cond (is_assignment c.scenario delays.0) (nodes_at 0 delays.1) (Err faults.Schedule) >>= λ nodes.
       cond (is_at_end nodes.1) (Ok (record { scenario = c.scenario; latency = latency.0; delays = delays.0; nodes = nodes.0 })) (Err faults.AfterEnd))
-      (c.latency, p3) (Ok c) (form_again expected.Latency (forms.number_line (codes "latency")) n [] (latency_line c.latency) (schedule_line c.delays ∷ nodes) c.latency (number_line_again grounds (codes "latency") c.latency latency_word (omega (arith, is.latency))))
+      (c.latency, p3) (Ok c) (form_again expected.Latency (number_in (codes "latency")) n [] (latency_line c.latency) (schedule_line c.delays ∷ nodes) c.latency (number_line_again grounds (codes "latency") c.latency latency_word (omega (arith, is.latency))))
       (then_ok (in_text (form_at expected.Schedule schedule_in p3)) (λ delays. cond (is_assignment c.scenario delays.0) (nodes_at 0 delays.1) (Err faults.Schedule) >>= λ nodes.
       cond (is_at_end nodes.1) (Ok (record { scenario = c.scenario; latency = c.latency; delays = delays.0; nodes = nodes.0 })) (Err faults.AfterEnd))
       (c.delays, p4) (Ok c) (form_again expected.Schedule schedule_in (n + 1) [] (schedule_line c.delays) nodes c.delays (schedule_again c.delays small))
@@ -196,7 +199,7 @@ module _ (grounds : WrittenGrounds) where
       ap (λ n. n ∷ xs) one ∙ ap (λ ns. y ∷ ns) (nodes_unique xs ys (All-tail IsNode x xs p) (All-tail IsNode y ys q) h.1)
 
   -- two certificates with one text are equal
-  pub is_unique : (b c : Contents) → IsCertificate b → IsCertificate c → certificate_text b ≡ certificate_text c → b ≡ c
+  pub is_unique : (b c : Certificate) → IsCertificate b → IsCertificate c → certificate_text b ≡ certificate_text c → b ≡ c
   is_unique b c p q e =
       let lines : certificate_lines b ≡ certificate_lines c =
       ap (λ (l : Lines). l.ended) (sym (lines_again grounds (certificate_lines b) (lines_are b p)) ∙ ap lines_in e ∙ lines_again grounds (certificate_lines c) (lines_are c q)) in
@@ -205,24 +208,24 @@ module _ (grounds : WrittenGrounds) where
       let two = scenario_again c.scenario (tail_of c) q.scenario in
       let read = same_ok (b.scenario, after_at (tail_of b) (2 + length (scenario_lines b.scenario))) (c.scenario, after_at (tail_of c) (2 + length (scenario_lines c.scenario)))
       (sym one ∙ ap (λ ls. scenario_at (after_at ls 2)) after ∙ two) in
-      let scenario : b.scenario ≡ c.scenario = ap (λ (x : Plan × Place). x.0) read in
-      let tails : tail_of b ≡ tail_of c = ap (λ (x : Plan × Place). x.1.ended) read in
+      let scenario : b.scenario ≡ c.scenario = ap (λ (x : Scenario × Place). x.0) read in
+      let tails : tail_of b ≡ tail_of c = ap (λ (x : Scenario × Place). x.1.ended) read in
       let first = parts (latency_line b.latency) (latency_line c.latency) _ _ tails in
       let second = parts (schedule_line b.delays) (schedule_line c.delays) _ _ first.1 in
       let latency : b.latency ≡ c.latency = same_some b.latency c.latency
-      (sym (number_line_again grounds (codes "latency") b.latency latency_word (omega (arith, p.latency))) ∙ ap (forms.number_line (codes "latency")) first.0 ∙ number_line_again grounds (codes "latency") c.latency latency_word (omega (arith, q.latency))) in
+      (sym (number_line_again grounds (codes "latency") b.latency latency_word (omega (arith, p.latency))) ∙ ap (number_in (codes "latency")) first.0 ∙ number_line_again grounds (codes "latency") c.latency latency_word (omega (arith, q.latency))) in
       let delays : b.delays ≡ c.delays = same_some b.delays c.delays
       (sym (schedule_again b.delays (small_assigned b.scenario b.delays p.scenario.delay_high p.assigned)) ∙ ap schedule_in second.0 ∙ schedule_again c.delays (small_assigned c.scenario c.delays q.scenario.delay_high q.assigned)) in
       let nodes : b.nodes ≡ c.nodes = nodes_unique b.nodes c.nodes p.nodes q.nodes second.1 in
       made scenario latency delays nodes where
         made : b.scenario ≡ c.scenario → b.latency ≡ c.latency → b.delays ≡ c.delays → b.nodes ≡ c.nodes → b ≡ c
         made s l d n =
-            ap (λ (x : Plan). record { scenario = x; latency = b.latency; delays = b.delays; nodes = b.nodes }) s
+            ap (λ (x : Scenario). record { scenario = x; latency = b.latency; delays = b.delays; nodes = b.nodes }) s
             ∙ ap (λ (x : ℕ). record { scenario = c.scenario; latency = x; delays = b.delays; nodes = b.nodes }) l
             ∙ ap (λ (x : List ℕ). record { scenario = c.scenario; latency = c.latency; delays = x; nodes = b.nodes }) d
             ∙ ap (λ (x : List Node). record { scenario = c.scenario; latency = c.latency; delays = c.delays; nodes = x }) n
 
 -- what spells a certificate is read
-pub is_read : TextsAreRead → (text : List ℕ) (c : Contents) (result : Result Contents TextFault) → IsCertificate c → IsTextOf c text → IsUnlessMemory faults.Memory (certificate_of text) result → IsUnlessMemory faults.Memory (Ok c) result
+pub is_read : TextsAreRead → (text : List ℕ) (c : Certificate) (result : Result Certificate TextFault) → IsCertificate c → IsTextOf c text → IsUnlessMemory faults.Memory (certificate_of text) result → IsUnlessMemory faults.Memory (Ok c) result
 is_read again text c result is spelled (inl e) = inl (e ∙ ap certificate_of spelled.0 ∙ again c is spelled.1)
 is_read again text c result is spelled (inr e) = inr e

@@ -2,7 +2,7 @@
 use Rattle.std.proofs.Common.{◌≡◌, ℕ, Bool, true, refl, sym, ◌∙◌, List, [], ◌∷◌, leb, leb-true}
 use Rattle.std.specs.Cmp.Lexicographic.{pointwise}
 use Rattle.std.proofs.lemmas.Bool.{and_parts, and_from, le-leb, false≢true}
-use Rattle.convoy_scenario.specs.Plan.{Plan}
+use Rattle.convoy_scenario.specs.Scenario.{Scenario}
 use Rattle.convoy_packets.specs.Assignment.{AreWithin, IsAssignment, ranges_of}
 use Rattle.convoy_certificate.specs.Reading.{is_within}
 
@@ -16,7 +16,7 @@ within (r ∷ rs) (d ∷ ds) e =
     ((leb-true r.0 d ends.0, leb-true d r.1 ends.1), within rs ds both.1)
 
 -- what the test says of a table and of delays that are those
-pub assigned : (plan : Plan) (delays : List ℕ) (ranges : List (ℕ × ℕ)) (seen : List ℕ) (b : Bool) → ranges ≡ ranges_of plan → seen ≡ delays → b ≡ pointwise is_within ranges seen → b ≡ true → IsAssignment plan delays
+pub assigned : (plan : Scenario) (delays : List ℕ) (ranges : List (ℕ × ℕ)) (seen : List ℕ) (b : Bool) → ranges ≡ ranges_of plan → seen ≡ delays → b ≡ pointwise is_within ranges seen → b ≡ true → IsAssignment plan delays
 assigned plan delays ranges seen b r s e holds =
     within (ranges_of plan) delays (sym (rw (← r, ← s) e) ∙ holds)
 

@@ -11,14 +11,15 @@ use Rattle.std.proofs.lemmas.List.Elements.{recursion_from_All}
 use Rattle.convoy_scenario.specs.declared.limits.TheConstants.{LONGEST_NAME, MOST_GROUPS}
 use Rattle.convoy_scenario.specs.declared.sender.Sender.{Sender}
 use Rattle.convoy_scenario.specs.declared.sender.Sender.TheVariants.{Client, Group}
-use Rattle.convoy_scenario.specs.Lines.{spaced, line_of, ended, text_of, sender_word, delay_line, groups_line, multicast_line, target_line, scenario_lines}
-use Rattle.convoy_scenario.specs.Plan.{Message, Plan, message_at, group_name_at, no_message}
+use Rattle.convoy_lines.specs.Texts.{spaced, line_of, ended, text_of}
+use Rattle.convoy_scenario.specs.Lines.{sender_word, delay_line, groups_line, multicast_line, target_line, scenario_lines}
+use Rattle.convoy_scenario.specs.Scenario.{Message, Scenario, message_at, group_name_at, no_message}
 use Rattle.convoy_scenario.specs.WellFormed.{is_letter, is_name_byte, is_name, client_word, is_group_name, IsMulticast, IsScenario}
 use Rattle.convoy_packets.specs.Laws.{PacketsAreFew, DelaysAreOneEach}
 use Rattle.convoy_certificate.specs.declared.certificate.TheConstants.{LONGEST_TEXT, MOST_NODES}
 use Rattle.convoy_certificate.specs.declared.node.Node.{Node}
 use Rattle.convoy_certificate.specs.declared.node.Node.TheVariants.{Split, Bound, Point}
-use Rattle.convoy_certificate.specs.Contents.{Contents, IsNode, IsCertificate}
+use Rattle.convoy_certificate.specs.Certificate.{Certificate, IsNode, IsCertificate}
 use Rattle.convoy_certificate.specs.Text.{version_line, latency_line, schedule_line, node_line, end_line, certificate_text}
 use Rattle.convoy_certificate.proofs.Again.{Small, small_assigned}
 
@@ -115,7 +116,7 @@ message_name_at groups [] i are = omega arith
 message_name_at groups (message ∷ messages) zero are = name_length message.name are.0.name
 message_name_at groups (message ∷ messages) (suc i) are = message_name_at groups messages i are.1
 
-sender_length : (plan : Plan) (sender : Sender) → AreShort plan.groups → length (sender_word plan sender) ≤ 16
+sender_length : (plan : Scenario) (sender : Sender) → AreShort plan.groups → length (sender_word plan sender) ≤ 16
 sender_length plan Client short = omega arith
 sender_length plan (Group g) short = word_at plan.groups g short
 
@@ -134,7 +135,7 @@ rising_length (x ∷ xs) n rising below =
     let under = below (length xs) 0 (omega arith) in
     omega arith
 
-multicast_length : (plan : Plan) (message : Message) → length plan.groups ≤ MOST_GROUPS → AreShort plan.groups → IsMulticast (length plan.groups) message → length (multicast_line plan message) ≤ 300
+multicast_length : (plan : Scenario) (message : Message) → length plan.groups ≤ MOST_GROUPS → AreShort plan.groups → IsMulticast (length plan.groups) message → length (multicast_line plan message) ≤ 300
 multicast_length plan message few short is =
     let at_within = is.at in
     let names : List (List ℕ) = map (group_name_at plan) message.destinations in
@@ -145,7 +146,7 @@ multicast_length plan message few short is =
     let known = rising_length message.destinations (length plan.groups) is.ascending is.known in
     omega arith
 
-multicasts_short : (plan : Plan) (messages : List Message) → length plan.groups ≤ MOST_GROUPS → AreShort plan.groups → AllByRecursion (IsMulticast (length plan.groups)) messages
+multicasts_short : (plan : Scenario) (messages : List Message) → length plan.groups ≤ MOST_GROUPS → AreShort plan.groups → AllByRecursion (IsMulticast (length plan.groups)) messages
     → AreShortLines (map (multicast_line plan) messages)
 multicasts_short plan [] few short are = tt
 multicasts_short plan (message ∷ messages) few short are =
@@ -156,7 +157,7 @@ lines_append [] ys a b = b
 lines_append (x ∷ xs) ys a b = (a.0, lines_append xs ys a.1 b)
 
 -- the text of a scenario has at most 19 lines of at most 301 bytes, their ends among them
-scenario_length : (plan : Plan) → IsScenario plan → length (text_of (scenario_lines plan)) ≤ 5_719
+scenario_length : (plan : Scenario) → IsScenario plan → length (text_of (scenario_lines plan)) ≤ 5_719
 scenario_length plan is =
     let delay_within = is.delay_high in
     let groups_within = is.groups_high in
@@ -186,7 +187,7 @@ delays_short (d ∷ ds) small =
     let within = small.0 in
     (number_length d (omega arith), delays_short ds small.1)
 
-schedule_length : PacketsAreFew → DelaysAreOneEach → (c : Contents) → IsCertificate c → length (schedule_line c.delays) ≤ 17_416
+schedule_length : PacketsAreFew → DelaysAreOneEach → (c : Certificate) → IsCertificate c → length (schedule_line c.delays) ≤ 17_416
 schedule_length few one_each c is =
     let packets = few c.scenario is.scenario in
     let each = one_each c.scenario c.delays is.assigned in
@@ -195,7 +196,7 @@ schedule_length few one_each c is =
     omega arith
 
 -- the text of a certificate is within the limit
-pub certificate_length : PacketsAreFew → DelaysAreOneEach → (c : Contents) → IsCertificate c → length c.nodes ≤ MOST_NODES → length (certificate_text c) ≤ LONGEST_TEXT
+pub certificate_length : PacketsAreFew → DelaysAreOneEach → (c : Certificate) → IsCertificate c → length c.nodes ≤ MOST_NODES → length (certificate_text c) ≤ LONGEST_TEXT
 certificate_length few one_each c is nodes_within =
     let nodes : List (List ℕ) = map node_line c.nodes in
     let foot : List (List ℕ) = end_line ∷ [] in

@@ -7,12 +7,15 @@ use Rattle.std.proofs.lemmas.List.Elements.{All-from_recursion, recursion_from_A
 use Rattle.std.proofs.lemmas.List.Folds.{flat_map-map}
 use Rattle.std.proofs.lemmas.Option.{same_Some}
 use Rattle.std.proofs.lemmas.Slice.Eq.{bytes_eq-Decides}
-use Rattle.convoy_scenario.specs.Laws.{IsWord, IsLine, NumbersAreDecimals, DecimalsAreWords, WordsOfLines, WordsMakeLines, LabelledLines, NumberLines, LinesOfTexts, ScenarioLinesAreLines, ScenariosAreTheirLines}
-use Rattle.convoy_scenario.specs.LineForms.{◌>>=◌, greatest_number, words_after, number_line}
-use Rattle.convoy_scenario.specs.LineReading.{lines_in}
-use Rattle.convoy_scenario.specs.LineWords.{words_of, next_word, number_of}
-use Rattle.convoy_scenario.specs.Lines.{line_of, text_of, scenario_lines}
-use Rattle.convoy_scenario.specs.Plan.{Plan}
+use Rattle.convoy_lines.specs.Laws.{IsWord, IsLine, NumbersAreDecimals, DecimalsAreWords, WordsOfLines, WordsMakeLines, LabelledLines, NumberLines, LinesOfTexts}
+use Rattle.convoy_scenario.specs.Laws.{ScenarioLinesAreLines, ScenariosAreTheirLines}
+use Rattle.convoy_lines.specs.Options.{◌>>=◌}
+use Rattle.convoy_lines.specs.Labels.{greatest_number, words_after, number_in}
+use Rattle.convoy_lines.specs.Places.{lines_in}
+use Rattle.convoy_lines.specs.Words.{words_of, next_word, number_of}
+use Rattle.convoy_lines.specs.Texts.{line_of, number_line, text_of}
+use Rattle.convoy_scenario.specs.Lines.{scenario_lines}
+use Rattle.convoy_scenario.specs.Scenario.{Scenario}
 use Rattle.convoy_scenario.specs.WellFormed.{IsScenario}
 
 -- ---- what is read
@@ -83,11 +86,11 @@ module _ (grounds : WrittenGrounds) where
   pub label_again : (label : List ℕ) (words : List (List ℕ)) → AreWords (label ∷ words) → words_after label (line_of label words) ≡ Some words
   label_again label words are = (grounds.labelled label (line_of label words) words).1 (All-from_recursion IsWord (label ∷ words) are) refl
 
-  pub number_line_again : (label : List ℕ) (n : ℕ) → IsWord label → n ≤ greatest_number → number_line label (line_of label (decimal n ∷ [])) ≡ Some n
-  number_line_again label n is within = (grounds.number_lines label (line_of label (decimal n ∷ [])) n is).1 (refl, within)
+  pub number_line_again : (label : List ℕ) (n : ℕ) → IsWord label → n ≤ greatest_number → number_in label (number_line label n) ≡ Some n
+  number_line_again label n is within = (grounds.number_lines label (number_line label n) n is).1 (refl, within)
 
   pub lines_again : (lines : List (List ℕ)) → AreLines lines → lines_in (text_of lines) ≡ record { ended = lines; rest = [] }
   lines_again lines are = (grounds.texts (text_of lines) lines).1 (refl, All-from_recursion IsLine lines are)
 
-  pub scenario_lines_are : (plan : Plan) → IsScenario plan → AreLines (scenario_lines plan)
+  pub scenario_lines_are : (plan : Scenario) → IsScenario plan → AreLines (scenario_lines plan)
   scenario_lines_are plan is = recursion_from_All IsLine (scenario_lines plan) (grounds.scenario_lines plan is)

@@ -5,16 +5,16 @@ use Rattle.std.proofs.lemmas.Bool.{and_parts, cases_Bool, eqb-true}
 use Rattle.std.proofs.lemmas.List.{append-nil, nil_from_length}
 use Rattle.std.proofs.lemmas.Option.{cond_some, same_Some}
 use Rattle.convoy_scenario.specs.declared.limits.TheConstants.{GREATEST_DELAY}
-use Rattle.convoy_scenario.specs.LineForms.{◌>>=◌}
-use Rattle.convoy_scenario.specs.LineWords.{words_of, next_word, number_of}
-use Rattle.convoy_scenario.specs.Lines.{line_of}
+use Rattle.convoy_lines.specs.Options.{◌>>=◌}
+use Rattle.convoy_lines.specs.Words.{words_of, next_word, number_of}
+use Rattle.convoy_lines.specs.Texts.{line_of}
 use Rattle.convoy_certificate.specs.declared.node.Node.{Node}
 use Rattle.convoy_certificate.specs.declared.node.Node.TheVariants.{Split, Bound, Point}
 use Rattle.convoy_certificate.specs.declared.node.TheConstants.{GREATEST_PACKET}
 use Rattle.convoy_certificate.specs.Forms.{split_in, leaf_in, node_in}
 use Rattle.convoy_certificate.specs.Text.{node_line}
 use Rattle.convoy_certificate.proofs.LineLaws.{ReadGrounds, WrittenGrounds, bind_some, next_takes, same_bytes, decimal_word, number_again, words_again}
-use Rattle.convoy_scenario.specs.Laws.{IsWord}
+use Rattle.convoy_lines.specs.Laws.{IsWord}
 
 pub and_then_takes : {A B : Type 0} (f : A → Option B) (o : Option A) (y : B) → option_and_then f o ≡ Some y → (x : A) × (o ≡ Some x) × (f x ≡ Some y)
 and_then_takes f None y e = absurd cc

@@ -2,13 +2,15 @@
 use Rattle.std.proofs.Common.{◌≡◌, ℕ, ◌+◌, ◌==◌, if◌then◌else◌, true, false, List, [], ◌∷◌, ◌++◌, length, Option, Some, None, ok_or, Result, Ok, Err, ◌<◌, arith, refl, sym, ap, ◌∙◌, append_assoc}
 use Rattle.std.proofs.lemmas.List.{append-nil}
 use Rattle.convoy_scenario.specs.declared.line_fault.Expected.TheVariants as expected
-use Rattle.convoy_scenario.specs.LineReading.{Place, form_at}
+use Rattle.convoy_lines.specs.Places.{Place}
+use Rattle.convoy_scenario.specs.LineReading.{form_at}
 use Rattle.convoy_certificate.specs.declared.certificate.TheConstants.{MOST_NODES}
 use Rattle.convoy_certificate.specs.declared.node.Node.{Node}
 use Rattle.convoy_certificate.specs.declared.text_fault.TextFault.{TextFault}
 use Rattle.convoy_certificate.specs.declared.text_fault.TextFault.TheVariants as faults
 use Rattle.convoy_certificate.specs.Forms.{node_or_end}
-use Rattle.convoy_certificate.specs.Reading.{◌>>=◌, in_text, from_node, nodes_in, nodes_at}
+use Rattle.convoy_lines.specs.Results.{◌>>=◌}
+use Rattle.convoy_certificate.specs.Reading.{in_text, from_node, nodes_in, nodes_at}
 
 abbrev pub node_at : Place → Result (Option Node × Place) TextFault
 node_at p = in_text (form_at expected.Node node_or_end p)

@@ -2,10 +2,11 @@
 use Rattle.std.proofs.Common.{◌≡◌, ℕ, List, [], ◌∷◌, ◌++◌, map, refl, ap, sym, ◌∙◌, append_assoc}
 use Rattle.std.proofs.lemmas.List.{append-nil}
 use Rattle.std.proofs.lemmas.List.Concat.{flat_map-append}
-use Rattle.convoy_scenario.specs.Lines.{ended, text_of, scenario_lines, scenario_text}
-use Rattle.convoy_scenario.specs.Plan.{Plan}
+use Rattle.convoy_lines.specs.Texts.{ended, text_of}
+use Rattle.convoy_scenario.specs.Lines.{scenario_lines, scenario_text}
+use Rattle.convoy_scenario.specs.Scenario.{Scenario}
 use Rattle.convoy_certificate.specs.declared.node.Node.{Node}
-use Rattle.convoy_certificate.specs.Contents.{Contents}
+use Rattle.convoy_certificate.specs.Certificate.{Certificate}
 use Rattle.convoy_certificate.specs.Text.{version_of, version_line, latency_line, schedule_line, node_line, end_line, certificate_text}
 
 -- lines, one after another
@@ -13,7 +14,7 @@ two_parts : (xs ys : List (List ℕ)) → text_of (xs ++ ys) ≡ text_of xs ++ t
 two_parts xs ys = flat_map-append ended xs ys
 
 -- the text of a certificate, part by part
-pub pieces : (c : Contents) → certificate_text c
+pub pieces : (c : Certificate) → certificate_text c
     ≡ ended (version_line (version_of c)) ++ (scenario_text c.scenario ++ (ended (latency_line c.latency) ++ (ended (schedule_line c.delays) ++ (text_of (map node_line c.nodes) ++ ended end_line))))
 pieces c =
     let last : text_of (map node_line c.nodes ++ end_line ∷ []) ≡ text_of (map node_line c.nodes) ++ ended end_line =
@@ -26,11 +27,11 @@ regroup : (a b c d e f : List ℕ) → ((((a ++ b) ++ c) ++ d) ++ e) ++ f ≡ a 
 regroup a b c d e f = simp append_assoc
 
 -- the text of a certificate that is appended part by part
-pub in_pieces : (c : Contents) (plan : Plan) (latency : ℕ) (delays : List ℕ) (nodes : List Node) → plan ≡ c.scenario → latency ≡ c.latency → delays ≡ c.delays → nodes ≡ c.nodes
+pub in_pieces : (c : Certificate) (plan : Scenario) (latency : ℕ) (delays : List ℕ) (nodes : List Node) → plan ≡ c.scenario → latency ≡ c.latency → delays ≡ c.delays → nodes ≡ c.nodes
     → (t1 t2 t3 t4 t5 t6 : List ℕ) → t1 ≡ ended (version_line (version_of c)) → t2 ≡ t1 ++ scenario_text plan → t3 ≡ t2 ++ ended (latency_line latency)
     → t4 ≡ t3 ++ ended (schedule_line delays) → t5 ≡ t4 ++ text_of (map node_line nodes) → t6 ≡ t5 ++ ended end_line → t6 ≡ certificate_text c
 in_pieces c plan latency delays nodes p l d n t1 t2 t3 t4 t5 t6 e1 e2 e3 e4 e5 e6 =
-    let parts : Contents = record { scenario = plan; latency = latency; delays = delays; nodes = nodes } in
+    let parts : Certificate = record { scenario = plan; latency = latency; delays = delays; nodes = nodes } in
     let all : t6 ≡ ((((ended (version_line (version_of c)) ++ scenario_text plan) ++ ended (latency_line latency)) ++ ended (schedule_line delays)) ++ text_of (map node_line nodes)) ++ ended end_line = rw (e6, e5, e4, e3, e2, e1) refl in
     let same : parts ≡ c = rw (p, l, d, n) refl in
     all ∙ regroup (ended (version_line (version_of c))) (scenario_text plan) (ended (latency_line latency)) (ended (schedule_line delays)) (text_of (map node_line nodes)) (ended end_line)

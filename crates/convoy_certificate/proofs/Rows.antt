@@ -5,12 +5,12 @@ use Rattle.convoy_scenario.specs.declared.line_fault.Expected.TheVariants as exp
 use Rattle.convoy_scenario.specs.declared.sender.Sender.{Sender}
 use Rattle.convoy_scenario.specs.declared.sender.Sender.TheVariants.{Client, Group}
 use Rattle.convoy_scenario.specs.LineReading.{messages_in, scenario_at}
-use Rattle.convoy_scenario.specs.Plan.{Message}
+use Rattle.convoy_scenario.specs.Scenario.{Message}
 use Rattle.convoy_packets.specs.Assignment.{ranges_of}
 use Rattle.convoy_packets.specs.Packets.{packets_of}
 use Rattle.convoy_certificate.specs.declared.node.Node.TheVariants.{Bound}
 use Rattle.convoy_certificate.specs.declared.text_fault.TextFault.TheVariants as faults
-use Rattle.convoy_certificate.specs.Contents.{Contents}
+use Rattle.convoy_certificate.specs.Certificate.{Certificate}
 use Rattle.convoy_certificate.specs.Reading.{nodes_in, certificate_of}
 use Rattle.convoy_certificate.specs.Text.{certificate_text}
 
@@ -18,7 +18,7 @@ abbrev message : List ℕ → Sender → List ℕ → ℕ → Message
 message name sender destinations at = record { name = name; sender = sender; destinations = destinations; at = at }
 
 -- the certificate of the base: one leaf
-abbrev base : Contents
+abbrev base : Certificate
 base = record {
   scenario = record {
     delay = 3;
@@ -33,7 +33,7 @@ base = record {
 }
 
 -- the certificate of a lone message that a group sends itself: no packets
-abbrev lone : Contents
+abbrev lone : Certificate
 lone = record {
   scenario = record {
     delay = 5;

@@ -8,21 +8,25 @@ use Rattle.std.proofs.lemmas.List.{nil_from_length}
 use Rattle.std.proofs.lemmas.Option.{cond_some, same_Some}
 use Rattle.convoy_scenario.specs.declared.line_fault.Expected.TheVariants as expected
 use Rattle.convoy_scenario.specs.declared.line_fault.LineFault.{LineFault}
-use Rattle.convoy_scenario.specs.LineForms as forms
-use Rattle.convoy_scenario.specs.LineWords.{number_of}
-use Rattle.convoy_scenario.specs.LineReading.{Lines, lines_in, Place, place_before, form_at, scenario_at, is_at_end}
-use Rattle.convoy_scenario.specs.Lines.{line_of, scenario_lines}
+use Rattle.convoy_lines.specs.Labels.{words_after, number_in}
+use Rattle.convoy_lines.specs.Words.{number_of}
+use Rattle.convoy_lines.specs.Places.{Lines, lines_in, Place, place_before, is_at_end}
+use Rattle.convoy_scenario.specs.LineReading.{form_at, scenario_at}
+use Rattle.convoy_lines.specs.Texts.{line_of}
+use Rattle.convoy_scenario.specs.Lines.{scenario_lines}
 use Rattle.convoy_scenario.specs.declared.line_fault.Expected.{Expected}
-use Rattle.convoy_scenario.specs.Laws.{IsWord}
+use Rattle.convoy_lines.specs.Laws.{IsWord}
 use Rattle.convoy_certificate.proofs.LineLaws.{ReadGrounds, same_bytes}
 use Rattle.convoy_certificate.proofs.NodeLaws.{and_then_takes, map_takes, node_takes}
 use Rattle.convoy_certificate.specs.declared.certificate.TheConstants.{MOST_NODES}
 use Rattle.convoy_certificate.specs.declared.node.Node.{Node}
 use Rattle.convoy_certificate.specs.declared.text_fault.TextFault.{TextFault}
 use Rattle.convoy_certificate.specs.declared.text_fault.TextFault.TheVariants as faults
-use Rattle.convoy_certificate.specs.Contents.{Contents}
+use Rattle.convoy_certificate.specs.Certificate.{Certificate}
 use Rattle.convoy_certificate.specs.Forms.{version_in, delays_in, schedule_in, node_in, node_or_end, greatest_number_of_delay}
-use Rattle.convoy_certificate.specs.Reading.{◌>>=◌, in_text, is_assignment, from_node, nodes_in, nodes_at, certificate_of, IsTextOf, TextsAreKept}
+use Rattle.convoy_lines.specs.Results.{◌>>=◌}
+use Rattle.convoy_certificate.specs.Reading.{in_text, is_assignment, from_node, nodes_in, nodes_at, certificate_of, IsTextOf}
+use Rattle.convoy_certificate.specs.Laws.{TextsAreKept}
 use Rattle.convoy_certificate.specs.Text.{version_line, latency_line, schedule_line, node_line, end_line, certificate_lines, certificate_text}
 
 bind_ok : {A B : Type 0} (r : Result A TextFault) (f : A → Result B TextFault) (y : B) → (r >>= f) ≡ Ok y → (x : A) × (r ≡ Ok x) × (f x ≡ Ok y)
@@ -111,7 +115,7 @@ module _ (grounds : ReadGrounds) where
 
   schedule_takes : (line : List ℕ) (delays : List ℕ) → schedule_in line ≡ Some delays → line ≡ schedule_line delays
   schedule_takes line delays e =
-      let a = and_then_takes delays_in (forms.words_after (codes "schedule") line) delays e in
+      let a = and_then_takes delays_in (words_after (codes "schedule") line) delays e in
       (grounds.labelled (codes "schedule") line a.0).0 a.1 ∙ ap (line_of (codes "schedule")) (delays_take a.0 delays a.2)
 
   -- ---- nodes
@@ -152,30 +156,30 @@ module _ (grounds : ReadGrounds) where
 
   -- ---- the certificate
 
-  pub certificate_takes : (text : List ℕ) (c : Contents) → certificate_of text ≡ Ok c → (text ≡ certificate_text c) × (length c.nodes ≤ MOST_NODES)
+  pub certificate_takes : (text : List ℕ) (c : Certificate) → certificate_of text ≡ Ok c → (text ≡ certificate_text c) × (length c.nodes ≤ MOST_NODES)
   unfolding certificate_of
   certificate_takes text c e =
       let start = place_before text 1 in
-      let a = bind_ok (in_text (form_at expected.Convoy version_in start)) (λ version. in_text (scenario_at version.1) >>= λ scenario. in_text (form_at expected.Latency (forms.number_line (codes "latency")) scenario.1) >>= λ latency.
+      let a = bind_ok (in_text (form_at expected.Convoy version_in start)) (λ version. in_text (scenario_at version.1) >>= λ scenario. in_text (form_at expected.Latency (number_in (codes "latency")) scenario.1) >>= λ latency.
       in_text (form_at expected.Schedule schedule_in latency.1) >>= λ delays. cond (is_assignment scenario.0 delays.0) (nodes_at 0 delays.1) (Err faults.Schedule) >>= λ nodes.
       cond (is_at_end nodes.1) (Ok (record { scenario = scenario.0; latency = latency.0; delays = delays.0; nodes = nodes.0 })) (Err faults.AfterEnd)) c e in
-      let b = bind_ok (in_text (scenario_at a.0.1)) (λ scenario. in_text (form_at expected.Latency (forms.number_line (codes "latency")) scenario.1) >>= λ latency.
+      let b = bind_ok (in_text (scenario_at a.0.1)) (λ scenario. in_text (form_at expected.Latency (number_in (codes "latency")) scenario.1) >>= λ latency.
       in_text (form_at expected.Schedule schedule_in latency.1) >>= λ delays. cond (is_assignment scenario.0 delays.0) (nodes_at 0 delays.1) (Err faults.Schedule) >>= λ nodes.
       cond (is_at_end nodes.1) (Ok (record { scenario = scenario.0; latency = latency.0; delays = delays.0; nodes = nodes.0 })) (Err faults.AfterEnd)) c a.2 in
-      let d = bind_ok (in_text (form_at expected.Latency (forms.number_line (codes "latency")) b.0.1)) (λ latency.
+      let d = bind_ok (in_text (form_at expected.Latency (number_in (codes "latency")) b.0.1)) (λ latency.
       in_text (form_at expected.Schedule schedule_in latency.1) >>= λ delays. cond (is_assignment b.0.0 delays.0) (nodes_at 0 delays.1) (Err faults.Schedule) >>= λ nodes.
       cond (is_at_end nodes.1) (Ok (record { scenario = b.0.0; latency = latency.0; delays = delays.0; nodes = nodes.0 })) (Err faults.AfterEnd)) c b.2 in
       let f = bind_ok (in_text (form_at expected.Schedule schedule_in d.0.1)) (λ delays. cond (is_assignment b.0.0 delays.0) (nodes_at 0 delays.1) (Err faults.Schedule) >>= λ nodes.
       cond (is_at_end nodes.1) (Ok (record { scenario = b.0.0; latency = d.0.0; delays = delays.0; nodes = nodes.0 })) (Err faults.AfterEnd)) c d.2 in
       let g = bind_ok (cond (is_assignment b.0.0 f.0.0) (nodes_at 0 f.0.1) (Err faults.Schedule)) (λ nodes.
       cond (is_at_end nodes.1) (Ok (record { scenario = b.0.0; latency = d.0.0; delays = f.0.0; nodes = nodes.0 })) (Err faults.AfterEnd)) c f.2 in
-      let made : Contents = record { scenario = b.0.0; latency = d.0.0; delays = f.0.0; nodes = g.0.0 } in
+      let made : Certificate = record { scenario = b.0.0; latency = d.0.0; delays = f.0.0; nodes = g.0.0 } in
       let last = if_true (is_at_end g.0.1) faults.AfterEnd (Ok made) c g.2 in
       let same : made ≡ c = same_ok made c last.1 in
       let over = nil_ended g.0.1 last.0 in
       let t-version = took expected.Convoy version_in start a.0 a.1 in
       let t-scenario = ((grounds.scenarios b.0.0 a.0.1 b.0.1).0 (from_lines (scenario_at a.0.1) b.0 b.1)).1 in
-      let t-latency = took expected.Latency (forms.number_line (codes "latency")) b.0.1 d.0 d.1 in
+      let t-latency = took expected.Latency (number_in (codes "latency")) b.0.1 d.0 d.1 in
       let t-schedule = took expected.Schedule schedule_in d.0.1 f.0 f.1 in
       let t-nodes = nodes_take 0 f.0.1.number f.0.1.rest f.0.1.ended g.0 (omega arith) (if_true (is_assignment b.0.0 f.0.0) faults.Schedule (nodes_at 0 f.0.1) g.0 g.1).1 in
       let nodes : f.0.1.ended ≡ map node_line g.0.0 ++ end_line ∷ [] = t-nodes.before ∙ ap (λ ls. map node_line g.0.0 ++ end_line ∷ ls) over.0 in
@@ -188,10 +192,10 @@ module _ (grounds : ReadGrounds) where
       let nothing : start.rest ≡ [] = t-version.rest ∙ t-scenario.rest ∙ t-latency.rest ∙ t-schedule.rest ∙ t-nodes.after ∙ over.1 in
       let read : text ≡ certificate_text made =
       ((grounds.texts text (certificate_lines made)).0 (both (lines_in text) (certificate_lines made) whole nothing)).0 in
-      subst (λ (x : Contents). (text ≡ certificate_text x) × (length x.nodes ≤ MOST_NODES)) same (read, omega (arith, t-nodes.few))
+      subst (λ (x : Certificate). (text ≡ certificate_text x) × (length x.nodes ≤ MOST_NODES)) same (read, omega (arith, t-nodes.few))
 
 -- what was read has this text
-pub is_found : TextsAreKept → (text : List ℕ) (result : Result Contents TextFault) → IsUnlessMemory faults.Memory (certificate_of text) result → IfOk result (λ certificate. IsTextOf certificate text)
+pub is_found : TextsAreKept → (text : List ℕ) (result : Result Certificate TextFault) → IsUnlessMemory faults.Memory (certificate_of text) result → IfOk result (λ certificate. IsTextOf certificate text)
 is_found kept text (Ok c) (inl e) = kept text c (sym e)
 is_found kept text (Ok c) (inr e) = absurd cc
 is_found kept text (Err fault) given = tt

@@ -1,12 +1,20 @@
+-- what a reader has to know of the crates below
+pub use Rattle.convoy_lines.specs.Labels
+pub use Rattle.convoy_lines.specs.Options
+pub use Rattle.convoy_lines.specs.Places
+pub use Rattle.convoy_lines.specs.Results
+pub use Rattle.convoy_lines.specs.Texts
+pub use Rattle.convoy_lines.specs.Words
 pub use Rattle.convoy_packets.specs.Assignment
-pub use Rattle.convoy_scenario.specs.LineForms
 pub use Rattle.convoy_scenario.specs.LineReading
-pub use Rattle.convoy_scenario.specs.LineWords
 pub use Rattle.convoy_scenario.specs.Lines
 pub use Rattle.convoy_scenario.specs.Memory
-pub use Rattle.convoy_scenario.specs.Plan
+pub use Rattle.convoy_scenario.specs.Scenario
 pub use Rattle.convoy_scenario.specs.WellFormed
-pub mod Contents
+-- what a reader has to believe: what a certificate says, its text, and what is proved of texts
+pub mod Certificate
+pub mod Text
+pub mod Laws
+-- which text is read as what, and which fault it has
 pub mod Forms
 pub mod Reading
-pub mod Text

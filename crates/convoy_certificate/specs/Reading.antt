@@ -4,15 +4,17 @@ use Rattle.std.specs.Cmp.Lexicographic.{pointwise}
 use Rattle.convoy_scenario.specs.declared.line_fault.Expected.TheVariants as expected
 use Rattle.convoy_scenario.specs.declared.line_fault.LineFault.{LineFault}
 use Rattle.convoy_scenario.specs.declared.line_fault.LineFault.TheVariants as lines
-use Rattle.convoy_scenario.specs.LineForms.{number_line}
-use Rattle.convoy_scenario.specs.LineReading.{Place, place_before, form_at, scenario_at, is_at_end}
-use Rattle.convoy_scenario.specs.Plan.{Plan}
+use Rattle.convoy_lines.specs.Labels.{number_in}
+use Rattle.convoy_lines.specs.Places.{Place, place_before, is_at_end}
+use Rattle.convoy_scenario.specs.LineReading.{form_at, scenario_at}
+use Rattle.convoy_lines.specs.Results.{◌>>=◌}
+use Rattle.convoy_scenario.specs.Scenario.{Scenario}
 use Rattle.convoy_packets.specs.Assignment.{ranges_of}
-use Rattle.convoy_certificate.specs.declared.certificate.TheConstants.{LONGEST_TEXT, MOST_NODES}
+use Rattle.convoy_certificate.specs.declared.certificate.TheConstants.{MOST_NODES}
 use Rattle.convoy_certificate.specs.declared.node.Node.{Node}
 use Rattle.convoy_certificate.specs.declared.text_fault.TextFault.{TextFault}
 use Rattle.convoy_certificate.specs.declared.text_fault.TextFault.TheVariants as faults
-use Rattle.convoy_certificate.specs.Contents.{Contents, IsCertificate}
+use Rattle.convoy_certificate.specs.Certificate.{Certificate, IsCertificate}
 use Rattle.convoy_certificate.specs.Text.{certificate_text}
 use Rattle.convoy_certificate.specs.Forms.{version_in, schedule_in, node_or_end}
 
@@ -26,19 +28,13 @@ abbrev pub in_text : {A : Type 0} → Result A LineFault → Result A TextFault
 in_text (Ok x) = Ok x
 in_text (Err fault) = Err (text_fault fault)
 
--- then: the first fault ends it
-infixl 10 ◌>>=◌
-abbrev pub ◌>>=◌ : {A B : Type 0} → Result A TextFault → (A → Result B TextFault) → Result B TextFault
-Ok x >>= f = f x
-Err fault >>= f = Err fault
-
 -- the delay is in the range
 abbrev pub is_within : ℕ × ℕ → ℕ → Bool
 is_within range delay = nat_le range.0 delay && nat_le delay range.1
 
 -- there is one delay for each packet, and each is in its packet's range
-abbrev pub is_assignment : Plan → List ℕ → Bool
-is_assignment plan delays = pointwise is_within (ranges_of plan) delays
+abbrev pub is_assignment : Scenario → List ℕ → Bool
+is_assignment scenario delays = pointwise is_within (ranges_of scenario) delays
 
 -- a node and those after it; at the line `end` there are none, and the reading stands past it
 abbrev pub from_node : Option Node → Place → Result (List Node × Place) TextFault → Result (List Node × Place) TextFault
@@ -57,41 +53,16 @@ abbrev pub nodes_at : ℕ → Place → Result (List Node × Place) TextFault
 nodes_at count place = nodes_in count place.number place.rest place.ended
 
 -- the certificate that a text is; else the first fault
-unfoldable pub certificate_of : List ℕ → Result Contents TextFault
+unfoldable pub certificate_of : List ℕ → Result Certificate TextFault
 certificate_of text = do
   version ← in_text (form_at expected.Convoy version_in (place_before text 1))
   scenario ← in_text (scenario_at version.1)
-  latency ← in_text (form_at expected.Latency (number_line (codes "latency")) scenario.1)
+  latency ← in_text (form_at expected.Latency (number_in (codes "latency")) scenario.1)
   delays ← in_text (form_at expected.Schedule schedule_in latency.1)
   nodes ← if is_assignment scenario.0 delays.0 then nodes_at 0 delays.1 else Err faults.Schedule
   if is_at_end nodes.1 then Ok (record { scenario = scenario.0; latency = latency.0; delays = delays.0; nodes = nodes.0 })
       else Err faults.AfterEnd
 
 -- the text is that of the certificate, which has no more nodes than may be read
-abbrev pub IsTextOf : Contents → List ℕ → Type 0
+abbrev pub IsTextOf : Certificate → List ℕ → Type 0
 IsTextOf certificate text = (text ≡ certificate_text certificate) × (length certificate.nodes ≤ MOST_NODES)
-
--- no two certificates have one text
-abbrev pub TextsDiffer : Type 0
-TextsDiffer = (b c : Contents) → IsCertificate b → IsCertificate c → certificate_text b ≡ certificate_text c → b ≡ c
-
--- the text of a certificate that has no more nodes than may be read is read as the certificate
-abbrev pub TextsAreRead : Type 0
-TextsAreRead =
-    (certificate : Contents)
-    → IsCertificate certificate
-    → length certificate.nodes ≤ MOST_NODES
-    → certificate_of (certificate_text certificate) ≡ Ok certificate
-
--- the text of a certificate that has no more nodes than may be read is within the limit of bytes
-abbrev pub TextsAreShort : Type 0
-TextsAreShort =
-    (certificate : Contents)
-    → IsCertificate certificate
-    → length certificate.nodes ≤ MOST_NODES
-    → length (certificate_text certificate) ≤ LONGEST_TEXT
-
--- a certificate that is read from a text has this text
-abbrev pub TextsAreKept : Type 0
-TextsAreKept =
-    (text : List ℕ) (certificate : Contents) → certificate_of text ≡ Ok certificate → IsTextOf certificate text

@@ -1,7 +1,7 @@
 ghost use Rattle.std.specs.Prelude.{◌≡◌};
 ghost use Rattle.std.specs.List.{All};
 ghost use Rattle.convoy_packets.specs.Assignment.{IsAssignment};
-ghost use Rattle.convoy_certificate.specs.Contents.{IsNode, IsCertificate};
+ghost use Rattle.convoy_certificate.specs.Certificate.{IsNode, IsCertificate};
 
 use super::node::Node;
 use convoy_packets::Delays;
@@ -29,9 +29,9 @@ pub struct Certificate {
 }
 
 impl Model for Certificate {
-    ghost use Rattle.convoy_certificate.specs.Contents.{Contents, IsCertificate};
+    ghost use Rattle.convoy_certificate.specs.Certificate.{Certificate, IsCertificate};
 
-    ghost Value = { Contents };
+    ghost Value = { Certificate };
 
     ghost view = { λ c. record {
       scenario = c.scenario;
@@ -96,5 +96,21 @@ impl Certificate {
         ensures lawful { IsCertificate self.now }
     {
         self.nodes.as_slice()
+    }
+
+    /// The scenario, the stated latency in ticks, the schedule and the nodes, none of them copied.
+    pub fn into_parts(self) -> (Scenario, u32, Delays, Vec<Node>)
+        ensures scenario { result.0 ≡ self.scenario }
+        ensures latency { result.1 ≡ self.latency }
+        ensures delays { result.2 ≡ self.delays }
+        ensures nodes { result.3.items ≡ self.nodes }
+    {
+        let Certificate {
+            scenario,
+            latency,
+            delays,
+            nodes,
+        } = self;
+        (scenario, latency, delays, nodes)
     }
 }

@@ -1,12 +1,13 @@
 //! What always holds of certificates: functions that do nothing, and whose contracts are the laws.
 
-ghost use Rattle.convoy_certificate.specs.Reading.{TextsDiffer, TextsAreRead, TextsAreShort, TextsAreKept};
+ghost use Rattle.convoy_certificate.specs.Laws.{TextsDiffer, TextsAreRead, TextsAreShort, TextsAreKept};
 
-use convoy_packets::laws::{delays_are_one_each, packets_are_few};
-use convoy_scenario::laws::{
+use convoy_lines::laws::{
     decimals_are_words, labelled_lines, lines_of_texts, number_lines, numbers_are_decimals,
-    scenario_lines_are_lines, scenarios_are_their_lines, words_make_lines, words_of_lines,
+    words_make_lines, words_of_lines,
 };
+use convoy_packets::laws::{delays_are_one_each, packets_are_few};
+use convoy_scenario::laws::{scenario_lines_are_lines, scenarios_are_their_lines};
 
 /// Two certificates with one text are equal.
 pub fn texts_differ()

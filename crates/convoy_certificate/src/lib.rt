@@ -5,7 +5,7 @@ pub use certificate::{Certificate, LONGEST_TEXT, MOST_NODES};
 pub use node::{GREATEST_PACKET, Node};
 pub use reading::read;
 pub use text_fault::TextFault;
-pub use writing::write;
+pub use writing::{push_schedule, write};
 
 mod certificate;
 pub mod laws;

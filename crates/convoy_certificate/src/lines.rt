@@ -1,13 +1,14 @@
 ghost use Rattle.std.specs.Prelude.{◌≡◌, ok_or, IfSome};
-ghost use Rattle.convoy_certificate.specs.Contents.{IsNode};
+ghost use Rattle.convoy_certificate.specs.Certificate.{IsNode};
 ghost use Rattle.std.specs.Result.{result_map_both};
 ghost use Rattle.convoy_scenario.specs.Memory.{IsUnlessMemory};
-ghost use Rattle.convoy_scenario.specs.LineForms.{words_after};
+ghost use Rattle.convoy_lines.specs.Labels.{words_after};
 ghost use Rattle.convoy_certificate.specs.Forms.{version_in, schedule_in, split_in, leaf_in, node_in, node_or_end};
 
 use super::node::{GREATEST_PACKET, Node};
 use super::text_fault::TextFault;
-use convoy_scenario::{GREATEST_DELAY, Words, number_of, words_after};
+use convoy_lines::{Words, number_of, words_after};
+use convoy_scenario::GREATEST_DELAY;
 use std::alloc::Global;
 
 /// The version of a text whose first line this is.

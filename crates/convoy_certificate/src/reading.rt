@@ -3,9 +3,9 @@ ghost use Rattle.std.specs.Cmp.Lexicographic.{pointwise};
 ghost use Rattle.std.specs.List.{All};
 ghost use Rattle.std.specs.Result.{result_map_both};
 ghost use Rattle.convoy_scenario.specs.Memory.{IsUnlessMemory};
-ghost use Rattle.convoy_scenario.specs.LineForms.{number_line};
+ghost use Rattle.convoy_lines.specs.Labels.{number_in};
 ghost use Rattle.convoy_scenario.specs.LineReading.{form_at, scenario_at};
-ghost use Rattle.convoy_certificate.specs.Contents.{Contents, IsCertificate, IsNode};
+ghost use Rattle.convoy_certificate.specs.Certificate.{Certificate, IsCertificate, IsNode};
 ghost use Rattle.convoy_certificate.specs.Forms.{version_in, schedule_in, node_or_end};
 ghost use Rattle.convoy_certificate.specs.Reading.{in_text, is_within, nodes_at, certificate_of, IsTextOf};
 
@@ -14,14 +14,15 @@ use super::laws::{texts_are_kept, texts_are_read};
 use super::lines::{node_or_end, schedule_in, version_in};
 use super::node::Node;
 use super::text_fault::TextFault;
+use convoy_lines::{LineReader, number_in};
 use convoy_packets::{Delays, PacketTable};
-use convoy_scenario::{Expected, LineReader, Scenario, number_line};
+use convoy_scenario::{Expected, Scenario, read_lines};
 use std::alloc::Global;
 
 /// Reads the text of a certificate (docs/FORMATS.md, "Certificate text").
 ///
-/// A text that is none is refused with its first fault, in the order of the lines; where memory is
-/// refused, `TextFault::Memory` is the answer, and says nothing of the text. The tree's shape is not
+/// The error is the first fault of the text, in the order of the lines; where memory runs out, it is
+/// `TextFault::Memory`, and says nothing of the text. The tree's shape is not
 /// looked at: any list of nodes up to `MOST_NODES` is read, an empty one too.
 pub fn read(alloc: Global, text: &[u8]) -> Result<Certificate, TextFault>
     // What is read is a certificate: its schedule is an assignment of its scenario.
@@ -29,7 +30,7 @@ pub fn read(alloc: Global, text: &[u8]) -> Result<Certificate, TextFault>
     // What is read has this text, and no more nodes than may be read.
     ensures found { IfOk result (λ certificate. IsTextOf certificate text.now) }
     // A text of such a certificate is read, unless memory runs out.
-    ensures only { (certificate : Contents) → IsCertificate certificate → IsTextOf certificate text.now →
+    ensures only { (certificate : Certificate) → IsCertificate certificate → IsTextOf certificate text.now →
         IsUnlessMemory TextFault.Memory (Ok certificate) result }
     // Which fault it is.
     ensures exact { IsUnlessMemory TextFault.Memory (certificate_of text.now) result }
@@ -72,16 +73,16 @@ fn read_scenario(alloc: Global, reader: &mut LineReader) -> Result<Scenario, Tex
     ensures { IsUnlessMemory TextFault.Memory (in_text (scenario_at reader.old))
         (result_map_both (λ scenario. (scenario, reader.new)) (λ fault. fault) result) }
 {
-    Ok(reader.scenario(alloc)?)
+    Ok(read_lines(alloc, reader)?)
 }
 
 fn read_latency(reader: &mut LineReader) -> Result<u32, TextFault>
     ensures { result_map_both (λ latency. (latency, reader.new)) (λ fault. fault) result
-        ≡ in_text (form_at Expected.Latency (number_line (codes "latency")) reader.old) }
+        ≡ in_text (form_at Expected.Latency (number_in (codes "latency")) reader.old) }
 {
     let wrong = TextFault::Line(reader.number(), Expected::Latency);
     let line = reader.line().ok_or(wrong)?;
-    number_line(line, b"latency").ok_or(wrong)
+    number_in(line, b"latency").ok_or(wrong)
 }
 
 fn read_schedule(alloc: Global, reader: &mut LineReader) -> Result<Vec<u16>, TextFault>

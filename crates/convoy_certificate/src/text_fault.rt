@@ -17,7 +17,7 @@ pub enum TextFault {
     TreeCount,
     /// A byte follows the line `end`.
     AfterEnd,
-    /// Memory was refused, which says nothing of the text.
+    /// Memory ran out, which says nothing of the text.
     Memory,
 }
 

@@ -1,13 +1,14 @@
 ghost use Rattle.std.specs.Prelude.{◌≡◌, ◌++◌, map, codes, decimal, IfOk, OnOk, OnErr};
-ghost use Rattle.convoy_scenario.specs.Lines.{ended, spaced, text_of};
-ghost use Rattle.convoy_certificate.specs.Text.{latency_line, schedule_line, node_line, certificate_text};
+ghost use Rattle.convoy_lines.specs.Texts.{ended, spaced, text_of};
+ghost use Rattle.convoy_certificate.specs.Text.{schedule_line, node_line, certificate_text};
 
 use super::certificate::Certificate;
 use super::node::Node;
-use convoy_scenario::{push_number, write_lines};
+use convoy_lines::{push_number, push_number_line};
+use convoy_scenario::write_lines;
 use std::alloc::{AllocError, Global};
 
-/// Appends the text of a certificate (docs/FORMATS.md, "Certificate text"). Where memory is refused,
+/// Appends the text of a certificate (docs/FORMATS.md, "Certificate text"). Where memory runs out,
 /// `out` stays as it was.
 pub fn write(alloc: Global, certificate: &Certificate, out: &mut Vec<u8>) -> Result<(), AllocError>
     ensures ok { OnOk result (out.new.items ≡ out.old.items ++ certificate_text certificate.now) }
@@ -22,22 +23,16 @@ fn text_of(alloc: Global, certificate: &Certificate) -> Result<Vec<u8>, AllocErr
 {
     let mut text = Vec::from_slice(alloc, b"convoy 1\n")?;
     write_lines(alloc, certificate.scenario(), &mut text)?;
-    push_latency(&mut text, certificate.latency())?;
+    push_number_line(&mut text, "latency", certificate.latency())?;
     push_schedule(&mut text, certificate.delays().as_slice())?;
     push_nodes(&mut text, certificate.nodes())?;
     text.extend_from_slice(b"end\n")?;
     Ok(text)
 }
 
-fn push_latency(text: &mut Vec<u8>, latency: u32) -> Result<(), AllocError>
-    ensures { OnOk result (text.new.items ≡ text.old.items ++ ended (latency_line latency)) }
-{
-    text.extend_from_slice(b"latency ")?;
-    push_number(text, latency)?;
-    Ok(text.push(b'\n')?)
-}
-
-fn push_schedule(text: &mut Vec<u8>, delays: &[u16]) -> Result<(), AllocError>
+/// Appends the line of a schedule, the delays in packet order. Where memory runs out, a front of the
+/// line may have been appended.
+pub fn push_schedule(text: &mut Vec<u8>, delays: &[u16]) -> Result<(), AllocError>
     ensures { OnOk result (text.new.items ≡ text.old.items ++ ended (schedule_line delays.now)) }
 {
     text.extend_from_slice(b"schedule")?;

@@ -4,23 +4,24 @@ use Rattle.std.proofs.lemmas.Result.{IfOk-weaker}
 use Rattle.convoy_scenario.specs.Memory.{IsUnlessMemory}
 use Rattle.convoy_sim.specs.Delivery.{latency_of}
 use Rattle.convoy_intervals.specs.Boxes.{root_of}
-use Rattle.convoy_certificate.specs.Contents.{Contents, IsCertificate}
+use Rattle.convoy_certificate.specs.Certificate.{Certificate, IsCertificate}
 use Rattle.convoy_checker.specs.declared.refused.Refused.{Refused}
 use Rattle.convoy_checker.specs.declared.refused.Refused.TheVariants as refused
 use Rattle.convoy_checker.specs.Checks.{checked, checked_tree, first_fault}
 use Rattle.convoy_checker.specs.Laws.{CheckedIsValid, ValidIsGreatest}
-use Rattle.convoy_checker.specs.Validity.{IsGreatest, IsValid}
+use Rattle.convoy_checker.specs.Validity.{IsValid}
+use Rattle.convoy_sim.specs.Greatest.{IsGreatest}
 
 -- a latency that is answered is that of the certificate
-tree_latency : (certificate : Contents) (fault : Option Refused) (latency : ℕ) → checked_tree certificate fault ≡ Ok latency → latency ≡ certificate.latency
+tree_latency : (certificate : Certificate) (fault : Option Refused) (latency : ℕ) → checked_tree certificate fault ≡ Ok latency → latency ≡ certificate.latency
 tree_latency certificate None latency answer = cc
 tree_latency certificate (Some fault) latency answer = cc
 
-if_latency : (certificate : Contents) (fault : Option Refused) (other : Refused) (test : Bool) (latency : ℕ) → (if test then checked_tree certificate fault else Err other) ≡ Ok latency → latency ≡ certificate.latency
+if_latency : (certificate : Certificate) (fault : Option Refused) (other : Refused) (test : Bool) (latency : ℕ) → (if test then checked_tree certificate fault else Err other) ≡ Ok latency → latency ≡ certificate.latency
 if_latency certificate fault other true latency answer = tree_latency certificate fault latency answer
 if_latency certificate fault other false latency answer = cc
 
-checked_latency : (certificate : Contents) (latency : ℕ) → checked certificate ≡ Ok latency → latency ≡ certificate.latency
+checked_latency : (certificate : Certificate) (latency : ℕ) → checked certificate ≡ Ok latency → latency ≡ certificate.latency
 unfolding checked
 checked_latency certificate latency answer =
     let simulated = latency_of certificate.scenario certificate.delays in
@@ -28,18 +29,18 @@ checked_latency certificate latency answer =
     if_latency certificate fault (refused.Latency simulated) (simulated == certificate.latency) latency answer
 
 -- what is accepted is valid, and has the latency that is answered
-ok_is_valid : (certificate : Contents) (latency : ℕ) → CheckedIsValid → checked certificate ≡ Ok latency → IsValid certificate × (latency ≡ certificate.latency)
+ok_is_valid : (certificate : Certificate) (latency : ℕ) → CheckedIsValid → checked certificate ≡ Ok latency → IsValid certificate × (latency ≡ certificate.latency)
 ok_is_valid certificate latency law answer =
     let same = checked_latency certificate latency answer in
     let own : checked certificate ≡ Ok certificate.latency = cc in
     ((law certificate).0 own, same)
 
-pub accepted_is_valid : (certificate : Contents) (answer : Result ℕ Refused) → CheckedIsValid → IsUnlessMemory refused.Memory (checked certificate) answer → IfOk answer (λ latency. IsValid certificate × (latency ≡ certificate.latency))
+pub accepted_is_valid : (certificate : Certificate) (answer : Result ℕ Refused) → CheckedIsValid → IsUnlessMemory refused.Memory (checked certificate) answer → IfOk answer (λ latency. IsValid certificate × (latency ≡ certificate.latency))
 accepted_is_valid certificate (Ok latency) law (inl is) = ok_is_valid certificate latency law (sym is)
 accepted_is_valid certificate (Ok latency) law (inr is) = absurd (cc)
 accepted_is_valid certificate (Err fault) law is = tt
 
 -- so that latency is the greatest of the scenario
-pub accepted_is_greatest : (certificate : Contents) (answer : Result ℕ Refused) → CheckedIsValid → ValidIsGreatest → IsCertificate certificate → IsUnlessMemory refused.Memory (checked certificate) answer → IfOk answer (λ latency. IsGreatest certificate.scenario latency)
+pub accepted_is_greatest : (certificate : Certificate) (answer : Result ℕ Refused) → CheckedIsValid → ValidIsGreatest → IsCertificate certificate → IsUnlessMemory refused.Memory (checked certificate) answer → IfOk answer (λ latency. IsGreatest certificate.scenario latency)
 accepted_is_greatest certificate answer law greatest lawful is =
     IfOk-weaker answer (λ latency. IsValid certificate × (latency ≡ certificate.latency)) (λ latency. IsGreatest certificate.scenario latency) (λ latency valid. rw valid.1 (greatest certificate lawful valid.0)) (accepted_is_valid certificate answer law is)

@@ -3,29 +3,31 @@ use Rattle.std.specs.Prelude.{ℕ, ◌≤◌, List, [], ◌∷◌, ◌++◌, All
 use Rattle.std.proofs.Common.{get_or, inl, inr}
 use Rattle.std.proofs.lemmas.Bool.{cases_lt}
 use Rattle.std.proofs.lemmas.List.Elements.{All-nil, All-cons, All-head, All-tail, All-append}
-use Rattle.convoy_scenario.specs.Plan.{Plan}
+use Rattle.convoy_scenario.specs.Scenario.{Scenario}
 use Rattle.convoy_scenario.specs.WellFormed.{IsScenario}
 use Rattle.convoy_sim.specs.Delivery.{latency_of}
 use Rattle.convoy_intervals.specs.Boxes.{IsBox, IsIn, lower_half, upper_half}
-use Rattle.convoy_intervals.specs.Laws.{CanPart, HalvesAreBoxes, HalvesPart}
+use Rattle.convoy_intervals.specs.Laws.{HalvesAreBoxes, HalvesPartition}
+use Rattle.convoy_intervals.specs.Boxes.{CanSplit}
 use Rattle.convoy_certificate.specs.declared.node.Node.{Node}
 use Rattle.convoy_certificate.specs.declared.node.Node.TheVariants.{Split, Bound, Point}
 use Rattle.convoy_checker.specs.Laws.{BoundLeavesCover, PointLeavesCover}
 use Rattle.convoy_checker.specs.Leaves.{IsRight}
-use Rattle.convoy_checker.specs.Trees.{Box, AreTrees, boxes_below}
+use Rattle.convoy_checker.specs.Trees.{AreTrees, boxes_below}
+use Rattle.convoy_intervals.specs.Boxes.{Box}
 
 -- what a tree rests on: the halves of a box, and a law for each kind of leaf
 pub record Grounds : Type 0 where
   pub halves : HalvesAreBoxes
-  pub part : HalvesPart
+  pub part : HalvesPartition
   pub bound : BoundLeavesCover
   pub point : PointLeavesCover
 
 -- no member of the box has a greater latency
-pub record IsCovered (plan : Plan) (latency : ℕ) (box : Box) : Type 0 where
+pub record IsCovered (plan : Scenario) (latency : ℕ) (box : Box) : Type 0 where
   pub at : (delays : List ℕ) → IsIn box delays → latency_of plan delays ≤ latency
 
-module _ (grounds : Grounds) (plan : Plan) (lawful : IsScenario plan) (latency : ℕ) where
+module _ (grounds : Grounds) (plan : Scenario) (lawful : IsScenario plan) (latency : ℕ) where
   -- the boxes below a right node are boxes
   below_are_boxes : (node : Node) (box : Box) → IsBox plan box → IsRight plan latency node box → All (IsBox plan) (boxes_below node box)
   below_are_boxes (Split packet at) box is_box right =
@@ -35,8 +37,8 @@ module _ (grounds : Grounds) (plan : Plan) (lawful : IsScenario plan) (latency :
   below_are_boxes Bound box is_box right = All-nil (IsBox plan)
   below_are_boxes Point box is_box right = All-nil (IsBox plan)
 
-  -- a box that is parted is covered where both halves are
-  split_covers : (packet at : ℕ) (box : Box) → CanPart box packet at → IsCovered plan latency (lower_half box packet at) → IsCovered plan latency (upper_half box packet at) → IsCovered plan latency box
+  -- a box that is split is covered where both halves are
+  split_covers : (packet at : ℕ) (box : Box) → CanSplit box packet at → IsCovered plan latency (lower_half box packet at) → IsCovered plan latency (upper_half box packet at) → IsCovered plan latency box
   split_covers packet at box right lower upper = record { at = members } where
     members : (delays : List ℕ) → IsIn box delays → latency_of plan delays ≤ latency
     members delays member =

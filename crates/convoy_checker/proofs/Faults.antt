@@ -5,32 +5,33 @@ use Rattle.std.specs.Option.{option_or}
 use Rattle.std.proofs.Common.{refl}
 use Rattle.std.proofs.lemmas.Bool.{leb-true, le-leb}
 use Rattle.std.proofs.lemmas.Bool.Decides.{Decides-like, Decides-and, Decides-by_and, Decides-eqb, Decides-ltb}
-use Rattle.convoy_scenario.specs.Plan.{Plan}
+use Rattle.convoy_scenario.specs.Scenario.{Scenario}
 use Rattle.convoy_sim.specs.Delivery.{latency_of}
 use Rattle.convoy_intervals.specs.Boxes.{IsPoint, range_at, greatest_of, root_of}
 use Rattle.convoy_intervals.specs.Bounds.{plain_bound}
-use Rattle.convoy_intervals.specs.Laws.{CanPart}
-use Rattle.convoy_certificate.specs.Contents.{Contents}
+use Rattle.convoy_intervals.specs.Boxes.{CanSplit}
+use Rattle.convoy_certificate.specs.Certificate.{Certificate}
 use Rattle.convoy_certificate.specs.declared.node.Node.{Node}
 use Rattle.convoy_certificate.specs.declared.node.Node.TheVariants.{Split, Bound, Point}
 use Rattle.convoy_checker.specs.declared.refused.Refused.{Refused}
 use Rattle.convoy_checker.specs.declared.refused.Refused.TheVariants as refused
-use Rattle.convoy_checker.specs.Checks.{unless, can_part, is_point, node_fault, first_fault, checked_tree, checked}
+use Rattle.convoy_checker.specs.Checks.{unless, can_split, is_point, node_fault, first_fault, checked_tree, checked}
 use Rattle.convoy_checker.specs.Leaves.{IsRight}
-use Rattle.convoy_checker.specs.Trees.{Box, AreTrees, boxes_below}
+use Rattle.convoy_checker.specs.Trees.{AreTrees, boxes_below}
+use Rattle.convoy_intervals.specs.Boxes.{Box}
 use Rattle.convoy_checker.specs.Validity.{IsValid}
 
 -- the tests say what the relations say
 Decides-le : (a b : ℕ) → Decides (nat_le a b) (a ≤ b)
 Decides-le a b = (leb-true a b, le-leb a b)
 
-Decides-can_part : (box : Box) (packet at : ℕ) → Decides (can_part box packet at) (CanPart box packet at)
-Decides-can_part box packet at =
+Decides-can_split : (box : Box) (packet at : ℕ) → Decides (can_split box packet at) (CanSplit box packet at)
+Decides-can_split box packet at =
     let range = range_at box packet in
     let place = nat_lt packet (length box) in
     let low = nat_le range.0 at in
     let high = nat_lt at range.1 in
-    Decides-like (can_part box packet at)
+    Decides-like (can_split box packet at)
     (λ (all : ((packet < length box) × (range.0 ≤ at)) × (at < range.1)). record { place = all.0.0; low = all.0.1; high = all.1 })
     (λ part. ((part.place, part.low), part.high))
     (Decides-and (place && low) high (Decides-and place low (Decides-ltb packet (length box)) (Decides-le range.0 at)) (Decides-ltb at range.1))
@@ -46,9 +47,9 @@ unless_none fault false Holds decides =
     (λ none. absurd cc, λ holds. let held = decides.1 holds in absurd cc)
 
 -- a node has no fault just where it is right over its box
-pub node_none : (plan : Plan) (latency number : ℕ) (node : Node) (box : Box) → (node_fault plan latency number node box ≡ None) ↔ IsRight plan latency node box
+pub node_none : (plan : Scenario) (latency number : ℕ) (node : Node) (box : Box) → (node_fault plan latency number node box ≡ None) ↔ IsRight plan latency node box
 node_none plan latency number (Split packet at) box =
-    unless_none (refused.Split number) (can_part box packet at) (CanPart box packet at) (Decides-can_part box packet at)
+    unless_none (refused.Split number) (can_split box packet at) (CanSplit box packet at) (Decides-can_split box packet at)
 node_none plan latency number Bound box =
     let bound = plain_bound plan box in
     unless_none (refused.BoundLeaf number bound) (nat_le bound latency) (bound ≤ latency) (Decides-le bound latency)
@@ -63,7 +64,7 @@ or_none None second = (λ none. (refl, none), λ both. both.1)
 or_none (Some fault) second = (λ none. absurd cc, λ both. absurd (let none = both.0 in cc))
 
 -- trees have no fault just where each node is right over its box
-pub trees_none : (plan : Plan) (latency number : ℕ) (boxes : List Box) (nodes : List Node) → (first_fault plan latency number boxes nodes ≡ None) ↔ AreTrees boxes_below (IsRight plan latency) boxes nodes
+pub trees_none : (plan : Scenario) (latency number : ℕ) (boxes : List Box) (nodes : List Node) → (first_fault plan latency number boxes nodes ≡ None) ↔ AreTrees boxes_below (IsRight plan latency) boxes nodes
 trees_none plan latency number [] [] = (λ none. tt, λ trees. refl)
 trees_none plan latency number [] (node ∷ nodes) = (λ none. absurd cc, λ trees. absurd trees)
 trees_none plan latency number (box ∷ boxes) [] = (λ none. absurd cc, λ trees. absurd trees)
@@ -77,7 +78,7 @@ trees_none plan latency number (box ∷ boxes) (node ∷ nodes) =
     )
 
 -- a tree's latency is answered just where it has no fault
-tree_answer : (certificate : Contents) (fault : Option Refused) → (checked_tree certificate fault ≡ Ok certificate.latency) ↔ (fault ≡ None)
+tree_answer : (certificate : Certificate) (fault : Option Refused) → (checked_tree certificate fault ≡ Ok certificate.latency) ↔ (fault ≡ None)
 tree_answer certificate None = (λ answer. refl, λ none. refl)
 tree_answer certificate (Some fault) = (λ answer. absurd cc, λ none. absurd cc)
 
@@ -88,7 +89,7 @@ if_answer false Holds answer fault latency decides =
     (λ answers. absurd cc, λ both. let held = decides.1 both.0 in absurd cc)
 
 -- checking answers the latency just where the certificate is valid
-pub checked_valid : (certificate : Contents) → (checked certificate ≡ Ok certificate.latency) ↔ IsValid certificate
+pub checked_valid : (certificate : Certificate) → (checked certificate ≡ Ok certificate.latency) ↔ IsValid certificate
 unfolding checked
 checked_valid certificate =
     let plan = certificate.scenario in

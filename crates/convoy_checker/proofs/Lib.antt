@@ -4,3 +4,5 @@ pub mod Faults
 pub mod NextNode
 pub mod OpenBoxes
 pub mod Rows
+pub mod SplitTrees
+pub mod TreeLaws

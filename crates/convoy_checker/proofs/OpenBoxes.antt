@@ -5,23 +5,23 @@ use Rattle.std.proofs.lemmas.List.{length-set, length_push, reverse-append, set-
 use Rattle.std.proofs.lemmas.List.Elements.{All-push, All-pop, All-weaker}
 use Rattle.convoy_certificate.specs.declared.node.Node.TheVariants.{Split}
 use Rattle.convoy_intervals.specs.Boxes.{range_at, lower_half, upper_half}
-use Rattle.convoy_intervals.specs.Laws.{CanPart}
+use Rattle.convoy_intervals.specs.Boxes.{CanSplit}
 use Rattle.convoy_checker.specs.declared.walk.Change.{Change}
-use Rattle.convoy_checker.specs.Trees.{Box}
+use Rattle.convoy_intervals.specs.Boxes.{Box}
 use Rattle.convoy_checker.specs.Walks.{boxes_after, boxes_of, opened, CanStand, IsChangeOf, IsWalk}
 
 -- a change of the program
 abbrev change : ℕ → ℕ × ℕ → Bool → Change
 change packet range opens = record { packet = packet; range = range; opens = opens }
 
--- a split can stand over the first box of a walk only where the walk has a box, which it parts
-CanPart-current : (stands : Bool) (current : Box) (changes : List Change) (boxes : List Box) (packet at : ℕ) → boxes_of stands current changes ≡ boxes → CanStand (Split packet at) boxes → (stands ≡ true) × CanPart current packet at
-CanPart-current true current changes [] packet at is can = absurd can
-CanPart-current true current changes (box ∷ boxes) packet at is can =
+-- a split can stand over the first box of a walk only where the walk has a box, which it splits
+CanSplit-current : (stands : Bool) (current : Box) (changes : List Change) (boxes : List Box) (packet at : ℕ) → boxes_of stands current changes ≡ boxes → CanStand (Split packet at) boxes → (stands ≡ true) × CanSplit current packet at
+CanSplit-current true current changes [] packet at is can = absurd can
+CanSplit-current true current changes (box ∷ boxes) packet at is can =
     let same : current ≡ box = cc in
     (refl, rw same can)
-CanPart-current false current changes [] packet at is can = absurd can
-CanPart-current false current changes (box ∷ boxes) packet at is can = absurd (cc)
+CanSplit-current false current changes [] packet at is can = absurd can
+CanSplit-current false current changes (box ∷ boxes) packet at is can = absurd (cc)
 
 -- a change of a box is one too of the box with another range
 IsChangeOf-set : (current : Box) (changes : List Change) (packet : ℕ) (range : ℕ × ℕ) → All (IsChangeOf current) changes → All (IsChangeOf (set current packet range)) changes
@@ -59,7 +59,7 @@ pub split_boxes : (stands : Bool) (current last : Box) (changes once twice : Lis
     → last ≡ set current to (range.0, at)
     → boxes_of stands last twice ≡ boxes_after (Split packet at) boxes
 split_boxes stands current last changes once twice boxes packet at from to range is can low high here first second end =
-    let stands_is = (CanPart-current stands current changes boxes packet at is can).0 in
+    let stands_is = (CanSplit-current stands current changes boxes packet at is can).0 in
     let own : range ≡ range_at current packet = here ∙ ap (λ p. range_at current p) low in
     let whole : boxes ≡ current ∷ opened current (reverse changes) = sym is ∙ ap (λ s. boxes_of s current changes) stands_is in
     rw (whole, stands_is, end, second, first, high, own) (split_opens current changes packet at)
@@ -71,7 +71,7 @@ pub split_lawful : (stands : Bool) (current last : Box) (changes once twice : Li
     → last ≡ set current to (range.0, at)
     → IsWalk stands last twice
 split_lawful stands current last changes once twice boxes packet at from to range lawful is can low high here first second end =
-    let part = CanPart-current stands current changes boxes packet at is can in
+    let part = CanSplit-current stands current changes boxes packet at is can in
     let own : range ≡ range_at current packet = here ∙ ap (λ p. range_at current p) low in
     let ordered : range.0 ≤ range.1 = rw own (let l = part.1.low in let h = part.1.high in omega arith) in
     let upper : at + 1 ≤ range.1 = rw own (let h = part.1.high in omega arith) in

@@ -3,7 +3,7 @@ use Rattle.std.specs.Prelude.{Ok, Err}
 use Rattle.std.proofs.Common.{◌≡◌, ℕ, List, [], ◌∷◌, replicate, refl, codes}
 use Rattle.convoy_scenario.specs.declared.sender.Sender.{Sender}
 use Rattle.convoy_scenario.specs.declared.sender.Sender.TheVariants.{Client, Group}
-use Rattle.convoy_scenario.specs.Plan.{Message, Plan}
+use Rattle.convoy_scenario.specs.Scenario.{Message, Scenario}
 use Rattle.convoy_packets.specs.Packets.{packets_of}
 use Rattle.convoy_packets.specs.Assignment.{delay_of, ranges_of}
 use Rattle.convoy_sim.specs.Times.{arrive, settle}
@@ -11,7 +11,7 @@ use Rattle.convoy_sim.specs.Moments.{moments_of}
 use Rattle.convoy_sim.specs.Stamps.{clocks_of, local_stamp, final_stamp}
 use Rattle.convoy_sim.specs.Delivery.{holds_back, deliver, latency_at, latency_of}
 use Rattle.convoy_intervals.specs.Bounds.{plain_bound}
-use Rattle.convoy_certificate.specs.Contents.{Contents}
+use Rattle.convoy_certificate.specs.Certificate.{Certificate}
 use Rattle.convoy_certificate.specs.declared.node.Node.{Node}
 use Rattle.convoy_certificate.specs.declared.node.Node.TheVariants.{Split, Bound, Point}
 use Rattle.convoy_checker.specs.declared.refused.Refused.TheVariants as refused
@@ -22,7 +22,7 @@ message name sender destinations at =
     record { name = name; sender = sender; destinations = destinations; at = at }
 
 -- the base scenario, with its greatest delay and the tick at which y is issued
-base_with : ℕ → ℕ → Plan
+base_with : ℕ → ℕ → Scenario
 base_with delay at = record {
   delay = delay;
   groups = codes "a" ∷ codes "b" ∷ [];
@@ -33,7 +33,7 @@ base_with delay at = record {
 }
 
 -- the base with its groups in the order b, a
-swapped : Plan
+swapped : Scenario
 swapped = record {
   delay = 3;
   groups = codes "b" ∷ codes "a" ∷ [];
@@ -44,7 +44,7 @@ swapped = record {
 }
 
 -- the certificate whose schedule gives each of the eight packets its greatest delay
-all_greatest : Plan → ℕ → List Node → Contents
+all_greatest : Scenario → ℕ → List Node → Certificate
 all_greatest plan latency nodes =
     record { scenario = plan; latency = latency; delays = replicate 8 plan.delay; nodes = nodes }
 

@@ -2,24 +2,24 @@
 use Rattle.std.specs.Prelude.{ℕ, ◌+◌, ◌==◌, nat_le, nat_lt, Bool, ◌&&◌, if◌then◌else◌, List, [], ◌∷◌, ◌++◌, length, Option, Some, None, Result, Ok, Err}
 use Rattle.std.specs.List.{list_all}
 use Rattle.std.specs.Option.{option_or}
-use Rattle.convoy_scenario.specs.Plan.{Plan}
+use Rattle.convoy_scenario.specs.Scenario.{Scenario}
 use Rattle.convoy_sim.specs.Delivery.{latency_of}
-use Rattle.convoy_intervals.specs.Boxes.{root_of, range_at, greatest_of}
+use Rattle.convoy_intervals.specs.Boxes.{Box, root_of, range_at, greatest_of}
 use Rattle.convoy_intervals.specs.Bounds.{plain_bound}
-use Rattle.convoy_certificate.specs.Contents.{Contents}
+use Rattle.convoy_certificate.specs.Certificate.{Certificate}
 use Rattle.convoy_certificate.specs.declared.node.Node.{Node}
 use Rattle.convoy_certificate.specs.declared.node.Node.TheVariants.{Split, Bound, Point}
 use Rattle.convoy_checker.specs.declared.refused.Refused.{Refused}
 use Rattle.convoy_checker.specs.declared.refused.Refused.TheVariants as refused
-use Rattle.convoy_checker.specs.Trees.{Box, boxes_below}
+use Rattle.convoy_checker.specs.Trees.{boxes_below}
 
 -- the fault, unless the test holds
 abbrev pub unless : Refused → Bool → Option Refused
 unless fault holds = if holds then None else Some fault
 
 -- the packet has a place in the box, and delays on both sides of the split
-abbrev pub can_part : Box → ℕ → ℕ → Bool
-can_part box packet at =
+abbrev pub can_split : Box → ℕ → ℕ → Bool
+can_split box packet at =
     nat_lt packet (length box) && nat_le (range_at box packet).0 at && nat_lt at (range_at box packet).1
 
 -- each packet has one delay left
@@ -27,28 +27,28 @@ abbrev pub is_point : Box → Bool
 is_point box = list_all (λ range. range.0 == range.1) box
 
 -- the fault of the node of that number over its box
-abbrev pub node_fault : Plan → ℕ → ℕ → Node → Box → Option Refused
-node_fault plan latency number (Split packet at) box = unless (refused.Split number) (can_part box packet at)
-node_fault plan latency number Bound box =
-    let bound = plain_bound plan box in unless (refused.BoundLeaf number bound) (nat_le bound latency)
-node_fault plan latency number Point box =
-    unless (refused.PointLeaf number) (is_point box && nat_le (latency_of plan (greatest_of box)) latency)
+abbrev pub node_fault : Scenario → ℕ → ℕ → Node → Box → Option Refused
+node_fault scenario latency number (Split packet at) box = unless (refused.Split number) (can_split box packet at)
+node_fault scenario latency number Bound box =
+    let bound = plain_bound scenario box in unless (refused.BoundLeaf number bound) (nat_le bound latency)
+node_fault scenario latency number Point box =
+    unless (refused.PointLeaf number) (is_point box && nat_le (latency_of scenario (greatest_of box)) latency)
 
 -- the first fault of the nodes from that number on, over the boxes that are open there
-abbrev pub first_fault : Plan → ℕ → ℕ → List Box → List Node → Option Refused
-first_fault plan latency number [] [] = None
-first_fault plan latency number (box ∷ boxes) (node ∷ nodes) =
-    option_or (node_fault plan latency number node box)
-    (first_fault plan latency (number + 1) (boxes_below node box ++ boxes) nodes)
-first_fault plan latency number boxes nodes = Some refused.TreeCount
+abbrev pub first_fault : Scenario → ℕ → ℕ → List Box → List Node → Option Refused
+first_fault scenario latency number [] [] = None
+first_fault scenario latency number (box ∷ boxes) (node ∷ nodes) =
+    option_or (node_fault scenario latency number node box)
+    (first_fault scenario latency (number + 1) (boxes_below node box ++ boxes) nodes)
+first_fault scenario latency number boxes nodes = Some refused.TreeCount
 
 -- the latency of a certificate without a fault, and else the first fault
-abbrev pub checked_tree : Contents → Option Refused → Result ℕ Refused
+abbrev pub checked_tree : Certificate → Option Refused → Result ℕ Refused
 checked_tree certificate None = Ok certificate.latency
 checked_tree certificate (Some fault) = Err fault
 
 -- The latency of a valid certificate, and else the first fault: the schedule's latency comes before the tree.
-unfoldable pub checked : Contents → Result ℕ Refused
+unfoldable pub checked : Certificate → Result ℕ Refused
 checked certificate =
     let simulated = latency_of certificate.scenario certificate.delays in
     let root = root_of certificate.scenario in

@@ -1,24 +1,22 @@
 -- What each kind of node says of its box, where a latency is stated.
 use Rattle.std.specs.Prelude.{ℕ, ◌≤◌}
-use Rattle.convoy_scenario.specs.Plan.{Plan}
+use Rattle.convoy_scenario.specs.Scenario.{Scenario}
 use Rattle.convoy_sim.specs.Delivery.{latency_of}
 use Rattle.convoy_certificate.specs.declared.node.Node.{Node}
 use Rattle.convoy_certificate.specs.declared.node.Node.TheVariants.{Split, Bound, Point}
 use Rattle.convoy_intervals.specs.Bounds.{plain_bound}
-use Rattle.convoy_intervals.specs.Boxes.{IsPoint, greatest_of}
-use Rattle.convoy_intervals.specs.Laws.{CanPart}
-use Rattle.convoy_checker.specs.Trees.{Box}
+use Rattle.convoy_intervals.specs.Boxes.{Box, CanSplit, IsPoint, greatest_of}
 
 -- the plain bound of the box is at most the stated latency
-abbrev pub ClosesByBound : Plan → ℕ → Box → Type 0
-ClosesByBound plan latency box = plain_bound plan box ≤ latency
+abbrev pub ClosesByBound : Scenario → ℕ → Box → Type 0
+ClosesByBound scenario latency box = plain_bound scenario box ≤ latency
 
 -- the box has one member, under which the latency is at most the stated one
-abbrev pub ClosesByPoint : Plan → ℕ → Box → Type 0
-ClosesByPoint plan latency box = IsPoint box × (latency_of plan (greatest_of box) ≤ latency)
+abbrev pub ClosesByPoint : Scenario → ℕ → Box → Type 0
+ClosesByPoint scenario latency box = IsPoint box × (latency_of scenario (greatest_of box) ≤ latency)
 
--- the node is right over the box: a split parts it, and a leaf closes it
-abbrev pub IsRight : Plan → ℕ → Node → Box → Type 0
-IsRight plan latency (Split packet at) box = CanPart box packet at
-IsRight plan latency Bound box = ClosesByBound plan latency box
-IsRight plan latency Point box = ClosesByPoint plan latency box
+-- the node is right over the box: the box can be split so, or the leaf closes it
+abbrev pub IsRight : Scenario → ℕ → Node → Box → Type 0
+IsRight scenario latency (Split packet at) box = CanSplit box packet at
+IsRight scenario latency Bound box = ClosesByBound scenario latency box
+IsRight scenario latency Point box = ClosesByPoint scenario latency box

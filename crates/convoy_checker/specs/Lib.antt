@@ -1,15 +1,17 @@
 pub use Rattle.convoy_scenario.specs.Memory
-pub use Rattle.convoy_scenario.specs.Plan
+pub use Rattle.convoy_scenario.specs.Scenario
 pub use Rattle.convoy_scenario.specs.WellFormed
 pub use Rattle.convoy_packets.specs.Assignment
 pub use Rattle.convoy_packets.specs.Table
 pub use Rattle.convoy_sim.specs.Delivery
 pub use Rattle.convoy_intervals.specs.Boxes
 pub use Rattle.convoy_intervals.specs.Bounds
-pub use Rattle.convoy_certificate.specs.Contents
+pub use Rattle.convoy_certificate.specs.Certificate
+-- What a valid certificate is, which fault is told, and the laws of both. A yes does not rest on these words, since valid implies greatest is proved.
 pub mod Trees
 pub mod Leaves
 pub mod Validity
 pub mod Checks
-pub mod Walks
 pub mod Laws
+-- How the program goes over a tree: no promise above this crate rests on it.
+pub mod Walks

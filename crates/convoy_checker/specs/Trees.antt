@@ -1,12 +1,8 @@
 -- Trees over boxes, as lists of nodes in prefix order.
-use Rattle.std.specs.Prelude.{ℕ, List, [], ◌∷◌, ◌++◌}
+use Rattle.std.specs.Prelude.{List, [], ◌∷◌, ◌++◌}
 use Rattle.convoy_certificate.specs.declared.node.Node.{Node}
 use Rattle.convoy_certificate.specs.declared.node.Node.TheVariants.{Split}
-use Rattle.convoy_intervals.specs.Boxes.{lower_half, upper_half}
-
--- a box, by the range of each packet
-abbrev pub Box : Type 0
-Box = List (ℕ × ℕ)
+use Rattle.convoy_intervals.specs.Boxes.{Box, lower_half, upper_half}
 
 -- The boxes below a node that stands over a box: the halves of a split, the lower one first. A leaf has none.
 abbrev pub boxes_below : Node → Box → List Box

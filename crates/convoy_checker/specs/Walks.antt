@@ -3,9 +3,9 @@ use Rattle.std.specs.Prelude.{◌≡◌, ◌≤◌, ◌<◌, Bool, false, if◌t
 use Rattle.std.specs.List.{All}
 use Rattle.convoy_certificate.specs.declared.node.Node.{Node}
 use Rattle.convoy_certificate.specs.declared.node.Node.TheVariants.{Split}
-use Rattle.convoy_intervals.specs.Laws.{CanPart}
+use Rattle.convoy_intervals.specs.Boxes.{Box, CanSplit}
 use Rattle.convoy_checker.specs.declared.walk.Change.{Change}
-use Rattle.convoy_checker.specs.Trees.{Box, boxes_below}
+use Rattle.convoy_checker.specs.Trees.{boxes_below}
 
 -- the boxes that the changes open, one change after the other, from that box on
 abbrev pub opened : Box → List Change → List Box
@@ -27,10 +27,10 @@ pub record IsWalk (stands : Bool) (current : Box) (changes : List Change) : Type
   pub each : All (IsChangeOf current) changes
   pub over : stands ≡ false → changes ≡ []
 
--- the node can stand over the first of the boxes: a split parts it
+-- the node can stand over the first of the boxes: a split only where the box can be split so
 abbrev pub CanStand : Node → List Box → Type 0
 CanStand (Split packet at) [] = ⊥
-CanStand (Split packet at) (box ∷ boxes) = CanPart box packet at
+CanStand (Split packet at) (box ∷ boxes) = CanSplit box packet at
 CanStand leaf boxes = Unit {0}
 
 -- the open boxes once that node has been met: those below it come before the others

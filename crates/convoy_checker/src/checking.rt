@@ -3,9 +3,10 @@ ghost use Rattle.convoy_scenario.specs.Memory.{IsUnlessMemory};
 ghost use Rattle.convoy_packets.specs.Table.{table_of};
 ghost use Rattle.convoy_sim.specs.Delivery.{latency_of};
 ghost use Rattle.convoy_intervals.specs.Boxes.{IsBox, root_of, greatest_of};
-ghost use Rattle.convoy_certificate.specs.Contents.{IsCertificate};
-ghost use Rattle.convoy_checker.specs.Checks.{can_part, checked, first_fault, is_point, node_fault};
-ghost use Rattle.convoy_checker.specs.Validity.{IsGreatest, IsValid};
+ghost use Rattle.convoy_certificate.specs.Certificate.{IsCertificate};
+ghost use Rattle.convoy_checker.specs.Checks.{can_split, checked, first_fault, is_point, node_fault};
+ghost use Rattle.convoy_checker.specs.Validity.{IsValid};
+ghost use Rattle.convoy_sim.specs.Greatest.{IsGreatest};
 
 use super::accepted::Accepted;
 use super::laws::{checked_is_valid, valid_is_greatest};
@@ -16,7 +17,6 @@ use convoy_intervals::laws::{halves_are_boxes, members_are_assignments};
 use convoy_intervals::{DelayBox, bound};
 use convoy_packets::PacketTable;
 use convoy_scenario::Scenario;
-use convoy_sim::simulate;
 use std::alloc::{AllocError, Global};
 
 /// Checks a certificate: that its schedule has the stated latency, and that its nodes are one tree
@@ -25,7 +25,7 @@ use std::alloc::{AllocError, Global};
 ///
 /// The bound of each leaf is computed from scratch. Memory grows with the depth of the tree. A
 /// certificate that isn't valid is refused with its first fault, in the order of `Refused`; where
-/// memory is refused, `Refused::Memory` is the answer, and says nothing of the certificate.
+/// memory runs out, `Refused::Memory` is the answer, and says nothing of the certificate.
 pub fn check(alloc: Global, certificate: &Certificate) -> Result<Accepted, Refused>
     // What is accepted is valid, and has the latency that is answered.
     ensures valid { IfOk result (λ accepted. IsValid certificate.now × (accepted ≡ certificate.now.latency)) }
@@ -52,7 +52,7 @@ fn check_all(alloc: Global, certificate: &Certificate) -> Result<Accepted, Refus
     let latency = certificate.latency();
     let delays = certificate.delays();
     let table = PacketTable::of(alloc, scenario)?;
-    let simulated = simulate(alloc, scenario, &table, delays)?.latency();
+    let simulated = convoy_sim::latency(scenario, &table, delays);
     if simulated != latency {
         return Err(Refused::Latency(simulated));
     }
@@ -105,7 +105,7 @@ fn node_fault(
         ≡ node_fault scenario.now latency number node delay_box.now) }
 {
     let (holds, fault) = match node {
-        Node::Split { packet, at } => (can_part(delay_box, packet, at), Refused::Split(number)),
+        Node::Split { packet, at } => (can_split(delay_box, packet, at), Refused::Split(number)),
         Node::Bound => {
             let bound = bound(scenario, table, delay_box);
             (bound <= latency, Refused::BoundLeaf(number, bound))
@@ -119,8 +119,8 @@ fn node_fault(
 }
 
 /// Whether the packet has a place in the box, and delays on both sides of the split.
-fn can_part(delay_box: &DelayBox, packet: u16, at: u16) -> bool
-    ensures { result ≡ can_part delay_box.now packet at }
+fn can_split(delay_box: &DelayBox, packet: u16, at: u16) -> bool
+    ensures { result ≡ can_split delay_box.now packet at }
 {
     let packet = usize::from(packet);
     if packet >= delay_box.len() {
@@ -148,7 +148,7 @@ fn is_within(
     }
     members_are_assignments();
     let delays = delay_box.greatest(alloc)?;
-    Ok(simulate(alloc, scenario, table, &delays)?.latency() <= latency)
+    Ok(convoy_sim::latency(scenario, table, &delays) <= latency)
 }
 
 /// Whether each packet has one delay left.

@@ -2,11 +2,11 @@
 //! caller that needs the law calls the function.
 
 ghost use Rattle.convoy_checker.specs.Laws.{BoundLeavesCover, PointLeavesCover, TreesCover};
-ghost use Rattle.convoy_checker.specs.Laws.{ValidIsGreatest, CheckedIsValid};
+ghost use Rattle.convoy_checker.specs.Laws.{SplitIsTwoTrees, ValidIsGreatest, CheckedIsValid};
 
 use convoy_intervals::laws::{
-    greatest_is_member, halves_are_boxes, halves_part, plain_bound_holds, point_has_one_member,
-    root_holds_all, root_is_box,
+    greatest_is_member, halves_are_boxes, halves_partition, plain_bound_holds,
+    point_has_one_member, root_holds_all, root_is_box,
 };
 
 /// Where a box is closed by its plain bound, no member of it has a greater latency than the stated
@@ -25,6 +25,12 @@ pub fn point_leaves_cover()
     point_has_one_member();
 }
 
+/// Nodes over one box that begin with a split are that split, a tree over the lower half and a tree
+/// over the upper half; and the other way round.
+pub fn split_is_two_trees()
+    ensures { SplitIsTwoTrees }
+{}
+
 /// Where a tree over the root is right for a latency, no assignment has a greater one.
 pub fn trees_cover()
     ensures { TreesCover }
@@ -32,7 +38,7 @@ pub fn trees_cover()
     root_is_box();
     root_holds_all();
     halves_are_boxes();
-    halves_part();
+    halves_partition();
     bound_leaves_cover();
     point_leaves_cover();
 }

@@ -7,7 +7,7 @@ pub enum Refused {
     /// The schedule has another latency than the stated one: this, in ticks.
     Latency(u32),
     /// The split of that number names no packet of the scenario, or a place at which the packet's
-    /// range in the box can't be parted.
+    /// range in the box can't be split.
     Split(usize),
     /// The nodes end before the tree is whole, or go on after it.
     TreeCount,
@@ -17,7 +17,7 @@ pub enum Refused {
     /// The box of the leaf of that number has more members than one, or one of a latency above the
     /// stated one.
     PointLeaf(usize),
-    /// Memory was refused, which says nothing of the certificate.
+    /// Memory ran out, which says nothing of the certificate.
     Memory,
 }
 

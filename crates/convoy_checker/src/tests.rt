@@ -91,7 +91,7 @@ fn one_assignment(rt: HostRuntime) -> Result<(), Fail> {
 /// How many packets the largest scenario has.
 const PACKETS: usize = 1_024;
 
-/// After how many delays each of them may be parted.
+/// After how many delays each of them may be split.
 const PLACES: usize = 15;
 
 /// The largest scenario, with each packet at its greatest delay: the lines before the nodes.
@@ -109,7 +109,7 @@ fn largest(alloc: Global) -> Result<String, Fail> {
     Ok(text)
 }
 
-/// A tree that parts the packets from the first one on, each after each delay, as many times as said:
+/// A tree that splits at the packets from the first one on, each after each delay, as many times as said:
 /// each split stands over the upper half of the split before. The last leaf is left out.
 fn comb(alloc: Global, first: usize, splits: usize) -> Result<String, Fail>
     requires { first + splits ≤ 1_024 * 15 }

@@ -31,7 +31,7 @@ pub(crate) struct Walk {
 
 impl Model for Walk {
     ghost use Rattle.std.specs.Prelude.{List};
-    ghost use Rattle.convoy_checker.specs.Trees.{Box};
+    ghost use Rattle.convoy_intervals.specs.Boxes.{Box};
     ghost use Rattle.convoy_checker.specs.Walks.{boxes_of, IsWalk};
 
     ghost Value = { List Box };

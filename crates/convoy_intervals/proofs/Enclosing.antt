@@ -3,7 +3,7 @@ use Rattle.std.specs.Prelude.{ℕ, zero, suc, ◌≤◌, max, List, [], ◌∷�
 use Rattle.std.specs.List.{fold}
 use Rattle.std.specs.Option.{option_map_or}
 use Rattle.std.proofs.Common.{arith, get_or}
-use Rattle.convoy_scenario.specs.Plan.{Plan, message_at}
+use Rattle.convoy_scenario.specs.Scenario.{Scenario, message_at}
 use Rattle.convoy_packets.specs.declared.packet.Packet.{Packet}
 use Rattle.convoy_packets.specs.declared.packet.Packet.TheVariants.{Multicast, Propose}
 use Rattle.convoy_packets.specs.Packets.{packets_of, place_of}
@@ -45,7 +45,7 @@ fold_max_le f g each (x ∷ xs) a b le =
     let here : f x ≤ g x = each x in
     fold_max_le f g each xs (max a (f x)) (max b (g x)) (omega arith)
 
-module _ (plan : Plan) (low high : List ℕ) (below : AreAtMost low high) where
+module _ (plan : Scenario) (low high : List ℕ) (below : AreAtMost low high) where
   delay_le : (packet : Packet) → delay_of plan low packet ≤ delay_of plan high packet
   unfolding delay_of
   delay_le packet = at_place (place_of packet (packets_of plan)) where
@@ -65,13 +65,13 @@ module _ (plan : Plan) (low high : List ℕ) (below : AreAtMost low high) where
   settle_le m g =
       fold_max_le (propose_arrive plan low m g) (propose_arrive plan high m g) (propose_le m g) (message_at plan m).destinations 0 0 (omega arith)
 
-pub Encloses-members : (plan : Plan) (ranges : List (ℕ × ℕ)) (delays : List ℕ) → IsIn ranges delays → Encloses plan delays (tables_of plan ranges)
+pub Encloses-members : (plan : Scenario) (ranges : List (ℕ × ℕ)) (delays : List ℕ) → IsIn ranges delays → Encloses plan delays (tables_of plan ranges)
 Encloses-members plan ranges delays member =
     let low = AreAtMost-least ranges delays member in
     let high = AreAtMost-greatest ranges delays member in
     record {
-      arrival_low = arrive_le plan _ _ low;
-      arrival_high = arrive_le plan _ _ high;
-      settling_low = settle_le plan _ _ low;
-      settling_high = settle_le plan _ _ high;
+      arrival_low = λ m g goes. arrive_le plan _ _ low m g;
+      arrival_high = λ m g goes. arrive_le plan _ _ high m g;
+      settling_low = λ m g goes. settle_le plan _ _ low m g;
+      settling_high = λ m g goes. settle_le plan _ _ high m g;
     }

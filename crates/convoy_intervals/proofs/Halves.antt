@@ -1,10 +1,10 @@
 -- The halves of a box at a packet: what they keep and which members each has.
 use Rattle.std.specs.Prelude.{◌≡◌, ℕ, zero, suc, ◌+◌, ◌≤◌, ◌<◌, List, [], ◌∷◌, length}
 use Rattle.std.specs.List.{AllZip}
-use Rattle.std.proofs.Common.{arith, get_or, set}
-use Rattle.convoy_scenario.specs.Plan.{Plan}
+use Rattle.std.proofs.Common.{arith, refl, ap, get_or, set}
+use Rattle.convoy_scenario.specs.Scenario.{Scenario}
 use Rattle.convoy_packets.specs.Assignment.{ranges_of}
-use Rattle.convoy_intervals.specs.Boxes.{IsBox, IsInside, IsIn, range_at, lower_half, upper_half}
+use Rattle.convoy_intervals.specs.Boxes.{IsBox, IsInside, IsIn, range_at, lower_half, upper_half, greatest_of}
 
 -- a box with a range in another's place, where that range too lies in the outer one
 pub AllZip-set_inside : (outer ranges : List (ℕ × ℕ)) (packet : ℕ) (range : ℕ × ℕ) → AllZip IsInside outer ranges → packet < length ranges → range.0 ≤ range.1 → (get_or ranges packet (0, 0)).0 ≤ range.0 → range.1 ≤ (get_or ranges packet (0, 0)).1 → AllZip IsInside outer (set ranges packet range)
@@ -41,13 +41,19 @@ IsIn-place (r ∷ rs) (d ∷ ds) zero below member = member.0
 IsIn-place (r ∷ rs) (d ∷ ds) (suc packet) below member = IsIn-place rs ds packet (omega arith) member.1
 
 -- the halves of a box are boxes
-pub IsBox-halves : (plan : Plan) (ranges : List (ℕ × ℕ)) (packet at : ℕ) → packet < length ranges → (range_at ranges packet).0 ≤ at → at < (range_at ranges packet).1 → IsBox plan ranges → IsBox plan (lower_half ranges packet at) × IsBox plan (upper_half ranges packet at)
+pub IsBox-halves : (plan : Scenario) (ranges : List (ℕ × ℕ)) (packet at : ℕ) → packet < length ranges → (range_at ranges packet).0 ≤ at → at < (range_at ranges packet).1 → IsBox plan ranges → IsBox plan (lower_half ranges packet at) × IsBox plan (upper_half ranges packet at)
 IsBox-halves plan ranges packet at place low high box =
     let range = range_at ranges packet in
     let inside = AllZip-set_inside (ranges_of plan) ranges packet in
     (inside (range.0, at) box place low (omega arith) (omega arith), inside (at + 1, range.1) box place (omega arith) (omega arith) (omega arith))
 
 -- and so are what the program makes of two copies of the box
-pub IsBox-copies : (plan : Plan) (ranges low high : List (ℕ × ℕ)) (range : ℕ × ℕ) (packet at : ℕ) → low ≡ ranges → high ≡ ranges → range ≡ range_at ranges packet → packet < length ranges → (range_at ranges packet).0 ≤ at → at < (range_at ranges packet).1 → IsBox plan ranges → IsBox plan (set low packet (range.0, at)) × IsBox plan (set high packet (at + 1, range.1))
+pub IsBox-copies : (plan : Scenario) (ranges low high : List (ℕ × ℕ)) (range : ℕ × ℕ) (packet at : ℕ) → low ≡ ranges → high ≡ ranges → range ≡ range_at ranges packet → packet < length ranges → (range_at ranges packet).0 ≤ at → at < (range_at ranges packet).1 → IsBox plan ranges → IsBox plan (set low packet (range.0, at)) × IsBox plan (set high packet (at + 1, range.1))
 IsBox-copies plan ranges low high range packet at lower upper is place below above box =
     rw (lower, upper, is) (IsBox-halves plan ranges packet at place below above box)
+
+-- the upper half keeps each greatest delay
+pub upper_keeps_greatest : (ranges : List (ℕ × ℕ)) (packet at : ℕ) → greatest_of (upper_half ranges packet at) ≡ greatest_of ranges
+upper_keeps_greatest [] packet at = refl
+upper_keeps_greatest (r ∷ rs) zero at = refl
+upper_keeps_greatest (r ∷ rs) (suc packet) at = ap (λ (ds : List ℕ). r.1 ∷ ds) (upper_keeps_greatest rs packet at)

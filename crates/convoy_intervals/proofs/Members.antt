@@ -3,11 +3,11 @@ use Rattle.std.specs.Prelude.{◌≡◌, ℕ, ◌≤◌, List, [], ◌∷◌}
 use Rattle.std.specs.List.{AllZip}
 use Rattle.std.proofs.Common.{refl, ap, arith}
 use Rattle.std.proofs.lemmas.List.Elements.{All-nil, All-cons, All-head, All-tail, All-map}
-use Rattle.convoy_scenario.specs.Plan.{Plan}
+use Rattle.convoy_scenario.specs.Scenario.{Scenario}
 use Rattle.convoy_scenario.specs.WellFormed.{IsScenario}
 use Rattle.convoy_packets.specs.Packets.{packets_of}
 use Rattle.convoy_packets.specs.Assignment.{range_of, ranges_of, AreWithin}
-use Rattle.convoy_packets.specs.Table.{IsTable, Table, table_of, least_of}
+use Rattle.convoy_packets.specs.Table.{IsTable, PacketTable, table_of, least_of}
 use Rattle.convoy_intervals.specs.Boxes.{AreRanges, IsBox, IsInside, IsIn, IsPoint, root_of, greatest_of}
 
 -- the delays that lie in the ranges of a box lie in the ranges around it
@@ -70,18 +70,18 @@ point_members (r ∷ rs) (x ∷ a) (y ∷ b) point left right =
     cc
 
 -- the root of a well-formed scenario is a box
-pub AreRanges-root : (plan : Plan) → IsScenario plan → AreRanges (root_of plan)
+pub AreRanges-root : (plan : Scenario) → IsScenario plan → AreRanges (root_of plan)
 unfolding ranges_of
 AreRanges-root plan lawful =
     let P : ℕ × ℕ → Type 0 = λ range. range.0 ≤ range.1 in
     All-map P (range_of plan) (packets_of plan) (λ k d below. lawful.delay_low)
 
-pub IsBox-root : (plan : Plan) → IsScenario plan → IsBox plan (root_of plan)
+pub IsBox-root : (plan : Scenario) → IsScenario plan → IsBox plan (root_of plan)
 IsBox-root plan lawful = AllZip-itself (ranges_of plan) (AreRanges-root plan lawful)
 
 -- the ranges of the scenario's table are a box
-pub IsBox-table : (plan : Plan) (table : Table) (ranges : List (ℕ × ℕ)) → table ≡ table_of plan → IsTable table → ranges ≡ table.ranges → IsBox plan ranges
-IsBox-table plan table ranges of_plan lawful is =
+pub IsBox-table : (plan : Scenario) (table : PacketTable) (ranges : List (ℕ × ℕ)) → table ≡ table_of plan → IsTable table → ranges ≡ table.ranges → IsBox plan ranges
+IsBox-table plan table ranges of_scenario lawful is =
     let all : AreRanges table.ranges = λ k d below. (lawful.ranges k d below).ordered in
-    let same : table.ranges ≡ ranges_of plan = ap (λ (t : Table). t.ranges) of_plan in
+    let same : table.ranges ≡ ranges_of plan = ap (λ (t : PacketTable). t.ranges) of_scenario in
     rw (is, ← same) (AllZip-itself table.ranges all)

@@ -5,27 +5,27 @@ use Rattle.std.proofs.Common.{refl, sym, ap, ◌∙◌, arith, get_or}
 use Rattle.std.proofs.lemmas.List.{length-map}
 use Rattle.std.proofs.lemmas.List.Elements.{length_all_zip}
 use Rattle.std.proofs.lemmas.List.Quantifiers.{position-Some}
-use Rattle.convoy_scenario.specs.Plan.{Plan, message_at}
+use Rattle.convoy_scenario.specs.Scenario.{Scenario, message_at}
 use Rattle.convoy_packets.specs.declared.packet.Packet.{Packet}
 use Rattle.convoy_packets.specs.declared.packet.Packet.TheVariants.{Multicast, Propose}
 use Rattle.convoy_packets.specs.Packets.{packets_of, place_of, is_packet}
 use Rattle.convoy_packets.specs.Assignment.{range_of, ranges_of, delay_of}
-use Rattle.convoy_packets.specs.Table.{Table, table_of}
+use Rattle.convoy_packets.specs.Table.{PacketTable, table_of}
 use Rattle.convoy_sim.specs.Times.{arrive, propose_arrive}
 use Rattle.convoy_intervals.specs.Boxes.{IsBox, IsInside, range_at}
 
 -- a box has a range for each packet
-length-box : (plan : Plan) (ranges : List (ℕ × ℕ)) → IsBox plan ranges → length ranges ≡ length (packets_of plan)
+length-box : (plan : Scenario) (ranges : List (ℕ × ℕ)) → IsBox plan ranges → length ranges ≡ length (packets_of plan)
 unfolding ranges_of
 length-box plan ranges box =
     sym (length_all_zip IsInside (ranges_of plan) ranges box) ∙ length-map (packets_of plan) (range_of plan)
 
 -- the place of a packet, where it has one, is the place of a range of the box
-pub place_in_box : (plan : Plan) (table : Table) (ranges : List (ℕ × ℕ)) (packet : Packet) (place : Option ℕ) → table ≡ table_of plan → IsBox plan ranges → place ≡ place_of packet table.packets → IfSome place (λ i. i < length ranges)
-place_in_box plan table ranges packet None of_plan box is = tt
-place_in_box plan table ranges packet (Some i) of_plan box is =
+pub place_in_box : (plan : Scenario) (table : PacketTable) (ranges : List (ℕ × ℕ)) (packet : Packet) (place : Option ℕ) → table ≡ table_of plan → IsBox plan ranges → place ≡ place_of packet table.packets → IfSome place (λ i. i < length ranges)
+place_in_box plan table ranges packet None of_scenario box is = tt
+place_in_box plan table ranges packet (Some i) of_scenario box is =
     let found = position-Some (is_packet packet) table.packets i packet (sym is) in
-    omega (arith, found.0, length-box plan ranges box, ap (λ (t : Table). length t.packets) of_plan)
+    omega (arith, found.0, length-box plan ranges box, ap (λ (t : PacketTable). length t.packets) of_scenario)
 
 -- the delay at a place in the list of one end of each range
 get_or-map_end : (end : ℕ × ℕ → ℕ) → end (0, 0) ≡ 0 → (ranges : List (ℕ × ℕ)) (i : ℕ) → get_or (map end ranges) i 0 ≡ end (get_or ranges i (0, 0))
@@ -33,11 +33,11 @@ get_or-map_end end none [] i = sym none
 get_or-map_end end none (r ∷ rs) zero = refl
 get_or-map_end end none (r ∷ rs) (suc i) = get_or-map_end end none rs i
 
-module _ (plan : Plan) (table : Table) (ranges : List (ℕ × ℕ)) (of_plan : table ≡ table_of plan) (end : ℕ × ℕ → ℕ) (none : end (0, 0) ≡ 0) where
+module _ (plan : Scenario) (table : PacketTable) (ranges : List (ℕ × ℕ)) (of_scenario : table ≡ table_of plan) (end : ℕ × ℕ → ℕ) (none : end (0, 0) ≡ 0) where
   delay_at_end : (packet : Packet) → delay_of plan (map end ranges) packet ≡ end (option_map_or (range_at ranges) (place_of packet table.packets) (0, 0))
   unfolding delay_of
   delay_at_end packet =
-      at_place (place_of packet (packets_of plan)) ∙ ap (λ (t : Table). end (option_map_or (range_at ranges) (place_of packet t.packets) (0, 0))) (sym of_plan) where
+      at_place (place_of packet (packets_of plan)) ∙ ap (λ (t : PacketTable). end (option_map_or (range_at ranges) (place_of packet t.packets) (0, 0))) (sym of_scenario) where
         at_place : (place : Option ℕ) → option_map_or (λ i. get_or (map end ranges) i 0) place 0 ≡ end (option_map_or (range_at ranges) place (0, 0))
         at_place (Some i) = get_or-map_end end none ranges i
         at_place None = sym none

@@ -2,7 +2,7 @@
 use Rattle.std.specs.Prelude.{◌≡◌, ℕ, suc, ◌+◌, ◌-◌, ◌<◌, ◌≤◌, nat_le, max, Bool, true, false, ◌&&◌, List, ◌∷◌, map, length, cond}
 use Rattle.std.specs.List.{fold, filter, range_with_len}
 use Rattle.std.proofs.Common.{refl, sym, ap, ◌∙◌, arith}
-use Rattle.convoy_scenario.specs.Plan.{Plan, message_at, is_addressed}
+use Rattle.convoy_scenario.specs.Scenario.{Scenario, message_at, is_addressed}
 use Rattle.convoy_packets.specs.Table.{least_of}
 use Rattle.convoy_sim.specs.Times.{arrive, settle}
 use Rattle.convoy_intervals.specs.Boxes.{greatest_of}
@@ -43,7 +43,7 @@ passing_end p q f total last i end past so_far =
     sym (greatest_passing-zero p q f last i) ∙ sym (ap (λ n. greatest_passing p q f last i n) none) ∙ so_far
 
 -- the plain bound of a box, from the messages that pass the tests of its rivals
-pub plain_bound_is : (plan : Plan) (ranges : List (ℕ × ℕ)) (committed : ℕ) → committed ≡ settle plan (greatest_of ranges) plan.target_message plan.target_group → plain_bound plan ranges ≡ greatest_passing (λ n. is_addressed (message_at plan n) plan.target_group) (λ n. nat_le (arrive plan (least_of ranges) n plan.target_group) committed) (λ n. settle plan (greatest_of ranges) n plan.target_group) committed 0 (length plan.multicasts) - (message_at plan plan.target_message).at
+pub plain_bound_is : (plan : Scenario) (ranges : List (ℕ × ℕ)) (committed : ℕ) → committed ≡ settle plan (greatest_of ranges) plan.target_message plan.target_group → plain_bound plan ranges ≡ greatest_passing (λ n. is_addressed (message_at plan n) plan.target_group) (λ n. nat_le (arrive plan (least_of ranges) n plan.target_group) committed) (λ n. settle plan (greatest_of ranges) n plan.target_group) committed 0 (length plan.multicasts) - (message_at plan plan.target_message).at
 unfolding plain_bound greatest_passing
 plain_bound_is plan ranges committed is =
     let group = plan.target_group in

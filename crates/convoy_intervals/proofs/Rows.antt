@@ -2,7 +2,7 @@
 use Rattle.std.proofs.Common.{◌≡◌, ℕ, List, [], ◌∷◌, replicate, refl, codes}
 use Rattle.convoy_scenario.specs.declared.sender.Sender.{Sender}
 use Rattle.convoy_scenario.specs.declared.sender.Sender.TheVariants.{Client, Group}
-use Rattle.convoy_scenario.specs.Plan.{Message, Plan}
+use Rattle.convoy_scenario.specs.Scenario.{Message, Scenario}
 use Rattle.convoy_packets.specs.Packets.{packets_of}
 use Rattle.convoy_packets.specs.Assignment.{delay_of, ranges_of}
 use Rattle.convoy_sim.specs.Times.{arrive, settle}
@@ -14,7 +14,7 @@ message name sender destinations at =
     record { name = name; sender = sender; destinations = destinations; at = at }
 
 -- the base scenario, with the tick at which y is issued
-base_with_y_at : ℕ → Plan
+base_with_y_at : ℕ → Scenario
 base_with_y_at at = record {
   delay = 3;
   groups = codes "a" ∷ codes "b" ∷ [];
@@ -25,7 +25,7 @@ base_with_y_at at = record {
 }
 
 -- the base with its groups in the order b, a
-swapped : Plan
+swapped : Scenario
 swapped = record {
   delay = 3;
   groups = codes "b" ∷ codes "a" ∷ [];

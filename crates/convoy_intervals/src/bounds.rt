@@ -1,5 +1,5 @@
 ghost use Rattle.std.specs.Prelude.{◌≡◌, ℕ, ◌≤◌, ◌<◌, ◌&&◌, nat_le, List, length};
-ghost use Rattle.convoy_scenario.specs.Plan.{message_at, is_addressed};
+ghost use Rattle.convoy_scenario.specs.Scenario.{message_at, is_addressed};
 ghost use Rattle.convoy_packets.specs.Table.{least_of, table_of};
 ghost use Rattle.convoy_sim.specs.Times.{arrive};
 ghost use Rattle.convoy_sim.specs.Delivery.{latency_of};
@@ -14,7 +14,7 @@ use convoy_scenario::Scenario;
 
 /// The plain bound of a box: no schedule of the box has a greater latency, in ticks. It goes from
 /// the issue of the target to the last commit, with greatest delays, at its group: of the target
-/// and of each message that goes there and, with least delays, comes no later than the target is
+/// and of each message that goes there and, with least delays, arrives no later than the target is
 /// committed with greatest ones (docs/PROTOCOL.md).
 pub fn bound(scenario: &Scenario, table: &PacketTable, delay_box: &DelayBox) -> u32
     requires packets { table.now ≡ table_of scenario.now }
@@ -37,7 +37,7 @@ pub fn bound(scenario: &Scenario, table: &PacketTable, delay_box: &DelayBox) -> 
     last.saturating_sub(scenario.issue_tick(target))
 }
 
-/// Whether a message goes to the target's group and may come there by that tick.
+/// Whether a message goes to the target's group and may arrive there by that tick.
 fn is_rival(
     scenario: &Scenario,
     table: &PacketTable,

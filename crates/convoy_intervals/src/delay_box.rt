@@ -1,7 +1,7 @@
 ghost use Rattle.std.specs.Prelude.{◌≡◌, ◌≤◌, ◌<◌, ◌↔◌, length, slice_set, IfOk, IsTrue, MatchResult};
-ghost use Rattle.convoy_scenario.specs.Plan.{Plan};
+ghost use Rattle.convoy_scenario.specs.Scenario.{Scenario};
 ghost use Rattle.convoy_packets.specs.Table.{table_of};
-ghost use Rattle.convoy_intervals.specs.Boxes.{AreRanges, IsBox, IsIn, IsPoint};
+ghost use Rattle.convoy_intervals.specs.Boxes.{AreRanges, CanSplit, IsBox, IsIn, IsPoint};
 ghost use Rattle.convoy_intervals.specs.Boxes.{range_at, lower_half, upper_half, greatest_of};
 
 use convoy_packets::{Delays, PacketTable};
@@ -32,8 +32,8 @@ impl DelayBox {
     /// table's scenario.
     pub fn root(alloc: Global, table: &PacketTable) -> Result<DelayBox, AllocError>
         ensures value { IfOk result (λ root. root ≡ table.now.ranges) }
-        ensures is_box { (plan : Plan) → table.now ≡ table_of plan
-            → IfOk result (λ root. IsBox plan root) }
+        ensures is_box { (scenario : Scenario) → table.now ≡ table_of scenario
+            → IfOk result (λ root. IsBox scenario root) }
     {
         Ok(DelayBox {
             ranges: table.ranges().to_vec(alloc)?,
@@ -102,21 +102,20 @@ impl DelayBox {
         earlier
     }
 
-    /// Parts the box at a packet: into the box in which its delay is at most `at` ticks, and the
-    /// box in which it is more. Where memory is refused, the box comes back as it was.
+    /// Splits the box at a packet into its halves: the lower one, in which the packet's delay is at
+    /// most `at` ticks, and the upper one, in which it is more. Where memory runs out, the box comes
+    /// back as it was.
     pub fn halves(
         self,
         packet: usize,
         at: u16,
     ) -> Result<(DelayBox, DelayBox), (DelayBox, AllocError)>
-        requires place { packet < length self }
-        requires low { (range_at self packet).0 ≤ at }
-        requires high { at < (range_at self packet).1 }
+        requires { CanSplit self packet at }
         ensures value { MatchResult result
             (λ halves. halves ≡ (lower_half self packet at, upper_half self packet at))
             (λ refused. refused.0 ≡ self) }
-        ensures are_boxes { (plan : Plan) → IsBox plan self
-            → IfOk result (λ halves. IsBox plan halves.0 × IsBox plan halves.1) }
+        ensures are_boxes { (scenario : Scenario) → IsBox scenario self
+            → IfOk result (λ halves. IsBox scenario halves.0 × IsBox scenario halves.1) }
     {
         let (least, most) = self.range(packet);
         match self.copy() {

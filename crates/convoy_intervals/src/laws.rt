@@ -2,7 +2,7 @@
 //! that needs the law calls the function.
 
 ghost use Rattle.convoy_intervals.specs.Laws.{RootIsBox, RootHoldsAll, MembersAreAssignments};
-ghost use Rattle.convoy_intervals.specs.Laws.{HalvesAreBoxes, HalvesPart};
+ghost use Rattle.convoy_intervals.specs.Laws.{HalvesAreBoxes, HalvesPartition, UpperKeepsGreatest};
 ghost use Rattle.convoy_intervals.specs.Laws.{GreatestIsMember, LeastIsMember, PointHasOneMember};
 ghost use Rattle.convoy_intervals.specs.Laws.{MembersAreEnclosed};
 ghost use Rattle.convoy_intervals.specs.Laws.{PlainBoundOverTables, PlainBoundHolds};
@@ -30,8 +30,14 @@ pub fn halves_are_boxes()
 {}
 
 /// The halves of a box at a packet have its members, each in exactly one of them.
-pub fn halves_part()
-    ensures { HalvesPart }
+pub fn halves_partition()
+    ensures { HalvesPartition }
+{}
+
+/// The upper half of a box has the greatest delays of the box.
+#[tactic(auto, using(crate::proofs::Halves::upper_keeps_greatest))]
+pub fn upper_keeps_greatest()
+    ensures { UpperKeepsGreatest }
 {}
 
 /// The greatest delays of a box are a member of it.

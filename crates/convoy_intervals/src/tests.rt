@@ -1,5 +1,5 @@
 ghost use Rattle.std.specs.Prelude.{◌≡◌, ◌<◌, length, IfOk};
-ghost use Rattle.convoy_scenario.specs.Plan.{Plan};
+ghost use Rattle.convoy_scenario.specs.Scenario.{Scenario};
 ghost use Rattle.convoy_packets.specs.Table.{table_of};
 ghost use Rattle.convoy_intervals.specs.Boxes.{IsBox};
 
@@ -96,7 +96,7 @@ fn bounds_of_halves(rt: HostRuntime) -> Result<(), Fail> {
 fn at_greatest(delay_box: DelayBox, packet: usize) -> Result<DelayBox, AllocError>
     requires { packet < length delay_box }
     ensures same_length { IfOk result (λ b. length b ≡ length delay_box) }
-    ensures is_box { IfOk result (λ b. (plan : Plan) → IsBox plan delay_box → IsBox plan b) }
+    ensures is_box { IfOk result (λ b. (scenario : Scenario) → IsBox scenario delay_box → IsBox scenario b) }
 {
     let (least, most) = delay_box.range(packet);
     if least == most {

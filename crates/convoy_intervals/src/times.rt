@@ -1,6 +1,6 @@
 ghost use Rattle.std.specs.Prelude.{◌≡◌, ℕ, ◌+◌, ◌≤◌, ◌<◌, length, IfSome};
 ghost use Rattle.std.specs.Option.{option_map_or};
-ghost use Rattle.convoy_scenario.specs.Plan.{message_at};
+ghost use Rattle.convoy_scenario.specs.Scenario.{message_at};
 ghost use Rattle.convoy_packets.specs.Table.{least_of, table_of};
 ghost use Rattle.convoy_sim.specs.Times.{arrive, settle, propose_arrive};
 ghost use Rattle.convoy_intervals.specs.Boxes.{range_at, greatest_of, IsBox};
@@ -17,8 +17,8 @@ fn range_of(delay_box: &DelayBox, place: Option<u16>) -> (u16, u16)
     place.map_or((0, 0), |packet| delay_box.range(usize::from(packet)))
 }
 
-/// The least and the greatest tick at which a message comes to a group, over the members of a box.
-pub fn arrivals(
+/// The least and the greatest tick at which a message arrives at a group, over the members of a box.
+pub(crate) fn arrivals(
     scenario: &Scenario,
     table: &PacketTable,
     delay_box: &DelayBox,
@@ -63,7 +63,7 @@ fn proposals(
 /// The least and the greatest tick at which a message is committed at a group, over the members of
 /// a box.
 #[tactic(auto, unfolding(convoy_sim::specs::Times::settle))]
-pub fn settlings(
+pub(crate) fn settlings(
     scenario: &Scenario,
     table: &PacketTable,
     delay_box: &DelayBox,

@@ -3,7 +3,7 @@ use Rattle.std.proofs.Common.{◌≡◌, ℕ, List, [], ◌∷◌, ◌++◌, rep
 use Rattle.std.specs.Fmt.{digits}
 use Rattle.convoy_scenario.specs.declared.sender.Sender.{Sender}
 use Rattle.convoy_scenario.specs.declared.sender.Sender.TheVariants.{Client, Group}
-use Rattle.convoy_scenario.specs.Plan.{Message, Plan}
+use Rattle.convoy_scenario.specs.Scenario.{Message, Scenario}
 use Rattle.convoy_packets.specs.Packets.{packets_of}
 use Rattle.convoy_packets.specs.Assignment.{delay_of}
 use Rattle.convoy_sim.specs.Times.{arrive, settle}
@@ -17,7 +17,7 @@ message name sender destinations at =
     record { name = name; sender = sender; destinations = destinations; at = at }
 
 -- x from a client to b, t from a client to a and b, and y from a to a and b at tick 6
-base : Plan
+base : Scenario
 base = record {
   delay = 3;
   groups = codes "a" ∷ codes "b" ∷ [];
@@ -38,7 +38,7 @@ unfolding base message packets_of delay_of arrive settle moments_of clocks_of lo
 base_ones = refl
 
 -- t waits at a for y, and the two are delivered there in one tick, in the order of their final stamps
-held_back : Plan
+held_back : Scenario
 held_back = record {
   delay = 1;
   groups = codes "a" ∷ codes "b" ∷ [];

@@ -5,14 +5,14 @@ use Rattle.std.proofs.lemmas.List.Elements.{All-nil, All-cons, All-head, All-tai
 use Rattle.std.proofs.lemmas.List.FromFn.{length-range_with_len, get_or-range_with_len}
 use Rattle.std.specs.List.{All, fold, flat_map, list_any, range_with_len}
 use Rattle.std.specs.Option.{option_map, option_to_list}
-use Rattle.convoy_scenario.specs.Plan.{Plan, message_at, message_numbers}
+use Rattle.convoy_scenario.specs.Scenario.{Scenario, message_at, message_numbers}
 use Rattle.convoy_sim.specs.declared.timestamp.Timestamp.{Timestamp}
 use Rattle.convoy_sim.specs.declared.run.Proposal.{Proposal}
-use Rattle.convoy_sim.specs.Run.{Outcome, IsRunOf, proposed_of, committed_of, delivered_of, final_stamp_of}
+use Rattle.convoy_sim.specs.Run.{Run, IsRunOf, proposed_of, committed_of, delivered_of, final_stamp_of}
 use Rattle.convoy_sim.specs.Stamps.{no_stamp, local_stamp, final_stamp}
 use Rattle.convoy_sim.specs.Times.{arrive, settle}
 use Rattle.convoy_sim.specs.Delivery.{deliver}
-use Rattle.convoy_sim.specs.Laws.{GoesTo}
+use Rattle.convoy_scenario.specs.Scenario.{GoesTo}
 use Rattle.convoy_timeline.specs.declared.entry.EntryKind.TheVariants.{Propose, Commit, Deliver}
 use Rattle.convoy_timeline.specs.Timeline.{entry_of, insert_entry, line_of, entries_at, entries_of, timeline_text}
 use Rattle.convoy_timeline.specs.Told.{proposal_told, entries_told_at, entries_told, told_in_order, text_told}
@@ -48,7 +48,7 @@ entries_by : (m g : ℕ) (own last : Timestamp) (a b c : ℕ)
     ≡ entry_of Propose m g own a ∷ entry_of Commit m g last b ∷ entry_of Deliver m g last c ∷ []
 entries_by m g own last a b c proposed committed delivered final p q r s = rw (p, q, r, s) refl
 
-entries_told_at-true : (plan : Plan) (delays : List ℕ) (run : Outcome) (m g : ℕ) → IsRunOf plan delays run
+entries_told_at-true : (plan : Scenario) (delays : List ℕ) (run : Run) (m g : ℕ) → IsRunOf plan delays run
     → GoesTo plan m g → m < length plan.multicasts → entries_told_at run m g ≡ entries_at plan delays m g
 entries_told_at-true plan delays run m g told goes known =
     entries_by m g (local_stamp plan delays m g) (final_stamp plan delays m)
@@ -56,7 +56,7 @@ entries_told_at-true plan delays run m g told goes known =
     (proposed_of run m g) (committed_of run m g) (delivered_of run m g) (final_stamp_of run m)
     (told.proposed m g goes) (told.committed m g goes) (told.delivered m g goes) (told.final_stamps m known)
 
-entries_told-true : (plan : Plan) (delays : List ℕ) (run : Outcome) → IsRunOf plan delays run
+entries_told-true : (plan : Scenario) (delays : List ℕ) (run : Run) → IsRunOf plan delays run
     → entries_told plan run ≡ entries_of plan delays
 entries_told-true plan delays run told =
     flat_map_same (λ m. flat_map (entries_told_at run m) (message_at plan m).destinations)
@@ -67,7 +67,7 @@ entries_told-true plan delays run told =
     (message_at plan m).destinations (found (message_at plan m).destinations)))
     (message_numbers plan) (below (length plan.multicasts)))
 
-pub text_told-true : (plan : Plan) (delays : List ℕ) (run : Outcome) → IsRunOf plan delays run
+pub text_told-true : (plan : Scenario) (delays : List ℕ) (run : Run) → IsRunOf plan delays run
     → text_told plan run ≡ timeline_text plan delays
 unfolding told_in_order text_told timeline_text
 text_told-true plan delays run told =

@@ -1,7 +1,7 @@
 -- The timeline of a run: what happens at each group, tick by tick, as lines of text.
 use Rattle.std.specs.Prelude.{ℕ, ◌==◌, nat_lt, Bool, ◌&&◌, ◌||◌, List, [], ◌∷◌, ◌++◌, if◌then◌else◌, codes, decimal}
 use Rattle.std.specs.List.{fold, flat_map}
-use Rattle.convoy_scenario.specs.Plan.{Plan, message_at, message_numbers, group_name_at}
+use Rattle.convoy_scenario.specs.Scenario.{Scenario, message_at, message_numbers, group_name_at}
 use Rattle.convoy_sim.specs.declared.timestamp.Timestamp.{Timestamp}
 use Rattle.convoy_sim.specs.Times.{arrive, settle}
 use Rattle.convoy_sim.specs.Stamps.{is_less, local_stamp, final_stamp}
@@ -17,10 +17,10 @@ rank Commit = 1
 rank Deliver = 2
 
 -- the word that stands for a kind
-abbrev pub word_of : EntryKind → List ℕ
-word_of Propose = codes "propose"
-word_of Commit = codes "commit"
-word_of Deliver = codes "deliver"
+abbrev pub kind_word : EntryKind → List ℕ
+kind_word Propose = codes "propose"
+kind_word Commit = codes "commit"
+kind_word Deliver = codes "deliver"
 
 abbrev pub is_before_by_message : Entry → Entry → Bool
 is_before_by_message a b = nat_lt a.message b.message || ((a.message == b.message) && nat_lt a.group b.group)
@@ -53,29 +53,29 @@ abbrev pub entry_of : EntryKind → ℕ → ℕ → Timestamp → ℕ → Entry
 entry_of kind m g stamp tick = record { tick = tick; kind = kind; message = m; group = g; stamp = stamp }
 
 -- the entries of message m at group g: it is proposed with its local stamp, and committed and delivered with the final one
-abbrev pub entries_at : Plan → List ℕ → ℕ → ℕ → List Entry
-entries_at plan delays m g =
-    entry_of Propose m g (local_stamp plan delays m g) (arrive plan delays m g)
-    ∷ entry_of Commit m g (final_stamp plan delays m) (settle plan delays m g)
-    ∷ entry_of Deliver m g (final_stamp plan delays m) (deliver plan delays m g)
+abbrev pub entries_at : Scenario → List ℕ → ℕ → ℕ → List Entry
+entries_at scenario delays m g =
+    entry_of Propose m g (local_stamp scenario delays m g) (arrive scenario delays m g)
+    ∷ entry_of Commit m g (final_stamp scenario delays m) (settle scenario delays m g)
+    ∷ entry_of Deliver m g (final_stamp scenario delays m) (deliver scenario delays m g)
     ∷ []
 
 -- the entries of all messages at their destinations, in no order yet
-abbrev pub entries_of : Plan → List ℕ → List Entry
-entries_of plan delays =
-    flat_map (λ m. flat_map (entries_at plan delays m) (message_at plan m).destinations) (message_numbers plan)
+abbrev pub entries_of : Scenario → List ℕ → List Entry
+entries_of scenario delays =
+    flat_map (λ m. flat_map (entries_at scenario delays m) (message_at scenario m).destinations) (message_numbers scenario)
 
 -- the line of an entry: tick, group, kind, message and stamp, and byte 10
-unfoldable pub line_of : Plan → Entry → List ℕ
-line_of plan entry =
+unfoldable pub line_of : Scenario → Entry → List ℕ
+line_of scenario entry =
     decimal entry.tick
-    ++ 32 ∷ (group_name_at plan entry.group
-    ++ 32 ∷ (word_of entry.kind
-    ++ 32 ∷ ((message_at plan entry.message).name
+    ++ 32 ∷ (group_name_at scenario entry.group
+    ++ 32 ∷ (kind_word entry.kind
+    ++ 32 ∷ ((message_at scenario entry.message).name
     ++ 32 ∷ (decimal entry.stamp.time
-    ++ 46 ∷ (group_name_at plan entry.stamp.group
+    ++ 46 ∷ (group_name_at scenario entry.stamp.group
     ++ 10 ∷ [])))))
 
 -- the timeline of the run that follows from a schedule of delays: the lines of its entries in their order
-unfoldable pub timeline_text : Plan → List ℕ → List ℕ
-timeline_text plan delays = flat_map (line_of plan) (fold insert_entry [] (entries_of plan delays))
+unfoldable pub timeline_text : Scenario → List ℕ → List ℕ
+timeline_text scenario delays = flat_map (line_of scenario) (fold insert_entry [] (entries_of scenario delays))

@@ -3,7 +3,7 @@ use convoy_sim::Timestamp;
 /// What an entry tells: inside a tick, proposals come first, and deliveries last.
 #[derive(Clone, Copy, Debug, PartialEq, Eq)]
 pub enum EntryKind {
-    /// The message comes to the group, which proposes a local stamp for it.
+    /// The message arrives at the group, which proposes a local stamp for it.
     Propose,
     /// The group commits the message.
     Commit,
@@ -13,7 +13,7 @@ pub enum EntryKind {
 
 impl EntryKind {
     ghost use Rattle.std.specs.Prelude.{◌≡◌};
-    ghost use Rattle.convoy_timeline.specs.Timeline.{rank, word_of};
+    ghost use Rattle.convoy_timeline.specs.Timeline.{rank, kind_word};
 
     /// The place of the kind inside a tick.
     fn rank(self) -> u8
@@ -28,7 +28,7 @@ impl EntryKind {
 
     /// The word that stands for the kind in a line.
     pub fn word(self) -> &'static str
-        ensures { result.now ≡ word_of self }
+        ensures { result.now ≡ kind_word self }
     {
         match self {
             EntryKind::Propose => "propose",

@@ -1,5 +1,5 @@
 ghost use Rattle.std.specs.Prelude.{◌≡◌, ◌++◌, ℕ, List, string_bytes, OnOk, OnErr, IfOk};
-ghost use Rattle.convoy_scenario.specs.Plan.{group_name_at, message_at};
+ghost use Rattle.convoy_scenario.specs.Scenario.{group_name_at, message_at};
 ghost use Rattle.convoy_sim.specs.Run.{IsRunOf};
 ghost use Rattle.convoy_timeline.specs.Timeline.{line_of, timeline_text};
 ghost use Rattle.convoy_timeline.specs.Told.{text_told};
@@ -25,7 +25,7 @@ use std::alloc::{AllocError, Global};
 /// proposals come first, by the number of the message and of the group, then commits in the same
 /// order, and then deliveries, by the number of the group and the final stamp.
 ///
-/// Where memory is refused the vector is as it was.
+/// Where memory runs out the vector is as it was.
 pub fn write_timeline(scenario: &Scenario, run: &Run, out: &mut Vec<u8>) -> Result<(), AllocError>
     ensures ok { (delays : List ℕ) → IsRunOf scenario.now delays run.now
         → OnOk result (out.new.items ≡ out.old.items ++ timeline_text scenario.now delays) }

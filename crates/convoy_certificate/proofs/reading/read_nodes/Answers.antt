@@ -4,7 +4,7 @@ use Rattle.std.proofs.lemmas.Bool.{ne_eqb}
 use Rattle.std.proofs.lemmas.List.Elements.{All-push}
 use Rattle.std.proofs.lemmas.Result.{err_from_is_err_and}
 use Rattle.convoy_certificate.specs.declared.node.Node.{Node}
-use Rattle.convoy_certificate.specs.Contents.{IsNode}
+use Rattle.convoy_certificate.specs.Certificate.{IsNode}
 use Rattle.convoy_certificate.proofs.Nodes.{node_at, faulty, too_many, goes_on, done, falls, no_node}
 use Rattle.convoy_certificate.proofs.reading.read_nodes.Goals as goal
 

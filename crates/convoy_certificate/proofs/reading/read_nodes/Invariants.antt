@@ -1,5 +1,5 @@
 use Rattle.std.proofs.Common.{◌≡◌, All, length, vec_len}
-use Rattle.convoy_certificate.specs.Contents.{IsNode}
+use Rattle.convoy_certificate.specs.Certificate.{IsNode}
 use Rattle.convoy_certificate.specs.Reading.{nodes_at}
 use Rattle.convoy_certificate.proofs.Nodes.{with_front}
 use Rattle.convoy_certificate.proofs.reading.read_nodes.Given as goal

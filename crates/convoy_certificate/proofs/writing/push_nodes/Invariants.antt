@@ -1,6 +1,6 @@
 use Rattle.std.proofs.Common.{◌≡◌, ◌++◌, take}
 use Rattle.std.specs.List.{flat_map}
-use Rattle.convoy_scenario.specs.Lines.{ended}
+use Rattle.convoy_lines.specs.Texts.{ended}
 use Rattle.convoy_certificate.specs.Text.{node_line}
 use Rattle.convoy_certificate.proofs.writing.push_nodes.Given as goal
 

@@ -1,6 +1,6 @@
 use Rattle.std.proofs.Common.{◌≡◌, ◌++◌, codes, decimal, take}
 use Rattle.std.specs.List.{flat_map}
-use Rattle.convoy_scenario.specs.Lines.{spaced}
+use Rattle.convoy_lines.specs.Texts.{spaced}
 use Rattle.convoy_certificate.proofs.writing.push_schedule.Given as goal
 
 abbrev pub invariant-loop-delay : goal.invariant-loop-delay

@@ -8,7 +8,7 @@ pub returns : goal.returns
 returns c plan latency nodes lawful tree delays assigned =
     let grounds : Grounds = record {
       halves = c.halves_are_boxes.ensures;
-      part = c.halves_part.ensures;
+      part = c.halves_partition.ensures;
       bound = c.bound_leaves_cover.ensures;
       point = c.point_leaves_cover.ensures;
     } in

@@ -1,5 +1,5 @@
 use Rattle.std.proofs.Common.{◌≡◌, ◌-◌, nat_le}
-use Rattle.convoy_scenario.specs.Plan.{message_at, is_addressed}
+use Rattle.convoy_scenario.specs.Scenario.{message_at, is_addressed}
 use Rattle.convoy_packets.specs.Table.{least_of}
 use Rattle.convoy_sim.specs.Times.{arrive, settle}
 use Rattle.convoy_intervals.specs.Boxes.{greatest_of}

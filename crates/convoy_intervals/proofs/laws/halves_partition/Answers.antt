@@ -1,7 +1,7 @@
 use Rattle.std.proofs.Common.{◌+◌, arith}
 use Rattle.convoy_intervals.specs.Boxes.{range_at}
 use Rattle.convoy_intervals.proofs.Halves.{IsIn-set, IsIn-from_set, IsIn-place}
-use Rattle.convoy_intervals.proofs.laws.halves_part.Goals as goal
+use Rattle.convoy_intervals.proofs.laws.halves_partition.Goals as goal
 
 pub returns : goal.returns
 returns c ranges packet at delays part =

@@ -2,7 +2,7 @@
 use Rattle.std.specs.Prelude.{ℕ, ◌≤◌, ◌<◌, ◌^◌, List}
 use Rattle.std.specs.List.{All}
 use Rattle.convoy_scenario.specs.declared.limits.TheConstants.{GREATEST_DELAY}
-use Rattle.convoy_scenario.specs.Plan.{Plan}
+use Rattle.convoy_scenario.specs.Scenario.{Scenario}
 use Rattle.convoy_scenario.specs.WellFormed.{IsScenario}
 use Rattle.convoy_packets.specs.Assignment.{IsAssignment}
 use Rattle.convoy_certificate.specs.declared.node.Node.{Node}
@@ -10,8 +10,8 @@ use Rattle.convoy_certificate.specs.declared.node.Node.TheVariants.{Split, Bound
 use Rattle.convoy_certificate.specs.declared.node.TheConstants.{GREATEST_PACKET}
 
 -- a scenario, a latency, a schedule in the order of the packets, and nodes in their order
-pub record Contents : Type 0 where
-  pub scenario : Plan
+pub record Certificate : Type 0 where
+  pub scenario : Scenario
   pub latency : ℕ
   pub delays : List ℕ
   pub nodes : List Node
@@ -23,7 +23,7 @@ IsNode Bound = Unit {0}
 IsNode Point = Unit {0}
 
 -- what holds of each certificate
-pub record IsCertificate (certificate : Contents) : Type 0 where
+pub record IsCertificate (certificate : Certificate) : Type 0 where
   pub scenario : IsScenario certificate.scenario
   pub latency : certificate.latency < 2 ^ 32
   pub assigned : IsAssignment certificate.scenario certificate.delays

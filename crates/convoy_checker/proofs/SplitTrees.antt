@@ -1,0 +1,31 @@
+-- A tree that begins with a split: the split, and the trees over its halves.
+use Rattle.std.specs.Prelude.{◌≡◌, ◌↔◌, ℕ, List, [], ◌∷◌, ◌++◌}
+use Rattle.std.proofs.Common.{sym, subst}
+use Rattle.convoy_scenario.specs.Scenario.{Scenario}
+use Rattle.convoy_intervals.specs.Boxes.{Box, CanSplit, lower_half, upper_half}
+use Rattle.convoy_certificate.specs.declared.node.Node.{Node}
+use Rattle.convoy_certificate.specs.declared.node.Node.TheVariants.{Split}
+use Rattle.convoy_checker.specs.Leaves.{IsRight}
+use Rattle.convoy_checker.specs.Trees.{AreTrees, boxes_below}
+use Rattle.convoy_checker.specs.Validity.{AreHalfTrees, IsTreeOver}
+use Rattle.convoy_checker.proofs.TreeLaws.{AreTrees-append, AreTrees-split}
+
+module _ (scenario : Scenario) (latency : ℕ) (box : Box) (packet at : ℕ) where
+  halves_of_trees : (nodes : List Node) → AreTrees boxes_below (IsRight scenario latency) (lower_half box packet at ∷ upper_half box packet at ∷ []) nodes → AreHalfTrees scenario latency box packet at nodes
+  halves_of_trees nodes trees =
+      let parts = AreTrees-split boxes_below (IsRight scenario latency) (lower_half box packet at ∷ []) (upper_half box packet at ∷ []) nodes trees in
+      record {
+        lower = parts.first;
+        upper = parts.rest;
+        whole = parts.whole;
+        lower_tree = parts.first_trees;
+        upper_tree = parts.rest_trees;
+      }
+
+  trees_of_halves : (nodes : List Node) → AreHalfTrees scenario latency box packet at nodes → AreTrees boxes_below (IsRight scenario latency) (lower_half box packet at ∷ upper_half box packet at ∷ []) nodes
+  trees_of_halves nodes halves =
+      subst (λ (ns : List Node). AreTrees boxes_below (IsRight scenario latency) (lower_half box packet at ∷ upper_half box packet at ∷ []) ns) (sym halves.whole) (AreTrees-append boxes_below (IsRight scenario latency) (lower_half box packet at ∷ []) (upper_half box packet at ∷ []) halves.lower halves.upper halves.lower_tree halves.upper_tree)
+
+  pub split_is_two_trees : (nodes : List Node) → IsTreeOver scenario latency box (Split packet at ∷ nodes) ↔ CanSplit box packet at × AreHalfTrees scenario latency box packet at nodes
+  split_is_two_trees nodes =
+      (λ tree. (tree.0, halves_of_trees nodes tree.1), λ both. (both.0, trees_of_halves nodes both.1))
