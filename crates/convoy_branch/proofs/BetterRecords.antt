@@ -2,29 +2,29 @@
 use Rattle.std.specs.Prelude.{◌≡◌, ℕ, ◌≤◌, nat_le, Bool, true, false, ◌||◌, if◌then◌else◌, List, Option, Some, None, unwrap_or}
 use Rattle.std.proofs.Common.{arith, refl, subst, sym}
 use Rattle.std.proofs.lemmas.Bool.Decides.{nat_tests}
-use Rattle.convoy_scenario.specs.Plan.{Plan}
+use Rattle.convoy_scenario.specs.Scenario.{Scenario}
 use Rattle.convoy_sim.specs.Delivery.{latency_of}
-use Rattle.convoy_sim.specs.Record.{Attained, attained_by}
+use Rattle.convoy_sim.specs.Record.{Record, attained_by}
 use Rattle.convoy_intervals.specs.Bounds.{plain_bound}
 use Rattle.convoy_intervals.specs.Boxes.{greatest_of}
-use Rattle.convoy_checker.specs.Trees.{Box}
+use Rattle.convoy_intervals.specs.Boxes.{Box}
 use Rattle.convoy_branch.specs.Steps.{found_in, known_after}
 
 -- what was found keeps the best record as good as it was, or makes it better
-pub record IsNoWorse (plan : Plan) (best : Attained) (found : Option Attained) : Type 0 where
-  pub scenario : (unwrap_or found best).plan ≡ plan
+pub record IsNoWorse (plan : Scenario) (best : Record) (found : Option Record) : Type 0 where
+  pub scenario : (unwrap_or found best).scenario ≡ plan
   pub above : best.latency ≤ (unwrap_or found best).latency
   pub known : known_after best.latency found ≡ (unwrap_or found best).latency
 
 not_above : (bound latency seen : ℕ) → false ≡ (nat_le bound seen || nat_le latency seen) → seen ≤ latency
 not_above bound latency seen is = grind (arith, nat_tests)
 
-IsNoWorse-tried : (plan : Plan) (best : Attained) (delays : List ℕ) (bound : ℕ) (stays : Bool) → best.plan ≡ plan → stays ≡ (nat_le bound best.latency || nat_le (latency_of plan delays) best.latency) → IsNoWorse plan best (if stays then None else Some (attained_by plan delays))
+IsNoWorse-tried : (plan : Scenario) (best : Record) (delays : List ℕ) (bound : ℕ) (stays : Bool) → best.scenario ≡ plan → stays ≡ (nat_le bound best.latency || nat_le (latency_of plan delays) best.latency) → IsNoWorse plan best (if stays then None else Some (attained_by plan delays))
 IsNoWorse-tried plan best delays bound true scenario is =
     record { scenario = scenario; above = omega arith; known = refl }
 IsNoWorse-tried plan best delays bound false scenario is =
     record { scenario = refl; above = not_above bound (latency_of plan delays) best.latency is; known = refl }
 
-pub IsNoWorse-found : (plan : Plan) (best : Attained) (box : Box) (found : Option Attained) → best.plan ≡ plan → found ≡ found_in plan box best.latency → IsNoWorse plan best found
+pub IsNoWorse-found : (plan : Scenario) (best : Record) (box : Box) (found : Option Record) → best.scenario ≡ plan → found ≡ found_in plan box best.latency → IsNoWorse plan best found
 IsNoWorse-found plan best box found scenario is =
-    subst (λ (f : Option Attained). IsNoWorse plan best f) (sym is) (IsNoWorse-tried plan best (greatest_of box) (plain_bound plan box) (nat_le (plain_bound plan box) best.latency || nat_le (latency_of plan (greatest_of box)) best.latency) scenario refl)
+    subst (λ (f : Option Record). IsNoWorse plan best f) (sym is) (IsNoWorse-tried plan best (greatest_of box) (plain_bound plan box) (nat_le (plain_bound plan box) best.latency || nat_le (latency_of plan (greatest_of box)) best.latency) scenario refl)

@@ -4,8 +4,11 @@ use Rattle.std.proofs.Common.{arith, refl, ap, ◌∙◌, length-append}
 use Rattle.std.proofs.lemmas.List.{append-nil}
 use Rattle.std.proofs.lemmas.List.Elements.{filter_map-append}
 use Rattle.convoy_certificate.specs.declared.node.Node.{Node}
-use Rattle.convoy_checker.specs.Trees.{Box}
-use Rattle.convoy_branch.specs.Fronts.{FrontNode, Spent, Left, spent_node, left_box, spent_in, left_in}
+use Rattle.convoy_intervals.specs.Boxes.{Box}
+use Rattle.convoy_certificate.specs.declared.node.Node.TheVariants.{Split}
+use Rattle.convoy_branch.specs.declared.step.Turn.{Turn}
+use Rattle.convoy_branch.specs.declared.step.Turn.TheVariants.{Closed, Halves}
+use Rattle.convoy_branch.specs.Fronts.{FrontNode, Spent, Left, front_after, spent_node, left_box, spent_in, left_in}
 
 pub spent_in-append : (front rest : List FrontNode) → spent_in (front ++ rest) ≡ spent_in front ++ spent_in rest
 spent_in-append front rest = filter_map-append spent_node front rest
@@ -29,11 +32,9 @@ left_in-append_spent front nodes =
 pub length-spent_in : (front rest : List FrontNode) → length (spent_in (front ++ rest)) ≡ length (spent_in front) + length (spent_in rest)
 length-spent_in front rest = ap length (spent_in-append front rest) ∙ length-append (spent_in front) (spent_in rest)
 
--- a node in place of a box is one node more
-pub spent_in-closed : (front rest : List FrontNode) (branch : Box) (node : Node) → length (spent_in (front ++ Spent node ∷ rest)) ≡ length (spent_in (front ++ Left branch ∷ rest)) + 1
-spent_in-closed front rest branch node =
+-- what becomes of a box is one node more in its place
+pub spent_in-turned : (front rest : List FrontNode) (branch : Box) (turn : Turn) → length (spent_in (front ++ (front_after turn ++ rest))) ≡ length (spent_in (front ++ Left branch ∷ rest)) + 1
+spent_in-turned front rest branch (Closed node) =
     omega (arith, length-spent_in front (Spent node ∷ rest), length-spent_in front (Left branch ∷ rest))
-
-pub spent_in-halved : (front rest : List FrontNode) (branch lower upper : Box) (node : Node) → length (spent_in (front ++ Spent node ∷ Left lower ∷ Left upper ∷ rest)) ≡ length (spent_in (front ++ Left branch ∷ rest)) + 1
-spent_in-halved front rest branch lower upper node =
-    omega (arith, length-spent_in front (Spent node ∷ Left lower ∷ Left upper ∷ rest), length-spent_in front (Left branch ∷ rest))
+spent_in-turned front rest branch (Halves packet at lower upper) =
+    omega (arith, length-spent_in front (Spent (Split packet at) ∷ Left lower ∷ Left upper ∷ rest), length-spent_in front (Left branch ∷ rest))

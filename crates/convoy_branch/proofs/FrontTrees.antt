@@ -1,74 +1,53 @@
 -- Fronts as trees: what replaces a node of a front, and what a front says of its boxes.
 use Rattle.std.specs.Prelude.{ℕ, ◌≤◌, List, [], ◌∷◌, ◌++◌, map}
 use Rattle.std.specs.List.{All}
-use Rattle.std.proofs.Common.{arith, ap, subst, ◌∙◌}
+use Rattle.std.proofs.Common.{arith, refl, subst}
 use Rattle.std.proofs.lemmas.List.Elements.{All-head, All-tail}
-use Rattle.convoy_scenario.specs.Plan.{Plan}
+use Rattle.convoy_scenario.specs.Scenario.{Scenario}
 use Rattle.convoy_certificate.specs.declared.node.Node.{Node}
 use Rattle.convoy_certificate.specs.declared.node.Node.TheVariants.{Split, Bound, Point}
 use Rattle.convoy_intervals.specs.Bounds.{plain_bound}
-use Rattle.convoy_intervals.specs.Boxes.{lower_half, upper_half}
 use Rattle.convoy_checker.specs.Leaves.{IsRight}
-use Rattle.convoy_checker.specs.Trees.{AreTrees, Box, boxes_below}
-use Rattle.convoy_branch.specs.Fronts.{FrontNode, Spent, Left, front_below, IsSearched, IsSearchedSplit, IsOfFront, left_in}
+use Rattle.convoy_checker.specs.Trees.{AreTrees, boxes_below}
+use Rattle.convoy_intervals.specs.Boxes.{Box}
+use Rattle.convoy_checker.proofs.TreeLaws.{AreTrees-filled, AreTrees-weaker}
+use Rattle.convoy_branch.specs.Fronts.{AreFronts, FrontNode, Spent, Left, front_below, IsSearched, IsSearchedSplit, IsOfFront, front_after, left_in}
 use Rattle.convoy_branch.specs.Steps.{StaysOpen, IsTurn}
+use Rattle.convoy_branch.specs.declared.step.Turn.{Turn}
 use Rattle.convoy_branch.specs.declared.step.Turn.TheVariants.{Closed, Halves}
 
--- a front whose nodes are trees over those boxes
-abbrev pub AreFronts : Plan → ℕ → List Box → List FrontNode → Type 0
-AreFronts plan best boxes nodes = AreTrees front_below (IsOfFront plan best) boxes nodes
-
--- what may stand in for the end of a list of trees over any boxes, may do so after any nodes
-pub AreFronts-replaced : (plan : Plan) (best : ℕ) (front old new : List FrontNode) → ((boxes : List Box) → AreFronts plan best boxes old → AreFronts plan best boxes new) → (boxes : List Box) → AreFronts plan best boxes (front ++ old) → AreFronts plan best boxes (front ++ new)
-AreFronts-replaced plan best [] old new replaced boxes tree = replaced boxes tree
-AreFronts-replaced plan best (node ∷ front) old new replaced [] tree = tree
-AreFronts-replaced plan best (node ∷ front) old new replaced (box ∷ boxes) tree =
-    (tree.0, AreFronts-replaced plan best front old new replaced (front_below node box ++ boxes) tree.1)
-
 -- a better record leaves each node right
-pub IsSearched-better : (plan : Plan) (best better : ℕ) (node : Node) (box : Box) → best ≤ better → IsSearched plan best node box → IsSearched plan better node box
+pub IsSearched-better : (plan : Scenario) (best better : ℕ) (node : Node) (box : Box) → best ≤ better → IsSearched plan best node box → IsSearched plan better node box
 IsSearched-better plan best better (Split packet at) box above right =
     record { part = right.part; open_box = right.open_box; tried = omega (arith, right.tried) }
 IsSearched-better plan best better Bound box above right = omega arith
 IsSearched-better plan best better Point box above right = (right.0, omega (arith, right.1))
 
-pub IsOfFront-better : (plan : Plan) (best better : ℕ) (node : FrontNode) (box : Box) → best ≤ better → IsOfFront plan best node box → IsOfFront plan better node box
+pub IsOfFront-better : (plan : Scenario) (best better : ℕ) (node : FrontNode) (box : Box) → best ≤ better → IsOfFront plan best node box → IsOfFront plan better node box
 IsOfFront-better plan best better (Spent node) box above right = IsSearched-better plan best better node box above right
 IsOfFront-better plan best better (Left branch) box above right = right
 
-pub AreFronts-better : (plan : Plan) (best better : ℕ) (nodes : List FrontNode) (boxes : List Box) → best ≤ better → AreFronts plan best boxes nodes → AreFronts plan better boxes nodes
-AreFronts-better plan best better [] [] above tree = tree
-AreFronts-better plan best better [] (box ∷ boxes) above tree = tree
-AreFronts-better plan best better (node ∷ nodes) [] above tree = tree
-AreFronts-better plan best better (node ∷ nodes) (box ∷ boxes) above tree =
-    (IsOfFront-better plan best better node box above tree.0, AreFronts-better plan best better nodes (front_below node box ++ boxes) above tree.1)
+pub AreFronts-better : (plan : Scenario) (best better : ℕ) (nodes : List FrontNode) (boxes : List Box) → best ≤ better → AreFronts plan best boxes nodes → AreFronts plan better boxes nodes
+AreFronts-better plan best better nodes boxes above fronts =
+    AreTrees-weaker front_below (IsOfFront plan best) (IsOfFront plan better) (λ node box right. IsOfFront-better plan best better node box above right) boxes nodes fronts
 
--- a leaf that closes a box may stand in for the box
-pub AreFronts-closed : (plan : Plan) (best : ℕ) (node : Node) (branch : Box) (rest : List FrontNode) → IsTurn plan branch best (Closed node) → (boxes : List Box) → AreFronts plan best boxes (Left branch ∷ rest) → AreFronts plan best boxes (Spent node ∷ rest)
-AreFronts-closed plan best (Split packet at) branch rest turn boxes tree = absurd turn
-AreFronts-closed plan best Bound branch rest turn [] tree = tree
-AreFronts-closed plan best Bound branch rest turn (box ∷ boxes) tree =
-    (subst (λ (b : Box). IsSearched plan best Bound b) tree.0 turn, tree.1)
-AreFronts-closed plan best Point branch rest turn [] tree = tree
-AreFronts-closed plan best Point branch rest turn (box ∷ boxes) tree =
-    (subst (λ (b : Box). IsSearched plan best Point b) tree.0 (turn.1, turn.0.tried), tree.1)
+-- a front over a box may take the place of the box
+pub AreFronts-filled : (plan : Scenario) (best : ℕ) (branch : Box) (front : List FrontNode) → AreFronts plan best (branch ∷ []) front → (before after : List FrontNode) (boxes : List Box) → AreFronts plan best boxes (before ++ Left branch ∷ after) → AreFronts plan best boxes (before ++ (front ++ after))
+AreFronts-filled plan best branch front over before after boxes fronts =
+    AreTrees-filled front_below (IsOfFront plan best) (Left branch) branch (λ box names. names) (λ box. refl) front over before after boxes fronts
 
--- and so may a split of it with its halves
-pub AreFronts-halved : (plan : Plan) (best packet at : ℕ) (branch lower upper : Box) (rest : List FrontNode) → IsTurn plan branch best (Halves packet at lower upper) → (boxes : List Box) → AreFronts plan best boxes (Left branch ∷ rest) → AreFronts plan best boxes (Spent (Split packet at) ∷ Left lower ∷ Left upper ∷ rest)
-AreFronts-halved plan best packet at branch lower upper rest turn [] tree = tree
-AreFronts-halved plan best packet at branch lower upper rest turn (box ∷ boxes) tree =
+-- what becomes of a box is a front over it
+pub AreFronts-turned : (plan : Scenario) (best : ℕ) (branch : Box) (turn : Turn) → IsTurn plan branch best turn → AreFronts plan best (branch ∷ []) (front_after turn)
+AreFronts-turned plan best branch (Closed (Split packet at)) turn = absurd turn
+AreFronts-turned plan best branch (Closed Bound) turn = (turn, tt)
+AreFronts-turned plan best branch (Closed Point) turn = ((turn.1, turn.0.tried), tt)
+AreFronts-turned plan best branch (Halves packet at lower upper) turn =
     let stays : StaysOpen plan branch best = turn.0 in
-    let split : IsSearchedSplit plan best packet at branch =
-    record { part = turn.1; open_box = omega (arith, stays.bound, stays.tried); tried = stays.tried } in (
-      subst (λ (b : Box). IsSearchedSplit plan best packet at b) tree.0 split,
-      (
-        turn.2 ∙ ap (λ (b : Box). lower_half b packet at) tree.0,
-        (turn.3 ∙ ap (λ (b : Box). upper_half b packet at) tree.0, tree.1),
-      ),
-    )
+    let split : IsSearchedSplit plan best packet at branch = record { part = turn.1; open_box = omega (arith, stays.bound, stays.tried); tried = stays.tried } in
+    (split, (turn.2, (turn.3, tt)))
 
 -- a front with no box left is a tree
-pub AreTrees-spent : (plan : Plan) (best : ℕ) (nodes : List Node) (boxes : List Box) → AreFronts plan best boxes (map Spent nodes) → AreTrees boxes_below (IsRight plan best) boxes nodes
+pub AreTrees-spent : (plan : Scenario) (best : ℕ) (nodes : List Node) (boxes : List Box) → AreFronts plan best boxes (map Spent nodes) → AreTrees boxes_below (IsRight plan best) boxes nodes
 AreTrees-spent plan best [] [] tree = tree
 AreTrees-spent plan best [] (box ∷ boxes) tree = tree
 AreTrees-spent plan best (node ∷ nodes) [] tree = tree
@@ -83,7 +62,7 @@ node_of (Spent node) = node
 node_of (Left branch) = Bound
 
 -- it is right for each latency that the best one and the bounds of the boxes that are left do not exceed
-pub AreTrees-bounded : (plan : Plan) (best upper : ℕ) (nodes : List FrontNode) (boxes : List Box) → best ≤ upper → All (λ box. plain_bound plan box ≤ upper) (left_in nodes) → AreFronts plan best boxes nodes → AreTrees boxes_below (IsRight plan upper) boxes (map node_of nodes)
+pub AreTrees-bounded : (plan : Scenario) (best upper : ℕ) (nodes : List FrontNode) (boxes : List Box) → best ≤ upper → All (λ box. plain_bound plan box ≤ upper) (left_in nodes) → AreFronts plan best boxes nodes → AreTrees boxes_below (IsRight plan upper) boxes (map node_of nodes)
 AreTrees-bounded plan best upper [] [] above within tree = tree
 AreTrees-bounded plan best upper [] (box ∷ boxes) above within tree = tree
 AreTrees-bounded plan best upper (node ∷ nodes) [] above within tree = tree

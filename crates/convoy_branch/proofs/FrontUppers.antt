@@ -3,14 +3,14 @@ use Rattle.std.specs.Prelude.{ℕ, ◌≤◌, max, List, [], ◌∷◌, map, fol
 use Rattle.std.specs.List.{All}
 use Rattle.std.proofs.Common.{arith, sym, subst}
 use Rattle.std.proofs.lemmas.List.Elements.{All-nil, All-cons}
-use Rattle.convoy_scenario.specs.Plan.{Plan}
+use Rattle.convoy_scenario.specs.Scenario.{Scenario}
 use Rattle.convoy_scenario.specs.WellFormed.{IsScenario}
 use Rattle.convoy_sim.specs.Times.{greatest}
 use Rattle.convoy_intervals.specs.Bounds.{plain_bound}
 use Rattle.convoy_intervals.specs.Boxes.{root_of}
 use Rattle.convoy_checker.specs.Laws.{TreesCover}
-use Rattle.convoy_checker.specs.Trees.{Box}
-use Rattle.convoy_checker.specs.Validity.{IsUpper}
+use Rattle.convoy_intervals.specs.Boxes.{Box}
+use Rattle.convoy_sim.specs.Greatest.{IsUpper}
 use Rattle.convoy_branch.specs.Fronts.{IsFront, left_in}
 use Rattle.convoy_branch.proofs.FrontTrees.{AreTrees-bounded, node_of}
 
@@ -18,7 +18,7 @@ start_le : (start : ℕ) (xs : List ℕ) → start ≤ fold max start xs
 start_le start [] = omega arith
 start_le start (x ∷ xs) = omega (arith, start_le (max start x) xs)
 
-bounds_le : (plan : Plan) (start : ℕ) (boxes : List Box) → All (λ box. plain_bound plan box ≤ fold max start (map (plain_bound plan) boxes)) boxes
+bounds_le : (plan : Scenario) (start : ℕ) (boxes : List Box) → All (λ box. plain_bound plan box ≤ fold max start (map (plain_bound plan) boxes)) boxes
 bounds_le plan start [] = All-nil (λ box. plain_bound plan box ≤ start)
 bounds_le plan start (box ∷ boxes) =
     let next = max start (plain_bound plan box) in
@@ -26,7 +26,7 @@ bounds_le plan start (box ∷ boxes) =
     All-cons P box boxes (omega (arith, start_le next (map (plain_bound plan) boxes))) (bounds_le plan next boxes)
 
 -- the greatest of the best latency and of the bounds is at least each of them
-pub IsUpper-front : (plan : Plan) (best upper tickets : ℕ) → TreesCover → IsScenario plan → IsFront plan best upper tickets → IsUpper plan upper
+pub IsUpper-front : (plan : Scenario) (best upper tickets : ℕ) → TreesCover → IsScenario plan → IsFront plan best upper tickets → IsUpper plan upper
 IsUpper-front plan best upper tickets cover lawful front =
     let boxes = left_in front.nodes in
     let all = greatest (best ∷ map (plain_bound plan) boxes) in

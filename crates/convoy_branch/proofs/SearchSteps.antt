@@ -1,28 +1,29 @@
 -- How far a search has come after each of its steps.
-use Rattle.std.specs.Prelude.{◌≡◌, ℕ, ◌+◌, ◌≤◌, List, [], ◌∷◌, ◌++◌, length, map, reverse, Some, unwrap_or}
+use Rattle.std.specs.Prelude.{◌≡◌, ℕ, ◌+◌, ◌≤◌, Bool, true, false, List, [], ◌∷◌, ◌++◌, length, map, reverse, Some, unwrap_or}
 use Rattle.std.specs.List.{All}
 use Rattle.std.proofs.Common.{arith, refl, sym, ap, subst, ◌∙◌, append_assoc}
 use Rattle.std.proofs.lemmas.List.{map_push, reverse-append, length_push}
-use Rattle.std.proofs.lemmas.List.Elements.{All-pop, All-push}
-use Rattle.convoy_scenario.specs.Plan.{Plan}
-use Rattle.convoy_packets.specs.Table.{IsTable, Table, table_of}
-use Rattle.convoy_sim.specs.Record.{Attained}
-use Rattle.convoy_certificate.specs.Contents.{IsNode}
+use Rattle.std.proofs.lemmas.Bool.{false≢true}
+use Rattle.std.proofs.lemmas.List.Elements.{All-pop, All-push, All-weaker}
+use Rattle.convoy_scenario.specs.Scenario.{Scenario}
+use Rattle.convoy_packets.specs.Table.{IsTable, PacketTable, table_of}
+use Rattle.convoy_sim.specs.Delivery.{latency_of}
+use Rattle.convoy_sim.specs.Record.{Record}
+use Rattle.convoy_certificate.specs.Certificate.{IsNode}
 use Rattle.convoy_certificate.specs.declared.node.Node.{Node}
 use Rattle.convoy_certificate.specs.declared.node.Node.TheVariants.{Split, Bound, Point}
-use Rattle.convoy_intervals.specs.Boxes.{IsBox, root_of}
-use Rattle.convoy_intervals.specs.Laws.{HalvesAreBoxes}
-use Rattle.convoy_checker.specs.Trees.{Box}
+use Rattle.convoy_intervals.specs.Boxes.{Box, IsBox, greatest_of, root_of}
+use Rattle.convoy_intervals.specs.Laws.{HalvesAreBoxes, UpperKeepsGreatest}
 use Rattle.convoy_branch.specs.declared.search.Work.{Work}
 use Rattle.convoy_branch.specs.declared.search.Work.TheVariants.{Branch, Write}
 use Rattle.convoy_branch.specs.declared.step.Step.{Step}
 use Rattle.convoy_branch.specs.declared.step.Turn.{Turn}
 use Rattle.convoy_branch.specs.declared.step.Turn.TheVariants.{Closed, Halves}
-use Rattle.convoy_branch.specs.Fronts.{FrontNode, Spent, Left, spent_in}
+use Rattle.convoy_branch.specs.Fronts.{AreFronts, FrontNode, Spent, Left, front_after, spent_in}
 use Rattle.convoy_branch.specs.Steps.{IsStep, IsTurn}
 use Rattle.convoy_branch.specs.Searching.{IsSearching, IsWork, front_of, front_nodes, work_after, nodes_after}
-use Rattle.convoy_branch.proofs.FrontTrees.{AreFronts, AreFronts-better, AreFronts-replaced, AreFronts-closed, AreFronts-halved}
-use Rattle.convoy_branch.proofs.FrontCounts.{spent_in-closed, spent_in-halved}
+use Rattle.convoy_branch.proofs.FrontTrees.{AreFronts-better, AreFronts-filled, AreFronts-turned}
+use Rattle.convoy_branch.proofs.FrontCounts.{spent_in-turned}
 use Rattle.convoy_branch.proofs.BetterRecords.{IsNoWorse-found}
 use Rattle.convoy_branch.proofs.SplitNodes.{IsNode-split}
 
@@ -47,29 +48,35 @@ All-front : {X : Type 0} (P : X → Type 0) (xs : List X) (x : X) → All P (xs 
 All-front P xs x all = All-pop P (xs ++ x ∷ []) xs (Some x) refl all
 
 -- a front of that many nodes that is right for a latency
-abbrev IsFrontOf : Plan → ℕ → ℕ → List FrontNode → Type 0
+abbrev IsFrontOf : Scenario → ℕ → ℕ → List FrontNode → Type 0
 IsFrontOf plan latency tickets front =
     AreFronts plan latency (root_of plan ∷ []) front × (length (spent_in front) ≡ tickets)
 
+-- a better record leaves what waits as it is
+IsWork-better : (plan : Scenario) (best better : ℕ) (piece : Work) → best ≤ better → IsWork plan best piece → IsWork plan better piece
+IsWork-better plan best better (Branch box tried) above is =
+    (is.0, λ told. let known : latency_of plan (greatest_of box) ≤ best = is.1 told in omega arith)
+IsWork-better plan best better (Write node) above is = is
+
 -- a search with a better record
-better : (plan : Plan) (best next : Attained) (work : List Work) (nodes : List Node) (tickets : ℕ) → next.plan ≡ plan → best.latency ≤ next.latency → IsSearching plan best work nodes tickets → IsSearching plan next work nodes tickets
+better : (plan : Scenario) (best next : Record) (work : List Work) (nodes : List Node) (tickets : ℕ) → next.scenario ≡ plan → best.latency ≤ next.latency → IsSearching plan best work nodes tickets → IsSearching plan next work nodes tickets
 better plan best next work nodes tickets scenario above searching = record {
-  scenario = scenario;
+  of_scenario = scenario;
   least = omega (arith, searching.least);
   tree = AreFronts-better plan best.latency next.latency (front_nodes work nodes) (root_of plan ∷ []) above searching.tree;
   spent = searching.spent;
-  all_work = searching.all_work;
+  all_work = All-weaker (IsWork plan best.latency) (IsWork plan next.latency) (λ piece is. IsWork-better plan best.latency next.latency piece above is) work searching.all_work;
   all_nodes = searching.all_nodes;
 }
 
 -- the next piece of work is a node: it is written
-pub IsSearching-written : (plan : Plan) (best : Attained) (work : List Work) (nodes : List Node) (tickets : ℕ) (node : Node) → IsSearching plan best (work ++ Write node ∷ []) nodes tickets → IsSearching plan best work (nodes ++ node ∷ []) tickets
+pub IsSearching-written : (plan : Scenario) (best : Record) (work : List Work) (nodes : List Node) (tickets : ℕ) (node : Node) → IsSearching plan best (work ++ Write node ∷ []) nodes tickets → IsSearching plan best work (nodes ++ node ∷ []) tickets
 IsSearching-written plan best work nodes tickets node searching =
     let same : front_nodes (work ++ Write node ∷ []) nodes ≡ front_nodes work (nodes ++ node ∷ []) = front-pushed work (Write node) (done nodes) ∙ sym (front-written work node nodes) in
     let front : IsFrontOf plan best.latency tickets (front_nodes work (nodes ++ node ∷ [])) = subst (λ (f : List FrontNode). IsFrontOf plan best.latency tickets f) same (searching.tree, searching.spent) in
-    let parts = All-front (IsWork plan) work (Write node) searching.all_work in
+    let parts = All-front (IsWork plan best.latency) work (Write node) searching.all_work in
     record {
-      scenario = searching.scenario;
+      of_scenario = searching.of_scenario;
       least = searching.least;
       tree = front.0;
       spent = front.1;
@@ -78,83 +85,105 @@ IsSearching-written plan best work nodes tickets node searching =
     }
 
 -- the same by what the program makes of its two lists
-pub IsSearching-popped : (plan : Plan) (best : Attained) (work rest : List Work) (nodes next : List Node) (tickets : ℕ) (piece : Work) (node : Node) → work ≡ rest ++ piece ∷ [] → piece ≡ Write node → next ≡ nodes ++ node ∷ [] → IsSearching plan best work nodes tickets → IsSearching plan best rest next tickets
+pub IsSearching-popped : (plan : Scenario) (best : Record) (work rest : List Work) (nodes next : List Node) (tickets : ℕ) (piece : Work) (node : Node) → work ≡ rest ++ piece ∷ [] → piece ≡ Write node → next ≡ nodes ++ node ∷ [] → IsSearching plan best work nodes tickets → IsSearching plan best rest next tickets
 IsSearching-popped plan best work rest nodes next tickets piece node popped is written searching =
     let whole : work ≡ rest ++ Write node ∷ [] = popped ∙ ap (λ (w : Work). rest ++ w ∷ []) is in
     let last = subst (λ (ws : List Work). IsSearching plan best ws nodes tickets) whole searching in
     subst (λ (ns : List Node). IsSearching plan best rest ns tickets) (sym written) (IsSearching-written plan best rest nodes tickets node last)
 
 -- the front of a search that takes up a box
-taken : (plan : Plan) (best : Attained) (work : List Work) (nodes : List Node) (tickets : ℕ) (box : Box) → IsSearching plan best (work ++ Branch box ∷ []) nodes tickets → IsFrontOf plan best.latency tickets (map front_of work ++ Left box ∷ done nodes)
-taken plan best work nodes tickets box searching =
-    subst (λ (f : List FrontNode). IsFrontOf plan best.latency tickets f) (front-pushed work (Branch box) (done nodes)) (searching.tree, searching.spent)
+taken : (plan : Scenario) (best : Record) (work : List Work) (nodes : List Node) (tickets : ℕ) (box : Box) (tried : Bool) → IsSearching plan best (work ++ Branch box tried ∷ []) nodes tickets → IsFrontOf plan best.latency tickets (map front_of work ++ Left box ∷ done nodes)
+taken plan best work nodes tickets box tried searching =
+    subst (λ (f : List FrontNode). IsFrontOf plan best.latency tickets f) (front-pushed work (Branch box tried) (done nodes)) (searching.tree, searching.spent)
 
--- the box is closed
-closed_node : (plan : Plan) (known : ℕ) (box : Box) (node : Node) → IsTurn plan box known (Closed node) → IsNode node
+-- what became of a box takes its place in the front
+front_turned : (work : List Work) (nodes : List Node) (turn : Turn) → front_nodes (work_after work turn) (nodes_after nodes turn) ≡ map front_of work ++ (front_after turn ++ done nodes)
+front_turned work nodes (Closed node) = front-written work node nodes
+front_turned work nodes (Halves packet at lower upper) =
+    front-halved work (Write (Split packet at)) (Branch lower false) (Branch upper true) (done nodes)
+
+-- a leaf that closes a box may stand in a certificate
+closed_node : (plan : Scenario) (known : ℕ) (box : Box) (node : Node) → IsTurn plan box known (Closed node) → IsNode node
 closed_node plan known box (Split packet at) turn = absurd turn
 closed_node plan known box Bound turn = tt
 closed_node plan known box Point turn = tt
 
-closed : (plan : Plan) (best : Attained) (work : List Work) (nodes : List Node) (tickets : ℕ) (box : Box) (node : Node) → IsTurn plan box best.latency (Closed node) → IsSearching plan best (work ++ Branch box ∷ []) nodes tickets → IsSearching plan best work (nodes ++ node ∷ []) (tickets + 1)
-closed plan best work nodes tickets box node turn searching =
-    let old = taken plan best work nodes tickets box searching in
-    let tree : AreFronts plan best.latency (root_of plan ∷ []) (map front_of work ++ Spent node ∷ done nodes) = AreFronts-replaced plan best.latency (map front_of work) (Left box ∷ done nodes) (Spent node ∷ done nodes) (AreFronts-closed plan best.latency node box (done nodes) turn) (root_of plan ∷ []) old.0 in
-    let spent : length (spent_in (map front_of work ++ Spent node ∷ done nodes)) ≡ tickets + 1 = omega (arith, spent_in-closed (map front_of work) (done nodes) box node, old.1) in
-    let front = subst (λ (f : List FrontNode). IsFrontOf plan best.latency (tickets + 1) f) (sym (front-written work node nodes)) (tree, spent) in
-    let parts = All-front (IsWork plan) work (Branch box) searching.all_work in
+nodes_turned : (plan : Scenario) (known : ℕ) (nodes : List Node) (box : Box) (turn : Turn) → IsTurn plan box known turn → All IsNode nodes → All IsNode (nodes_after nodes turn)
+nodes_turned plan known nodes box (Closed node) turn all =
+    All-push IsNode nodes node all (closed_node plan known box node turn)
+nodes_turned plan known nodes box (Halves packet at lower upper) turn all = all
+
+-- the halves of a box wait to be taken up: both are boxes, and the greatest delays of the upper one were tried
+pub record HalvesWait (plan : Scenario) (known : ℕ) (lower upper : Box) : Type 0 where
+  pub low : IsWork plan known (Branch lower false)
+  pub high : IsWork plan known (Branch upper true)
+
+halves_wait : (plan : Scenario) (known packet at : ℕ) (box lower upper : Box) → HalvesAreBoxes → UpperKeepsGreatest → IsBox plan box → IsTurn plan box known (Halves packet at lower upper) → HalvesWait plan known lower upper
+halves_wait plan known packet at box lower upper are_boxes keeps is_box turn =
+    let halves = are_boxes plan box packet at is_box turn.1 in
+    let same : greatest_of upper ≡ greatest_of box = ap (λ (b : Box). greatest_of b) turn.3 ∙ keeps box packet at in
+    let tried : latency_of plan (greatest_of upper) ≤ known = subst (λ (ds : List ℕ). latency_of plan ds ≤ known) (sym same) turn.0.tried in
     record {
-      scenario = searching.scenario;
+      low = (subst (λ (b : Box). IsBox plan b) (sym turn.2) halves.0, λ told. absurd (false≢true told));
+      high = (subst (λ (b : Box). IsBox plan b) (sym turn.3) halves.1, λ told. tried);
+    }
+
+work_turned : (plan : Scenario) (known : ℕ) (work : List Work) (box : Box) (turn : Turn) → HalvesAreBoxes → UpperKeepsGreatest → IsTable (table_of plan) → IsBox plan box → IsTurn plan box known turn → All (IsWork plan known) work → All (IsWork plan known) (work_after work turn)
+work_turned plan known work box (Closed node) are_boxes keeps table is_box turn all = all
+work_turned plan known work box (Halves packet at lower upper) are_boxes keeps table is_box turn all =
+    let Waits = IsWork plan known in
+    let node = Write (Split packet at) in
+    let halves = halves_wait plan known packet at box lower upper are_boxes keeps is_box turn in
+    let with_split = All-push Waits work node all (IsNode-split plan box packet at table is_box turn.1) in
+    let with_lower = All-push Waits (work ++ node ∷ []) (Branch lower false) with_split halves.low in
+    All-push Waits ((work ++ node ∷ []) ++ Branch lower false ∷ []) (Branch upper true) with_lower halves.high
+
+-- a box is taken up, and what becomes of it is known
+turned : (plan : Scenario) (best : Record) (work : List Work) (nodes : List Node) (tickets : ℕ) (box : Box) (tried : Bool) (turn : Turn) → HalvesAreBoxes → UpperKeepsGreatest → IsTable (table_of plan) → IsTurn plan box best.latency turn → IsSearching plan best (work ++ Branch box tried ∷ []) nodes tickets → IsSearching plan best (work_after work turn) (nodes_after nodes turn) (tickets + 1)
+turned plan best work nodes tickets box tried turn are_boxes keeps table is searching =
+    let old = taken plan best work nodes tickets box tried searching in
+    let tree = AreFronts-filled plan best.latency box (front_after turn) (AreFronts-turned plan best.latency box turn is) (map front_of work) (done nodes) (root_of plan ∷ []) old.0 in
+    let spent : length (spent_in (map front_of work ++ (front_after turn ++ done nodes))) ≡ tickets + 1 = omega (arith, spent_in-turned (map front_of work) (done nodes) box turn, old.1) in
+    let front = subst (λ (f : List FrontNode). IsFrontOf plan best.latency (tickets + 1) f) (sym (front_turned work nodes turn)) (tree, spent) in
+    let parts = All-front (IsWork plan best.latency) work (Branch box tried) searching.all_work in
+    record {
+      of_scenario = searching.of_scenario;
       least = searching.least;
       tree = front.0;
       spent = front.1;
-      all_work = parts.0;
-      all_nodes = All-push IsNode nodes node searching.all_nodes (closed_node plan best.latency box node turn);
+      all_work = work_turned plan best.latency work box turn are_boxes keeps table parts.1.0 is parts.0;
+      all_nodes = nodes_turned plan best.latency nodes box turn is searching.all_nodes;
     }
-
--- the box is parted
-halved : (plan : Plan) (best : Attained) (work : List Work) (nodes : List Node) (tickets : ℕ) (box : Box) (packet at : ℕ) (lower upper : Box) → HalvesAreBoxes → IsTable (table_of plan) → IsTurn plan box best.latency (Halves packet at lower upper) → IsSearching plan best (work ++ Branch box ∷ []) nodes tickets → IsSearching plan best (work_after work (Halves packet at lower upper)) nodes (tickets + 1)
-halved plan best work nodes tickets box packet at lower upper are_boxes table turn searching =
-    let node = Split packet at in
-    let old = taken plan best work nodes tickets box searching in
-    let tree : AreFronts plan best.latency (root_of plan ∷ []) (map front_of work ++ Spent node ∷ Left lower ∷ Left upper ∷ done nodes) = AreFronts-replaced plan best.latency (map front_of work) (Left box ∷ done nodes) (Spent node ∷ Left lower ∷ Left upper ∷ done nodes) (AreFronts-halved plan best.latency packet at box lower upper (done nodes) turn) (root_of plan ∷ []) old.0 in
-    let spent : length (spent_in (map front_of work ++ Spent node ∷ Left lower ∷ Left upper ∷ done nodes)) ≡ tickets + 1 = omega (arith, spent_in-halved (map front_of work) (done nodes) box lower upper node, old.1) in
-    let front = subst (λ (f : List FrontNode). IsFrontOf plan best.latency (tickets + 1) f) (sym (front-halved work (Write node) (Branch lower) (Branch upper) (done nodes))) (tree, spent) in
-    let parts = All-front (IsWork plan) work (Branch box) searching.all_work in
-    let halves = are_boxes plan box packet at parts.1 turn.1 in
-    let low : IsBox plan lower = subst (λ (b : Box). IsBox plan b) (sym turn.2) halves.0 in
-    let high : IsBox plan upper = subst (λ (b : Box). IsBox plan b) (sym turn.3) halves.1 in
-    record {
-      scenario = searching.scenario;
-      least = searching.least;
-      tree = front.0;
-      spent = front.1;
-      all_work = All-push (IsWork plan) ((work ++ Write node ∷ []) ++ Branch lower ∷ []) (Branch upper) (All-push (IsWork plan) (work ++ Write node ∷ []) (Branch lower) (All-push (IsWork plan) work (Write node) parts.0 (IsNode-split plan box packet at table parts.1 turn.1)) low) high;
-      all_nodes = searching.all_nodes;
-    }
-
-turned : (plan : Plan) (best : Attained) (work : List Work) (nodes : List Node) (tickets : ℕ) (box : Box) (turn : Turn) → HalvesAreBoxes → IsTable (table_of plan) → IsTurn plan box best.latency turn → IsSearching plan best (work ++ Branch box ∷ []) nodes tickets → IsSearching plan best (work_after work turn) (nodes_after nodes turn) (tickets + 1)
-turned plan best work nodes tickets box (Closed node) are_boxes table turn searching =
-    closed plan best work nodes tickets box node turn searching
-turned plan best work nodes tickets box (Halves packet at lower upper) are_boxes table turn searching =
-    halved plan best work nodes tickets box packet at lower upper are_boxes table turn searching
 
 -- a step over the box
-pub IsSearching-step : (plan : Plan) (best : Attained) (work : List Work) (nodes : List Node) (tickets : ℕ) (box : Box) (step : Step) → HalvesAreBoxes → IsTable (table_of plan) → IsStep plan box best.latency step → IsSearching plan best (work ++ Branch box ∷ []) nodes tickets → IsSearching plan (unwrap_or step.found best) (work_after work step.turn) (nodes_after nodes step.turn) (tickets + 1)
-IsSearching-step plan best work nodes tickets box step are_boxes table is searching =
+pub IsSearching-step : (plan : Scenario) (best : Record) (work : List Work) (nodes : List Node) (tickets : ℕ) (box : Box) (tried : Bool) (step : Step) → HalvesAreBoxes → UpperKeepsGreatest → IsTable (table_of plan) → IsStep plan box best.latency step → IsSearching plan best (work ++ Branch box tried ∷ []) nodes tickets → IsSearching plan (unwrap_or step.found best) (work_after work step.turn) (nodes_after nodes step.turn) (tickets + 1)
+IsSearching-step plan best work nodes tickets box tried step are_boxes keeps table is searching =
     let next = unwrap_or step.found best in
-    let no_worse = IsNoWorse-found plan best box step.found searching.scenario is.found in
+    let no_worse = IsNoWorse-found plan best box step.found searching.of_scenario is.found in
     let turn : IsTurn plan box next.latency step.turn = subst (λ (n : ℕ). IsTurn plan box n step.turn) no_worse.known is.turn in
-    turned plan next work nodes tickets box step.turn are_boxes table turn (better plan best next (work ++ Branch box ∷ []) nodes tickets no_worse.scenario no_worse.above searching)
+    turned plan next work nodes tickets box tried step.turn are_boxes keeps table turn (better plan best next (work ++ Branch box tried ∷ []) nodes tickets no_worse.scenario no_worse.above searching)
 
 -- a turn adds three pieces of work at most
 pub length-work_after : (work : List Work) (turn : Turn) → length (work_after work turn) ≤ length work + 3
 length-work_after work (Closed node) = omega arith
 length-work_after work (Halves packet at lower upper) =
-    omega (arith, length_push ((work ++ Write (Split packet at) ∷ []) ++ Branch lower ∷ []) (Branch upper), length_push (work ++ Write (Split packet at) ∷ []) (Branch lower), length_push work (Write (Split packet at)))
+    omega (arith, length_push ((work ++ Write (Split packet at) ∷ []) ++ Branch lower false ∷ []) (Branch upper true), length_push (work ++ Write (Split packet at) ∷ []) (Branch lower false), length_push work (Write (Split packet at)))
 
 -- the same by what the program makes of its parts
-pub IsSearching-taken : (plan : Plan) (best next : Attained) (work new : List Work) (nodes written : List Node) (tickets seen : ℕ) (box : Box) (table : Table) (step : Step) → HalvesAreBoxes → table ≡ table_of plan → IsTable table → seen ≡ best.latency → IsStep plan box seen step → next ≡ unwrap_or step.found best → new ≡ work_after work step.turn → written ≡ nodes_after nodes step.turn → IsSearching plan best (work ++ Branch box ∷ []) nodes tickets → IsSearching plan next new written (tickets + 1)
-IsSearching-taken plan best next work new nodes written tickets seen box table step are_boxes packets lawful seen_is is next_is new_is written_is searching =
-    let lawful' : IsTable (table_of plan) = subst (λ (t : Table). IsTable t) packets lawful in
+pub IsSearching-taken : (plan : Scenario) (best next : Record) (work new : List Work) (nodes written : List Node) (tickets seen : ℕ) (box : Box) (tried : Bool) (table : PacketTable) (step : Step) → HalvesAreBoxes → UpperKeepsGreatest → table ≡ table_of plan → IsTable table → seen ≡ best.latency → IsStep plan box seen step → next ≡ unwrap_or step.found best → new ≡ work_after work step.turn → written ≡ nodes_after nodes step.turn → IsSearching plan best (work ++ Branch box tried ∷ []) nodes tickets → IsSearching plan next new written (tickets + 1)
+IsSearching-taken plan best next work new nodes written tickets seen box tried table step are_boxes keeps packets lawful seen_is is next_is new_is written_is searching =
+    let lawful' : IsTable (table_of plan) = subst (λ (t : PacketTable). IsTable t) packets lawful in
     let is' : IsStep plan box best.latency step = subst (λ (n : ℕ). IsStep plan box n step) seen_is is in
-    rw (next_is, new_is, written_is) (IsSearching-step plan best work nodes tickets box step are_boxes lawful' is' searching)
+    rw (next_is, new_is, written_is) (IsSearching-step plan best work nodes tickets box tried step are_boxes keeps lawful' is' searching)
+
+-- the best record after a step is no worse than before
+pub best_no_worse : (plan : Scenario) (best next : Record) (seen : ℕ) (box : Box) (step : Step) → best.scenario ≡ plan → seen ≡ best.latency → IsStep plan box seen step → next ≡ unwrap_or step.found best → best.latency ≤ next.latency
+best_no_worse plan best next seen box step scenario seen_is is next_is =
+    let is' : IsStep plan box best.latency step = subst (λ (n : ℕ). IsStep plan box n step) seen_is is in
+    let no_worse = IsNoWorse-found plan best box step.found scenario is'.found in
+    rw next_is no_worse.above
+
+-- a box that waits is a box of the scenario, and is known to be tried where it is told to be
+pub waits : (plan : Scenario) (best : Record) (work : List Work) (nodes : List Node) (tickets : ℕ) (box : Box) (tried : Bool) → IsSearching plan best (work ++ Branch box tried ∷ []) nodes tickets → IsWork plan best.latency (Branch box tried)
+waits plan best work nodes tickets box tried searching =
+    (All-front (IsWork plan best.latency) work (Branch box tried) searching.all_work).1

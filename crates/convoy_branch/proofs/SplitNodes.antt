@@ -2,16 +2,16 @@
 use Rattle.std.specs.Prelude.{ℕ, ◌<◌, length}
 use Rattle.std.proofs.Common.{arith, get_or}
 use Rattle.std.proofs.lemmas.List.Elements.{All-get_or, AllZip-get_or, length_all_zip}
-use Rattle.convoy_scenario.specs.Plan.{Plan}
+use Rattle.convoy_scenario.specs.Scenario.{Scenario}
 use Rattle.convoy_packets.specs.Assignment.{ranges_of}
 use Rattle.convoy_packets.specs.Table.{IsRange, IsTable, table_of}
-use Rattle.convoy_certificate.specs.Contents.{IsNode}
+use Rattle.convoy_certificate.specs.Certificate.{IsNode}
 use Rattle.convoy_certificate.specs.declared.node.Node.TheVariants.{Split}
 use Rattle.convoy_intervals.specs.Boxes.{IsBox, IsInside}
-use Rattle.convoy_intervals.specs.Laws.{CanPart}
-use Rattle.convoy_checker.specs.Trees.{Box}
+use Rattle.convoy_intervals.specs.Boxes.{CanSplit}
+use Rattle.convoy_intervals.specs.Boxes.{Box}
 
-pub IsNode-split : (plan : Plan) (box : Box) (packet at : ℕ) → IsTable (table_of plan) → IsBox plan box → CanPart box packet at → IsNode (Split packet at)
+pub IsNode-split : (plan : Scenario) (box : Box) (packet at : ℕ) → IsTable (table_of plan) → IsBox plan box → CanSplit box packet at → IsNode (Split packet at)
 IsNode-split plan box packet at table inside part =
     let long = length_all_zip IsInside (ranges_of plan) box inside in
     let here : packet < length (ranges_of plan) = omega (arith, part.place) in

@@ -1,17 +1,19 @@
 pub use Rattle.convoy_scenario.specs.Memory
-pub use Rattle.convoy_scenario.specs.Plan
+pub use Rattle.convoy_scenario.specs.Scenario
 pub use Rattle.convoy_packets.specs.Assignment
 pub use Rattle.convoy_packets.specs.Table
 pub use Rattle.convoy_sim.specs.Delivery
 pub use Rattle.convoy_sim.specs.Record
 pub use Rattle.convoy_intervals.specs.Boxes
 pub use Rattle.convoy_intervals.specs.Bounds
-pub use Rattle.convoy_certificate.specs.Contents
+pub use Rattle.convoy_certificate.specs.Certificate
 pub use Rattle.convoy_checker.specs.Trees
 pub use Rattle.convoy_checker.specs.Leaves
 pub use Rattle.convoy_checker.specs.Validity
+-- What a search promises: a step over a box, how far a search has come, what it answers, and the laws of fronts.
 pub mod Steps
 pub mod Fronts
-pub mod Searching
 pub mod Outcomes
 pub mod Laws
+-- Where the program stands between two steps: no promise above this crate rests on it.
+pub mod Searching

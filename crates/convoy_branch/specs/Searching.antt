@@ -1,51 +1,51 @@
 -- Where a search stands, between two boxes that it takes up.
-use Rattle.std.specs.Prelude.{◌≡◌, ℕ, ◌≤◌, List, [], ◌∷◌, ◌++◌, length, map, reverse}
+use Rattle.std.specs.Prelude.{◌≡◌, ℕ, ◌≤◌, true, false, List, [], ◌∷◌, ◌++◌, length, map, reverse}
 use Rattle.std.specs.List.{All}
-use Rattle.convoy_scenario.specs.Plan.{Plan}
+use Rattle.convoy_scenario.specs.Scenario.{Scenario}
 use Rattle.convoy_packets.specs.Assignment.{ranges_of}
 use Rattle.convoy_packets.specs.Table.{least_of}
 use Rattle.convoy_sim.specs.Delivery.{latency_of}
-use Rattle.convoy_sim.specs.Record.{Attained}
-use Rattle.convoy_certificate.specs.Contents.{IsNode}
+use Rattle.convoy_sim.specs.Record.{Record}
+use Rattle.convoy_certificate.specs.Certificate.{IsNode}
 use Rattle.convoy_certificate.specs.declared.node.Node.{Node}
 use Rattle.convoy_certificate.specs.declared.node.Node.TheVariants.{Split}
 use Rattle.convoy_intervals.specs.Boxes.{IsBox, root_of}
-use Rattle.convoy_checker.specs.Trees.{AreTrees}
 use Rattle.convoy_branch.specs.declared.search.Work.{Work}
 use Rattle.convoy_branch.specs.declared.search.Work.TheVariants.{Branch, Write}
 use Rattle.convoy_branch.specs.declared.step.Turn.{Turn}
 use Rattle.convoy_branch.specs.declared.step.Turn.TheVariants.{Closed, Halves}
-use Rattle.convoy_branch.specs.Fronts.{FrontNode, Spent, Left, front_below, IsOfFront, spent_in}
+use Rattle.convoy_branch.specs.Fronts.{AreFronts, FrontNode, Spent, Left, spent_in}
+use Rattle.convoy_branch.specs.Steps.{IsTriedIf}
 
 -- the node of the front that a piece of work stands for
 abbrev pub front_of : Work → FrontNode
-front_of (Branch branch) = Left branch
+front_of (Branch branch tried) = Left branch
 front_of (Write node) = Spent node
 
 -- the front: the work that is left, and then the nodes that are written, the last one first
 abbrev pub front_nodes : List Work → List Node → List FrontNode
 front_nodes work nodes = map front_of work ++ map Spent (reverse nodes)
 
--- what is left is a box of the scenario, or a node that may stand in a certificate
-abbrev pub IsWork : Plan → Work → Type 0
-IsWork plan (Branch branch) = IsBox plan branch
-IsWork plan (Write node) = IsNode node
+-- what is left, where that is the best latency: a box of the scenario, whose greatest delays have no greater latency if it is told to be tried, or a node that may stand in a certificate
+abbrev pub IsWork : Scenario → ℕ → Work → Type 0
+IsWork scenario best (Branch branch tried) = IsBox scenario branch × IsTriedIf scenario branch tried best
+IsWork scenario best (Write node) = IsNode node
 
 -- The search has come to this: its best record, the work that is left, the nodes that are written, and the tickets that were spent.
-pub record IsSearching (plan : Plan) (best : Attained) (work : List Work) (nodes : List Node) (tickets : ℕ) : Type 0 where
-  pub scenario : best.plan ≡ plan
-  pub least : latency_of plan (least_of (ranges_of plan)) ≤ best.latency
+pub record IsSearching (scenario : Scenario) (best : Record) (work : List Work) (nodes : List Node) (tickets : ℕ) : Type 0 where
+  pub of_scenario : best.scenario ≡ scenario
+  pub least : latency_of scenario (least_of (ranges_of scenario)) ≤ best.latency
   -- the front is a tree over the root box, and a ticket was spent for each of its nodes, but for the boxes that are left
-  pub tree : AreTrees front_below (IsOfFront plan best.latency) (root_of plan ∷ []) (front_nodes work nodes)
+  pub tree : AreFronts scenario best.latency (root_of scenario ∷ []) (front_nodes work nodes)
   pub spent : length (spent_in (front_nodes work nodes)) ≡ tickets
-  pub all_work : All (IsWork plan) work
+  pub all_work : All (IsWork scenario best.latency) work
   pub all_nodes : All IsNode nodes
 
--- the work that is left, and the nodes that are written, after a turn
+-- the work that is left, and the nodes that are written, after a turn; the upper half has the greatest delays of the box, which were tried
 abbrev pub work_after : List Work → Turn → List Work
 work_after work (Closed node) = work
 work_after work (Halves packet at lower upper) =
-    ((work ++ Write (Split packet at) ∷ []) ++ Branch lower ∷ []) ++ Branch upper ∷ []
+    ((work ++ Write (Split packet at) ∷ []) ++ Branch lower false ∷ []) ++ Branch upper true ∷ []
 
 abbrev pub nodes_after : List Node → Turn → List Node
 nodes_after nodes (Closed node) = nodes ++ node ∷ []

@@ -1,7 +1,8 @@
 //! The laws of fronts. Each is the one clause of a function that does nothing; a caller that needs
 //! the law calls the function.
 
-ghost use Rattle.convoy_branch.specs.Laws.{FrontsBound};
+ghost use Rattle.convoy_branch.specs.Laws.{FrontsAppend, FrontsBetter, FrontsBound, FrontsFilled};
+ghost use Rattle.convoy_branch.specs.Laws.{TurnsAreFronts};
 
 use convoy_checker::laws::trees_cover;
 
@@ -11,3 +12,23 @@ pub fn fronts_bound()
 {
     trees_cover();
 }
+
+/// Fronts over some boxes and then fronts over others are fronts over all of them.
+pub fn fronts_append()
+    ensures { FrontsAppend }
+{}
+
+/// A front over a box may take the place of the box where it is left.
+pub fn fronts_filled()
+    ensures { FrontsFilled }
+{}
+
+/// A better record leaves each node of a front right.
+pub fn fronts_better()
+    ensures { FrontsBetter }
+{}
+
+/// What becomes of a box in a step is a front over the box.
+pub fn turns_are_fronts()
+    ensures { TurnsAreFronts }
+{}

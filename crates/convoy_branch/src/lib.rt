@@ -2,10 +2,12 @@
 #![tactic(auto)]
 
 pub use outcome::Outcome;
-pub use search::search_alone;
+pub use search::{search_alone, search_from};
 pub use step::{Step, Turn, step_branch};
 
 pub mod laws;
 mod outcome;
+#[cfg(test)]
+mod scenarios;
 mod search;
 mod step;

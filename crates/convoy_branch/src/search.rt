@@ -1,18 +1,23 @@
 ghost use Rattle.std.specs.Prelude.{◌≡◌, ℕ, ◌+◌, ◌<◌, ◌≤◌, [], ◌∷◌, ◌++◌, length, map};
 ghost use Rattle.std.specs.Prelude.{IfOk, OnOk, unwrap_or};
 ghost use Rattle.std.specs.List.{All};
-ghost use Rattle.convoy_packets.specs.Table.{IsTable, table_of};
+ghost use Rattle.convoy_scenario.specs.WellFormed.{IsScenario};
+ghost use Rattle.convoy_packets.specs.Assignment.{ranges_of};
+ghost use Rattle.convoy_packets.specs.Table.{IsTable, least_of, table_of};
+ghost use Rattle.convoy_sim.specs.Delivery.{latency_of};
 ghost use Rattle.convoy_sim.specs.Times.{greatest};
 ghost use Rattle.convoy_intervals.specs.Bounds.{plain_bound};
 ghost use Rattle.convoy_branch.specs.Fronts.{left_in};
-ghost use Rattle.convoy_branch.specs.Outcomes.{IsOutcome};
+ghost use Rattle.convoy_branch.specs.Outcomes.{IsOutcome, best_of};
 ghost use Rattle.convoy_branch.specs.Searching.{IsSearching, IsWork, front_of};
 ghost use Rattle.convoy_branch.specs.Searching.{work_after, nodes_after};
 
+use super::laws::fronts_bound;
 use super::outcome::Outcome;
 use super::step::{Turn, step_branch};
 use convoy_certificate::{Certificate, Node};
-use convoy_intervals::laws::halves_are_boxes;
+use convoy_checker::laws::trees_cover;
+use convoy_intervals::laws::{halves_are_boxes, upper_keeps_greatest};
 use convoy_intervals::{DelayBox, bound};
 use convoy_packets::{Delays, PacketTable};
 use convoy_scenario::Scenario;
@@ -36,14 +41,36 @@ pub fn search_alone(
     requires packets { table.now ≡ table_of scenario.now }
     ensures { IfOk result (λ outcome. IsOutcome scenario.now limit outcome) }
 {
-    let mut search = Search::start(alloc, scenario, table)?;
+    let delays = Delays::least(alloc, table)?;
+    let opening = Record::of(scenario, table, delays);
+    search_from(alloc, scenario, table, opening, limit)
+}
+
+/// The search of [`search_alone`] from an opening record of the scenario. Its latency is at least
+/// that of the least delays, and the latency that the search finds is at least that of the record.
+pub fn search_from(
+    alloc: Global,
+    scenario: &Scenario,
+    table: &PacketTable,
+    opening: Record,
+    limit: u64,
+) -> Result<Outcome, AllocError>
+    requires packets { table.now ≡ table_of scenario.now }
+    requires of_scenario { opening.scenario ≡ scenario.now }
+    requires least { latency_of scenario.now (least_of (ranges_of scenario.now)) ≤ opening.latency }
+    ensures value { IfOk result (λ outcome. IsOutcome scenario.now limit outcome) }
+    ensures opened { IfOk result (λ outcome. opening.latency ≤ best_of outcome) }
+{
+    let mut search = Search::start(alloc, table, opening)?;
     while let Some(work) = search.work.pop() {
         match work {
             Work::Write(node) => search.nodes.push(node)?,
-            Work::Branch(branch) if search.tickets < limit => {
-                search.take_up(alloc, scenario, table, branch)?;
+            Work::Branch { branch, tried } if search.tickets < limit => {
+                search.take_up(alloc, scenario, table, branch, tried)?;
             }
-            Work::Branch(branch) => return search.into_open(alloc, scenario, table, branch),
+            Work::Branch { branch, tried } => {
+                return search.into_open(alloc, scenario, table, branch, tried);
+            }
         }
     }
     search.into_proved(alloc, scenario)
@@ -52,8 +79,9 @@ pub fn search_alone(
 /// What a search has still to do.
 #[derive(Drop)]
 enum Work {
-    /// To take up a box.
-    Branch(DelayBox),
+    /// To take up a box. Where it is `tried`, the schedule of its greatest delays is known to have
+    /// no greater latency than the best record.
+    Branch { branch: DelayBox, tried: bool },
     /// To write a split: both its halves are done.
     Write(Node),
 }
@@ -72,23 +100,24 @@ struct Search {
 }
 
 impl Search {
-    /// A search of the root box that has seen the least delays.
-    fn start(alloc: Global, scenario: &Scenario, table: &PacketTable) -> Result<Search, AllocError>
-        requires packets { table.now ≡ table_of scenario.now }
+    /// A search of the root box from an opening record.
+    fn start(alloc: Global, table: &PacketTable, opening: Record) -> Result<Search, AllocError>
+        requires packets { table.now ≡ table_of opening.scenario }
+        requires least { latency_of opening.scenario (least_of (ranges_of opening.scenario))
+            ≤ opening.latency }
         ensures searching { IfOk result
-            (λ s. IsSearching scenario.now s.best s.work.items s.nodes.items 0) }
+            (λ s. IsSearching opening.scenario s.best s.work.items s.nodes.items 0) }
+        ensures best { IfOk result (λ s. s.best ≡ opening) }
         ensures tickets { IfOk result (λ s. s.tickets ≡ 0) }
         ensures lawful { IfOk result (λ _. IsTable table.now) }
     {
-        let delays = Delays::least(alloc, table)?;
-        let best = match Record::of(alloc, scenario, table, delays) {
-            Ok(best) => best,
-            Err((_, error)) => return Err(error),
-        };
         let mut work = Vec::with_capacity(alloc, table.len())?;
-        work.push(Work::Branch(DelayBox::root(alloc, table)?))?;
+        work.push(Work::Branch {
+            branch: DelayBox::root(alloc, table)?,
+            tried: false,
+        })?;
         Ok(Search {
-            best,
+            best: opening,
             work,
             nodes: Vec::new(alloc),
             tickets: 0,
@@ -102,19 +131,24 @@ impl Search {
         scenario: &Scenario,
         table: &PacketTable,
         branch: DelayBox,
+        tried: bool,
     ) -> Result<(), AllocError>
         requires packets { table.now ≡ table_of scenario.now }
         requires lawful { IsTable table.now }
         requires searching { IsSearching scenario.now self.old.best
-            (self.old.work.items ++ Work.Branch branch ∷ []) self.old.nodes.items self.old.tickets }
+            (self.old.work.items ++ Work.Branch branch tried ∷ []) self.old.nodes.items
+            self.old.tickets }
         requires ticket { self.old.tickets < u64.MAX }
         ensures searching { OnOk result (IsSearching scenario.now self.new.best
             self.new.work.items self.new.nodes.items (self.old.tickets + 1)) }
+        ensures best { OnOk result (self.old.best.latency ≤ self.new.best.latency) }
         ensures ticket { OnOk result (self.new.tickets ≡ self.old.tickets + 1) }
         ensures few { OnOk result (length self.new.work.items ≤ length self.old.work.items + 3) }
     {
         halves_are_boxes();
-        let step = match step_branch(alloc, scenario, table, branch, self.best.latency()) {
+        upper_keeps_greatest();
+        let seen = self.best.latency();
+        let step = match step_branch(alloc, scenario, table, branch, tried, seen) {
             Ok(step) => step,
             Err((_, error)) => return Err(error),
         };
@@ -150,8 +184,14 @@ impl Search {
                 upper,
             } => {
                 self.work.push(Work::Write(Node::Split { packet, at }))?;
-                self.work.push(Work::Branch(lower))?;
-                self.work.push(Work::Branch(upper))?;
+                self.work.push(Work::Branch {
+                    branch: lower,
+                    tried: false,
+                })?;
+                self.work.push(Work::Branch {
+                    branch: upper,
+                    tried: true,
+                })?;
             }
         }
         Ok(())
@@ -160,9 +200,12 @@ impl Search {
     /// The outcome of a search with no work left.
     fn into_proved(self, alloc: Global, scenario: &Scenario) -> Result<Outcome, AllocError>
         requires { IsSearching scenario.now self.best [] self.nodes.items self.tickets }
-        ensures { (limit : ℕ) → self.tickets ≤ limit
+        ensures value { (limit : ℕ) → self.tickets ≤ limit
             → IfOk result (λ outcome. IsOutcome scenario.now limit outcome) }
+        ensures best { IfOk result (λ outcome. best_of outcome ≡ self.best.latency) }
     {
+        trees_cover();
+        is_scenario(scenario);
         let mut nodes = self.nodes;
         nodes.reverse();
         let latency = self.best.latency();
@@ -181,13 +224,17 @@ impl Search {
         scenario: &Scenario,
         table: &PacketTable,
         branch: DelayBox,
+        tried: bool,
     ) -> Result<Outcome, AllocError>
         requires packets { table.now ≡ table_of scenario.now }
         requires searching { IsSearching scenario.now self.best
-            (self.work.items ++ Work.Branch branch ∷ []) self.nodes.items self.tickets }
-        ensures { IfOk result (λ outcome. IsOutcome scenario.now self.tickets outcome) }
+            (self.work.items ++ Work.Branch branch tried ∷ []) self.nodes.items self.tickets }
+        ensures value { IfOk result (λ outcome. IsOutcome scenario.now self.tickets outcome) }
+        ensures best { IfOk result (λ outcome. best_of outcome ≡ self.best.latency) }
     {
-        self.work.push(Work::Branch(branch))?;
+        fronts_bound();
+        is_scenario(scenario);
+        self.work.push(Work::Branch { branch, tried })?;
         let upper = greatest_bound(scenario, table, &self.work, self.best.latency());
         Ok(Outcome::Open {
             best: self.best,
@@ -198,16 +245,23 @@ impl Search {
     }
 }
 
+/// What every scenario keeps, for the proofs of its callers.
+fn is_scenario(scenario: &Scenario)
+    ensures { IsScenario scenario.now }
+{
+    let _ = scenario.delay();
+}
+
 /// The greatest of a number of ticks and the bounds of the boxes that are left.
 fn greatest_bound(scenario: &Scenario, table: &PacketTable, work: &[Work], seen: u32) -> u32
     requires packets { table.now ≡ table_of scenario.now }
-    requires inside { All (IsWork scenario.now) work.now }
+    requires inside { All (IsWork scenario.now seen) work.now }
     ensures { let boxes = left_in (map front_of work.now) in result
         ≡ greatest (seen ∷ map (plain_bound scenario.now) boxes) }
 {
     let mut greatest = seen;
     for piece in work {
-        if let Work::Branch(branch) = piece {
+        if let Work::Branch { branch, .. } = piece {
             greatest = greatest.max(bound(scenario, table, branch));
         }
     }

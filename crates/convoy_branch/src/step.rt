@@ -1,12 +1,12 @@
 ghost use Rattle.std.specs.Prelude.{◌≡◌, ◌↔◌, ℕ, length, nat_le, if◌then◌else◌};
 ghost use Rattle.std.specs.Prelude.{IfErr, IfOk, IfSome, IsNone};
-ghost use Rattle.convoy_scenario.specs.Plan.{Plan};
+ghost use Rattle.convoy_scenario.specs.Scenario.{Scenario};
 ghost use Rattle.convoy_packets.specs.Table.{table_of};
 ghost use Rattle.convoy_sim.specs.Delivery.{latency_of};
 ghost use Rattle.convoy_sim.specs.Record.{attained_by};
 ghost use Rattle.convoy_intervals.specs.Boxes.{IsBox, IsPoint, greatest_of};
-ghost use Rattle.convoy_intervals.specs.Laws.{CanPart};
-ghost use Rattle.convoy_branch.specs.Steps.{known_after, IsStep, IsTurn, StaysOpen};
+ghost use Rattle.convoy_intervals.specs.Boxes.{CanSplit};
+ghost use Rattle.convoy_branch.specs.Steps.{known_after, IsStep, IsTriedIf, IsTurn, StaysOpen};
 
 use convoy_certificate::Node;
 use convoy_intervals::laws::members_are_assignments;
@@ -22,19 +22,20 @@ mod tests;
 /// What a step over a box gave.
 #[derive(Drop)]
 pub struct Step {
-    /// A record of a greater latency than was seen, if the box has shown one.
+    /// A record of a greater latency than was seen, if the greatest delays of the box have one.
     pub found: Option<Record>,
     /// What becomes of the box.
     pub turn: Turn,
 }
 
-/// What becomes of a box.
+/// What becomes of a box that is taken up.
 #[derive(Drop)]
 pub enum Turn {
     /// No member has a greater latency than is known: the leaf that says why, never a split.
     Closed(Node),
-    /// The box is parted at a packet: into the members whose delay of it is at most `at` ticks, and
-    /// those whose delay is more.
+    /// The box is split at a packet: into the members whose delay of it is at most `at` ticks, and
+    /// those whose delay is more. The greatest delays of the upper half are those of the box, which
+    /// this step or an earlier one has tried.
     Halves {
         packet: u16,
         at: u16,
@@ -43,21 +44,24 @@ pub enum Turn {
     },
 }
 
-/// Takes up one box of a search, where the best record has the latency `seen`, in ticks.
+/// Takes up one box of a search, where the best record has the latency `seen`, in ticks. The caller
+/// says by `tried` that the schedule of the box's greatest delays is known to have no greater one.
 ///
 /// The box is closed where its bound is at most `seen`. Else the schedule of its greatest delays is
-/// simulated, and a latency above `seen` is found; then the box is closed where its bound is at most
-/// that, or where it has one member, and else is parted (docs/PROTOCOL.md). Where memory is refused
-/// the box comes back as it was.
+/// simulated, unless it was tried, and a latency above `seen` is found; then the box is closed where
+/// its bound is at most that, or where it has one member, and else is split (docs/PROTOCOL.md). Where
+/// memory runs out the box comes back as it was.
 pub fn step_branch(
     alloc: Global,
     scenario: &Scenario,
     table: &PacketTable,
     branch: DelayBox,
+    tried: bool,
     seen: u32,
 ) -> Result<Step, (DelayBox, AllocError)>
     requires packets { table.now ≡ table_of scenario.now }
     requires inside { IsBox scenario.now branch }
+    requires known { IsTriedIf scenario.now branch tried seen }
     ensures value { IfOk result (λ step. IsStep scenario.now branch seen step) }
     ensures back { IfErr result (λ refused. refused.0 ≡ branch) }
 {
@@ -68,7 +72,7 @@ pub fn step_branch(
             turn: Turn::Closed(Node::Bound),
         });
     }
-    let found = match try_greatest(alloc, scenario, table, &branch, seen) {
+    let found = match try_greatest(alloc, scenario, table, &branch, tried, seen) {
         Ok(found) => found,
         Err(error) => return Err((branch, error)),
     };
@@ -81,31 +85,33 @@ pub fn step_branch(
     Ok(Step { found, turn })
 }
 
-/// The record of the greatest delays of a box, if their latency is above `seen`, in ticks.
+/// The record of the greatest delays of a box, if their latency is above `seen`, in ticks. This is
+/// the one place where a step asks for a latency, and it does not where the delays were tried.
 fn try_greatest(
     alloc: Global,
     scenario: &Scenario,
     table: &PacketTable,
     branch: &DelayBox,
+    tried: bool,
     seen: u32,
 ) -> Result<Option<Record>, AllocError>
     requires packets { table.now ≡ table_of scenario.now }
     requires inside { IsBox scenario.now branch.now }
+    requires known { IsTriedIf scenario.now branch.now tried seen }
     ensures { let delays = greatest_of branch.now in IfOk result (λ found. found
         ≡ (if nat_le (latency_of scenario.now delays) seen
         then None else Some (attained_by scenario.now delays))) }
 {
+    if tried {
+        return Ok(None);
+    }
     members_are_assignments();
     let delays = branch.greatest(alloc)?;
-    match Record::of(alloc, scenario, table, delays) {
-        Ok(tried) => {
-            if tried.latency() > seen {
-                Ok(Some(tried))
-            } else {
-                Ok(None)
-            }
-        }
-        Err((_, error)) => Err(error),
+    let record = Record::of(scenario, table, delays);
+    if record.latency() > seen {
+        Ok(Some(record))
+    } else {
+        Ok(None)
     }
 }
 
@@ -120,11 +126,11 @@ fn known_after(seen: u32, found: &Option<Record>) -> u32
 }
 
 /// What becomes of a box that its bound does not close: a leaf where it has one member, and else
-/// its halves. Where memory is refused the box comes back as it was.
+/// its halves. Where memory runs out the box comes back as it was.
 fn open_turn(table: &PacketTable, branch: DelayBox) -> Result<Turn, (DelayBox, AllocError)>
     requires one_each { length branch ≡ length table.now.ranges }
-    ensures value { (plan : Plan) (known : ℕ) → StaysOpen plan branch known
-        → IfOk result (λ turn. IsTurn plan branch known turn) }
+    ensures value { (scenario : Scenario) (known : ℕ) → StaysOpen scenario branch known
+        → IfOk result (λ turn. IsTurn scenario branch known turn) }
     ensures back { IfErr result (λ refused. refused.0 ≡ branch) }
 {
     match place_to_split(table, &branch) {
@@ -141,12 +147,12 @@ fn open_turn(table: &PacketTable, branch: DelayBox) -> Result<Turn, (DelayBox, A
     }
 }
 
-/// Where to part a box: the packet of the widest range, the first where several are as wide, and
+/// Where to split a box: the packet of the widest range, the first where several are as wide, and
 /// the middle of its range in ticks, rounded down. None where each packet has one delay left.
 fn place_to_split(table: &PacketTable, branch: &DelayBox) -> Option<(u16, u16)>
     requires one_each { length branch.now ≡ length table.now.ranges }
     ensures point { IsNone result ↔ IsPoint branch.now }
-    ensures part { IfSome result (λ place. CanPart branch.now place.0 place.1) }
+    ensures part { IfSome result (λ place. CanSplit branch.now place.0 place.1) }
 {
     let mut widest = 0;
     let mut width = 0;

@@ -1,9 +1,17 @@
-use super::search_alone;
+ghost use Rattle.std.specs.Prelude.{◌≡◌, IfOk};
+ghost use Rattle.convoy_packets.specs.Assignment.{IsAssignment};
+ghost use Rattle.convoy_packets.specs.Table.{table_of};
+ghost use Rattle.convoy_sim.specs.Record.{attained_by};
+
+use super::{search_alone, search_from};
 use crate::outcome::Outcome;
+use crate::scenarios::base;
 use convoy_certificate::Node;
-use convoy_packets::PacketTable;
-use convoy_scenario::{Scenario, read_toml};
-use std::alloc::Global;
+use convoy_packets::{Delays, PacketTable};
+use convoy_scenario::Scenario;
+use convoy_sim::Record;
+use std::alloc::{AllocError, Global};
+use std::process::Abort;
 use std::test::Fail;
 
 /// How a search ended.
@@ -17,27 +25,25 @@ enum Ending {
     WrongTickets,
 }
 
-/// The base scenario of docs/PROTOCOL.md, with that greatest delay, its groups in that order, and y
-/// issued at that tick.
-fn base(alloc: Global, delay: u16, groups: &str, at: u32) -> Result<Scenario, Fail> {
-    let text = format!(in alloc;
-        "delay = {delay}
-groups = [{groups}]
-multicast = [
-    {{ name = \"x\", to = [\"b\"], at = 0 }},
-    {{ name = \"t\", to = [\"a\", \"b\"], at = 0 }},
-    {{ name = \"y\", from = \"a\", to = [\"a\", \"b\"], at = {at} }},
-]
-target = {{ message = \"t\", group = \"a\" }}
-"
-    )?;
-    Ok(read_toml(alloc, text.as_bytes())?.scenario)
-}
-
 /// What a search of a scenario answers.
 fn outcome_of(alloc: Global, scenario: &Scenario, limit: u64) -> Result<Outcome, Fail> {
     let table = PacketTable::of(alloc, scenario)?;
     Ok(search_alone(alloc, scenario, &table, limit)?)
+}
+
+/// What a search answers that opens with the record of the greatest delays, where their latency is no
+/// less than that of the least delays.
+fn outcome_from_greatest(
+    rt: &impl Abort,
+    alloc: Global,
+    scenario: &Scenario,
+    limit: u64,
+) -> Result<Outcome, Fail> {
+    let table = PacketTable::of(alloc, scenario)?;
+    let least = Record::of(scenario, &table, Delays::least(alloc, &table)?);
+    let opening = Record::of(scenario, &table, Delays::greatest(alloc, &table)?);
+    assert!(rt; least.latency() <= opening.latency());
+    Ok(search_from(alloc, scenario, &table, opening, limit)?)
 }
 
 fn ending_of(outcome: &Outcome) -> Ending {
@@ -144,5 +150,17 @@ fn neighbours_of_the_base(rt: HostRuntime) -> Result<(), Fail> {
             Outcome::Open { .. } => assert!(rt; false, "y at {at}, delay {delay}"),
         }
     }
+    Ok(())
+}
+
+#[test]
+fn opens_with_a_record(rt: HostRuntime) -> Result<(), Fail> {
+    let alloc = rt.alloc();
+    let scenario = base(alloc, 3, "\"a\", \"b\"", 6)?;
+    let outcome = outcome_from_greatest(&rt, alloc, &scenario, 0)?;
+    assert_eq!(rt; ending_of(&outcome), Ending::Open(12, 12, 0));
+    let swapped = base(alloc, 3, "\"b\", \"a\"", 6)?;
+    let outcome = outcome_from_greatest(&rt, alloc, &swapped, 1_469)?;
+    assert_eq!(rt; ending_of(&outcome), Ending::Proved(6, 1_469, 1_469));
     Ok(())
 }

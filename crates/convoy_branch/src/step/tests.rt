@@ -1,31 +1,16 @@
 ghost use Rattle.std.specs.Prelude.{◌≡◌, ◌<◌, length, IfOk};
-ghost use Rattle.convoy_scenario.specs.Plan.{Plan};
+ghost use Rattle.convoy_scenario.specs.Scenario.{Scenario};
 ghost use Rattle.convoy_packets.specs.Table.{table_of};
 ghost use Rattle.convoy_intervals.specs.Boxes.{IsBox};
 
 use super::{Step, Turn, step_branch};
+use crate::scenarios::base;
 use convoy_certificate::Node;
 use convoy_intervals::DelayBox;
 use convoy_packets::PacketTable;
-use convoy_scenario::{Scenario, read_toml};
+use convoy_scenario::Scenario;
 use std::alloc::{AllocError, Global};
 use std::test::Fail;
-
-/// The base scenario of docs/PROTOCOL.md, with its groups in that order.
-fn base(alloc: Global, groups: &str) -> Result<Scenario, Fail> {
-    let text = format!(in alloc;
-        "delay = 3
-groups = [{groups}]
-multicast = [
-    {{ name = \"x\", to = [\"b\"], at = 0 }},
-    {{ name = \"t\", to = [\"a\", \"b\"], at = 0 }},
-    {{ name = \"y\", from = \"a\", to = [\"a\", \"b\"], at = 6 }},
-]
-target = {{ message = \"t\", group = \"a\" }}
-"
-    )?;
-    Ok(read_toml(alloc, text.as_bytes())?.scenario)
-}
 
 /// The latency that the step found, and the node that stands for the box.
 fn summary(step: &Step) -> (Option<u32>, Node) {
@@ -56,7 +41,7 @@ fn step_over(
     requires packets { table.now ≡ table_of scenario.now }
     requires inside { IsBox scenario.now branch }
 {
-    match step_branch(alloc, scenario, table, branch, seen) {
+    match step_branch(alloc, scenario, table, branch, false, seen) {
         Ok(step) => Ok(summary(&step)),
         Err((_, error)) => Err(error.into()),
     }
@@ -96,7 +81,7 @@ fn greatest_point(
 fn at_greatest(branch: DelayBox, packet: usize) -> Result<DelayBox, AllocError>
     requires { packet < length branch }
     ensures same_length { IfOk result (λ b. length b ≡ length branch) }
-    ensures is_box { IfOk result (λ b. (plan : Plan) → IsBox plan branch → IsBox plan b) }
+    ensures is_box { IfOk result (λ b. (scenario : Scenario) → IsBox scenario branch → IsBox scenario b) }
 {
     let (least, most) = branch.range(packet);
     if least == most {
@@ -111,7 +96,7 @@ fn at_greatest(branch: DelayBox, packet: usize) -> Result<DelayBox, AllocError>
 #[test]
 fn closes_by_the_latency_found(rt: HostRuntime) -> Result<(), Fail> {
     let alloc = rt.alloc();
-    let scenario = base(alloc, "\"a\", \"b\"")?;
+    let scenario = base(alloc, 3, "\"a\", \"b\"", 6)?;
     assert_eq!(rt; root_step(alloc, &scenario, 2)?, (Some(12), Node::Bound));
     assert_eq!(rt; root_step(alloc, &scenario, 12)?, (None, Node::Bound));
     Ok(())
@@ -120,7 +105,7 @@ fn closes_by_the_latency_found(rt: HostRuntime) -> Result<(), Fail> {
 #[test]
 fn parts_the_first_of_the_widest(rt: HostRuntime) -> Result<(), Fail> {
     let alloc = rt.alloc();
-    let scenario = base(alloc, "\"b\", \"a\"")?;
+    let scenario = base(alloc, 3, "\"b\", \"a\"", 6)?;
     let split = Node::Split { packet: 0, at: 2 };
     assert_eq!(rt; root_step(alloc, &scenario, 2)?, (Some(6), split));
     assert_eq!(rt; root_step(alloc, &scenario, 6)?, (None, split));
@@ -130,7 +115,7 @@ fn parts_the_first_of_the_widest(rt: HostRuntime) -> Result<(), Fail> {
 #[test]
 fn closes_a_point(rt: HostRuntime) -> Result<(), Fail> {
     let alloc = rt.alloc();
-    let scenario = base(alloc, "\"b\", \"a\"")?;
+    let scenario = base(alloc, 3, "\"b\", \"a\"", 6)?;
     assert_eq!(rt; point_step(alloc, &scenario, 2)?, (Some(6), Node::Point));
     assert_eq!(rt; point_step(alloc, &scenario, 6)?, (None, Node::Point));
     assert_eq!(rt; point_step(alloc, &scenario, 12)?, (None, Node::Bound));

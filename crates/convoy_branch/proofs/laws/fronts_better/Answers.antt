@@ -1,0 +1,6 @@
+use Rattle.convoy_branch.proofs.FrontTrees.{AreFronts-better}
+use Rattle.convoy_branch.proofs.laws.fronts_better.Goals as goal
+
+pub returns : goal.returns
+returns c scenario best better boxes nodes above fronts =
+    AreFronts-better scenario best better nodes boxes above fronts
