@@ -1,0 +1,5 @@
+pub use Rattle.convoy_sim.specs.Record
+pub use Rattle.convoy_sim.specs.Greatest
+pub mod Boards
+pub mod Faults
+pub mod Rule
