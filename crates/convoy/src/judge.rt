@@ -1,47 +1,34 @@
 //! The command line, judged before any input is read.
 
-ghost use Rattle.std.specs.Prelude.{IfOk};
-ghost use Rattle.convoy.specs.Verdicts.{EndsAtOnce, IsLimit, IsTask, IsVerdict};
+ghost use Rattle.std.specs.Prelude.{◌≡◌, IfOk};
+ghost use Rattle.convoy_engine.specs.Commands.{IsAlone};
+ghost use Rattle.convoy.specs.Verdicts.{EndsAtOnce, IsVerdict};
 
+use super::MOST_READS;
 use clap::error::ErrorKind;
-use clap::{Arg, ArgMatches, Command, Error, value_parser};
-use convoy_engine::{DEFAULT_LIMIT, MOST_TICKETS};
+use clap::{Arg, ArgMatches, Error, value_parser};
+use convoy_engine::{
+    Command, DEFAULT_LIMIT, DEFAULT_SIMULATIONS, MOST_SIMULATIONS, MOST_TICKETS, Options,
+};
 use std::alloc::{AllocError, Global};
 use std::convert::AsStr;
-
-/// What a command of the program does.
-#[derive(Clone, Copy, Debug, PartialEq, Eq)]
-pub enum Task {
-    /// The latency that the schedule of least delays attains.
-    First,
-    /// The latency under the schedule that is given.
-    Simulate,
-    /// What happens at each group under that schedule.
-    Timeline,
-    /// Whether a certificate is valid.
-    Check,
-    /// A certificate of the greatest latency, by a search that spends at most so many tickets.
-    Analyse(u64),
-    /// The greatest latency, by such a search.
-    Latency(u64),
-}
 
 /// What is to be done for a command line.
 #[derive(Debug, Drop)]
 pub enum Verdict {
-    /// It asks for a task.
-    Run(Task),
-    /// It asks for help, or is refused: a text is to be written, and the program ends with the status.
+    /// It asks for a command.
+    Run(Command),
+    /// It asks for help, or is rejected: a text is to be written, and the program ends with the status.
     Text { text: String, status: u8 },
-    /// Memory was refused.
+    /// Memory ran out.
     Memory,
 }
 
 /// The status of a command line that asked for help.
 const HELP: u8 = 0;
 
-/// The status of a command line that is refused.
-const REFUSED: u8 = 2;
+/// The status of a command line that is rejected.
+const REJECTED: u8 = 2;
 
 const ABOUT: &str = "The greatest latency of Skeen's genuine atomic multicast, exact and proved";
 
@@ -77,7 +64,7 @@ and `convoy analyse < scenario.toml | convoy check` writes
 Exit status:
   0  an answer, or help
   1  a fault, told in one line as 'fault NUMBER TEXT'
-  2  the command line is refused
+  2  the command line is rejected
   3  a search that did not end within its limit
   4  a certificate that is refused";
 
@@ -136,7 +123,8 @@ The command `check` checks it, and needs nothing of the search:
 
 Where the search spends all its tickets first, it writes two lines, and the exit
 status is 3: 'open LEAST MOST', the least and the most that the greatest latency
-may be, in ticks, and 'schedule', of a schedule that has the latency LEAST.";
+may be, in ticks, and 'schedule', of a schedule that has the latency LEAST.
+LEAST is then most likely the greatest latency; MOST is safe to rely on.";
 
 const ABOUT_LATENCY: &str = "Writes the greatest latency";
 
@@ -147,19 +135,24 @@ target over all schedules, and writes one line: 'greatest N', in ticks.
 The command `analyse` runs the same search, and writes why it is so.
 
 Where the search spends all its tickets first, it writes 'open LEAST MOST', the
-least and the most that the greatest latency may be, and the exit status is 3.";
+least and the most that the greatest latency may be, and the exit status is 3.
+LEAST is then most likely the greatest latency; MOST is safe to rely on.";
 
 const ABOUT_LIMIT: &str = "\
 How many tickets the search spends at most, one for each set of schedules that it
 looks at: from 1 to 4000000";
 
+const ABOUT_SEEK: &str = "\
+How many schedules are simulated at most to find a good one for the search to
+start from: from 0, for the schedule of the least delays, to 1000000";
+
 /// What is to be done for these words, the program's own name not among them.
 pub fn judge<S: AsStr>(alloc: Global, words: &[S]) -> Verdict
     ensures { IsVerdict result }
 {
-    match task_of(alloc, words) {
-        Ok(task) => Verdict::Run(task),
-        Err(error) => refusal(alloc, &error),
+    match command_of(alloc, words) {
+        Ok(command) => Verdict::Run(command),
+        Err(error) => rejection(alloc, &error),
     }
 }
 
@@ -170,58 +163,64 @@ pub fn judge_bytes(alloc: Global) -> Verdict
     match String::from_str(alloc, "error: the command line is not UTF-8\n") {
         Ok(text) => Verdict::Text {
             text,
-            status: REFUSED,
+            status: REJECTED,
         },
         Err(AllocError) => Verdict::Memory,
     }
 }
 
-fn task_of<S: AsStr>(alloc: Global, words: &[S]) -> Result<Task, Error>
-    ensures { IfOk result IsTask }
+fn command_of<S: AsStr>(alloc: Global, words: &[S]) -> Result<Command, Error>
+    ensures { IfOk result IsAlone }
 {
-    let matches = command(alloc)?.try_get_matches_from(words)?;
+    let matches = parser(alloc)?.try_get_matches_from(words)?;
     Ok(match matches.subcommand() {
-        Some(("simulate", _)) => Task::Simulate,
-        Some(("timeline", _)) => Task::Timeline,
-        Some(("check", _)) => Task::Check,
-        Some(("analyse", given)) => Task::Analyse(limit_of(given)),
-        Some(("latency", given)) => Task::Latency(limit_of(given)),
+        Some(("simulate", _)) => Command::Simulate,
+        Some(("timeline", _)) => Command::Timeline,
+        Some(("check", _)) => Command::Check,
+        Some(("analyse", given)) => Command::Analyse(options_of(given)),
+        Some(("latency", given)) => Command::Latency(options_of(given)),
         // `first` is the command that is meant without a command word.
-        _ => Task::First,
+        _ => Command::First,
     })
 }
 
-/// The limit that a search is given, or else the usual one. `clap` refuses a word that is no such
-/// number, or out of range.
-fn limit_of(given: &ArgMatches<'_>) -> u64
-    ensures { IsLimit result }
+/// The options of a search: the numbers that are given, or else the usual ones. `clap` rejects a word
+/// that is no such number, or out of range.
+fn options_of(given: &ArgMatches<'_>) -> Options
+    ensures { result.workers ≡ 1 }
 {
     let limit = given.get_one("limit").unwrap_or(DEFAULT_LIMIT);
-    limit.clamp(1, MOST_TICKETS)
+    let simulations = given.get_one("seek").unwrap_or(DEFAULT_SIMULATIONS);
+    match Options::new(1, limit.clamp(1, MOST_TICKETS), MOST_READS) {
+        Some(options) => options.seeking(simulations.min(MOST_SIMULATIONS)),
+        None => unreachable!(),
+    }
 }
 
-fn command<'a>(alloc: Global) -> Result<Command<'a>, AllocError> {
-    let first = Command::new(alloc, "first")
+fn parser<'a>(alloc: Global) -> Result<clap::Command<'a>, AllocError> {
+    let first = clap::Command::new(alloc, "first")
         .about(ABOUT_FIRST)
         .long_about(LONG_ABOUT_FIRST);
-    let simulate = Command::new(alloc, "simulate")
+    let simulate = clap::Command::new(alloc, "simulate")
         .about(ABOUT_SIMULATE)
         .long_about(LONG_ABOUT_SIMULATE);
-    let timeline = Command::new(alloc, "timeline")
+    let timeline = clap::Command::new(alloc, "timeline")
         .about(ABOUT_TIMELINE)
         .long_about(LONG_ABOUT_TIMELINE);
-    let check = Command::new(alloc, "check")
+    let check = clap::Command::new(alloc, "check")
         .about(ABOUT_CHECK)
         .long_about(LONG_ABOUT_CHECK);
-    let analyse = Command::new(alloc, "analyse")
+    let analyse = clap::Command::new(alloc, "analyse")
         .about(ABOUT_ANALYSE)
         .long_about(LONG_ABOUT_ANALYSE)
-        .arg(limit_argument(alloc))?;
-    let latency = Command::new(alloc, "latency")
+        .arg(limit_argument(alloc))?
+        .arg(seek_argument(alloc))?;
+    let latency = clap::Command::new(alloc, "latency")
         .about(ABOUT_LATENCY)
         .long_about(LONG_ABOUT_LATENCY)
-        .arg(limit_argument(alloc))?;
-    Command::new(alloc, "convoy")
+        .arg(limit_argument(alloc))?
+        .arg(seek_argument(alloc))?;
+    clap::Command::new(alloc, "convoy")
         .bin_name("convoy")?
         .no_binary_name(true)
         .disable_help_subcommand(true)
@@ -246,8 +245,18 @@ fn limit_argument<'a>(alloc: Global) -> Arg<'a> {
         .help(ABOUT_LIMIT)
 }
 
-/// What is to be done where no task was found: clap's own text is to be written.
-fn refusal(alloc: Global, error: &Error) -> Verdict
+/// How many schedules are simulated before a search.
+fn seek_argument<'a>(alloc: Global) -> Arg<'a> {
+    Arg::new(alloc, "seek")
+        .long("seek")
+        .value_name("N")
+        .value_parser(value_parser!(u64).range(0..=1_000_000))
+        .default_value("20000")
+        .help(ABOUT_SEEK)
+}
+
+/// What is to be done where no command was found: clap's own text is to be written.
+fn rejection(alloc: Global, error: &Error) -> Verdict
     ensures { EndsAtOnce result }
 {
     if error.kind() == ErrorKind::OutOfMemory {
@@ -256,7 +265,7 @@ fn refusal(alloc: Global, error: &Error) -> Verdict
     let status = if error.exit_code() == 0 {
         HELP
     } else {
-        REFUSED
+        REJECTED
     };
     match error.to_string(alloc) {
         Ok(text) => Verdict::Text { text, status },

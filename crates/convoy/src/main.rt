@@ -3,18 +3,15 @@
 #![tactic(auto)]
 
 ghost use Rattle.std.specs.Prelude.{◌≡◌};
-ghost use Rattle.convoy.specs.declared.TheConstants.{MOST_READS};
-ghost use Rattle.convoy.specs.Verdicts.{IsLimit, IsTask, IsVerdict, Obeys, Tells};
-ghost use Rattle.convoy.specs.Verdicts.{status_of, task_longest, task_says};
-ghost use Rattle.convoy_engine.specs.Runs.{IsRun};
+ghost use Rattle.convoy.specs.Verdicts.{IsVerdict, Obeys, Tells, status_of};
 
 mod judge;
 
 use convoy_engine::{
-    DeviceFailed, Done, Fault, Options, Sink, Source, StreamSink, StreamSource, fault_line,
-    run_analyse, run_check, run_first, run_latency, run_simulate, run_timeline, write_all,
+    DeviceFailed, Done, Fault, Sink, Source, StreamSink, StreamSource, fault_line, run_command,
+    write_all,
 };
-use judge::{Task, Verdict, judge, judge_bytes};
+use judge::{Verdict, judge, judge_bytes};
 use std::alloc::Global;
 use std::io::ErrorKind;
 use std::process::ExitCode;
@@ -81,7 +78,10 @@ fn obey<S: Source, K: Sink>(
     ensures { Obeys S.reads K.writes verdict.now source.old source.new sink.old sink.new result }
 {
     match verdict {
-        Verdict::Run(task) => Ok(status_of(run_task(alloc, *task, source, sink)?)),
+        Verdict::Run(command) => {
+            let done = run_command(alloc, *command, source, sink, MOST_READS)?;
+            Ok(status_of(done))
+        }
         Verdict::Text { text, status } => match write_all(sink, text.as_bytes()) {
             Ok(()) => Ok(*status),
             Err(DeviceFailed) => Err(Fault::Write),
@@ -101,39 +101,7 @@ fn status_of(done: Done) -> u8
     }
 }
 
-/// Runs the command of a task.
-fn run_task<S: Source, K: Sink>(
-    alloc: Global,
-    task: Task,
-    source: &mut S,
-    sink: &mut K,
-) -> Result<Done, Fault>
-    requires { IsTask task }
-    ensures { IsRun (task_longest task) (task_says task) MOST_READS
-        S.reads K.writes source.old source.new sink.old sink.new result }
-{
-    match task {
-        Task::First => run_first(alloc, source, sink, MOST_READS),
-        Task::Simulate => run_simulate(alloc, source, sink, MOST_READS),
-        Task::Timeline => run_timeline(alloc, source, sink, MOST_READS),
-        Task::Check => run_check(alloc, source, sink, MOST_READS),
-        Task::Analyse(limit) => run_analyse(alloc, source, sink, &options(limit)),
-        Task::Latency(limit) => run_latency(alloc, source, sink, &options(limit)),
-    }
-}
-
-/// The options of a search with one worker and that limit.
-fn options(limit: u64) -> Options
-    requires { IsLimit limit }
-    ensures { result ≡ record { workers = 1; limit = limit; turns = MOST_READS } }
-{
-    match Options::new(1, limit, MOST_READS) {
-        Some(options) => options,
-        None => unreachable!(),
-    }
-}
-
-/// Writes the line of a fault. Where memory is refused or the write fails, nothing more is written.
+/// Writes the line of a fault. Where memory runs out or the write fails, nothing more is written.
 fn tell<K: Sink>(alloc: Global, fault: &Fault, sink: &mut K)
     ensures { Tells K.writes fault.now sink.old sink.new }
 {

@@ -2,7 +2,9 @@
 //! they answer goes to standard output, and how long each took to standard error.
 //!
 //! `convoy_bench [TURNS]` takes a scenario from standard input and makes each call that many times.
+//! `convoy_bench mixed [TURNS]` takes a scenario, and runs that many times each of 32 mixed schedules.
 //! `convoy_bench search [LIMIT]` takes a scenario and searches it, with at most that many tickets.
+//! `convoy_bench seek [BUDGET]` takes a scenario and seeks in it, with at most that many simulations.
 //! `convoy_bench certificate` takes the text of a certificate, reads it, checks it and writes it again.
 #![tactic(auto)]
 
@@ -15,7 +17,7 @@ use convoy_scenario::{Scenario, read_toml};
 use std::alloc::Global;
 use std::env;
 use std::io::Read;
-use timing::{time_bound, time_certificate, time_search, time_simulate};
+use timing::{time_bound, time_certificate, time_mixed, time_search, time_seek, time_simulate};
 
 /// How many turns are made where no number is given.
 const ONE_TURN: u32 = 1;
@@ -23,13 +25,20 @@ const ONE_TURN: u32 = 1;
 /// How many tickets a search has where no number is given.
 const MOST_TICKETS: u32 = 4_000_000;
 
+/// How many simulations seeking has where no number is given.
+const MOST_SIMULATIONS: u32 = 20_000;
+
 /// What is timed.
 #[derive(Clone, Copy)]
 enum Task {
     /// The calls on a scenario, so many times each.
     Scenario(u32),
+    /// Runs of mixed schedules, so many times each.
+    Mixed(u32),
     /// A search with at most so many tickets.
     Search(u32),
+    /// Seeking with at most so many simulations.
+    Seek(u32),
     /// The calls on a certificate.
     Certificate,
 }
@@ -40,7 +49,9 @@ fn main(rt: HostRuntime) -> Result<()> {
     rt.stdin().read_to_end(&mut text)?;
     match task {
         Task::Scenario(turns) => time_scenario(&rt, rt.alloc(), &text, turns),
+        Task::Mixed(turns) => time_mixtures(&rt, rt.alloc(), &text, turns),
         Task::Search(limit) => time_tree(&rt, rt.alloc(), &text, limit),
+        Task::Seek(budget) => time_best(&rt, rt.alloc(), &text, budget),
         Task::Certificate => time_certificate(&rt, rt.alloc(), &text),
     }
 }
@@ -54,9 +65,17 @@ fn asked_for(rt: &HostRuntime) -> Result<Task> {
     };
     match word.as_str() {
         "certificate" => Ok(Task::Certificate),
+        "mixed" => match words.next() {
+            Some(turns) => Ok(Task::Mixed(number_of(&turns)?)),
+            None => Ok(Task::Mixed(ONE_TURN)),
+        },
         "search" => match words.next() {
             Some(limit) => Ok(Task::Search(number_of(&limit)?)),
             None => Ok(Task::Search(MOST_TICKETS)),
+        },
+        "seek" => match words.next() {
+            Some(budget) => Ok(Task::Seek(number_of(&budget)?)),
+            None => Ok(Task::Seek(MOST_SIMULATIONS)),
         },
         _ => Ok(Task::Scenario(number_of(&word)?)),
     }
@@ -86,9 +105,23 @@ fn time_scenario(rt: &HostRuntime, alloc: Global, text: &[u8], turns: u32) -> Re
     time_simulate(rt, alloc, &scenario, &table, &least, turns)
 }
 
+/// Times runs of mixed schedules.
+fn time_mixtures(rt: &HostRuntime, alloc: Global, text: &[u8], turns: u32) -> Result<()> {
+    let scenario = read_scenario(alloc, text)?;
+    let table = PacketTable::of(alloc, &scenario)?;
+    time_mixed(rt, alloc, &scenario, &table, turns)
+}
+
 /// Times a search.
 fn time_tree(rt: &HostRuntime, alloc: Global, text: &[u8], limit: u32) -> Result<()> {
     let scenario = read_scenario(alloc, text)?;
     let table = PacketTable::of(alloc, &scenario)?;
     time_search(rt, alloc, &scenario, &table, limit)
+}
+
+/// Times seeking.
+fn time_best(rt: &HostRuntime, alloc: Global, text: &[u8], budget: u32) -> Result<()> {
+    let scenario = read_scenario(alloc, text)?;
+    let table = PacketTable::of(alloc, &scenario)?;
+    time_seek(rt, alloc, &scenario, &table, budget)
 }

@@ -1,5 +1,5 @@
-ghost use Rattle.std.specs.Prelude.{◌≡◌};
-ghost use Rattle.convoy_packets.specs.Assignment.{IsAssignment};
+ghost use Rattle.std.specs.Prelude.{◌≡◌, IfOk};
+ghost use Rattle.convoy_packets.specs.Assignment.{AreWithin, IsAssignment};
 ghost use Rattle.convoy_packets.specs.Table.{table_of};
 ghost use Rattle.convoy_intervals.specs.Boxes.{IsBox};
 
@@ -10,7 +10,8 @@ use convoy_checker::check;
 use convoy_intervals::{DelayBox, bound};
 use convoy_packets::{Delays, PacketTable};
 use convoy_scenario::Scenario;
-use convoy_sim::{simulate, simulate_plainly};
+use convoy_seek::seek;
+use convoy_sim::{Record, latency, simulate};
 use std::alloc::Global;
 use std::time::{Duration, Instant};
 
@@ -35,8 +36,8 @@ pub fn time_bound(
     Ok(())
 }
 
-/// Makes that many calls of `simulate`, and of the plain program beside it, and tells what one answers
-/// and how long it takes.
+/// Makes that many calls of `simulate` and of `latency`, and tells what one answers and how long it
+/// takes.
 pub fn time_simulate(
     rt: &HostRuntime,
     alloc: Global,
@@ -57,11 +58,71 @@ pub fn time_simulate(
     println!(rt; "latency {answer}")?;
     let start = Instant::now(rt)?;
     for _ in 0..turns {
-        answer = simulate_plainly(alloc, scenario, table, delays)?;
+        answer = latency(scenario, table, delays);
     }
-    tell(rt, "simulate_plainly", turns, start.elapsed(rt)?)?;
-    println!(rt; "plainly {answer}")?;
+    tell(rt, "latency", turns, start.elapsed(rt)?)?;
+    println!(rt; "alone {answer}")?;
     Ok(())
+}
+
+/// How many mixed schedules are run.
+const MIXTURES: u32 = 32;
+
+/// Runs that many times each of some mixed schedules, by `simulate` and by `latency`, and tells the
+/// sum of all latencies by each and how long a call takes.
+pub fn time_mixed(
+    rt: &HostRuntime,
+    alloc: Global,
+    scenario: &Scenario,
+    table: &PacketTable,
+    turns: u32,
+) -> Result<()>
+    requires { table.now ≡ table_of scenario.now }
+{
+    let (mut simulating, mut measuring) = (0u128, 0u128);
+    let (mut simulated, mut measured) = (0u64, 0u64);
+    for number in 0..MIXTURES {
+        let delays = mixed_schedule(alloc, table, number)?;
+        let start = Instant::now(rt)?;
+        for _ in 0..turns {
+            let run = simulate(alloc, scenario, table, &delays)?;
+            simulated = simulated.wrapping_add(u64::from(run.latency()));
+        }
+        simulating = simulating.saturating_add(start.elapsed(rt)?.as_nanos());
+        let start = Instant::now(rt)?;
+        for _ in 0..turns {
+            measured = measured.wrapping_add(u64::from(latency(scenario, table, &delays)));
+        }
+        measuring = measuring.saturating_add(start.elapsed(rt)?.as_nanos());
+    }
+    let calls = u128::from(turns.max(1)) * u128::from(MIXTURES);
+    eprintln!(rt; "simulate: {calls} calls, {} ns each", simulating / calls)?;
+    eprintln!(rt; "latency: {calls} calls, {} ns each", measuring / calls)?;
+    println!(rt; "simulated {simulated} measured {measured}")?;
+    Ok(())
+}
+
+/// A schedule with some delay in each range, another mixture for each number.
+fn mixed_schedule(alloc: Global, table: &PacketTable, number: u32) -> Result<Delays>
+    ensures { IfOk result (λ delays. AreWithin table.now.ranges delays) }
+{
+    let list = mixed_delays(alloc, table.ranges(), number)?;
+    match Delays::from_list(alloc, table, &list) {
+        Ok(delays) => Ok(delays),
+        Err(_) => bail!("a mixture is no schedule"),
+    }
+}
+
+/// Some delay in each range, another mixture for each number.
+fn mixed_delays(alloc: Global, ranges: &[(u16, u16)], number: u32) -> Result<Vec<i64>> {
+    let mut state = number;
+    let mut list = Vec::new(alloc);
+    for (least, most) in ranges {
+        state = state.wrapping_mul(1_103_515_245).wrapping_add(12_345);
+        let width = u32::from(most.saturating_sub(*least)) + 1;
+        list.push(i64::from(*least) + i64::from(state / 65_536 % width))?;
+    }
+    Ok(list)
 }
 
 /// Searches with at most that many tickets, and tells how it ended and how long it takes.
@@ -96,6 +157,31 @@ pub fn time_search(
             tell_rate(rt, "search_alone", tickets, elapsed)
         }
     }
+}
+
+/// Seeks a schedule of a great latency from the least delays, with at most that many simulations, and
+/// tells what it found and how long it takes.
+pub fn time_seek(
+    rt: &HostRuntime,
+    alloc: Global,
+    scenario: &Scenario,
+    table: &PacketTable,
+    budget: u32,
+) -> Result<()>
+    requires packets { table.now ≡ table_of scenario.now }
+{
+    let root = DelayBox::root(alloc, table)?;
+    let until = bound(scenario, table, &root);
+    let least = Delays::least(alloc, table)?;
+    let known = Record::of(scenario, table, least);
+    let start = Instant::now(rt)?;
+    let Ok(found) = seek(alloc, scenario, table, known, until, u64::from(budget)) else {
+        bail!("memory ran out");
+    };
+    let elapsed = start.elapsed(rt)?;
+    println!(rt; "found {} bound {until}", found.latency())?;
+    eprintln!(rt; "seek: {} us", elapsed.as_micros())?;
+    Ok(())
 }
 
 /// Reads the text of a certificate, checks it and writes it again, and tells how many nodes it has,

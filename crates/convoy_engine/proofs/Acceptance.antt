@@ -1,49 +1,91 @@
--- What is written for a scenario whose greatest latency is known, and what `check` answers for it.
-use Rattle.std.proofs.Common.{◌≡◌, ◌≤◌, inl, inr, ℕ, List, length, Ok, refl, arith}
-use Rattle.convoy_scenario.specs.Memory.{IsUnlessMemory}
-use Rattle.convoy_scenario.specs.Plan.{Plan}
-use Rattle.convoy_scenario.specs.Reading.{scenario_of_text}
-use Rattle.convoy_scenario.specs.declared.fault.ScenarioFault.TheVariants as scenario
-use Rattle.convoy_certificate.specs.Contents.{Contents, IsCertificate}
-use Rattle.convoy_certificate.specs.Reading.{TextsAreRead, TextsAreShort}
-use Rattle.convoy_certificate.specs.Text.{certificate_text}
+-- What is written for a scenario of which a search has ended, and what `check` answers for it.
+use Rattle.std.proofs.Common.{◌≡◌, ◌≤◌, ◌++◌, ℕ, List, Vec, length, Ok, refl, arith}
+use Rattle.std.specs.declared.alloc.Global.{Global}
+use Rattle.convoy_lines.specs.Texts.{ended}
+use Rattle.convoy_sim.specs.Delivery.{latency_of}
+use Rattle.convoy_sim.specs.Record.{Record, IsAttained}
+use Rattle.convoy_certificate.specs.Certificate.{Certificate, IsCertificate}
+use Rattle.convoy_certificate.specs.Laws.{TextsAreRead, TextsAreShort}
+use Rattle.convoy_certificate.specs.Text.{certificate_text, schedule_line}
 use Rattle.convoy_certificate.specs.declared.certificate.TheConstants.{MOST_NODES}
 use Rattle.convoy_checker.specs.Laws.{CheckedIsValid, ValidIsGreatest}
 use Rattle.convoy_checker.specs.Validity.{IsValid}
-use Rattle.convoy_branch.specs.Outcomes.{IsProved}
+use Rattle.convoy_branch.specs.Laws.{FrontsBound}
+use Rattle.convoy_branch.specs.declared.outcome.Outcome.TheVariants.{Proved, Open}
 use Rattle.convoy_engine.specs.declared.done.Done.TheVariants.{Fine}
 use Rattle.convoy_engine.specs.declared.options.TheConstants.{MOST_TICKETS}
-use Rattle.convoy_engine.specs.Checks.{accepted_line, check_reply}
-use Rattle.convoy_engine.specs.Searches.{IsProof}
+use Rattle.convoy_engine.specs.Checks.{check_reply}
+use Rattle.convoy_engine.specs.Lines.{accepted_line, open_line}
+use Rattle.convoy_engine.specs.Searches.{IsFrontTold, IsOpenBetween, IsOpenProof, IsProof, IsSearchOf}
 
 -- the text of a valid certificate gets a yes
-pub accepts : TextsAreRead → CheckedIsValid → (certificate : Contents) → IsCertificate certificate →
+pub accepts : TextsAreRead → CheckedIsValid → (certificate : Certificate) → IsCertificate certificate →
     length certificate.nodes ≤ MOST_NODES → IsValid certificate →
     check_reply (certificate_text certificate) ≡ Ok (Fine, accepted_line certificate.latency)
 unfolding check_reply
 accepts are_read is_valid certificate lawful few valid =
     rw (are_read certificate lawful few, (is_valid certificate).1 valid) refl
 
--- a reading that gave a scenario gave that of the text
-pub scenario_given : (text : List ℕ) (plan : Plan) →
-    IsUnlessMemory scenario.Memory (scenario_of_text text) (Ok plan) → scenario_of_text text ≡ Ok plan
-scenario_given text plan (inl is) = rw (← is) refl
-scenario_given text plan (inr is) = cc
+-- What is written where a search for the scenario of the text has ended.
+module _ (limit : ℕ) (text out : List ℕ) where
+  -- the text of a proved outcome's certificate
+  pub proof_written : TextsAreRead → TextsAreShort → CheckedIsValid → ValidIsGreatest →
+      (certificate : Certificate) (tickets : ℕ) (by_worker : Vec ℕ Global) → IsCertificate certificate →
+      IsSearchOf limit text (Proved certificate tickets by_worker) → limit ≤ MOST_TICKETS →
+      out ≡ certificate_text certificate → IsProof limit text out
+  proof_written are_read are_short is_valid is_greatest certificate tickets by_worker lawful search few written =
+      let proved = search.ended in
+      let nodes_few : length certificate.nodes ≤ limit = omega (arith, proved.nodes, proved.few) in
+      let nodes_read : length certificate.nodes ≤ MOST_NODES = omega (arith, nodes_few, few) in
+      record {
+        certificate = certificate;
+        lawful = lawful;
+        read = rw proved.of_scenario search.read;
+        written = written;
+        latency = proved.valid.latency;
+        greatest = is_greatest certificate lawful proved.valid;
+        valid = proved.valid;
+        few = nodes_few;
+        fits = rw written (are_short certificate lawful nodes_read);
+        accepted = rw written (accepts are_read is_valid certificate lawful nodes_read proved.valid);
+      }
 
--- the text of a proved outcome's certificate
-pub proof_written : TextsAreRead → TextsAreShort → CheckedIsValid → ValidIsGreatest → (text out : List ℕ) (plan : Plan) (limit : ℕ)
-    (certificate : Contents) (tickets : ℕ) (by_worker : List ℕ) → scenario_of_text text ≡ Ok plan →
-    IsProved plan limit certificate tickets by_worker → limit ≤ MOST_TICKETS → IsCertificate certificate →
-    out ≡ certificate_text certificate → IsProof text out
-proof_written are_read are_short is_valid is_greatest text out plan limit certificate tickets by_worker read proved few lawful written =
-    let nodes_few : length certificate.nodes ≤ MOST_NODES = omega (arith, proved.nodes, proved.few) in
-    record {
-      certificate = certificate;
-      lawful = lawful;
-      scenario = rw proved.scenario read;
-      written = written;
-      latency = proved.valid.latency;
-      none_greater = (is_greatest certificate lawful proved.valid).upper;
-      fits = rw written (are_short certificate lawful nodes_few);
-      accepted = rw written (accepts are_read is_valid certificate lawful nodes_few proved.valid);
-    }
+  -- what an open outcome says of the scenario
+  open_between : FrontsBound → (best : Record) (upper tickets : ℕ) (by_worker : Vec ℕ Global) →
+      (search : IsSearchOf limit text (Open best upper tickets by_worker)) →
+      IsOpenBetween limit text search.scenario best.latency upper
+  open_between bound best upper tickets by_worker search = record {
+    read = search.read;
+    lawful = search.lawful;
+    reached = search.ended.front.reached;
+    upper = bound search.scenario best.latency upper tickets search.lawful search.ended.front;
+    front = rw search.ended.all at search.ended.front;
+  }
+
+  -- the bounds of an open outcome
+  pub bounds_written : FrontsBound → (best : Record) (upper tickets : ℕ) (by_worker : Vec ℕ Global) →
+      IsSearchOf limit text (Open best upper tickets by_worker) →
+      out ≡ open_line best.latency upper → IsFrontTold limit text out
+  bounds_written bound best upper tickets by_worker search written = record {
+    scenario = search.scenario;
+    least = best.latency;
+    most = upper;
+    between = open_between bound best upper tickets by_worker search;
+    written = written;
+  }
+
+  -- the bounds of an open outcome, and the schedule of its record
+  pub open_written : FrontsBound → (best : Record) (upper tickets : ℕ) (by_worker : Vec ℕ Global) → IsAttained best →
+      IsSearchOf limit text (Open best upper tickets by_worker) →
+      out ≡ open_line best.latency upper ++ ended (schedule_line best.delays) → IsOpenProof limit text out
+  open_written bound best upper tickets by_worker attained search written =
+      let of_scenario = search.ended.of_scenario in
+      let same : best.latency ≡ latency_of search.scenario best.delays = rw of_scenario at attained.latency in
+      record {
+        scenario = search.scenario;
+        delays = best.delays;
+        most = upper;
+        assigned = rw of_scenario at attained.assignment;
+        between = rw same at (open_between bound best upper tickets by_worker search);
+        written = rw same at written;
+      }

@@ -1,7 +1,7 @@
 -- What is written for the case of a text, from what was read, and the numbers of its faults.
 use Rattle.std.proofs.Common.{◌≡◌, ◌≤◌, lit≤, inl, inr, ℕ, ℤ, List, Option, Some, None, Result, Ok, Err, refl, arith}
 use Rattle.std.specs.Result.{result_map_both}
-use Rattle.convoy_scenario.specs.Reading.{Given, input_of_text}
+use Rattle.convoy_scenario.specs.Reading.{InputView, input_of_text}
 use Rattle.convoy_scenario.specs.declared.fault.ScenarioFault.{ScenarioFault}
 use Rattle.convoy_packets.specs.Assignment.{ranges_of}
 use Rattle.convoy_packets.specs.Given.{schedule_of}
@@ -14,7 +14,7 @@ use Rattle.convoy_engine.specs.Cases.{Case, case_of_input, case_of_text, chosen_
 use Rattle.convoy_engine.specs.Faults.{row_of, told_of, told_of_list}
 use Rattle.convoy_engine.proofs.FirstTexts.{told_number}
 
--- there is no case, or memory was refused
+-- there is no case, or memory ran out
 pub made_refused : (made : Case → List ℕ) (read : Result Case Fault) (fault : Fault) →
     IsUnlessMemory Memory read (Err fault) →
     IsUnlessMemory Memory (result_map_both made (λ f. f) read) (Err fault)
@@ -45,7 +45,7 @@ chosen_number ranges None fault is = cc
 chosen_number ranges (Some numbers) fault is =
     mapped_number _ told_of_list (schedule_of ranges numbers) fault (λ refused same. list_number refused) is
 
-input_number : (read : Result Given ScenarioFault) (fault : Fault) → case_of_input read ≡ Err fault → (row_of fault).0 ≤ 13
+input_number : (read : Result InputView ScenarioFault) (fault : Fault) → case_of_input read ≡ Err fault → (row_of fault).0 ≤ 13
 input_number (Err refused) fault is =
     let same : told_of refused ≡ fault = cc in
     let low = told_number refused in

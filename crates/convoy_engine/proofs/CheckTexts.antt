@@ -1,19 +1,22 @@
 -- What `check` answers, from what the reader and the checker answered.
 use Rattle.std.proofs.Common.{◌≡◌, ◌≤◌, lit≤, ◌∙◌, ap, inl, inr, ℕ, List, Result, Ok, Err, IfOk, refl}
 use Rattle.convoy_scenario.specs.Memory.{IsUnlessMemory}
-use Rattle.convoy_certificate.specs.Contents.{Contents, IsCertificate}
-use Rattle.convoy_certificate.specs.Reading.{certificate_of, IsTextOf, TextsAreRead}
+use Rattle.convoy_certificate.specs.Certificate.{Certificate, IsCertificate}
+use Rattle.convoy_certificate.specs.Reading.{certificate_of, IsTextOf}
+use Rattle.convoy_certificate.specs.Laws.{TextsAreRead}
 use Rattle.convoy_certificate.specs.declared.text_fault.TextFault.{TextFault}
 use Rattle.convoy_certificate.specs.declared.text_fault.TextFault.TheVariants as texts
 use Rattle.convoy_checker.specs.Checks.{checked}
 use Rattle.convoy_checker.specs.Laws.{CheckedIsValid}
-use Rattle.convoy_checker.specs.Validity.{IsGreatest, IsValid}
+use Rattle.convoy_checker.specs.Validity.{IsValid}
+use Rattle.convoy_sim.specs.Greatest.{IsGreatest}
 use Rattle.convoy_checker.specs.declared.refused.Refused.{Refused as Fault-of-check}
 use Rattle.convoy_checker.specs.declared.refused.Refused.TheVariants as checks
 use Rattle.convoy_engine.specs.declared.fault.Fault.{Fault}
 use Rattle.convoy_engine.specs.declared.fault.Fault.TheVariants.{Memory}
-use Rattle.convoy_engine.specs.Checks.{CheckSays, GivesYes, MeansYes, accepted_line, check_reply, reply_of_check, reply_of_text}
+use Rattle.convoy_engine.specs.Checks.{CheckSays, GivesYes, MeansYes, check_reply, reply_of_check, reply_of_text}
 use Rattle.convoy_engine.specs.Faults.{row_of}
+use Rattle.convoy_engine.specs.Lines.{accepted_line}
 use Rattle.convoy_engine.specs.Replies.{IsReply, Reply, SaysUnlessMemory}
 use Rattle.convoy_engine.proofs.Acceptance.{accepts}
 
@@ -42,7 +45,7 @@ refused_says read_law check_law text fault reply (inl found) (inl told) =
     inl (says read_law check_law text reply (told ∙ ap reply_of_text found) (rw told (no_yes text fault)))
 
 -- a yes of the checker means that the certificate is valid, and what is no yes means nothing
-means_yes : (text : List ℕ) (certificate : Contents) (said : Result ℕ Fault-of-check) →
+means_yes : (text : List ℕ) (certificate : Certificate) (said : Result ℕ Fault-of-check) →
     IsCertificate certificate → IsTextOf certificate text →
     IfOk said (λ latency. IsValid certificate × (latency ≡ certificate.latency)) →
     IfOk said (λ latency. IsGreatest certificate.scenario latency) → MeansYes text (reply_of_check said)
@@ -59,7 +62,7 @@ means_yes text certificate (Err fault) is spelled valid greatest = tt
 
 -- the reader read the certificate, and the checker checked it
 pub checked_says : TextsAreRead → CheckedIsValid →
-    (text : List ℕ) (certificate : Contents) (said : Result ℕ Fault-of-check) (reply : Reply) →
+    (text : List ℕ) (certificate : Certificate) (said : Result ℕ Fault-of-check) (reply : Reply) →
     IsCertificate certificate → IsTextOf certificate text →
     IsUnlessMemory texts.Memory (certificate_of text) (Ok certificate) →
     IfOk said (λ latency. IsValid certificate × (latency ≡ certificate.latency)) →
@@ -81,7 +84,7 @@ check_fault (Ok latency) fault is = cc
 check_fault (Err checks.Memory) fault is = cc
 check_fault (Err other) fault is = cc
 
-text_fault : (read : Result Contents TextFault) (fault : Fault) → Err fault ≡ reply_of_text read → fault ≡ Memory
+text_fault : (read : Result Certificate TextFault) (fault : Fault) → Err fault ≡ reply_of_text read → fault ≡ Memory
 text_fault (Ok certificate) fault is = check_fault (checked certificate) fault is
 text_fault (Err texts.Memory) fault is = cc
 text_fault (Err other) fault is = cc

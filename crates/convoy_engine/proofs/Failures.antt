@@ -3,7 +3,7 @@ use Rattle.std.proofs.Common.{◌⊎◌, ◌∙◌, ◌≤◌, ◌≡◌, ℕ, L
 use Rattle.std.specs.List.{All}
 use Rattle.std.proofs.lemmas.List.Elements.{All-head, All-tail}
 use Rattle.convoy_engine.specs.declared.fault.Fault.{Fault}
-use Rattle.convoy_engine.specs.declared.fault.Fault.TheVariants.{Memory, Read, Write, JobTooLong, ReadTurns}
+use Rattle.convoy_engine.specs.declared.fault.Fault.TheVariants.{Memory, Read, Write, TooLong, TooManyReads}
 use Rattle.convoy_engine.specs.Devices.{Answer, Moved, Failed, IsPiece, failures}
 use Rattle.convoy_engine.specs.Reads.{ReadsText, StopsReading}
 use Rattle.convoy_engine.specs.Faults.{row_of}
@@ -31,13 +31,13 @@ in_text : (longest : ℕ) (reads : List Answer) (text : List ℕ) → ReadsText 
 in_text longest reads text read = rw read.end (after_pieces read.pieces (Moved []) read.given.each)
 
 -- where reading stopped
-in_stop : (longest turns : ℕ) (reads : List Answer) (fault : Fault) →
-    StopsReading longest turns reads fault → failures reads ≡ told_reads (Err fault)
-in_stop longest turns reads Read stop = rw stop.last (after_pieces stop.pieces Failed stop.given.each)
-in_stop longest turns reads JobTooLong stop = rw stop.last (after_pieces stop.pieces (Moved stop.bytes) stop.given.each)
-in_stop longest turns reads ReadTurns stop = none_in_pieces reads stop.0.each
-in_stop longest turns reads Memory stop = none_in_pieces reads stop.each
-in_stop longest turns reads other stop = absurd stop
+in_stop : (longest most_reads : ℕ) (reads : List Answer) (fault : Fault) →
+    StopsReading longest most_reads reads fault → failures reads ≡ told_reads (Err fault)
+in_stop longest most_reads reads Read stop = rw stop.last (after_pieces stop.pieces Failed stop.given.each)
+in_stop longest most_reads reads TooLong stop = rw stop.last (after_pieces stop.pieces (Moved stop.bytes) stop.given.each)
+in_stop longest most_reads reads TooManyReads stop = none_in_pieces reads stop.0.each
+in_stop longest most_reads reads Memory stop = none_in_pieces reads stop.each
+in_stop longest most_reads reads other stop = absurd stop
 
 -- where the text has a fault, which is no device's
 in_refusal : (fault : Fault) → (row_of fault).0 ≤ 13 → 0 ≡ told_reads (Err fault)
@@ -48,27 +48,27 @@ in_refusal other low = refl
 in_nothing : (writes : List Answer) → writes ≡ [] → failures writes ≡ 0
 in_nothing writes none = rw none refl
 
-in_fault : (command : Command) (turns : ℕ) (reads writes : List Answer) (fault : Fault) →
-    StopsReading (longest_for command) turns reads fault ⊎ Replied (longest_for command) (says_for command) reads (Err fault) →
+in_fault : (command : Command) (most_reads : ℕ) (reads writes : List Answer) (fault : Fault) →
+    StopsReading (longest_for command) most_reads reads fault ⊎ Replied (longest_for command) (says_for command) reads (Err fault) →
     writes ≡ [] → (failures reads ≡ told_reads (Err fault)) × (failures writes ≡ 0)
-in_fault command turns reads writes fault (inl stop) none =
-    (in_stop (longest_for command) turns reads fault stop, in_nothing writes none)
-in_fault command turns reads writes fault (inr replied) none = (
+in_fault command most_reads reads writes fault (inl stop) none =
+    (in_stop (longest_for command) most_reads reads fault stop, in_nothing writes none)
+in_fault command most_reads reads writes fault (inr replied) none = (
   in_text (longest_for command) reads replied.text replied.read
       ∙ in_refusal fault (says_number command replied.text fault replied.allowed),
   in_nothing writes none,
 )
 
-in_memory : (longest turns : ℕ) (reads : List Answer) →
-    StopsReading longest turns reads Memory ⊎ ((text : List ℕ) × ReadsText longest reads text) → failures reads ≡ 0
-in_memory longest turns reads (inl stop) = in_stop longest turns reads Memory stop
-in_memory longest turns reads (inr text) = in_text longest reads text.0 text.1
+in_memory : (longest most_reads : ℕ) (reads : List Answer) →
+    StopsReading longest most_reads reads Memory ⊎ ((text : List ℕ) × ReadsText longest reads text) → failures reads ≡ 0
+in_memory longest most_reads reads (inl stop) = in_stop longest most_reads reads Memory stop
+in_memory longest most_reads reads (inr text) = in_text longest reads text.0 text.1
 
 pub failures_told : (command : Command) → FailuresAreTold (longest_for command) (says_for command)
-failures_told command turns reads writes (Ok done) ran =
+failures_told command most_reads reads writes (Ok done) ran =
     (in_text (longest_for command) reads ran.1.text ran.1.read, none_in_pieces writes ran.2.each)
-failures_told command turns reads writes (Err Write) ran =
+failures_told command most_reads reads writes (Err Write) ran =
     (in_text (longest_for command) reads ran.2.text ran.2.read, rw ran.3.last (after_pieces ran.3.pieces Failed ran.3.each))
-failures_told command turns reads writes (Err Memory) ran =
-    (in_memory (longest_for command) turns reads ran.0, in_nothing writes ran.1)
-failures_told command turns reads writes (Err other) ran = in_fault command turns reads writes other ran.0 ran.1
+failures_told command most_reads reads writes (Err Memory) ran =
+    (in_memory (longest_for command) most_reads reads ran.0, in_nothing writes ran.1)
+failures_told command most_reads reads writes (Err other) ran = in_fault command most_reads reads writes other ran.0 ran.1

@@ -1,7 +1,7 @@
 -- What is written for a text, from what the reader answered for it.
 use Rattle.std.proofs.Common.{Result, ◌≤◌, lit≤, ◌≡◌, inl, inr, ℕ, List, Ok, Err, refl}
 use Rattle.convoy_scenario.specs.Memory.{IsUnlessMemory}
-use Rattle.convoy_scenario.specs.Plan.{Plan}
+use Rattle.convoy_scenario.specs.Scenario.{Scenario}
 use Rattle.convoy_scenario.specs.Reading.{scenario_of_text}
 use Rattle.convoy_scenario.specs.declared.fault.ScenarioFault.{ScenarioFault}
 use Rattle.convoy_scenario.specs.declared.fault.ScenarioFault.TheVariants as scenario
@@ -11,7 +11,7 @@ use Rattle.convoy_engine.specs.Faults.{row_of, told_of}
 use Rattle.std.specs.Result.{result_map_both}
 use Rattle.convoy_engine.specs.First.{attained_text, first_text, least_delays}
 
--- the text has a fault, or memory was refused
+-- the text has a fault, or memory ran out
 pub text_refused : (text : List ℕ) (refused : ScenarioFault) →
     IsUnlessMemory scenario.Memory (scenario_of_text text) (Err refused) →
     IsUnlessMemory Memory (first_text text) (Err (told_of refused))
@@ -20,7 +20,7 @@ text_refused text refused (inl is) = inl (rw (← is) refl)
 text_refused text refused (inr is) = let same : refused ≡ scenario.Memory = cc in inr (rw same refl)
 
 -- the text is that of a scenario
-pub text_answered : (text : List ℕ) (plan : Plan) →
+pub text_answered : (text : List ℕ) (plan : Scenario) →
     IsUnlessMemory scenario.Memory (scenario_of_text text) (Ok plan) →
     first_text text ≡ Ok (attained_text plan (least_delays plan))
 unfolding first_text

@@ -5,7 +5,7 @@ use Rattle.std.proofs.lemmas.Grind.{flat_map-append}
 use Rattle.std.proofs.lemmas.List.{append-nil, take_rest}
 use Rattle.std.proofs.lemmas.List.Elements.{All-push, All-nil}
 use Rattle.std.proofs.lemmas.Fn.{FoldsTo-push}
-use Rattle.convoy_engine.specs.Devices.{Answer, Moved, Failed, IsPiece, joined, taken, HasRun}
+use Rattle.convoy_engine.specs.Devices.{Answer, Moved, Failed, IsPiece, joined, moved_or_failed, HasRun}
 use Rattle.convoy_engine.specs.Reads.{ArePieces, ReadsText, FailsReading, ReadsTooMuch}
 use Rattle.convoy_engine.specs.Writes.{FailsWithin, WritesPiece}
 
@@ -42,7 +42,7 @@ one_more_piece step old mid new bytes more count p moved some = record {
 
 -- one write that took some of the bytes
 pub one_write : {S : Type 0} (writes : S → Answer → S → Type 0) (old new : S) (bytes : List ℕ) (count : ℕ) →
-    writes old (taken (take count bytes)) new → 0 < count → count ≤ length bytes →
+    writes old (moved_or_failed (take count bytes)) new → 0 < count → count ≤ length bytes →
     WritesPiece writes old bytes (take (length bytes - count) (drop count bytes)) new
 one_write writes old new bytes zero moved some within = absurd (omega arith)
 one_write writes old new [] (suc count) moved some within = absurd (omega arith)
@@ -64,13 +64,13 @@ failed_writing step old mid new bytes rest text count p failed is more = record 
 }
 
 -- How reading ends: the pieces so far are within the limit, and one more call was made of those that may be.
-module _ {S : Type 0} (step : S → Answer → S → Type 0) (old mid new : S) (bytes : List ℕ) (count turns longest : ℕ)
-    (p : MovesPieces step old bytes count mid) (short : length bytes ≤ longest) (below : count < turns) where
+module _ {S : Type 0} (step : S → Answer → S → Type 0) (old mid new : S) (bytes : List ℕ) (count most_reads longest : ℕ)
+    (p : MovesPieces step old bytes count mid) (short : length bytes ≤ longest) (below : count < most_reads) where
   given : ArePieces longest p.answers
   given = record { each = p.each; short = rw p.whole short }
 
   ended : (Says : List Answer → Type 0) (answer : Answer) → step mid answer new → Says (p.answers ++ answer ∷ []) →
-      HasRun step old new (λ answers. (length answers ≤ turns) × Says answers)
+      HasRun step old new (λ answers. (length answers ≤ most_reads) × Says answers)
   ended Says answer moved says = record {
     answers = p.answers ++ answer ∷ [];
     calls = FoldsTo-push step old p.answers mid answer new p.calls moved;
@@ -79,19 +79,19 @@ module _ {S : Type 0} (step : S → Answer → S → Type 0) (old mid new : S) (
 
   -- with the end of the input
   pub ended_by_text : (more : List ℕ) → step mid (Moved more) new → length more ≡ 0 →
-      HasRun step old new (λ answers. (length answers ≤ turns) × ReadsText longest answers bytes)
+      HasRun step old new (λ answers. (length answers ≤ most_reads) × ReadsText longest answers bytes)
   ended_by_text (b ∷ more) moved none = absurd (omega arith)
   ended_by_text [] moved none =
       ended (λ answers. ReadsText longest answers bytes) (Moved []) moved
       (record { pieces = p.answers; end = refl; given = given; whole = p.whole })
 
   -- with a failure of the device
-  pub ended_by_failure : step mid Failed new → HasRun step old new (λ answers. (length answers ≤ turns) × FailsReading longest answers)
+  pub ended_by_failure : step mid Failed new → HasRun step old new (λ answers. (length answers ≤ most_reads) × FailsReading longest answers)
   ended_by_failure failed = ended (FailsReading longest) Failed failed (record { pieces = p.answers; last = refl; given = given })
 
   -- with the first byte past the limit
   pub ended_by_length : (more : List ℕ) → step mid (Moved more) new → longest < length bytes + length more →
-      HasRun step old new (λ answers. (length answers ≤ turns) × ReadsTooMuch longest answers)
+      HasRun step old new (λ answers. (length answers ≤ most_reads) × ReadsTooMuch longest answers)
   ended_by_length more moved long =
       ended (ReadsTooMuch longest) (Moved more) moved
       (record {
@@ -104,7 +104,7 @@ module _ {S : Type 0} (step : S → Answer → S → Type 0) (old mid new : S) (
 
   -- with memory refused for the last piece, which is within the limit too
   pub ended_by_memory : (more : List ℕ) → step mid (Moved more) new → 0 < length more → length bytes + length more ≤ longest →
-      HasRun step old new (λ answers. (length answers ≤ turns) × ArePieces longest answers)
+      HasRun step old new (λ answers. (length answers ≤ most_reads) × ArePieces longest answers)
   ended_by_memory more moved some within =
       ended (ArePieces longest) (Moved more) moved
       (record {

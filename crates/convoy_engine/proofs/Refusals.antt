@@ -17,13 +17,13 @@ from_text : (says : Rule) (text : List ℕ) (fault : Fault) → (fault ≡ Memor
 from_text says text fault other (inl allowed) = allowed
 from_text says text fault other (inr is) = absurd (other cc)
 
--- Where a text was read, and its answer is a fault or memory was refused, nothing was written.
-pub refused_run : (longest : ℕ) (says : Rule) (turns : ℕ) (reads : List Answer) (text : List ℕ) (fault : Fault) →
+-- Where a text was read, and its answer is a fault or memory ran out, nothing was written.
+pub refused_run : (longest : ℕ) (says : Rule) (most_reads : ℕ) (reads : List Answer) (text : List ℕ) (fault : Fault) →
     (says text (Err Write) → ⊥) → ReadsText longest reads text → SaysUnlessMemory says text (Err fault) →
-    RunsTo longest says turns reads [] (Err fault)
-refused_run longest says turns reads text Memory sane read allowed = (inr (text, read), refl)
-refused_run longest says turns reads text Write sane read allowed = absurd (sane (from_text says text Write (λ is. cc) allowed))
-refused_run longest says turns reads text other sane read allowed =
+    RunsTo longest says most_reads reads [] (Err fault)
+refused_run longest says most_reads reads text Memory sane read allowed = (inr (text, read), refl)
+refused_run longest says most_reads reads text Write sane read allowed = absurd (sane (from_text says text Write (λ is. cc) allowed))
+refused_run longest says most_reads reads text other sane read allowed =
     (inr (record { text = text; read = read; allowed = from_text says text _ (λ is. cc) allowed }), refl)
 
 failed_of : {X E Q : Type 0} (result : Result X E) (P : X → Type 0) → true ≡ is_err result → MatchResult result P (λ _. Q) → Q
@@ -31,9 +31,9 @@ failed_of (Ok x) P is says = absurd (false≢true cc)
 failed_of (Err e) P is says = says
 
 -- Where the reply is allowed and the sink failed, a front of it went out.
-pub failed_run : {X E : Type 0} (longest : ℕ) (says : Rule) (turns : ℕ) (reads writes : List Answer) (text out : List ℕ) (done : Done)
+pub failed_run : {X E : Type 0} (longest : ℕ) (says : Rule) (most_reads : ℕ) (reads writes : List Answer) (text out : List ℕ) (done : Done)
     (result : Result X E) (P : X → Type 0) → ReadsText longest reads text → SaysUnlessMemory says text (Ok (done, out)) →
-    true ≡ is_err result → MatchResult result P (λ _. FailsWithin out writes) → RunsTo longest says turns reads writes (Err Write)
-failed_run longest says turns reads writes text out done result P read (inl allowed) is wrote =
+    true ≡ is_err result → MatchResult result P (λ _. FailsWithin out writes) → RunsTo longest says most_reads reads writes (Err Write)
+failed_run longest says most_reads reads writes text out done result P read (inl allowed) is wrote =
     (done, out, record { text = text; read = read; allowed = allowed }, failed_of result P is wrote)
-failed_run longest says turns reads writes text out done result P read (inr refused) is wrote = cc
+failed_run longest says most_reads reads writes text out done result P read (inr refused) is wrote = cc

@@ -1,8 +1,8 @@
 -- The case that a text gives: a scenario, and the schedule of one run.
 use Rattle.std.specs.Prelude.{ℕ, ℤ, List, Option, Some, None, Result, Ok, Err}
 use Rattle.std.specs.Result.{result_map_both}
-use Rattle.convoy_scenario.specs.Plan.{Plan}
-use Rattle.convoy_scenario.specs.Reading.{Given, input_of_text}
+use Rattle.convoy_scenario.specs.Scenario.{Scenario}
+use Rattle.convoy_scenario.specs.Reading.{InputView, input_of_text}
 use Rattle.convoy_scenario.specs.declared.fault.ScenarioFault.{ScenarioFault}
 use Rattle.convoy_packets.specs.Assignment.{ranges_of}
 use Rattle.convoy_packets.specs.Given.{schedule_of}
@@ -12,7 +12,7 @@ use Rattle.convoy_engine.specs.Faults.{told_of, told_of_list}
 
 -- a scenario, and the delay of each of its packets
 pub record Case : Type 0 where
-  pub scenario : Plan
+  pub scenario : Scenario
   pub delays : List ℕ
 
 -- the schedule that is given, or where none is the least delays
@@ -21,7 +21,7 @@ chosen_schedule ranges None = Ok (least_of ranges)
 chosen_schedule ranges (Some numbers) = result_map_both (λ delays. delays) told_of_list (schedule_of ranges numbers)
 
 -- the case of what was read: the scenario's faults come before those of the schedule
-abbrev pub case_of_input : Result Given ScenarioFault → Result Case Fault
+abbrev pub case_of_input : Result InputView ScenarioFault → Result Case Fault
 case_of_input (Err fault) = Err (told_of fault)
 case_of_input (Ok given) =
     result_map_both (λ delays. record { scenario = given.scenario; delays = delays }) (λ fault. fault)

@@ -1,5 +1,5 @@
--- What each command may answer for a text, and how long the text may be.
-use Rattle.std.specs.Prelude.{ℕ}
+-- The commands: what each may answer for a text, and how long the text may be.
+use Rattle.std.specs.Prelude.{◌≡◌, ℕ}
 use Rattle.convoy_engine.specs.declared.command.Command.{Command}
 use Rattle.convoy_engine.specs.declared.command.Command.TheVariants.{First, Simulate, Timeline, Check, Analyse, Latency}
 use Rattle.convoy_engine.specs.declared.reading.TheConstants.{LONGEST_CERTIFICATE, LONGEST_JOB}
@@ -21,9 +21,11 @@ says_for (Latency options) = LatencySays options.limit
 
 -- how many bytes its text has at most
 abbrev pub longest_for : Command → ℕ
-longest_for First = LONGEST_JOB
-longest_for Simulate = LONGEST_JOB
-longest_for Timeline = LONGEST_JOB
 longest_for Check = LONGEST_CERTIFICATE
-longest_for (Analyse options) = LONGEST_JOB
-longest_for (Latency options) = LONGEST_JOB
+longest_for other = LONGEST_JOB
+
+-- where the command searches, one worker does
+abbrev pub IsAlone : Command → Type 0
+IsAlone (Analyse options) = options.workers ≡ 1
+IsAlone (Latency options) = options.workers ≡ 1
+IsAlone other = Unit {0}

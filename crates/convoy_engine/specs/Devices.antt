@@ -12,14 +12,14 @@ abbrev pub read_answer : {E : Type 0} → List ℕ → Result ℕ E → Answer
 read_answer buffer (Ok count) = Moved (take count buffer)
 read_answer buffer (Err e) = Failed
 
--- bytes that were taken; to take none is a failure
-abbrev pub taken : List ℕ → Answer
-taken [] = Failed
-taken (byte ∷ bytes) = Moved (byte ∷ bytes)
+-- bytes that a write moved; to move none is a failure
+abbrev pub moved_or_failed : List ℕ → Answer
+moved_or_failed [] = Failed
+moved_or_failed (byte ∷ bytes) = Moved (byte ∷ bytes)
 
 -- A write answers the front of what it was offered, as many bytes as it says.
 abbrev pub write_answer : {E : Type 0} → List ℕ → Result ℕ E → Answer
-write_answer offered (Ok count) = taken (take count offered)
+write_answer offered (Ok count) = moved_or_failed (take count offered)
 write_answer offered (Err e) = Failed
 
 -- the bytes of an answer

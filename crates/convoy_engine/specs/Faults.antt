@@ -2,7 +2,7 @@
 use Rattle.std.specs.Prelude.{ℕ, List, [], ◌∷◌, ◌++◌, codes, decimal}
 use Rattle.convoy_packets.specs.declared.fault.ListFault.{ListFault}
 use Rattle.convoy_packets.specs.declared.fault.ListFault.TheVariants as lists
-use Rattle.convoy_scenario.specs.Shape.{word_of}
+use Rattle.convoy_scenario.specs.Shape.{key_word}
 use Rattle.convoy_scenario.specs.declared.fault.Limit.{Limit}
 use Rattle.convoy_scenario.specs.declared.fault.Limit.TheVariants as limits
 use Rattle.convoy_scenario.specs.declared.fault.ScenarioFault.{ScenarioFault}
@@ -10,7 +10,7 @@ use Rattle.convoy_scenario.specs.declared.fault.ScenarioFault.TheVariants as sce
 use Rattle.convoy_engine.specs.declared.fault.Ending.{Ending}
 use Rattle.convoy_engine.specs.declared.fault.Ending.TheVariants as endings
 use Rattle.convoy_engine.specs.declared.fault.Fault.{Fault}
-use Rattle.convoy_engine.specs.declared.fault.Fault.TheVariants.{NotToml, Shape, OverLimit, BadName, DoubleName, UnknownGroup, NoDestination, DoubleDestination, UnknownTarget, TargetNotAddressed, ScheduleLength, DelayOutOfRange, Memory, Read, Write, JobTooLong, ReadTurns}
+use Rattle.convoy_engine.specs.declared.fault.Fault.TheVariants.{NotToml, Shape, OverLimit, BadName, DoubleName, UnknownGroup, NoDestination, DoubleDestination, UnknownTarget, TargetNotAddressed, ScheduleLength, DelayOutOfRange, Memory, Read, Write, TooLong, TooManyReads}
 
 -- a limit's word
 abbrev pub limit_word : Limit → List ℕ
@@ -22,7 +22,7 @@ limit_word limits.At = codes "at"
 -- a fault's number and its text
 abbrev pub row_of : Fault → ℕ × List ℕ
 row_of NotToml = (1, codes "not TOML")
-row_of (Shape key) = (2, codes "shape of " ++ word_of key)
+row_of (Shape key) = (2, codes "shape of " ++ key_word key)
 row_of (OverLimit limit) = (3, codes "over limit " ++ limit_word limit)
 row_of BadName = (4, codes "bad name")
 row_of DoubleName = (5, codes "double name")
@@ -36,8 +36,8 @@ row_of (DelayOutOfRange packet) = (13, codes "delay out of range " ++ decimal pa
 row_of Memory = (11, codes "out of memory")
 row_of Read = (40, codes "read failed")
 row_of Write = (41, codes "write failed")
-row_of JobTooLong = (42, codes "job too long")
-row_of ReadTurns = (44, codes "too many reads")
+row_of TooLong = (42, codes "job too long")
+row_of TooManyReads = (44, codes "too many reads")
 
 -- what ends a fault's text
 abbrev pub ending_text : Ending → List ℕ

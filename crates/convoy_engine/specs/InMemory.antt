@@ -22,7 +22,7 @@ pub record Intake : Type 0 where
   pub room : ℕ
 
 -- A write adds what it takes at the end, at most a piece. One that fails takes nothing, and
--- comes only where there may be no room for a piece.
+-- happens only where there may be no room for a piece.
 abbrev pub IntakeWrites : Intake → Answer → Intake → Type 0
 IntakeWrites old (Moved bytes) new =
     (new.bytes ≡ old.bytes ++ bytes) × (length bytes ≤ old.piece) × (new.piece ≡ old.piece)

@@ -19,9 +19,9 @@ told_writes (Err Write) = 1
 told_writes (Err other) = 0
 told_writes (Ok done) = 0
 
--- In runs of a command with that limit and that rule, each failure of a device is told, and no failure is told that was none.
+-- In runs with that limit of bytes and that rule, each failure of a device is told, and no failure is told that was none.
 abbrev pub FailuresAreTold : ℕ → Rule → Type 0
 FailuresAreTold longest says =
-    (turns : ℕ) (reads writes : List Answer) (result : Result Done Fault) →
-    RunsTo longest says turns reads writes result →
+    (most_reads : ℕ) (reads writes : List Answer) (result : Result Done Fault) →
+    RunsTo longest says most_reads reads writes result →
     (failures reads ≡ told_reads result) × (failures writes ≡ told_writes result)

@@ -1,19 +1,20 @@
--- The lines that commands write.
-use Rattle.std.specs.Prelude.{ℕ, List, [], ◌∷◌, ◌++◌, codes, decimal}
-use Rattle.std.specs.List.{flat_map}
+-- The lines that commands write, each with its end.
+use Rattle.std.specs.Prelude.{ℕ, List, [], ◌∷◌, codes, decimal}
+use Rattle.convoy_lines.specs.Texts.{ended, line_of}
+use Rattle.convoy_lines.specs.Texts.{number_line}
 
 -- the latency that a schedule attains
-unfoldable pub attained_line : ℕ → List ℕ
-attained_line latency = codes "attained " ++ (decimal latency ++ 10 ∷ [])
+abbrev pub attained_line : ℕ → List ℕ
+attained_line latency = ended (number_line (codes "attained") latency)
 
--- the latency of a run
-unfoldable pub latency_line : ℕ → List ℕ
-latency_line latency = codes "latency " ++ (decimal latency ++ 10 ∷ [])
+-- the yes to a certificate of that latency
+abbrev pub accepted_line : ℕ → List ℕ
+accepted_line latency = ended (number_line (codes "accepted") latency)
 
--- a delay of a schedule, after a space
-abbrev pub delay_word : ℕ → List ℕ
-delay_word delay = 32 ∷ decimal delay
+-- the greatest latency
+abbrev pub greatest_line : ℕ → List ℕ
+greatest_line latency = ended (number_line (codes "greatest") latency)
 
--- a schedule: the delay of each packet, in packet order
-unfoldable pub schedule_line : List ℕ → List ℕ
-schedule_line delays = codes "schedule" ++ (flat_map delay_word delays ++ 10 ∷ [])
+-- the least and the most that the greatest latency may be
+abbrev pub open_line : ℕ → ℕ → List ℕ
+open_line least most = ended (line_of (codes "open") (decimal least ∷ decimal most ∷ []))

@@ -1,7 +1,7 @@
 -- What reading an input to its end gives, by what the reads answered.
 use Rattle.std.specs.Prelude.{◌≡◌, ℕ, ◌<◌, ◌≤◌, List, [], ◌∷◌, ◌++◌, length, All}
 use Rattle.convoy_engine.specs.declared.fault.Fault.{Fault}
-use Rattle.convoy_engine.specs.declared.fault.Fault.TheVariants.{Memory, Read, JobTooLong, ReadTurns}
+use Rattle.convoy_engine.specs.declared.fault.Fault.TheVariants.{Memory, Read, TooLong, TooManyReads}
 use Rattle.convoy_engine.specs.Devices.{Answer, Moved, Failed, IsPiece, joined}
 
 -- each read gave a piece, and all together they are no longer than the input may be
@@ -33,10 +33,10 @@ pub record ReadsTooMuch (longest : ℕ) (answers : List Answer) : Type 0 where
 -- With which fault reading stops before it has a text, where the input has at most so many bytes and
 -- at most so many reads are made.
 abbrev pub StopsReading : ℕ → ℕ → List Answer → Fault → Type 0
-StopsReading longest turns answers Read = FailsReading longest answers
-StopsReading longest turns answers JobTooLong = ReadsTooMuch longest answers
+StopsReading longest most_reads answers Read = FailsReading longest answers
+StopsReading longest most_reads answers TooLong = ReadsTooMuch longest answers
 -- as many reads as there may be gave pieces, and none the end
-StopsReading longest turns answers ReadTurns = ArePieces longest answers × (length answers ≡ turns)
--- memory was refused for the last piece
-StopsReading longest turns answers Memory = ArePieces longest answers
-StopsReading longest turns answers other = ⊥
+StopsReading longest most_reads answers TooManyReads = ArePieces longest answers × (length answers ≡ most_reads)
+-- memory ran out at the last piece
+StopsReading longest most_reads answers Memory = ArePieces longest answers
+StopsReading longest most_reads answers other = ⊥

@@ -27,10 +27,10 @@ fine answer = result_map_both (λ out. (Fine, out)) (λ fault. fault) answer
 abbrev pub Answers : (List ℕ → Reply) → Rule
 Answers answer text reply = reply ≡ answer text
 
--- the reply is that one, or memory was refused
+-- the reply is that one, unless memory ran out
 abbrev pub IsReply : Reply → Reply → Type 0
 IsReply want reply = (reply ≡ want) ⊎ (reply ≡ Err Memory)
 
--- the rule allows the reply, or memory was refused
+-- the rule allows the reply, unless memory ran out
 abbrev pub SaysUnlessMemory : Rule → Rule
 SaysUnlessMemory says text reply = says text reply ⊎ (reply ≡ Err Memory)

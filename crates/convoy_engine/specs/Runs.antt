@@ -19,26 +19,26 @@ pub record Replied (longest : ℕ) (says : Rule) (reads : List Answer) (reply : 
 -- bytes and at most so many reads are made.
 abbrev pub RunsTo : ℕ → Rule → ℕ → List Answer → List Answer → Result Done Fault → Type 0
 -- all that is to be written went out
-RunsTo longest says turns reads writes (Ok done) =
+RunsTo longest says most_reads reads writes (Ok done) =
     (out : List ℕ) × Replied longest says reads (Ok (done, out)) × WritesAll out writes
 -- a front of it went out, and then the sink failed
-RunsTo longest says turns reads writes (Err Write) =
+RunsTo longest says most_reads reads writes (Err Write) =
     (done : Done) × (out : List ℕ) × Replied longest says reads (Ok (done, out)) × FailsWithin out writes
--- memory was refused, in reading or after the text was read, and nothing was written
-RunsTo longest says turns reads writes (Err Memory) =
-    (StopsReading longest turns reads Memory ⊎ ((text : List ℕ) × ReadsText longest reads text)) × (writes ≡ [])
+-- memory ran out, in reading or after the text was read, and nothing was written
+RunsTo longest says most_reads reads writes (Err Memory) =
+    (StopsReading longest most_reads reads Memory ⊎ ((text : List ℕ) × ReadsText longest reads text)) × (writes ≡ [])
 -- reading stopped, or the text has a fault, and nothing was written
-RunsTo longest says turns reads writes (Err fault) =
-    (StopsReading longest turns reads fault ⊎ Replied longest says reads (Err fault)) × (writes ≡ [])
+RunsTo longest says most_reads reads writes (Err fault) =
+    (StopsReading longest most_reads reads fault ⊎ Replied longest says reads (Err fault)) × (writes ≡ [])
 
 -- Over a source and a sink that may answer so, from their old states to their new ones, there is
 -- a run that gives this result.
-pub record IsRun {S K : Type 0} (longest : ℕ) (says : Rule) (turns : ℕ)
+pub record IsRun {S K : Type 0} (longest : ℕ) (says : Rule) (most_reads : ℕ)
     (may_read : S → Answer → S → Type 0) (may_write : K → Answer → K → Type 0)
     (source new_source : S) (sink new_sink : K) (result : Result Done Fault) : Type 0 where
   pub reads : List Answer
   pub writes : List Answer
   pub read : FoldsTo may_read source reads new_source
-  pub few : length reads ≤ turns
+  pub few : length reads ≤ most_reads
   pub wrote : FoldsTo may_write sink writes new_sink
-  pub outcome : RunsTo longest says turns reads writes result
+  pub outcome : RunsTo longest says most_reads reads writes result

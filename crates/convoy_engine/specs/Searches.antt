@@ -1,29 +1,27 @@
--- What the commands `analyse` and `latency` write.
-use Rattle.std.specs.Prelude.{◌≡◌, ℕ, ◌≤◌, List, [], ◌∷◌, ◌++◌, length, codes, decimal, Ok, Err}
-use Rattle.convoy_scenario.specs.Plan.{Plan}
+-- What a search gives for a text, and what the commands `analyse` and `latency` write.
+use Rattle.std.specs.Prelude.{◌≡◌, ◌⊎◌, ℕ, ◌≤◌, List, ◌++◌, length, Result, Ok, Err}
+use Rattle.convoy_lines.specs.Texts.{ended}
+use Rattle.convoy_scenario.specs.Scenario.{Scenario}
 use Rattle.convoy_scenario.specs.Reading.{scenario_of_text}
+use Rattle.convoy_scenario.specs.WellFormed.{IsScenario}
 use Rattle.convoy_scenario.specs.declared.fault.ScenarioFault.{ScenarioFault}
 use Rattle.convoy_packets.specs.Assignment.{IsAssignment}
 use Rattle.convoy_sim.specs.Delivery.{latency_of}
-use Rattle.convoy_certificate.specs.Contents.{Contents, IsCertificate}
-use Rattle.convoy_certificate.specs.Text.{certificate_text}
-use Rattle.convoy_checker.specs.Validity.{IsGreatest, IsUpper}
+use Rattle.convoy_sim.specs.Greatest.{IsGreatest, IsReached, IsUpper}
+use Rattle.convoy_certificate.specs.Certificate.{Certificate, IsCertificate}
+use Rattle.convoy_certificate.specs.Text.{certificate_text, schedule_line}
+use Rattle.convoy_checker.specs.Validity.{IsValid}
 use Rattle.convoy_branch.specs.Fronts.{IsFront}
+use Rattle.convoy_branch.specs.Outcomes.{IsOutcome}
+use Rattle.convoy_branch.specs.declared.outcome.Outcome.{Outcome}
 use Rattle.convoy_engine.specs.declared.done.Done.TheVariants.{Fine, Open, Refused}
 use Rattle.convoy_engine.specs.declared.fault.Fault.{Fault}
+use Rattle.convoy_engine.specs.declared.fault.Fault.TheVariants.{Memory}
 use Rattle.convoy_engine.specs.declared.reading.TheConstants.{LONGEST_CERTIFICATE}
+use Rattle.convoy_engine.specs.Checks.{check_reply}
 use Rattle.convoy_engine.specs.Faults.{told_of}
-use Rattle.convoy_engine.specs.Checks.{accepted_line, check_reply}
-use Rattle.convoy_engine.specs.Lines.{schedule_line}
+use Rattle.convoy_engine.specs.Lines.{accepted_line, greatest_line, open_line}
 use Rattle.convoy_engine.specs.Replies.{Rule}
-
--- the greatest latency
-unfoldable pub greatest_line : ℕ → List ℕ
-greatest_line latency = codes "greatest " ++ (decimal latency ++ 10 ∷ [])
-
--- the best latency that was found, and the upper bound of all
-unfoldable pub open_line : ℕ → ℕ → List ℕ
-open_line best upper = codes "open " ++ (decimal best ++ 32 ∷ (decimal upper ++ 10 ∷ []))
 
 -- The text has this fault.
 pub record IsFaulty (text : List ℕ) (fault : Fault) : Type 0 where
@@ -31,51 +29,72 @@ pub record IsFaulty (text : List ℕ) (fault : Fault) : Type 0 where
   pub found : scenario_of_text text ≡ Err cause
   pub told : fault ≡ told_of cause
 
--- THE HEADLINE. What is written is a certificate of the scenario that was read; its schedule has the stated latency; no assignment has a greater one; and the checker accepts what is written.
-pub record IsProof (text out : List ℕ) : Type 0 where
-  pub certificate : Contents
+-- A search with that limit for the scenario of the text ended so.
+pub record IsSearchOf (limit : ℕ) (text : List ℕ) (outcome : Outcome) : Type 0 where
+  pub scenario : Scenario
+  pub read : scenario_of_text text ≡ Ok scenario
+  pub lawful : IsScenario scenario
+  pub ended : IsOutcome scenario limit outcome
+
+-- what a search for the scenario of a text gives; or the scenario's fault, or memory ran out
+abbrev pub SearchGives : ℕ → List ℕ → Result Outcome Fault → Type 0
+SearchGives limit text (Ok outcome) = IsSearchOf limit text outcome
+SearchGives limit text (Err fault) = IsFaulty text fault ⊎ (fault ≡ Memory)
+
+-- THE HEADLINE. What is written is a certificate of the scenario that was read, with a node for each ticket that was spent; its schedule has the stated latency; no assignment has a greater one; and the checker accepts what is written.
+pub record IsProof (limit : ℕ) (text out : List ℕ) : Type 0 where
+  pub certificate : Certificate
   pub lawful : IsCertificate certificate
-  pub scenario : scenario_of_text text ≡ Ok certificate.scenario
+  pub read : scenario_of_text text ≡ Ok certificate.scenario
   pub written : out ≡ certificate_text certificate
   pub latency : latency_of certificate.scenario certificate.delays ≡ certificate.latency
-  pub none_greater : IsUpper certificate.scenario certificate.latency
+  pub greatest : IsGreatest certificate.scenario certificate.latency
+  pub valid : IsValid certificate
+  pub few : length certificate.nodes ≤ limit
   -- the checker reads it whole: it is within the limit of bytes
   pub fits : length out ≤ LONGEST_CERTIFICATE
   pub accepted : check_reply out ≡ Ok (Fine, accepted_line certificate.latency)
 
--- What is written is the best latency that the search found, the upper bound of its front after as many tickets as the limit, and a schedule of that latency.
+-- The greatest latency of the scenario that was read is from `least` to `most`: so says the front of a search that spent as many tickets as the limit.
+pub record IsOpenBetween (limit : ℕ) (text : List ℕ) (scenario : Scenario) (least most : ℕ) : Type 0 where
+  pub read : scenario_of_text text ≡ Ok scenario
+  pub lawful : IsScenario scenario
+  pub reached : IsReached scenario least
+  pub upper : IsUpper scenario most
+  pub front : IsFront scenario least most limit
+
+-- What is written is the least and the most that the greatest latency may be, and a schedule that has the least.
 pub record IsOpenProof (limit : ℕ) (text out : List ℕ) : Type 0 where
-  pub plan : Plan
+  pub scenario : Scenario
   pub delays : List ℕ
-  pub upper : ℕ
-  pub scenario : scenario_of_text text ≡ Ok plan
-  pub assigned : IsAssignment plan delays
-  pub front : IsFront plan (latency_of plan delays) upper limit
-  pub written : out ≡ open_line (latency_of plan delays) upper ++ schedule_line delays
+  pub most : ℕ
+  pub assigned : IsAssignment scenario delays
+  pub between : IsOpenBetween limit text scenario (latency_of scenario delays) most
+  pub written : out ≡ open_line (latency_of scenario delays) most ++ ended (schedule_line delays)
 
 -- what `analyse` may answer
 abbrev pub AnalyseSays : ℕ → Rule
-AnalyseSays limit text (Ok (Fine, out)) = IsProof text out
+AnalyseSays limit text (Ok (Fine, out)) = IsProof limit text out
 AnalyseSays limit text (Ok (Open, out)) = IsOpenProof limit text out
 AnalyseSays limit text (Ok (Refused, out)) = ⊥
 AnalyseSays limit text (Err fault) = IsFaulty text fault
 
--- the greatest latency of the scenario that was read is written
+-- The greatest latency of the scenario that was read is written.
 pub record IsGreatestTold (text out : List ℕ) : Type 0 where
-  pub plan : Plan
+  pub scenario : Scenario
   pub latency : ℕ
-  pub scenario : scenario_of_text text ≡ Ok plan
-  pub greatest : IsGreatest plan latency
+  pub read : scenario_of_text text ≡ Ok scenario
+  pub lawful : IsScenario scenario
+  pub greatest : IsGreatest scenario latency
   pub written : out ≡ greatest_line latency
 
--- the best latency and the upper bound of a front after as many tickets as the limit are written
+-- What is written is the least and the most that the greatest latency may be.
 pub record IsFrontTold (limit : ℕ) (text out : List ℕ) : Type 0 where
-  pub plan : Plan
-  pub best : ℕ
-  pub upper : ℕ
-  pub scenario : scenario_of_text text ≡ Ok plan
-  pub front : IsFront plan best upper limit
-  pub written : out ≡ open_line best upper
+  pub scenario : Scenario
+  pub least : ℕ
+  pub most : ℕ
+  pub between : IsOpenBetween limit text scenario least most
+  pub written : out ≡ open_line least most
 
 -- what `latency` may answer
 abbrev pub LatencySays : ℕ → Rule

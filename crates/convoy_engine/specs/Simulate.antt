@@ -1,15 +1,16 @@
 -- What the command `simulate` writes.
 use Rattle.std.specs.Prelude.{ℕ, List, ◌++◌, Result}
 use Rattle.std.specs.Result.{result_map_both}
+use Rattle.convoy_lines.specs.Texts.{ended}
 use Rattle.convoy_sim.specs.Delivery.{latency_of}
+use Rattle.convoy_certificate.specs.Text.{latency_line, schedule_line}
 use Rattle.convoy_engine.specs.declared.fault.Fault.{Fault}
 use Rattle.convoy_engine.specs.Cases.{Case, case_of_text}
-use Rattle.convoy_engine.specs.Lines.{latency_line, schedule_line}
 use Rattle.convoy_engine.specs.Replies.{Answers, Rule, fine}
 
 -- the latency of the case's run, and its schedule
 abbrev pub simulated_text : Case → List ℕ
-simulated_text case = latency_line (latency_of case.scenario case.delays) ++ schedule_line case.delays
+simulated_text case = ended (latency_line (latency_of case.scenario case.delays)) ++ ended (schedule_line case.delays)
 
 -- What is written for a text: that of its case, or else the first fault.
 unfoldable pub simulate_text : List ℕ → Result (List ℕ) Fault

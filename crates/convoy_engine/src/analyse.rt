@@ -1,24 +1,24 @@
-ghost use Rattle.std.specs.Prelude.{◌≡◌, ◌≤◌, ◌++◌, IfOk};
-ghost use Rattle.convoy_certificate.specs.Text.{certificate_text};
+ghost use Rattle.std.specs.Prelude.{◌≡◌, ◌++◌, IfOk};
+ghost use Rattle.convoy_lines.specs.Texts.{ended};
+ghost use Rattle.convoy_certificate.specs.Text.{certificate_text, schedule_line};
 ghost use Rattle.convoy_engine.specs.declared.reading.TheConstants.{LONGEST_JOB};
-ghost use Rattle.convoy_engine.specs.declared.options.TheConstants.{MOST_TICKETS};
-ghost use Rattle.convoy_engine.specs.Lines.{schedule_line};
+ghost use Rattle.convoy_engine.specs.Lines.{open_line};
 ghost use Rattle.convoy_engine.specs.Replies.{SaysUnlessMemory, reply_of};
 ghost use Rattle.convoy_engine.specs.Runs.{IsRun};
-ghost use Rattle.convoy_engine.specs.Searches.{AnalyseSays, open_line};
+ghost use Rattle.convoy_engine.specs.Searches.{AnalyseSays};
 
 use super::command::{Command, run_command};
 use super::device::{Sink, Source};
 use super::done::Done;
 use super::fault::Fault;
-use super::lines::{append_open, append_schedule};
+use super::lines::append_open;
 use super::options::Options;
-use convoy_branch::{Outcome, search_alone};
+use super::search::search_text;
+use convoy_branch::Outcome;
+use convoy_branch::laws::fronts_bound;
 use convoy_certificate::laws::{texts_are_read, texts_are_short};
-use convoy_certificate::{Certificate, write};
+use convoy_certificate::{Certificate, push_schedule, write};
 use convoy_checker::laws::{checked_is_valid, valid_is_greatest};
-use convoy_packets::PacketTable;
-use convoy_scenario::read_toml;
 use convoy_sim::Record;
 use std::alloc::{AllocError, Global};
 
@@ -32,7 +32,7 @@ use std::alloc::{AllocError, Global};
 /// latency is at least LEAST ticks and at most MOST, and then the line of a schedule that has the
 /// latency LEAST.
 ///
-/// At most `options.turns()` reads are made. Nothing is written before the answer is known. The
+/// At most `options.most_reads()` reads are made. Nothing is written before the answer is known. The
 /// faults are those of [`run_first`](super::run_first). The search has one worker.
 pub fn run_analyse<S: Source, K: Sink>(
     alloc: Global,
@@ -41,29 +41,28 @@ pub fn run_analyse<S: Source, K: Sink>(
     options: &Options,
 ) -> Result<Done, Fault>
     requires alone { options.now.workers ≡ 1 }
-    ensures { IsRun LONGEST_JOB (AnalyseSays options.now.limit) options.now.turns
+    ensures { IsRun LONGEST_JOB (AnalyseSays options.now.limit) options.now.most_reads
         S.reads K.writes source.old source.new sink.old sink.new result }
 {
-    let turns = options.turns();
-    run_command(alloc, Command::Analyse(*options), source, sink, turns)
+    let most_reads = options.most_reads();
+    run_command(alloc, Command::Analyse(*options), source, sink, most_reads)
 }
 
-/// What is written for a text, where at most `limit` tickets are spent, and how the command ends.
+/// What is written for a text, and how the command ends.
 pub(crate) fn analyse_answer(
     alloc: Global,
     text: &[u8],
-    limit: u64,
+    options: &Options,
 ) -> Result<(Done, Vec<u8>), Fault>
-    requires { limit ≤ MOST_TICKETS }
-    ensures { SaysUnlessMemory (AnalyseSays limit) text.now (reply_of result) }
+    ensures { SaysUnlessMemory (AnalyseSays options.now.limit) text.now (reply_of result) }
 {
     texts_are_read();
     texts_are_short();
     checked_is_valid();
     valid_is_greatest();
-    let scenario = read_toml(alloc, text)?.scenario;
-    let table = PacketTable::of(alloc, &scenario)?;
-    match search_alone(alloc, &scenario, &table, limit)? {
+    fronts_bound();
+    let _limit = options.limit();
+    match search_text(alloc, text, options)? {
         Outcome::Proved { certificate, .. } => Ok((Done::Fine, proof_text(alloc, &certificate)?)),
         Outcome::Open { best, upper, .. } => Ok((Done::Open, open_text(alloc, &best, upper)?)),
     }
@@ -81,10 +80,10 @@ fn proof_text(alloc: Global, certificate: &Certificate) -> Result<Vec<u8>, Alloc
 /// The best latency and the upper bound, and a schedule of that latency.
 fn open_text(alloc: Global, best: &Record, upper: u32) -> Result<Vec<u8>, AllocError>
     ensures { IfOk result (λ text. text.items
-        ≡ open_line best.now.latency upper ++ schedule_line best.now.delays) }
+        ≡ open_line best.now.latency upper ++ ended (schedule_line best.now.delays)) }
 {
     let mut text = Vec::new(alloc);
     append_open(best.latency(), upper, &mut text)?;
-    append_schedule(best.delays(), &mut text)?;
+    push_schedule(&mut text, best.delays().as_slice())?;
     Ok(text)
 }

@@ -1,7 +1,8 @@
 ghost use Rattle.std.specs.Prelude.{◌≡◌, Ok, Err};
 ghost use Rattle.convoy_engine.specs.declared.done.Done.TheVariants as ends;
 ghost use Rattle.convoy_engine.specs.declared.reading.TheConstants.{LONGEST_CERTIFICATE};
-ghost use Rattle.convoy_engine.specs.Checks.{CheckSays, accepted_line, reply_of_check, reply_of_text};
+ghost use Rattle.convoy_engine.specs.Checks.{CheckSays, reply_of_check, reply_of_text};
+ghost use Rattle.convoy_engine.specs.Lines.{accepted_line};
 ghost use Rattle.convoy_engine.specs.Refusals.{refused_line, row_of_refusal};
 ghost use Rattle.convoy_engine.specs.Replies.{IsReply, SaysUnlessMemory, reply_of};
 ghost use Rattle.convoy_engine.specs.Runs.{IsRun};
@@ -10,34 +11,34 @@ use super::command::{Command, run_command};
 use super::device::{Sink, Source};
 use super::done::Done;
 use super::fault::Fault;
-use super::lines::append_accepted;
 use super::refusal::{Refusal, refusal_line};
 use convoy_certificate::laws::texts_are_read;
 use convoy_certificate::{TextFault, read};
 use convoy_checker::laws::checked_is_valid;
 use convoy_checker::{Accepted, Refused, check};
+use convoy_lines::push_number_line;
 use std::alloc::Global;
 
 /// The command `check`: reads the text of a certificate to the end of the source, and writes the yes
 /// with the latency that is the greatest of its scenario, or the first fault for which the
 /// certificate is refused (docs/FORMATS.md, "What `check` writes").
 ///
-/// At most `turns` reads are made. Nothing is written before the answer is known. It ends as
+/// At most `most_reads` reads are made. Nothing is written before the answer is known. It ends as
 /// `Done::Fine` or `Done::Refused`. The faults are `Fault::Memory`; `Fault::Read` where the source
-/// fails; `Fault::JobTooLong` at the read that brings a byte past
-/// [`LONGEST_CERTIFICATE`](super::LONGEST_CERTIFICATE); `Fault::ReadTurns` where `turns` reads give
+/// fails; `Fault::TooLong` at the read that brings a byte past
+/// [`LONGEST_CERTIFICATE`](super::LONGEST_CERTIFICATE); `Fault::TooManyReads` where `most_reads` reads give
 /// bytes and none the end; `Fault::Write` where the sink fails, after a front of the answer has gone
 /// out.
 pub fn run_check<S: Source, K: Sink>(
     alloc: Global,
     source: &mut S,
     sink: &mut K,
-    turns: u64,
+    most_reads: u64,
 ) -> Result<Done, Fault>
-    ensures { IsRun LONGEST_CERTIFICATE CheckSays turns
+    ensures { IsRun LONGEST_CERTIFICATE CheckSays most_reads
         S.reads K.writes source.old source.new sink.old sink.new result }
 {
-    run_command(alloc, Command::Check, source, sink, turns)
+    run_command(alloc, Command::Check, source, sink, most_reads)
 }
 
 /// How `check` ends for a text, and what is written for it.
@@ -78,7 +79,7 @@ fn accept(alloc: Global, latency: u32) -> Result<(Done, Vec<u8>), Fault>
     ensures { IsReply (Ok (ends.Fine, accepted_line latency)) (reply_of result) }
 {
     let mut line = Vec::new(alloc);
-    append_accepted(latency, &mut line)?;
+    push_number_line(&mut line, "accepted", latency)?;
     Ok((Done::Fine, line))
 }
 
@@ -90,6 +91,3 @@ fn refuse(alloc: Global, refusal: Refusal) -> Result<(Done, Vec<u8>), Fault>
     refusal_line(refusal, &mut line)?;
     Ok((Done::Refused, line))
 }
-
-#[cfg(test)]
-mod tests;

@@ -1,7 +1,7 @@
 ghost use Rattle.std.specs.Prelude.{◌≡◌};
 ghost use Rattle.std.specs.Result.{result_map_both};
 ghost use Rattle.convoy_engine.specs.declared.done.Done.TheVariants.{Fine};
-ghost use Rattle.convoy_engine.specs.Commands.{longest_for, says_for};
+ghost use Rattle.convoy_engine.specs.Commands.{IsAlone, longest_for, says_for};
 ghost use Rattle.convoy_engine.specs.Replies.{SaysUnlessMemory, reply_of};
 ghost use Rattle.convoy_engine.specs.Runs.{IsRun};
 
@@ -19,30 +19,40 @@ use super::timeline::timeline_answer;
 use super::writing::write_all;
 use std::alloc::Global;
 
-/// What is to be answered for a text.
-#[derive(Clone, Copy)]
-pub(crate) enum Command {
+/// What is to be answered for a text (docs/FORMATS.md, "Commands").
+#[derive(Clone, Copy, Debug)]
+pub enum Command {
+    /// The latency that the schedule of least delays attains.
     First,
+    /// The latency under the schedule that is given.
     Simulate,
+    /// What happens at each group under that schedule.
     Timeline,
+    /// Whether a certificate is valid.
     Check,
+    /// A certificate of the greatest latency.
     Analyse(Options),
+    /// The greatest latency.
     Latency(Options),
 }
 
-/// Reads a text to the end of the source, in at most `turns` reads, and writes what the command
-/// answers for it. Nothing is written before the answer is known.
-pub(crate) fn run_command<S: Source, K: Sink>(
+/// Runs a command: reads a text to the end of the source, in at most `most_reads` reads, and writes
+/// what the command answers for it. Nothing is written before the answer is known. Options of the
+/// command say how it searches; their own number of reads is not looked at.
+///
+/// The faults are those of the command's own function, as [`run_first`](super::run_first).
+pub fn run_command<S: Source, K: Sink>(
     alloc: Global,
     command: Command,
     source: &mut S,
     sink: &mut K,
-    turns: u64,
+    most_reads: u64,
 ) -> Result<Done, Fault>
-    ensures { IsRun (longest_for command) (says_for command) turns
+    requires alone { IsAlone command }
+    ensures { IsRun (longest_for command) (says_for command) most_reads
         S.reads K.writes source.old source.new sink.old sink.new result }
 {
-    let text = read_to_end(alloc, source, longest_of(&command), turns)?;
+    let text = read_to_end(alloc, source, longest_of(&command), most_reads)?;
     let (done, answer) = answer_of(alloc, &command, &text)?;
     if write_all(sink, &answer).is_err() {
         return Err(Fault::Write);
@@ -73,8 +83,8 @@ fn answer_of(alloc: Global, command: &Command, text: &[u8]) -> Result<(Done, Vec
         Command::Simulate => fine(simulate_answer(alloc, text)),
         Command::Timeline => fine(timeline_answer(alloc, text)),
         Command::Check => check_answer(alloc, text),
-        Command::Analyse(options) => analyse_answer(alloc, text, options.limit()),
-        Command::Latency(options) => latency_answer(alloc, text, options.limit()),
+        Command::Analyse(options) => analyse_answer(alloc, text, options),
+        Command::Latency(options) => latency_answer(alloc, text, options),
     }
 }
 

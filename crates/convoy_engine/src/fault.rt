@@ -37,7 +37,7 @@ pub enum Fault {
     /// in the packet order.
     #[error("the schedule gives a packet a delay that it may not take: {0}")]
     DelayOutOfRange(usize),
-    /// Memory was refused, which says nothing of the input.
+    /// Memory ran out, which says nothing of the input.
     #[error("out of memory")]
     Memory,
     /// The source failed in its last read.
@@ -46,12 +46,13 @@ pub enum Fault {
     /// The sink failed in its last write, or took none of the bytes offered.
     #[error("the output could not be written")]
     Write,
-    /// The input has more than `LONGEST_JOB` bytes.
+    /// The input has more bytes than the command takes: more than `LONGEST_JOB`, or of a certificate
+    /// more than `LONGEST_CERTIFICATE`.
     #[error("the input is too long")]
-    JobTooLong,
+    TooLong,
     /// As many reads as the caller allows were made, and the end of the input was not seen.
     #[error("the input did not end within the reads that are allowed")]
-    ReadTurns,
+    TooManyReads,
 }
 
 impl From<AllocError> for Fault {
@@ -69,10 +70,10 @@ impl From<ScenarioFault> for Fault {
     ghost use Rattle.std.specs.Prelude.{◌≡◌};
     ghost use Rattle.convoy_engine.specs.Faults.{told_of};
 
-    ghost from_gives = { λ refused fault. fault ≡ told_of refused };
+    ghost from_gives = { λ cause fault. fault ≡ told_of cause };
 
-    fn from(refused: ScenarioFault) -> Self {
-        match refused {
+    fn from(cause: ScenarioFault) -> Self {
+        match cause {
             ScenarioFault::NotToml => Fault::NotToml,
             ScenarioFault::Shape(key) => Fault::Shape(key),
             ScenarioFault::OverLimit(limit) => Fault::OverLimit(limit),
@@ -92,10 +93,10 @@ impl From<ListFault> for Fault {
     ghost use Rattle.std.specs.Prelude.{◌≡◌};
     ghost use Rattle.convoy_engine.specs.Faults.{told_of_list};
 
-    ghost from_gives = { λ refused fault. fault ≡ told_of_list refused };
+    ghost from_gives = { λ cause fault. fault ≡ told_of_list cause };
 
-    fn from(refused: ListFault) -> Self {
-        match refused {
+    fn from(cause: ListFault) -> Self {
+        match cause {
             ListFault::Length => Fault::ScheduleLength,
             ListFault::Range(packet) => Fault::DelayOutOfRange(packet),
             ListFault::Memory => Fault::Memory,
@@ -113,7 +114,7 @@ pub(crate) enum Ending {
 const NOTHING: Ending = Ending::Word("");
 
 /// Appends the line of a fault: `fault`, its number, its text, and byte 10 (docs/FORMATS.md,
-/// "Faults"). Where memory is refused the vector is as it was.
+/// "Faults"). Where memory runs out the vector is as it was.
 pub fn fault_line(fault: &Fault, out: &mut Vec<u8>) -> Result<(), AllocError>
     ensures ok { OnOk result (out.new.items ≡ out.old.items ++ fault_line_of fault.now) }
     ensures err { OnErr result (out.new.items ≡ out.old.items) }
@@ -153,8 +154,8 @@ pub(crate) fn row(fault: &Fault) -> (u8, &'static str, Ending)
         Fault::Memory => (11, "out of memory", NOTHING),
         Fault::Read => (40, "read failed", NOTHING),
         Fault::Write => (41, "write failed", NOTHING),
-        Fault::JobTooLong => (42, "job too long", NOTHING),
-        Fault::ReadTurns => (44, "too many reads", NOTHING),
+        Fault::TooLong => (42, "job too long", NOTHING),
+        Fault::TooManyReads => (44, "too many reads", NOTHING),
     }
 }
 

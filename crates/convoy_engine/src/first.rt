@@ -10,30 +10,31 @@ use super::command::{Command, run_command};
 use super::device::{Sink, Source};
 use super::done::Done;
 use super::fault::Fault;
-use super::lines::{append_attained, append_schedule};
+use convoy_certificate::push_schedule;
+use convoy_lines::push_number_line;
 use convoy_packets::{Delays, PacketTable};
 use convoy_scenario::{Scenario, read_toml};
-use convoy_sim::simulate;
+use convoy_sim::latency;
 use std::alloc::{AllocError, Global};
 
 /// The command `first`: reads a scenario to the end of the source, and writes the latency in ticks
 /// that the schedule of least delays attains, and that schedule (docs/FORMATS.md, "What `first`
 /// writes").
 ///
-/// At most `turns` reads are made. Nothing is written before the answer is known. The faults are
+/// At most `most_reads` reads are made. Nothing is written before the answer is known. The faults are
 /// those of [`read_toml`], and `Fault::Memory`; `Fault::Read` where the source fails;
-/// `Fault::JobTooLong` at the read that brings a byte past [`LONGEST_JOB`](super::LONGEST_JOB);
-/// `Fault::ReadTurns` where `turns` reads give bytes and none the end; `Fault::Write` where the sink
+/// `Fault::TooLong` at the read that brings a byte past [`LONGEST_JOB`](super::LONGEST_JOB);
+/// `Fault::TooManyReads` where `most_reads` reads give bytes and none the end; `Fault::Write` where the sink
 /// fails, after a front of the answer has gone out.
 pub fn run_first<S: Source, K: Sink>(
     alloc: Global,
     source: &mut S,
     sink: &mut K,
-    turns: u64,
+    most_reads: u64,
 ) -> Result<Done, Fault>
-    ensures { IsRun LONGEST_JOB FirstSays turns S.reads K.writes source.old source.new sink.old sink.new result }
+    ensures { IsRun LONGEST_JOB FirstSays most_reads S.reads K.writes source.old source.new sink.old sink.new result }
 {
-    run_command(alloc, Command::First, source, sink, turns)
+    run_command(alloc, Command::First, source, sink, most_reads)
 }
 
 /// What is written for a text.
@@ -51,9 +52,9 @@ fn attained(alloc: Global, scenario: &Scenario) -> Result<Vec<u8>, AllocError>
 {
     let table = PacketTable::of(alloc, scenario)?;
     let delays = Delays::least(alloc, &table)?;
-    let run = simulate(alloc, scenario, &table, &delays)?;
+    let attained = latency(scenario, &table, &delays);
     let mut text = Vec::new(alloc);
-    append_attained(run.latency(), &mut text)?;
-    append_schedule(&delays, &mut text)?;
+    push_number_line(&mut text, "attained", attained)?;
+    push_schedule(&mut text, delays.as_slice())?;
     Ok(text)
 }

@@ -3,13 +3,16 @@
 
 pub use analyse::run_analyse;
 pub use checking::run_check;
+pub use command::{Command, run_command};
 pub use device::{DeviceFailed, Sink, Source};
 pub use done::Done;
 pub use fault::{Fault, fault_line};
 pub use first::run_first;
 pub use latency::run_latency;
 pub use memory::{SliceSource, VecSink};
-pub use options::{DEFAULT_LIMIT, MOST_TICKETS, MOST_WORKERS, Options};
+pub use options::{
+    DEFAULT_LIMIT, DEFAULT_SIMULATIONS, MOST_SIMULATIONS, MOST_TICKETS, MOST_WORKERS, Options,
+};
 pub use reading::{LONGEST_CERTIFICATE, LONGEST_JOB};
 pub use simulate::run_simulate;
 pub use stream::{StreamSink, StreamSource};
@@ -31,6 +34,7 @@ mod memory;
 mod options;
 mod reading;
 mod refusal;
+mod search;
 mod simulate;
 mod stream;
 #[cfg(test)]

@@ -47,7 +47,7 @@ impl<'a> Source for SliceSource<'a> {
 }
 
 /// A sink in memory. It keeps what it takes, at most `piece` bytes a write. A write fails where
-/// memory is refused.
+/// memory runs out.
 #[derive(Debug, Drop)]
 pub struct VecSink {
     bytes: Vec<u8>,

@@ -1,6 +1,7 @@
-ghost use Rattle.std.specs.Prelude.{◌≡◌, ◌↔◌, IfSome, IsSome};
+ghost use Rattle.std.specs.Prelude.{◌≡◌, ◌↔◌, ◌≤◌, IfSome, IsSome};
 ghost use Rattle.convoy_engine.specs.Options.{AreSettings};
 
+use convoy_certificate::MOST_NODES;
 use std::marker::Model;
 
 /// How many workers a search has at most.
@@ -8,18 +9,26 @@ pub const MOST_WORKERS: u32 = 16;
 
 /// How many tickets a search spends at most. A certificate has a node for each, and so no more than
 /// are read.
-pub const MOST_TICKETS: u64 = 4_000_000;
+pub const MOST_TICKETS: u64 = MOST_NODES as u64;
 
 /// How many tickets a search spends at most where the user asks for no other limit.
 pub const DEFAULT_LIMIT: u64 = 1_000_000;
 
+/// How many schedules are simulated at most before a search, to find a good one to start from.
+pub const MOST_SIMULATIONS: u64 = 1_000_000;
+
+/// How many schedules are simulated at most before a search where the user asks for no other number.
+pub const DEFAULT_SIMULATIONS: u64 = 20_000;
+
 /// How a search runs: its workers, from 1 to [`MOST_WORKERS`]; its limit of tickets, from 1 to
-/// [`MOST_TICKETS`]; and how many reads of the input are made at most.
+/// [`MOST_TICKETS`]; how many schedules are simulated at most to find a good one to start from, up to
+/// [`MOST_SIMULATIONS`]; and how many reads of the input are made at most.
 #[derive(Clone, Copy, Debug)]
 pub struct Options {
     workers: u32,
     limit: u64,
-    turns: u64,
+    simulations: u64,
+    most_reads: u64,
 }
 
 impl Model for Options {
@@ -30,34 +39,40 @@ impl Model for Options {
     ghost view = { λ o. record {
       workers = o.workers;
       limit = o.limit;
-      turns = o.turns;
+      simulations = o.simulations;
+      most_reads = o.most_reads;
     } };
 
     ghost inverse = { λ s. record {
       workers = s.workers;
       limit = s.limit;
-      turns = s.turns;
+      simulations = s.simulations;
+      most_reads = s.most_reads;
     } };
 
     ghost invariant = { λ o. AreSettings (record {
       workers = o.workers;
       limit = o.limit;
-      turns = o.turns;
+      simulations = o.simulations;
+      most_reads = o.most_reads;
     }) };
 }
 
 impl Options {
-    /// Options of these numbers; none where the workers or the limit are out of range.
-    pub fn new(workers: u32, limit: u64, turns: u64) -> Option<Options>
+    /// Options of these numbers, of a search that starts from the least delays; none where the workers
+    /// or the limit are out of range.
+    pub fn new(workers: u32, limit: u64, most_reads: u64) -> Option<Options>
         ensures range { IsSome result ↔ AreSettings (record {
           workers = workers;
           limit = limit;
-          turns = turns;
+          simulations = 0;
+          most_reads = most_reads;
         }) }
         ensures value { IfSome result (λ options. options ≡ record {
           workers = workers;
           limit = limit;
-          turns = turns;
+          simulations = 0;
+          most_reads = most_reads;
         }) }
     {
         if workers < 1 || workers > MOST_WORKERS || limit < 1 || limit > MOST_TICKETS {
@@ -66,8 +81,20 @@ impl Options {
         Some(Options {
             workers,
             limit,
-            turns,
+            simulations: 0,
+            most_reads,
         })
+    }
+
+    /// The same options, of a search that starts from the best schedule that so many simulations find.
+    pub fn seeking(self, simulations: u64) -> Options
+        requires { simulations ≤ MOST_SIMULATIONS }
+        ensures { result ≡ record self { simulations = simulations } }
+    {
+        Options {
+            simulations,
+            ..self
+        }
     }
 
     /// How many workers search.
@@ -86,10 +113,17 @@ impl Options {
         self.limit
     }
 
-    /// How many reads are made at most.
-    pub fn turns(&self) -> u64
-        ensures { result ≡ self.now.turns }
+    /// How many schedules are simulated at most before the search.
+    pub fn simulations(&self) -> u64
+        ensures { result ≡ self.now.simulations }
     {
-        self.turns
+        self.simulations
+    }
+
+    /// How many reads are made at most.
+    pub fn most_reads(&self) -> u64
+        ensures { result ≡ self.now.most_reads }
+    {
+        self.most_reads
     }
 }

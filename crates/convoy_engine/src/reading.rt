@@ -16,20 +16,20 @@ pub const LONGEST_CERTIFICATE: usize = LONGEST_TEXT;
 /// How many bytes are read at most in one call.
 const BUFFER_LENGTH: usize = 65_536;
 
-/// Reads a source to its end, in at most `turns` reads. The faults are `Read`; `JobTooLong` where it
-/// has more than `longest` bytes; `ReadTurns`; and `Memory`.
+/// Reads a source to its end, in at most `most_reads` reads. The faults are `Read`; `TooLong` where it
+/// has more than `longest` bytes; `TooManyReads`; and `Memory`.
 pub(crate) fn read_to_end<S: Source>(
     alloc: Global,
     source: &mut S,
     longest: usize,
-    turns: u64,
+    most_reads: u64,
 ) -> Result<Vec<u8>, Fault>
-    ensures { HasRun S.reads source.old source.new (λ answers. (length answers ≤ turns)
-        × MatchResult result (λ text. ReadsText longest answers text.items) (StopsReading longest turns answers)) }
+    ensures { HasRun S.reads source.old source.new (λ answers. (length answers ≤ most_reads)
+        × MatchResult result (λ text. ReadsText longest answers text.items) (StopsReading longest most_reads answers)) }
 {
     let mut text = Vec::new(alloc);
     let mut buffer = [0; BUFFER_LENGTH];
-    for _ in 0..turns {
+    for _ in 0..most_reads {
         let Ok(piece) = read_piece(source, &mut buffer) else {
             return Err(Fault::Read);
         };
@@ -37,11 +37,11 @@ pub(crate) fn read_to_end<S: Source>(
             return Ok(text);
         }
         if piece.len() > longest - text.len() {
-            return Err(Fault::JobTooLong);
+            return Err(Fault::TooLong);
         }
         text.extend_from_slice(piece)?;
     }
-    Err(Fault::ReadTurns)
+    Err(Fault::TooManyReads)
 }
 
 /// One read: the front of the buffer that it filled.

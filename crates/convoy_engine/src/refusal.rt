@@ -17,8 +17,8 @@ pub(crate) enum Refusal {
     Check(Refused),
 }
 
-/// Appends the line of a refusal: `refused`, its number, its text, and byte 10. Where memory is
-/// refused the vector is as it was.
+/// Appends the line of a refusal: `refused`, its number, its text, and byte 10. Where memory runs
+/// out the vector is as it was.
 pub(crate) fn refusal_line(refusal: Refusal, out: &mut Vec<u8>) -> Result<(), AllocError>
     ensures ok { OnOk result (out.new.items ≡ out.old.items ++ refused_line (row_of_refusal refusal)) }
     ensures err { OnErr result (out.new.items ≡ out.old.items) }

@@ -13,26 +13,27 @@ use super::command::{Command, run_command};
 use super::device::{Sink, Source};
 use super::done::Done;
 use super::fault::Fault;
-use super::lines::{append_latency, append_schedule};
-use convoy_sim::simulate;
+use convoy_certificate::push_schedule;
+use convoy_lines::push_number_line;
+use convoy_sim::latency;
 use std::alloc::{AllocError, Global};
 
 /// The command `simulate`: reads a scenario to the end of the source, and writes the latency in ticks
 /// under the schedule that is given beside it, or where none is under the least delays, and that
 /// schedule (docs/FORMATS.md, "What `simulate` writes").
 ///
-/// At most `turns` reads are made. Nothing is written before the answer is known. The faults are
+/// At most `most_reads` reads are made. Nothing is written before the answer is known. The faults are
 /// those of [`run_first`](super::run_first), and `Fault::ScheduleLength` and
 /// `Fault::DelayOutOfRange` for a schedule that is not one of the scenario.
 pub fn run_simulate<S: Source, K: Sink>(
     alloc: Global,
     source: &mut S,
     sink: &mut K,
-    turns: u64,
+    most_reads: u64,
 ) -> Result<Done, Fault>
-    ensures { IsRun LONGEST_JOB SimulateSays turns S.reads K.writes source.old source.new sink.old sink.new result }
+    ensures { IsRun LONGEST_JOB SimulateSays most_reads S.reads K.writes source.old source.new sink.old sink.new result }
 {
-    run_command(alloc, Command::Simulate, source, sink, turns)
+    run_command(alloc, Command::Simulate, source, sink, most_reads)
 }
 
 /// What is written for a text.
@@ -51,9 +52,9 @@ fn simulated(alloc: Global, case: &Case) -> Result<Vec<u8>, AllocError>
     ensures { IfOk result (λ text. text.items
         ≡ simulated_text (record { scenario = case.now.scenario; delays = case.now.delays })) }
 {
-    let run = simulate(alloc, &case.scenario, &case.table, &case.delays)?;
+    let latency = latency(&case.scenario, &case.table, &case.delays);
     let mut text = Vec::new(alloc);
-    append_latency(run.latency(), &mut text)?;
-    append_schedule(&case.delays, &mut text)?;
+    push_number_line(&mut text, "latency", latency)?;
+    push_schedule(&mut text, case.delays.as_slice())?;
     Ok(text)
 }

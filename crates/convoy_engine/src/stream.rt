@@ -9,7 +9,8 @@ use std::io::{ErrorKind, Read, Write};
 const MOST_TRIES: u32 = 1_000;
 
 /// A reader of the standard library as a source. A read that the system interrupts is no failure of
-/// the device: it is tried again, a bounded number of times, and counts as one read.
+/// the device: it is tried again, a bounded number of times, and counts as one read. No clause says why
+/// the reader failed where it did, since none can say what a file or a terminal does.
 #[derive(Drop)]
 pub struct StreamSource<R> {
     pub reader: R,

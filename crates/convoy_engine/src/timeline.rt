@@ -21,17 +21,17 @@ use std::alloc::{AllocError, Global};
 /// group, tick by tick, under the schedule that is given beside it, or where none is under the least
 /// delays (docs/FORMATS.md, "What `timeline` writes").
 ///
-/// At most `turns` reads are made. Nothing is written before the answer is known. The faults are
+/// At most `most_reads` reads are made. Nothing is written before the answer is known. The faults are
 /// those of [`run_simulate`](super::run_simulate).
 pub fn run_timeline<S: Source, K: Sink>(
     alloc: Global,
     source: &mut S,
     sink: &mut K,
-    turns: u64,
+    most_reads: u64,
 ) -> Result<Done, Fault>
-    ensures { IsRun LONGEST_JOB TimelineSays turns S.reads K.writes source.old source.new sink.old sink.new result }
+    ensures { IsRun LONGEST_JOB TimelineSays most_reads S.reads K.writes source.old source.new sink.old sink.new result }
 {
-    run_command(alloc, Command::Timeline, source, sink, turns)
+    run_command(alloc, Command::Timeline, source, sink, most_reads)
 }
 
 /// What is written for a text.

@@ -1,7 +1,8 @@
-use super::{Task, Verdict, judge, judge_bytes};
+use super::{Verdict, judge, judge_bytes};
+use convoy_engine::Command;
 use std::alloc::Global;
 
-/// The status with which a command line ends by itself; None where it runs a task.
+/// The status with which a command line ends by itself; None where it runs a command.
 fn status_of(alloc: Global, words: &[&str]) -> Option<u8> {
     match judge(alloc, words) {
         Verdict::Run(_) => None,
@@ -10,31 +11,49 @@ fn status_of(alloc: Global, words: &[&str]) -> Option<u8> {
     }
 }
 
-/// The task that a command line runs; None where it ends by itself.
-fn task_run(alloc: Global, words: &[&str]) -> Option<Task> {
+/// The command that a command line runs, by its word, and the limit of its search and the number of
+/// simulations before it; None where the command line ends by itself.
+fn command_run(alloc: Global, words: &[&str]) -> Option<(&'static str, u64, u64)> {
     match judge(alloc, words) {
-        Verdict::Run(task) => Some(task),
-        _ => None,
+        Verdict::Run(Command::First) => Some(("first", 0, 0)),
+        Verdict::Run(Command::Simulate) => Some(("simulate", 0, 0)),
+        Verdict::Run(Command::Timeline) => Some(("timeline", 0, 0)),
+        Verdict::Run(Command::Check) => Some(("check", 0, 0)),
+        Verdict::Run(Command::Analyse(options)) => {
+            Some(("analyse", options.limit(), options.simulations()))
+        }
+        Verdict::Run(Command::Latency(options)) => {
+            Some(("latency", options.limit(), options.simulations()))
+        }
+        Verdict::Text { .. } | Verdict::Memory => None,
     }
 }
 
 #[test]
-fn tasks(rt: HostRuntime) {
-    for (words, task) in [
-        ([].as_slice(), Task::First),
-        (["first"].as_slice(), Task::First),
-        (["simulate"].as_slice(), Task::Simulate),
-        (["timeline"].as_slice(), Task::Timeline),
-        (["check"].as_slice(), Task::Check),
-        (["analyse"].as_slice(), Task::Analyse(1_000_000)),
-        (["latency"].as_slice(), Task::Latency(1_000_000)),
-        (["analyse", "--limit", "1"].as_slice(), Task::Analyse(1)),
+fn commands(rt: HostRuntime) {
+    for (words, word, limit, simulations) in [
+        ([].as_slice(), "first", 0, 0),
+        (["first"].as_slice(), "first", 0, 0),
+        (["simulate"].as_slice(), "simulate", 0, 0),
+        (["timeline"].as_slice(), "timeline", 0, 0),
+        (["check"].as_slice(), "check", 0, 0),
+        (["analyse"].as_slice(), "analyse", 1_000_000, 20_000),
+        (["latency"].as_slice(), "latency", 1_000_000, 20_000),
         (
-            ["latency", "--limit=4000000"].as_slice(),
-            Task::Latency(4_000_000),
+            ["analyse", "--limit", "1", "--seek", "0"].as_slice(),
+            "analyse",
+            1,
+            0,
+        ),
+        (
+            ["latency", "--limit=4000000", "--seek=1000000"].as_slice(),
+            "latency",
+            4_000_000,
+            1_000_000,
         ),
     ] {
-        assert_eq!(rt; task_run(rt.alloc(), words), Some(task), "at {words:?}");
+        let command = command_run(rt.alloc(), words);
+        assert_eq!(rt; command, Some((word, limit, simulations)), "at {words:?}");
     }
 }
 
@@ -51,6 +70,9 @@ fn command_lines(rt: HostRuntime) {
         (["analyse", "--limit", "4000001"].as_slice(), 2),
         (["latency", "--limit", "all"].as_slice(), 2),
         (["latency", "--limit"].as_slice(), 2),
+        (["latency", "--seek", "1000001"].as_slice(), 2),
+        (["analyse", "--seek", "-1"].as_slice(), 2),
+        (["first", "--seek", "1"].as_slice(), 2),
         (["check", "--limit", "3"].as_slice(), 2),
         (["second"].as_slice(), 2),
         (["--limit", "3"].as_slice(), 2),

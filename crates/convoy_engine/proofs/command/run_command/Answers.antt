@@ -31,6 +31,6 @@ returns-then-is_err g c =
       read = read.calls;
       few = read.says.0;
       wrote = wrote.calls;
-      outcome = failed_run _ _ c.args.turns _ _ _ _ c.in_ok-done.done c.write_all.result _ whole (rw c.deref.ensures.value at c.in_ok-done.ensures) c.if-is_err.ensures.value
+      outcome = failed_run _ _ c.args.most_reads _ _ _ _ c.in_ok-done.done c.write_all.result _ whole (rw c.deref.ensures.value at c.in_ok-done.ensures) c.if-is_err.ensures.value
           (rw c.deref-2.ensures.value at wrote.says);
     }
