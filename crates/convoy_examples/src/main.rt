@@ -1,0 +1,95 @@
+//! Prints what the commands answer for each file of `examples/`. The gate compares it with the stored
+//! output, so that no example, and nothing that the documents say of one, goes out of date.
+#![tactic(auto)]
+
+ghost use Rattle.std.specs.Prelude.{◌≡◌};
+
+use anyhow::{Result, bail};
+use convoy_engine::{
+    DEFAULT_SIMULATIONS, DeviceFailed, MOST_TICKETS, Options, SliceSource, StreamSink, VecSink,
+    run_analyse, run_check, run_first, run_latency, write_all,
+};
+use std::alloc::Global;
+use std::fs;
+
+/// The scenarios in `examples/`, but for the one that takes a million nodes.
+const EXAMPLES: [&str; 6] = [
+    "base.toml",
+    "one-tick-earlier.toml",
+    "swapped-groups.toml",
+    "three-regions.toml",
+    "three-shards.toml",
+    "largest.toml",
+];
+
+/// How many reads a run makes at most.
+const MOST_READS: u64 = 1_000_000;
+
+/// How many bytes a source in memory gives in one read, and a sink takes in one write.
+const PIECE: usize = 65_536;
+
+fn main(rt: HostRuntime) -> Result<()> {
+    for name in EXAMPLES {
+        println!(rt; "{name}")?;
+        let text = fs::read_to_string(&rt, name)?;
+        answer(&rt, rt.alloc(), text.as_bytes())?;
+    }
+    println!(rt; "certificate of base.toml")?;
+    let text = fs::read_to_string(&rt, "base.toml")?;
+    print(&rt, &certificate(rt.alloc(), text.as_bytes())?)
+}
+
+/// Prints what `first` and `latency` answer for a scenario, and what `check` answers for the
+/// certificate that `analyse` writes.
+fn answer(rt: &HostRuntime, alloc: Global, text: &[u8]) -> Result<()> {
+    let mut sink = VecSink::new(alloc, PIECE);
+    run_first(
+        alloc,
+        &mut SliceSource::new(text, PIECE),
+        &mut sink,
+        MOST_READS,
+    )?;
+    run_latency(
+        alloc,
+        &mut SliceSource::new(text, PIECE),
+        &mut sink,
+        &options(),
+    )?;
+    let certificate = certificate(alloc, text)?;
+    let mut source = SliceSource::new(&certificate, PIECE);
+    run_check(alloc, &mut source, &mut sink, MOST_READS)?;
+    print(rt, sink.bytes())
+}
+
+/// What `analyse` writes for a scenario.
+fn certificate(alloc: Global, text: &[u8]) -> Result<Vec<u8>> {
+    let mut sink = VecSink::new(alloc, PIECE);
+    run_analyse(
+        alloc,
+        &mut SliceSource::new(text, PIECE),
+        &mut sink,
+        &options(),
+    )?;
+    Ok(Vec::from_slice(alloc, sink.bytes())?)
+}
+
+/// A search with one worker and as many tickets as there may be, from a schedule that is sought first.
+fn options() -> Options
+    ensures { result.workers ≡ 1 }
+{
+    match Options::new(1, MOST_TICKETS, MOST_READS) {
+        Some(options) => options.seeking(DEFAULT_SIMULATIONS),
+        None => unreachable!(),
+    }
+}
+
+/// Writes bytes to standard output.
+fn print(rt: &HostRuntime, bytes: &[u8]) -> Result<()> {
+    let mut sink = StreamSink {
+        writer: rt.stdout(),
+    };
+    match write_all(&mut sink, bytes) {
+        Ok(()) => Ok(()),
+        Err(DeviceFailed) => bail!("the output could not be written"),
+    }
+}

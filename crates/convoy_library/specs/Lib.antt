@@ -1,0 +1,32 @@
+-- scenarios, and how they are read and built
+pub use Rattle.convoy_scenario.specs.Memory
+pub use Rattle.convoy_scenario.specs.Scenario
+pub use Rattle.convoy_scenario.specs.WellFormed
+pub use Rattle.convoy_scenario.specs.Draft
+pub use Rattle.convoy_scenario.specs.Numbering
+pub use Rattle.convoy_scenario.specs.Reading
+pub use Rattle.convoy_scenario.specs.declared.fault.ScenarioFault
+-- packets and schedules
+pub use Rattle.convoy_packets.specs.Packets
+pub use Rattle.convoy_packets.specs.Assignment
+pub use Rattle.convoy_packets.specs.Table
+pub use Rattle.convoy_packets.specs.Given
+pub use Rattle.convoy_packets.specs.declared.fault.ListFault
+-- runs, latency, and what it is to be the greatest
+pub use Rattle.convoy_sim.specs.Times
+pub use Rattle.convoy_sim.specs.Stamps
+pub use Rattle.convoy_sim.specs.Delivery
+pub use Rattle.convoy_sim.specs.Run
+pub use Rattle.convoy_sim.specs.Record
+pub use Rattle.convoy_sim.specs.Greatest
+-- certificates: their text, and when they are valid
+pub use Rattle.convoy_certificate.specs.Certificate
+pub use Rattle.convoy_certificate.specs.Text
+pub use Rattle.convoy_certificate.specs.Reading as CertificateReading
+pub use Rattle.convoy_certificate.specs.declared.text_fault.TextFault
+pub use Rattle.convoy_checker.specs.Validity
+pub use Rattle.convoy_checker.specs.Checks
+pub use Rattle.convoy_checker.specs.declared.refused.Refused
+-- what a search answers
+pub use Rattle.convoy_branch.specs.Fronts
+pub use Rattle.convoy_branch.specs.Outcomes

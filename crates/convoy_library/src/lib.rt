@@ -1,0 +1,11 @@
+//! Convoy as a library: the crates that a caller names, under one name (docs/CALLING.md).
+#![tactic(auto)]
+
+pub use convoy_branch as branch;
+pub use convoy_certificate as certificate;
+pub use convoy_checker as checker;
+pub use convoy_intervals as intervals;
+pub use convoy_packets as packets;
+pub use convoy_scenario as scenario;
+pub use convoy_sim as sim;
+pub use convoy_timeline as timeline;

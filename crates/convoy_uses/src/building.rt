@@ -1,0 +1,35 @@
+ghost use Rattle.std.specs.Prelude.{IfOk};
+ghost use Rattle.convoy_library.specs.Memory.{IsUnlessMemory};
+ghost use Rattle.convoy_library.specs.Numbering.{scenario_of_draft};
+ghost use Rattle.convoy_library.specs.WellFormed.{IsScenario};
+ghost use Rattle.convoy_uses.specs.declared.fault.Fault.TheVariants.{Memory};
+ghost use Rattle.convoy_uses.specs.Answers.{exchange, told};
+ghost use Rattle.convoy_uses.specs.Faults.{of_scenario};
+
+use super::fault::Fault;
+use convoy_library::scenario::{MessageParts, Scenario, ScenarioParts};
+use std::alloc::Global;
+
+/// The scenario in which a client sends one message to the groups a and b at tick 0, and it is asked
+/// when a delivers it. A packet takes at most `delay` ticks.
+///
+/// A `delay` that is not from 1 to `GREATEST_DELAY` is told as `Fault::Scenario`.
+pub fn exchange(alloc: Global, delay: u32) -> Result<Scenario, Fault>
+    ensures value { IsUnlessMemory Memory
+        (told of_scenario (scenario_of_draft (exchange delay))) result }
+    ensures lawful { IfOk result (λ scenario. IsScenario scenario) }
+{
+    let parts = ScenarioParts {
+        delay,
+        groups: &["a", "b"],
+        messages: &[MessageParts {
+            name: "m",
+            sender: None,
+            to: &["a", "b"],
+            at: 0,
+        }],
+        target_message: "m",
+        target_group: "a",
+    };
+    Ok(Scenario::new(alloc, &parts)?)
+}

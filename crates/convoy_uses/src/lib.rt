@@ -1,0 +1,19 @@
+//! Callers of Convoy as a library, each a few lines with a contract of its own that is proved from
+//! public contracts alone. docs/CALLING.md walks through them.
+#![tactic(auto)]
+
+pub use building::exchange;
+pub use checking::{Vouched, check_certificate};
+pub use fault::Fault;
+pub use greatest::{Answer, greatest_latency};
+pub use schedule::latency_under;
+pub use timeout::{Judgement, judge_timeout};
+
+mod building;
+mod checking;
+mod fault;
+mod greatest;
+mod schedule;
+#[cfg(test)]
+mod tests;
+mod timeout;

@@ -1,0 +1,23 @@
+ghost use Rattle.convoy_library.specs.Memory.{IsUnlessMemory};
+ghost use Rattle.convoy_uses.specs.declared.fault.Fault.TheVariants.{Memory};
+ghost use Rattle.convoy_uses.specs.Answers.{latency_given};
+
+use super::fault::Fault;
+use convoy_library::packets::{Delays, PacketTable};
+use convoy_library::scenario::read_toml;
+use convoy_library::sim::latency;
+use std::alloc::Global;
+
+/// The latency, in ticks, of a scenario text under a schedule: the delay of each packet in ticks, in
+/// packet order (docs/PROTOCOL.md, "Time and packets").
+///
+/// A faulty text is told as `Fault::Scenario`, and then a list that is no schedule as
+/// `Fault::Schedule`.
+pub fn latency_under(alloc: Global, text: &[u8], delays: &[i64]) -> Result<u32, Fault>
+    ensures { IsUnlessMemory Memory (latency_given text.now delays.now) result }
+{
+    let scenario = read_toml(alloc, text)?.scenario;
+    let table = PacketTable::of(alloc, &scenario)?;
+    let delays = Delays::from_list(alloc, &table, delays)?;
+    Ok(latency(&scenario, &table, &delays))
+}

@@ -1,0 +1,160 @@
+use super::{
+    Answer, Fault, Judgement, check_certificate, exchange, greatest_latency, judge_timeout,
+    latency_under,
+};
+use convoy_library::certificate::TextFault;
+use convoy_library::checker::Refused;
+use convoy_library::packets::ListFault;
+use convoy_library::scenario::{Expected, Limit, Scenario, ScenarioFault, read_toml};
+use std::alloc::Global;
+use std::test::Fail;
+
+/// The base scenario of docs/PROTOCOL.md.
+const BASE: &str = r#"
+delay = 3
+groups = ["a", "b"]
+multicast = [
+  { name = "x", to = ["b"], at = 0 },
+  { name = "t", to = ["a", "b"], at = 0 },
+  { name = "y", from = "a", to = ["a", "b"], at = 6 },
+]
+target = { message = "t", group = "a" }
+"#;
+
+/// The same with its groups in the other order.
+const SWAPPED: &str = r#"
+delay = 3
+groups = ["b", "a"]
+multicast = [
+  { name = "x", to = ["b"], at = 0 },
+  { name = "t", to = ["a", "b"], at = 0 },
+  { name = "y", from = "a", to = ["a", "b"], at = 6 },
+]
+target = { message = "t", group = "a" }
+"#;
+
+fn scenario_of(alloc: Global, text: &str) -> Result<Scenario, Fail> {
+    Ok(read_toml(alloc, text.as_bytes())?.scenario)
+}
+
+#[test]
+fn latencies_under_schedules(rt: HostRuntime) {
+    let alloc = rt.alloc();
+    for (delays, want) in [
+        ([1; 8].as_slice(), Ok(2)),
+        ([3; 8].as_slice(), Ok(12)),
+        ([3; 7].as_slice(), Err(Fault::Schedule(ListFault::Length))),
+        (
+            [3, 3, 3, 3, 4, 3, 3, 3].as_slice(),
+            Err(Fault::Schedule(ListFault::Range(4))),
+        ),
+    ] {
+        assert_eq!(rt; latency_under(alloc, BASE.as_bytes(), delays), want);
+    }
+    let too_long =
+        b"delay = 17\ngroups = [\"a\"]\nmulticast = []\ntarget = { message = \"t\", group = \"a\" }\n";
+    assert_eq!(rt;
+        latency_under(alloc, too_long, &[]),
+        Err(Fault::Scenario(ScenarioFault::OverLimit(Limit::Delay)))
+    );
+}
+
+/// The certificate of the base scenario with that latency and those nodes.
+fn certificate(alloc: Global, latency: u32, nodes: &str) -> Result<String, Fail> {
+    Ok(format!(in alloc;
+        "convoy 1
+delay 3
+groups a b
+multicast x client 0 b
+multicast t client 0 a b
+multicast y a 6 a b
+target t a
+latency {latency}
+schedule 3 3 3 3 3 3 3 3
+{nodes}end
+"
+    )?)
+}
+
+#[test]
+fn certificates_vouch(rt: HostRuntime) -> Result<(), Fail> {
+    let alloc = rt.alloc();
+    for (latency, nodes, want) in [
+        (12, "b\n", Ok((12, 3))),
+        (11, "b\n", Err(Fault::Invalid(Refused::Latency(12)))),
+        (12, "b\nb\n", Err(Fault::Invalid(Refused::TreeCount))),
+        (
+            12,
+            "c\n",
+            Err(Fault::Text(TextFault::Line(10, Expected::Node))),
+        ),
+    ] {
+        let text = certificate(alloc, latency, nodes)?;
+        let found = check_certificate(alloc, text.as_bytes()).map(|v| (
+            v.latency,
+            v.scenario.delay(),
+        ));
+        assert_eq!(rt; found, want, "latency {latency} {nodes}");
+    }
+    Ok(())
+}
+
+#[test]
+fn greatest_latencies(rt: HostRuntime) -> Result<(), Fail> {
+    let alloc = rt.alloc();
+    for (text, limit, want) in [
+        (BASE, 1, Answer::Exactly(12)),
+        (SWAPPED, 10, Answer::Between { least: 6, most: 12 }),
+        (SWAPPED, 1_469, Answer::Exactly(6)),
+    ] {
+        let scenario = scenario_of(alloc, text)?;
+        assert_eq!(rt;
+            greatest_latency(alloc, &scenario, limit)?,
+            want,
+            "limit {limit}"
+        );
+    }
+    Ok(())
+}
+
+#[test]
+fn timeouts_are_judged(rt: HostRuntime) -> Result<(), Fail> {
+    let alloc = rt.alloc();
+    for (text, timeout, limit, want) in [
+        (BASE, 12, 1, Judgement::Enough),
+        (BASE, 11, 1, Judgement::TooShort(12)),
+        (SWAPPED, 12, 10, Judgement::Enough),
+        (SWAPPED, 5, 10, Judgement::TooShort(6)),
+        (SWAPPED, 6, 10, Judgement::Unknown { least: 6, most: 12 }),
+        (SWAPPED, 6, 1_469, Judgement::Enough),
+    ] {
+        let scenario = scenario_of(alloc, text)?;
+        assert_eq!(rt;
+            judge_timeout(alloc, &scenario, timeout, limit)?,
+            want,
+            "timeout {timeout} limit {limit}"
+        );
+    }
+    Ok(())
+}
+
+/// A message alone takes twice the greatest delay: on its way, and with its stamps on theirs.
+#[test]
+fn exchanges_take_two_delays(rt: HostRuntime) -> Result<(), Fail> {
+    let alloc = rt.alloc();
+    for delay in [1, 3, 16] {
+        let scenario = exchange(alloc, delay).ok().ok_or("no scenario")?;
+        assert_eq!(rt;
+            greatest_latency(alloc, &scenario, 1)?,
+            Answer::Exactly(2 * delay)
+        );
+    }
+    for delay in [0, 17] {
+        let fault = exchange(alloc, delay).err();
+        assert_eq!(rt;
+            fault,
+            Some(Fault::Scenario(ScenarioFault::OverLimit(Limit::Delay)))
+        );
+    }
+    Ok(())
+}
