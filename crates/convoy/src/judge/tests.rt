@@ -14,18 +14,21 @@ fn status_of(alloc: Global, words: &[&str]) -> Option<u8> {
 /// The command that a command line runs, by its word, and the limit of its search and the number of
 /// simulations before it; None where the command line ends by itself.
 fn command_run(alloc: Global, words: &[&str]) -> Option<(&'static str, u64, u64)> {
-    match judge(alloc, words) {
-        Verdict::Run(Command::First) => Some(("first", 0, 0)),
-        Verdict::Run(Command::Simulate) => Some(("simulate", 0, 0)),
-        Verdict::Run(Command::Timeline) => Some(("timeline", 0, 0)),
-        Verdict::Run(Command::Check) => Some(("check", 0, 0)),
-        Verdict::Run(Command::Analyse(options)) => {
-            Some(("analyse", options.limit(), options.simulations()))
-        }
-        Verdict::Run(Command::Latency(options)) => {
-            Some(("latency", options.limit(), options.simulations()))
-        }
+    match &judge(alloc, words) {
+        Verdict::Run(command) => Some(told(command)),
         Verdict::Text { .. } | Verdict::Memory => None,
+    }
+}
+
+/// The word of a command, the limit of its search and the number of simulations before it.
+fn told(command: &Command) -> (&'static str, u64, u64) {
+    match command {
+        Command::First => ("first", 0, 0),
+        Command::Simulate => ("simulate", 0, 0),
+        Command::Timeline => ("timeline", 0, 0),
+        Command::Check => ("check", 0, 0),
+        Command::Analyse(options) => ("analyse", options.limit(), options.simulations()),
+        Command::Latency(options) => ("latency", options.limit(), options.simulations()),
     }
 }
 
