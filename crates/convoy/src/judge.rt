@@ -197,42 +197,70 @@ fn options_of(given: &ArgMatches<'_>) -> Options
     }
 }
 
+/// The command line of the program: its commands are listed in its help in this order.
 fn parser<'a>(alloc: Global) -> Result<clap::Command<'a>, AllocError> {
-    let first = clap::Command::new(alloc, "first")
-        .about(ABOUT_FIRST)
-        .long_about(LONG_ABOUT_FIRST);
-    let simulate = clap::Command::new(alloc, "simulate")
-        .about(ABOUT_SIMULATE)
-        .long_about(LONG_ABOUT_SIMULATE);
-    let timeline = clap::Command::new(alloc, "timeline")
-        .about(ABOUT_TIMELINE)
-        .long_about(LONG_ABOUT_TIMELINE);
-    let check = clap::Command::new(alloc, "check")
-        .about(ABOUT_CHECK)
-        .long_about(LONG_ABOUT_CHECK);
-    let analyse = clap::Command::new(alloc, "analyse")
-        .about(ABOUT_ANALYSE)
-        .long_about(LONG_ABOUT_ANALYSE)
-        .arg(limit_argument(alloc))?
-        .arg(seek_argument(alloc))?;
-    let latency = clap::Command::new(alloc, "latency")
-        .about(ABOUT_LATENCY)
-        .long_about(LONG_ABOUT_LATENCY)
-        .arg(limit_argument(alloc))?
-        .arg(seek_argument(alloc))?;
-    clap::Command::new(alloc, "convoy")
+    let parser = program(alloc)?;
+    let parser = with_searches(alloc, parser)?;
+    let parser = parser.subcommand(command(alloc, "check", ABOUT_CHECK, LONG_ABOUT_CHECK))?;
+    with_runs(alloc, parser)
+}
+
+/// The program without its commands.
+fn program<'a>(alloc: Global) -> Result<clap::Command<'a>, AllocError> {
+    let program = command(alloc, "convoy", ABOUT, LONG_ABOUT)
         .bin_name("convoy")?
         .no_binary_name(true)
         .disable_help_subcommand(true)
-        .about(ABOUT)
-        .long_about(LONG_ABOUT)
-        .after_help(AFTER)
-        .subcommand(analyse)?
-        .subcommand(latency)?
-        .subcommand(check)?
+        .after_help(AFTER);
+    Ok(program)
+}
+
+/// Adds the commands that search for the greatest latency.
+fn with_searches<'a>(
+    alloc: Global,
+    parser: clap::Command<'a>,
+) -> Result<clap::Command<'a>, AllocError> {
+    let analyse = search_command(alloc, "analyse", ABOUT_ANALYSE, LONG_ABOUT_ANALYSE)?;
+    let latency = search_command(alloc, "latency", ABOUT_LATENCY, LONG_ABOUT_LATENCY)?;
+    parser.subcommand(analyse)?.subcommand(latency)
+}
+
+/// Adds the commands that run one schedule.
+fn with_runs<'a>(
+    alloc: Global,
+    parser: clap::Command<'a>,
+) -> Result<clap::Command<'a>, AllocError> {
+    let first = command(alloc, "first", ABOUT_FIRST, LONG_ABOUT_FIRST);
+    let simulate = command(alloc, "simulate", ABOUT_SIMULATE, LONG_ABOUT_SIMULATE);
+    let timeline = command(alloc, "timeline", ABOUT_TIMELINE, LONG_ABOUT_TIMELINE);
+    parser
         .subcommand(first)?
         .subcommand(simulate)?
         .subcommand(timeline)
+}
+
+/// A command that takes the options of a search.
+fn search_command<'a>(
+    alloc: Global,
+    name: &'a str,
+    about: &'a str,
+    long_about: &'a str,
+) -> Result<clap::Command<'a>, AllocError> {
+    command(alloc, name, about, long_about)
+        .arg(limit_argument(alloc))?
+        .arg(seek_argument(alloc))
+}
+
+/// A command without options, with the two texts that help tells of it.
+fn command<'a>(
+    alloc: Global,
+    name: &'a str,
+    about: &'a str,
+    long_about: &'a str,
+) -> clap::Command<'a> {
+    clap::Command::new(alloc, name)
+        .about(about)
+        .long_about(long_about)
 }
 
 /// The limit of a search.
