@@ -12,6 +12,10 @@ pub record Tracked : Type 0 where
   pub scenario : Scenario
   pub space : Box
 
+-- a box of a scenario
+abbrev pub tracked_of : Scenario → Box → Tracked
+tracked_of scenario ranges = record { scenario = scenario; space = ranges }
+
 -- what is kept is of a box of a well-formed scenario: its spans, and its bound
 pub record IsTracked (tracked : Tracked) (spans : List Span) (bound : ℕ) : Type 0 where
   pub well : IsScenario tracked.scenario

@@ -5,6 +5,7 @@ ghost use Rattle.convoy_intervals.specs.Boxes.{CanSplit, IsBox, IsIn, IsPoint};
 ghost use Rattle.convoy_intervals.specs.Boxes.{lower_half, range_at, root_of, upper_half};
 ghost use Rattle.convoy_intervals.specs.Bounds.{plain_bound};
 ghost use Rattle.convoy_intervals.specs.Spans.{span_of, AreSpans};
+ghost use Rattle.convoy_intervals.specs.Tracked.{tracked_of};
 
 use super::bounds::bound_over;
 use super::delay_box::DelayBox;
@@ -48,8 +49,8 @@ impl Tracked {
         table: &PacketTable,
     ) -> Result<Tracked, AllocError>
         requires packets { table.now ≡ table_of scenario.now }
-        ensures { IfOk result (λ root. root
-            ≡ record { scenario = scenario.now; space = root_of scenario.now }) }
+        ensures { IfOk result
+            (λ root. root ≡ tracked_of scenario.now (root_of scenario.now)) }
     {
         let space = DelayBox::root(alloc, table)?;
         let spans = list_spans(alloc, scenario, table, &space)?;
@@ -60,7 +61,7 @@ impl Tracked {
     fn of(scenario: &Scenario, space: DelayBox, spans: Vec<Span>) -> Tracked
         requires inside { IsBox scenario.now space }
         requires spans { AreSpans scenario.now space spans.items }
-        ensures { result ≡ record { scenario = scenario.now; space = space } }
+        ensures { result ≡ tracked_of scenario.now space }
     {
         let _delay = scenario.delay();
         let bound = bound_over(scenario, &spans);
@@ -134,10 +135,8 @@ impl Tracked {
         requires packets { table.now ≡ table_of scenario.now }
         requires can_split { CanSplit self.space packet at }
         ensures { MatchResult result
-            (λ halves. halves ≡ (
-              record { scenario = self.scenario; space = lower_half self.space packet at },
-              record { scenario = self.scenario; space = upper_half self.space packet at },
-            ))
+            (λ halves. halves ≡ (tracked_of self.scenario (lower_half self.space packet at),
+                tracked_of self.scenario (upper_half self.space packet at)))
             (λ refused. refused.0 ≡ self) }
     {
         let (least, most) = self.space.range(packet);
@@ -165,8 +164,7 @@ impl Tracked {
         requires holds { range.0 ≤ range.1 }
         requires low { (range_at self.space packet).0 ≤ range.0 }
         requires high { range.1 ≤ (range_at self.space packet).1 }
-        ensures { result
-            ≡ record { scenario = self.scenario; space = slice_set self.space packet range } }
+        ensures { result ≡ tracked_of self.scenario (slice_set self.space packet range) }
     {
         spans_are_carried();
         packets_are_those_sent();
