@@ -1,7 +1,7 @@
 -- Fronts as trees: what replaces a node of a front, and what a front says of its boxes.
 use Rattle.std.specs.Prelude.{ℕ, ◌≤◌, List, [], ◌∷◌, ◌++◌, map}
 use Rattle.std.specs.List.{All}
-use Rattle.std.proofs.Common.{arith, refl, subst}
+use Rattle.std.proofs.Common.{arith, refl, ap, subst}
 use Rattle.std.proofs.lemmas.List.Elements.{All-head, All-tail}
 use Rattle.convoy_scenario.specs.Scenario.{Scenario}
 use Rattle.convoy_certificate.specs.declared.node.Node.{Node}
@@ -10,6 +10,7 @@ use Rattle.convoy_intervals.specs.Bounds.{plain_bound}
 use Rattle.convoy_checker.specs.Leaves.{IsRight}
 use Rattle.convoy_checker.specs.Trees.{AreTrees, boxes_below}
 use Rattle.convoy_intervals.specs.Boxes.{Box}
+use Rattle.convoy_intervals.specs.Tracked.{Tracked}
 use Rattle.convoy_checker.proofs.TreeLaws.{AreTrees-filled, AreTrees-weaker}
 use Rattle.convoy_branch.specs.Fronts.{AreFronts, FrontNode, Spent, Left, front_below, IsSearched, IsSearchedSplit, IsOfFront, front_after, left_in}
 use Rattle.convoy_branch.specs.Steps.{StaysOpen, IsTurn}
@@ -44,7 +45,7 @@ AreFronts-turned plan best branch (Closed Point) turn = ((turn.1, turn.0.tried),
 AreFronts-turned plan best branch (Halves packet at lower upper) turn =
     let stays : StaysOpen plan branch best = turn.0 in
     let split : IsSearchedSplit plan best packet at branch = record { part = turn.1; open_box = omega (arith, stays.bound, stays.tried); tried = stays.tried } in
-    (split, (turn.2, (turn.3, tt)))
+    (split, (ap (λ (t : Tracked). t.space) turn.2, (ap (λ (t : Tracked). t.space) turn.3, tt)))
 
 -- a front with no box left is a tree
 pub AreTrees-spent : (plan : Scenario) (best : ℕ) (nodes : List Node) (boxes : List Box) → AreFronts plan best boxes (map Spent nodes) → AreTrees boxes_below (IsRight plan best) boxes nodes

@@ -14,6 +14,7 @@ use Rattle.convoy_certificate.specs.declared.node.Node.{Node}
 use Rattle.convoy_intervals.specs.Bounds.{plain_bound}
 use Rattle.convoy_intervals.specs.Boxes.{root_of}
 use Rattle.convoy_intervals.specs.Boxes.{Box}
+use Rattle.convoy_intervals.specs.Tracked.{Tracked}
 use Rattle.convoy_checker.specs.Laws.{TreesCover}
 use Rattle.convoy_checker.specs.Validity.{IsValid}
 use Rattle.convoy_branch.specs.declared.search.Work.{Work}
@@ -77,30 +78,30 @@ IsProved-done plan best nodes tickets limit latency delays scenario turned certi
     subst (λ (c : Certificate). IsProved plan limit c tickets by_worker) (sym whole) (IsProved-certificate plan best nodes tickets limit by_worker cover lawful attained searching workers few)
 
 -- with a box left the front is open
-left : (work : List Work) (box : Box) (tried : Bool) (nodes : List Node) → left_in (front_nodes (work ++ Branch box tried ∷ []) nodes) ≡ left_in (map front_of (work ++ Branch box tried ∷ []))
-left work box tried nodes = left_in-append_spent (map front_of (work ++ Branch box tried ∷ [])) (reverse nodes)
+left : (work : List Work) (branch : Tracked) (tried : Bool) (nodes : List Node) → left_in (front_nodes (work ++ Branch branch tried ∷ []) nodes) ≡ left_in (map front_of (work ++ Branch branch tried ∷ []))
+left work branch tried nodes = left_in-append_spent (map front_of (work ++ Branch branch tried ∷ [])) (reverse nodes)
 
-some_left : (work : List Work) (box : Box) (tried : Bool) (nodes : List Node) → 0 < length (left_in (front_nodes (work ++ Branch box tried ∷ []) nodes))
-some_left work box tried nodes =
-    let last : left_in (map front_of (work ++ Branch box tried ∷ [])) ≡ left_in (map front_of work) ++ box ∷ [] = ap (λ (front : List FrontNode). left_in front) (map_push front_of work (Branch box tried)) ∙ left_in-append (map front_of work) (Left box ∷ []) in
-    omega (arith, ap length (left work box tried nodes ∙ last), length-append (left_in (map front_of work)) (box ∷ []))
+some_left : (work : List Work) (branch : Tracked) (tried : Bool) (nodes : List Node) → 0 < length (left_in (front_nodes (work ++ Branch branch tried ∷ []) nodes))
+some_left work branch tried nodes =
+    let last : left_in (map front_of (work ++ Branch branch tried ∷ [])) ≡ left_in (map front_of work) ++ branch.space ∷ [] = ap (λ (front : List FrontNode). left_in front) (map_push front_of work (Branch branch tried)) ∙ left_in-append (map front_of work) (Left branch.space ∷ []) in
+    omega (arith, ap length (left work branch tried nodes ∙ last), length-append (left_in (map front_of work)) (branch.space ∷ []))
 
-front_left : (plan : Scenario) (best : Record) (work pushed : List Work) (box : Box) (tried : Bool) (nodes : List Node) (tickets latency upper : ℕ) → IsAttained best → IsSearching plan best (work ++ Branch box tried ∷ []) nodes tickets → pushed ≡ work ++ Branch box tried ∷ [] → latency ≡ best.latency → upper ≡ greatest (latency ∷ map (plain_bound plan) (left_in (map front_of pushed))) → IsFront plan best.latency upper tickets
-front_left plan best work pushed box tried nodes tickets latency upper attained searching pushed_is latency_is upper_is =
+front_left : (plan : Scenario) (best : Record) (work pushed : List Work) (branch : Tracked) (tried : Bool) (nodes : List Node) (tickets latency upper : ℕ) → IsAttained best → IsSearching plan best (work ++ Branch branch tried ∷ []) nodes tickets → pushed ≡ work ++ Branch branch tried ∷ [] → latency ≡ best.latency → upper ≡ greatest (latency ∷ map (plain_bound plan) (left_in (map front_of pushed))) → IsFront plan best.latency upper tickets
+front_left plan best work pushed branch tried nodes tickets latency upper attained searching pushed_is latency_is upper_is =
     let bounds : List Work → ℕ → ℕ = λ w n. greatest (n ∷ map (plain_bound plan) (left_in (map front_of w))) in
     record {
-      nodes = front_nodes (work ++ Branch box tried ∷ []) nodes;
+      nodes = front_nodes (work ++ Branch branch tried ∷ []) nodes;
       tree = searching.tree;
       spent = searching.spent;
-      left = some_left work box tried nodes;
+      left = some_left work branch tried nodes;
       reached = (best.delays, best_assigned plan best searching.of_scenario attained, best_latency plan best searching.of_scenario attained);
       least = searching.least;
-      upper_is = upper_is ∙ ap (λ (n : ℕ). bounds pushed n) latency_is ∙ ap (λ (w : List Work). bounds w best.latency) pushed_is ∙ ap (λ (bs : List Box). greatest (best.latency ∷ map (plain_bound plan) bs)) (sym (left work box tried nodes));
+      upper_is = upper_is ∙ ap (λ (n : ℕ). bounds pushed n) latency_is ∙ ap (λ (w : List Work). bounds w best.latency) pushed_is ∙ ap (λ (bs : List Box). greatest (best.latency ∷ map (plain_bound plan) bs)) (sym (left work branch tried nodes));
     }
 
-pub IsOpen-left : (plan : Scenario) (best : Record) (work pushed : List Work) (box : Box) (tried : Bool) (nodes : List Node) (tickets latency upper : ℕ) (by_worker : List ℕ) → FrontsBound → IsScenario plan → IsAttained best → IsSearching plan best (work ++ Branch box tried ∷ []) nodes tickets → pushed ≡ work ++ Branch box tried ∷ [] → latency ≡ best.latency → upper ≡ greatest (latency ∷ map (plain_bound plan) (left_in (map front_of pushed))) → by_worker ≡ tickets ∷ [] → IsOpen plan tickets best upper tickets by_worker
-IsOpen-left plan best work pushed box tried nodes tickets latency upper by_worker bound lawful attained searching pushed_is latency_is upper_is workers =
-    let front = front_left plan best work pushed box tried nodes tickets latency upper attained searching pushed_is latency_is upper_is in
+pub IsOpen-left : (plan : Scenario) (best : Record) (work pushed : List Work) (branch : Tracked) (tried : Bool) (nodes : List Node) (tickets latency upper : ℕ) (by_worker : List ℕ) → FrontsBound → IsScenario plan → IsAttained best → IsSearching plan best (work ++ Branch branch tried ∷ []) nodes tickets → pushed ≡ work ++ Branch branch tried ∷ [] → latency ≡ best.latency → upper ≡ greatest (latency ∷ map (plain_bound plan) (left_in (map front_of pushed))) → by_worker ≡ tickets ∷ [] → IsOpen plan tickets best upper tickets by_worker
+IsOpen-left plan best work pushed branch tried nodes tickets latency upper by_worker bound lawful attained searching pushed_is latency_is upper_is workers =
+    let front = front_left plan best work pushed branch tried nodes tickets latency upper attained searching pushed_is latency_is upper_is in
     record {
       of_scenario = searching.of_scenario;
       reached = front.reached;

@@ -12,7 +12,8 @@ use Rattle.convoy_sim.specs.Record.{Record}
 use Rattle.convoy_certificate.specs.Certificate.{IsNode}
 use Rattle.convoy_certificate.specs.declared.node.Node.{Node}
 use Rattle.convoy_certificate.specs.declared.node.Node.TheVariants.{Split, Bound, Point}
-use Rattle.convoy_intervals.specs.Boxes.{Box, IsBox, greatest_of, root_of}
+use Rattle.convoy_intervals.specs.Boxes.{Box, IsBox, greatest_of, lower_half, root_of, upper_half}
+use Rattle.convoy_intervals.specs.Tracked.{Tracked}
 use Rattle.convoy_intervals.specs.Laws.{HalvesAreBoxes, UpperKeepsGreatest}
 use Rattle.convoy_branch.specs.declared.search.Work.{Work}
 use Rattle.convoy_branch.specs.declared.search.Work.TheVariants.{Branch, Write}
@@ -54,8 +55,8 @@ IsFrontOf plan latency tickets front =
 
 -- a better record leaves what waits as it is
 IsWork-better : (plan : Scenario) (best better : ℕ) (piece : Work) → best ≤ better → IsWork plan best piece → IsWork plan better piece
-IsWork-better plan best better (Branch box tried) above is =
-    (is.0, λ told. let known : latency_of plan (greatest_of box) ≤ best = is.1 told in omega arith)
+IsWork-better plan best better (Branch branch tried) above is =
+    (is.0, λ told. (let known : latency_of plan (greatest_of branch.space) ≤ best = is.1 told in omega arith), is.2)
 IsWork-better plan best better (Write node) above is = is
 
 -- a search with a better record
@@ -92,9 +93,9 @@ IsSearching-popped plan best work rest nodes next tickets piece node popped is w
     subst (λ (ns : List Node). IsSearching plan best rest ns tickets) (sym written) (IsSearching-written plan best rest nodes tickets node last)
 
 -- the front of a search that takes up a box
-taken : (plan : Scenario) (best : Record) (work : List Work) (nodes : List Node) (tickets : ℕ) (box : Box) (tried : Bool) → IsSearching plan best (work ++ Branch box tried ∷ []) nodes tickets → IsFrontOf plan best.latency tickets (map front_of work ++ Left box ∷ done nodes)
-taken plan best work nodes tickets box tried searching =
-    subst (λ (f : List FrontNode). IsFrontOf plan best.latency tickets f) (front-pushed work (Branch box tried) (done nodes)) (searching.tree, searching.spent)
+taken : (plan : Scenario) (best : Record) (work : List Work) (nodes : List Node) (tickets : ℕ) (branch : Tracked) (tried : Bool) → IsSearching plan best (work ++ Branch branch tried ∷ []) nodes tickets → IsFrontOf plan best.latency tickets (map front_of work ++ Left branch.space ∷ done nodes)
+taken plan best work nodes tickets branch tried searching =
+    subst (λ (f : List FrontNode). IsFrontOf plan best.latency tickets f) (front-pushed work (Branch branch tried) (done nodes)) (searching.tree, searching.spent)
 
 -- what became of a box takes its place in the front
 front_turned : (work : List Work) (nodes : List Node) (turn : Turn) → front_nodes (work_after work turn) (nodes_after nodes turn) ≡ map front_of work ++ (front_after turn ++ done nodes)
@@ -113,19 +114,21 @@ nodes_turned plan known nodes box (Closed node) turn all =
     All-push IsNode nodes node all (closed_node plan known box node turn)
 nodes_turned plan known nodes box (Halves packet at lower upper) turn all = all
 
--- the halves of a box wait to be taken up: both are boxes, and the greatest delays of the upper one were tried
-pub record HalvesWait (plan : Scenario) (known : ℕ) (lower upper : Box) : Type 0 where
+-- the halves of a box wait to be taken up: both are boxes of the scenario, and the greatest delays of the upper one were tried
+pub record HalvesWait (plan : Scenario) (known : ℕ) (lower upper : Tracked) : Type 0 where
   pub low : IsWork plan known (Branch lower false)
   pub high : IsWork plan known (Branch upper true)
 
-halves_wait : (plan : Scenario) (known packet at : ℕ) (box lower upper : Box) → HalvesAreBoxes → UpperKeepsGreatest → IsBox plan box → IsTurn plan box known (Halves packet at lower upper) → HalvesWait plan known lower upper
+halves_wait : (plan : Scenario) (known packet at : ℕ) (box : Box) (lower upper : Tracked) → HalvesAreBoxes → UpperKeepsGreatest → IsBox plan box → IsTurn plan box known (Halves packet at lower upper) → HalvesWait plan known lower upper
 halves_wait plan known packet at box lower upper are_boxes keeps is_box turn =
     let halves = are_boxes plan box packet at is_box turn.1 in
-    let same : greatest_of upper ≡ greatest_of box = ap (λ (b : Box). greatest_of b) turn.3 ∙ keeps box packet at in
-    let tried : latency_of plan (greatest_of upper) ≤ known = subst (λ (ds : List ℕ). latency_of plan ds ≤ known) (sym same) turn.0.tried in
+    let low : lower.space ≡ lower_half box packet at = ap (λ (t : Tracked). t.space) turn.2 in
+    let high : upper.space ≡ upper_half box packet at = ap (λ (t : Tracked). t.space) turn.3 in
+    let same : greatest_of upper.space ≡ greatest_of box = ap (λ (b : Box). greatest_of b) high ∙ keeps box packet at in
+    let tried : latency_of plan (greatest_of upper.space) ≤ known = subst (λ (ds : List ℕ). latency_of plan ds ≤ known) (sym same) turn.0.tried in
     record {
-      low = (subst (λ (b : Box). IsBox plan b) (sym turn.2) halves.0, λ told. absurd (false≢true told));
-      high = (subst (λ (b : Box). IsBox plan b) (sym turn.3) halves.1, λ told. tried);
+      low = (subst (λ (b : Box). IsBox plan b) (sym low) halves.0, λ told. absurd (false≢true told), ap (λ (t : Tracked). t.scenario) turn.2);
+      high = (subst (λ (b : Box). IsBox plan b) (sym high) halves.1, λ told. tried, ap (λ (t : Tracked). t.scenario) turn.3);
     }
 
 work_turned : (plan : Scenario) (known : ℕ) (work : List Work) (box : Box) (turn : Turn) → HalvesAreBoxes → UpperKeepsGreatest → IsTable (table_of plan) → IsBox plan box → IsTurn plan box known turn → All (IsWork plan known) work → All (IsWork plan known) (work_after work turn)
@@ -139,29 +142,29 @@ work_turned plan known work box (Halves packet at lower upper) are_boxes keeps t
     All-push Waits ((work ++ node ∷ []) ++ Branch lower false ∷ []) (Branch upper true) with_lower halves.high
 
 -- a box is taken up, and what becomes of it is known
-turned : (plan : Scenario) (best : Record) (work : List Work) (nodes : List Node) (tickets : ℕ) (box : Box) (tried : Bool) (turn : Turn) → HalvesAreBoxes → UpperKeepsGreatest → IsTable (table_of plan) → IsTurn plan box best.latency turn → IsSearching plan best (work ++ Branch box tried ∷ []) nodes tickets → IsSearching plan best (work_after work turn) (nodes_after nodes turn) (tickets + 1)
-turned plan best work nodes tickets box tried turn are_boxes keeps table is searching =
-    let old = taken plan best work nodes tickets box tried searching in
-    let tree = AreFronts-filled plan best.latency box (front_after turn) (AreFronts-turned plan best.latency box turn is) (map front_of work) (done nodes) (root_of plan ∷ []) old.0 in
-    let spent : length (spent_in (map front_of work ++ (front_after turn ++ done nodes))) ≡ tickets + 1 = omega (arith, spent_in-turned (map front_of work) (done nodes) box turn, old.1) in
+turned : (plan : Scenario) (best : Record) (work : List Work) (nodes : List Node) (tickets : ℕ) (branch : Tracked) (tried : Bool) (turn : Turn) → HalvesAreBoxes → UpperKeepsGreatest → IsTable (table_of plan) → IsTurn plan branch.space best.latency turn → IsSearching plan best (work ++ Branch branch tried ∷ []) nodes tickets → IsSearching plan best (work_after work turn) (nodes_after nodes turn) (tickets + 1)
+turned plan best work nodes tickets branch tried turn are_boxes keeps table is searching =
+    let old = taken plan best work nodes tickets branch tried searching in
+    let tree = AreFronts-filled plan best.latency branch.space (front_after turn) (AreFronts-turned plan best.latency branch.space turn is) (map front_of work) (done nodes) (root_of plan ∷ []) old.0 in
+    let spent : length (spent_in (map front_of work ++ (front_after turn ++ done nodes))) ≡ tickets + 1 = omega (arith, spent_in-turned (map front_of work) (done nodes) branch.space turn, old.1) in
     let front = subst (λ (f : List FrontNode). IsFrontOf plan best.latency (tickets + 1) f) (sym (front_turned work nodes turn)) (tree, spent) in
-    let parts = All-front (IsWork plan best.latency) work (Branch box tried) searching.all_work in
+    let parts = All-front (IsWork plan best.latency) work (Branch branch tried) searching.all_work in
     record {
       of_scenario = searching.of_scenario;
       least = searching.least;
       tree = front.0;
       spent = front.1;
-      all_work = work_turned plan best.latency work box turn are_boxes keeps table parts.1.0 is parts.0;
-      all_nodes = nodes_turned plan best.latency nodes box turn is searching.all_nodes;
+      all_work = work_turned plan best.latency work branch.space turn are_boxes keeps table parts.1.0 is parts.0;
+      all_nodes = nodes_turned plan best.latency nodes branch.space turn is searching.all_nodes;
     }
 
 -- a step over the box
-pub IsSearching-step : (plan : Scenario) (best : Record) (work : List Work) (nodes : List Node) (tickets : ℕ) (box : Box) (tried : Bool) (step : Step) → HalvesAreBoxes → UpperKeepsGreatest → IsTable (table_of plan) → IsStep plan box best.latency step → IsSearching plan best (work ++ Branch box tried ∷ []) nodes tickets → IsSearching plan (unwrap_or step.found best) (work_after work step.turn) (nodes_after nodes step.turn) (tickets + 1)
-IsSearching-step plan best work nodes tickets box tried step are_boxes keeps table is searching =
+pub IsSearching-step : (plan : Scenario) (best : Record) (work : List Work) (nodes : List Node) (tickets : ℕ) (branch : Tracked) (tried : Bool) (step : Step) → HalvesAreBoxes → UpperKeepsGreatest → IsTable (table_of plan) → IsStep plan branch.space best.latency step → IsSearching plan best (work ++ Branch branch tried ∷ []) nodes tickets → IsSearching plan (unwrap_or step.found best) (work_after work step.turn) (nodes_after nodes step.turn) (tickets + 1)
+IsSearching-step plan best work nodes tickets branch tried step are_boxes keeps table is searching =
     let next = unwrap_or step.found best in
-    let no_worse = IsNoWorse-found plan best box step.found searching.of_scenario is.found in
-    let turn : IsTurn plan box next.latency step.turn = subst (λ (n : ℕ). IsTurn plan box n step.turn) no_worse.known is.turn in
-    turned plan next work nodes tickets box tried step.turn are_boxes keeps table turn (better plan best next (work ++ Branch box tried ∷ []) nodes tickets no_worse.scenario no_worse.above searching)
+    let no_worse = IsNoWorse-found plan best branch.space step.found searching.of_scenario is.found in
+    let turn : IsTurn plan branch.space next.latency step.turn = subst (λ (n : ℕ). IsTurn plan branch.space n step.turn) no_worse.known is.turn in
+    turned plan next work nodes tickets branch tried step.turn are_boxes keeps table turn (better plan best next (work ++ Branch branch tried ∷ []) nodes tickets no_worse.scenario no_worse.above searching)
 
 -- a turn adds three pieces of work at most
 pub length-work_after : (work : List Work) (turn : Turn) → length (work_after work turn) ≤ length work + 3
@@ -170,11 +173,11 @@ length-work_after work (Halves packet at lower upper) =
     omega (arith, length_push ((work ++ Write (Split packet at) ∷ []) ++ Branch lower false ∷ []) (Branch upper true), length_push (work ++ Write (Split packet at) ∷ []) (Branch lower false), length_push work (Write (Split packet at)))
 
 -- the same by what the program makes of its parts
-pub IsSearching-taken : (plan : Scenario) (best next : Record) (work new : List Work) (nodes written : List Node) (tickets seen : ℕ) (box : Box) (tried : Bool) (table : PacketTable) (step : Step) → HalvesAreBoxes → UpperKeepsGreatest → table ≡ table_of plan → IsTable table → seen ≡ best.latency → IsStep plan box seen step → next ≡ unwrap_or step.found best → new ≡ work_after work step.turn → written ≡ nodes_after nodes step.turn → IsSearching plan best (work ++ Branch box tried ∷ []) nodes tickets → IsSearching plan next new written (tickets + 1)
-IsSearching-taken plan best next work new nodes written tickets seen box tried table step are_boxes keeps packets lawful seen_is is next_is new_is written_is searching =
+pub IsSearching-taken : (plan : Scenario) (best next : Record) (work new : List Work) (nodes written : List Node) (tickets seen : ℕ) (branch : Tracked) (tried : Bool) (table : PacketTable) (step : Step) → HalvesAreBoxes → UpperKeepsGreatest → table ≡ table_of plan → IsTable table → seen ≡ best.latency → IsStep plan branch.space seen step → next ≡ unwrap_or step.found best → new ≡ work_after work step.turn → written ≡ nodes_after nodes step.turn → IsSearching plan best (work ++ Branch branch tried ∷ []) nodes tickets → IsSearching plan next new written (tickets + 1)
+IsSearching-taken plan best next work new nodes written tickets seen branch tried table step are_boxes keeps packets lawful seen_is is next_is new_is written_is searching =
     let lawful' : IsTable (table_of plan) = subst (λ (t : PacketTable). IsTable t) packets lawful in
-    let is' : IsStep plan box best.latency step = subst (λ (n : ℕ). IsStep plan box n step) seen_is is in
-    rw (next_is, new_is, written_is) (IsSearching-step plan best work nodes tickets box tried step are_boxes keeps lawful' is' searching)
+    let is' : IsStep plan branch.space best.latency step = subst (λ (n : ℕ). IsStep plan branch.space n step) seen_is is in
+    rw (next_is, new_is, written_is) (IsSearching-step plan best work nodes tickets branch tried step are_boxes keeps lawful' is' searching)
 
 -- the best record after a step is no worse than before
 pub best_no_worse : (plan : Scenario) (best next : Record) (seen : ℕ) (box : Box) (step : Step) → best.scenario ≡ plan → seen ≡ best.latency → IsStep plan box seen step → next ≡ unwrap_or step.found best → best.latency ≤ next.latency
@@ -184,6 +187,6 @@ best_no_worse plan best next seen box step scenario seen_is is next_is =
     rw next_is no_worse.above
 
 -- a box that waits is a box of the scenario, and is known to be tried where it is told to be
-pub waits : (plan : Scenario) (best : Record) (work : List Work) (nodes : List Node) (tickets : ℕ) (box : Box) (tried : Bool) → IsSearching plan best (work ++ Branch box tried ∷ []) nodes tickets → IsWork plan best.latency (Branch box tried)
-waits plan best work nodes tickets box tried searching =
-    (All-front (IsWork plan best.latency) work (Branch box tried) searching.all_work).1
+pub waits : (plan : Scenario) (best : Record) (work : List Work) (nodes : List Node) (tickets : ℕ) (branch : Tracked) (tried : Bool) → IsSearching plan best (work ++ Branch branch tried ∷ []) nodes tickets → IsWork plan best.latency (Branch branch tried)
+waits plan best work nodes tickets branch tried searching =
+    (All-front (IsWork plan best.latency) work (Branch branch tried) searching.all_work).1

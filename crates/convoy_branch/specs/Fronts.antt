@@ -51,7 +51,7 @@ AreFronts scenario best boxes nodes = AreTrees front_below (IsOfFront scenario b
 -- what becomes of a box, as a front: the leaf that closes it, or a split and the halves that are left
 abbrev pub front_after : Turn → List FrontNode
 front_after (Closed node) = Spent node ∷ []
-front_after (Halves packet at lower upper) = Spent (Split packet at) ∷ Left lower ∷ Left upper ∷ []
+front_after (Halves packet at lower upper) = Spent (Split packet at) ∷ Left lower.space ∷ Left upper.space ∷ []
 
 -- the nodes for which tickets were spent, and the boxes that are left
 abbrev pub spent_node : FrontNode → Option Node

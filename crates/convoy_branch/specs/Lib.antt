@@ -6,6 +6,7 @@ pub use Rattle.convoy_sim.specs.Delivery
 pub use Rattle.convoy_sim.specs.Record
 pub use Rattle.convoy_intervals.specs.Boxes
 pub use Rattle.convoy_intervals.specs.Bounds
+pub use Rattle.convoy_intervals.specs.Tracked
 pub use Rattle.convoy_certificate.specs.Certificate
 pub use Rattle.convoy_checker.specs.Trees
 pub use Rattle.convoy_checker.specs.Leaves

@@ -19,7 +19,7 @@ use Rattle.convoy_branch.specs.Steps.{IsTriedIf}
 
 -- the node of the front that a piece of work stands for
 abbrev pub front_of : Work → FrontNode
-front_of (Branch branch tried) = Left branch
+front_of (Branch branch tried) = Left branch.space
 front_of (Write node) = Spent node
 
 -- the front: the work that is left, and then the nodes that are written, the last one first
@@ -28,7 +28,8 @@ front_nodes work nodes = map front_of work ++ map Spent (reverse nodes)
 
 -- what is left, where that is the best latency: a box of the scenario, whose greatest delays have no greater latency if it is told to be tried, or a node that may stand in a certificate
 abbrev pub IsWork : Scenario → ℕ → Work → Type 0
-IsWork scenario best (Branch branch tried) = IsBox scenario branch × IsTriedIf scenario branch tried best
+IsWork scenario best (Branch branch tried) =
+    IsBox scenario branch.space × IsTriedIf scenario branch.space tried best × (branch.scenario ≡ scenario)
 IsWork scenario best (Write node) = IsNode node
 
 -- The search has come to this: its best record, the work that is left, the nodes that are written, and the tickets that were spent.

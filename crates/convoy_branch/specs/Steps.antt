@@ -7,6 +7,7 @@ use Rattle.convoy_certificate.specs.declared.node.Node.TheVariants as nodes
 use Rattle.convoy_intervals.specs.Bounds.{plain_bound}
 use Rattle.convoy_intervals.specs.Boxes.{IsPoint, lower_half, upper_half, greatest_of}
 use Rattle.convoy_intervals.specs.Boxes.{CanSplit}
+use Rattle.convoy_intervals.specs.Tracked.{tracked_of}
 use Rattle.convoy_checker.specs.Leaves.{ClosesByBound}
 use Rattle.convoy_intervals.specs.Boxes.{Box}
 use Rattle.convoy_branch.specs.declared.step.Step.{Step}
@@ -42,8 +43,8 @@ IsTurn scenario box known (Closed (nodes.Split packet at)) = ⊥
 IsTurn scenario box known (Halves packet at lower upper) =
     StaysOpen scenario box known
     × CanSplit box packet at
-    × (lower ≡ lower_half box packet at)
-    × (upper ≡ upper_half box packet at)
+    × (lower ≡ tracked_of scenario (lower_half box packet at))
+    × (upper ≡ tracked_of scenario (upper_half box packet at))
 
 -- a step over the box, where a record of that latency was seen
 pub record IsStep (scenario : Scenario) (box : Box) (seen : ℕ) (step : Step) : Type 0 where

@@ -17,8 +17,8 @@ use super::outcome::Outcome;
 use super::step::{Turn, step_branch};
 use convoy_certificate::{Certificate, Node};
 use convoy_checker::laws::trees_cover;
+use convoy_intervals::Tracked;
 use convoy_intervals::laws::{halves_are_boxes, upper_keeps_greatest};
-use convoy_intervals::{DelayBox, bound};
 use convoy_packets::{Delays, PacketTable};
 use convoy_scenario::Scenario;
 use convoy_sim::Record;
@@ -61,7 +61,7 @@ pub fn search_from(
     ensures value { IfOk result (λ outcome. IsOutcome scenario.now limit outcome) }
     ensures opened { IfOk result (λ outcome. opening.latency ≤ best_of outcome) }
 {
-    let mut search = Search::start(alloc, table, opening)?;
+    let mut search = Search::start(alloc, scenario, table, opening)?;
     while let Some(work) = search.work.pop() {
         match work {
             Work::Write(node) => search.nodes.push(node)?,
@@ -69,7 +69,7 @@ pub fn search_from(
                 search.take_up(alloc, scenario, table, branch, tried)?;
             }
             Work::Branch { branch, tried } => {
-                return search.into_open(alloc, scenario, table, branch, tried);
+                return search.into_open(alloc, scenario, branch, tried);
             }
         }
     }
@@ -81,7 +81,7 @@ pub fn search_from(
 enum Work {
     /// To take up a box. Where it is `tried`, the schedule of its greatest delays is known to have
     /// no greater latency than the best record.
-    Branch { branch: DelayBox, tried: bool },
+    Branch { branch: Tracked, tried: bool },
     /// To write a split: both its halves are done.
     Write(Node),
 }
@@ -101,19 +101,25 @@ struct Search {
 
 impl Search {
     /// A search of the root box from an opening record.
-    fn start(alloc: Global, table: &PacketTable, opening: Record) -> Result<Search, AllocError>
-        requires packets { table.now ≡ table_of opening.scenario }
-        requires least { latency_of opening.scenario (least_of (ranges_of opening.scenario))
+    fn start(
+        alloc: Global,
+        scenario: &Scenario,
+        table: &PacketTable,
+        opening: Record,
+    ) -> Result<Search, AllocError>
+        requires packets { table.now ≡ table_of scenario.now }
+        requires of_scenario { opening.scenario ≡ scenario.now }
+        requires least { latency_of scenario.now (least_of (ranges_of scenario.now))
             ≤ opening.latency }
         ensures searching { IfOk result
-            (λ s. IsSearching opening.scenario s.best s.work.items s.nodes.items 0) }
+            (λ s. IsSearching scenario.now s.best s.work.items s.nodes.items 0) }
         ensures best { IfOk result (λ s. s.best ≡ opening) }
         ensures tickets { IfOk result (λ s. s.tickets ≡ 0) }
         ensures lawful { IfOk result (λ _. IsTable table.now) }
     {
         let mut work = Vec::with_capacity(alloc, table.len())?;
         work.push(Work::Branch {
-            branch: DelayBox::root(alloc, table)?,
+            branch: Tracked::root(alloc, scenario, table)?,
             tried: false,
         })?;
         Ok(Search {
@@ -130,7 +136,7 @@ impl Search {
         alloc: Global,
         scenario: &Scenario,
         table: &PacketTable,
-        branch: DelayBox,
+        branch: Tracked,
         tried: bool,
     ) -> Result<(), AllocError>
         requires packets { table.now ≡ table_of scenario.now }
@@ -222,12 +228,10 @@ impl Search {
         mut self,
         alloc: Global,
         scenario: &Scenario,
-        table: &PacketTable,
-        branch: DelayBox,
+        branch: Tracked,
         tried: bool,
     ) -> Result<Outcome, AllocError>
-        requires packets { table.now ≡ table_of scenario.now }
-        requires searching { IsSearching scenario.now self.best
+        requires { IsSearching scenario.now self.best
             (self.work.items ++ Work.Branch branch tried ∷ []) self.nodes.items self.tickets }
         ensures value { IfOk result (λ outcome. IsOutcome scenario.now self.tickets outcome) }
         ensures best { IfOk result (λ outcome. best_of outcome ≡ self.best.latency) }
@@ -235,7 +239,7 @@ impl Search {
         fronts_bound();
         is_scenario(scenario);
         self.work.push(Work::Branch { branch, tried })?;
-        let upper = greatest_bound(scenario, table, &self.work, self.best.latency());
+        let upper = greatest_bound(scenario, &self.work, self.best.latency());
         Ok(Outcome::Open {
             best: self.best,
             upper,
@@ -253,16 +257,15 @@ fn is_scenario(scenario: &Scenario)
 }
 
 /// The greatest of a number of ticks and the bounds of the boxes that are left.
-fn greatest_bound(scenario: &Scenario, table: &PacketTable, work: &[Work], seen: u32) -> u32
-    requires packets { table.now ≡ table_of scenario.now }
-    requires inside { All (IsWork scenario.now seen) work.now }
+fn greatest_bound(scenario: &Scenario, work: &[Work], seen: u32) -> u32
+    requires { All (IsWork scenario.now seen) work.now }
     ensures { let boxes = left_in (map front_of work.now) in result
         ≡ greatest (seen ∷ map (plain_bound scenario.now) boxes) }
 {
     let mut greatest = seen;
     for piece in work {
         if let Work::Branch { branch, .. } = piece {
-            greatest = greatest.max(bound(scenario, table, branch));
+            greatest = greatest.max(branch.bound());
         }
     }
     greatest

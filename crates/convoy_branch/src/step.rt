@@ -10,7 +10,7 @@ ghost use Rattle.convoy_branch.specs.Steps.{known_after, IsStep, IsTriedIf, IsTu
 
 use convoy_certificate::Node;
 use convoy_intervals::laws::members_are_assignments;
-use convoy_intervals::{DelayBox, bound};
+use convoy_intervals::{DelayBox, Tracked};
 use convoy_packets::PacketTable;
 use convoy_scenario::Scenario;
 use convoy_sim::Record;
@@ -39,8 +39,8 @@ pub enum Turn {
     Halves {
         packet: u16,
         at: u16,
-        lower: DelayBox,
-        upper: DelayBox,
+        lower: Tracked,
+        upper: Tracked,
     },
 }
 
@@ -55,17 +55,17 @@ pub fn step_branch(
     alloc: Global,
     scenario: &Scenario,
     table: &PacketTable,
-    branch: DelayBox,
+    branch: Tracked,
     tried: bool,
     seen: u32,
-) -> Result<Step, (DelayBox, AllocError)>
+) -> Result<Step, (Tracked, AllocError)>
     requires packets { table.now ≡ table_of scenario.now }
-    requires inside { IsBox scenario.now branch }
-    requires known { IsTriedIf scenario.now branch tried seen }
-    ensures value { IfOk result (λ step. IsStep scenario.now branch seen step) }
+    requires of_scenario { branch.scenario ≡ scenario.now }
+    requires known { IsTriedIf scenario.now branch.space tried seen }
+    ensures value { IfOk result (λ step. IsStep scenario.now branch.space seen step) }
     ensures back { IfErr result (λ refused. refused.0 ≡ branch) }
 {
-    let bound = bound(scenario, table, &branch);
+    let bound = branch.bound();
     if bound <= seen {
         return Ok(Step {
             found: None,
@@ -80,7 +80,7 @@ pub fn step_branch(
     let turn = if bound <= known {
         Turn::Closed(Node::Bound)
     } else {
-        open_turn(table, branch)?
+        open_turn(scenario, table, branch)?
     };
     Ok(Step { found, turn })
 }
@@ -91,14 +91,14 @@ fn try_greatest(
     alloc: Global,
     scenario: &Scenario,
     table: &PacketTable,
-    branch: &DelayBox,
+    branch: &Tracked,
     tried: bool,
     seen: u32,
 ) -> Result<Option<Record>, AllocError>
     requires packets { table.now ≡ table_of scenario.now }
-    requires inside { IsBox scenario.now branch.now }
-    requires known { IsTriedIf scenario.now branch.now tried seen }
-    ensures { let delays = greatest_of branch.now in IfOk result (λ found. found
+    requires of_scenario { branch.now.scenario ≡ scenario.now }
+    requires known { IsTriedIf scenario.now branch.now.space tried seen }
+    ensures { let delays = greatest_of branch.now.space in IfOk result (λ found. found
         ≡ (if nat_le (latency_of scenario.now delays) seen
         then None else Some (attained_by scenario.now delays))) }
 {
@@ -106,7 +106,7 @@ fn try_greatest(
         return Ok(None);
     }
     members_are_assignments();
-    let delays = branch.greatest(alloc)?;
+    let delays = branch.space().greatest(alloc)?;
     let record = Record::of(scenario, table, delays);
     if record.latency() > seen {
         Ok(Some(record))
@@ -127,16 +127,22 @@ fn known_after(seen: u32, found: &Option<Record>) -> u32
 
 /// What becomes of a box that its bound does not close: a leaf where it has one member, and else
 /// its halves. Where memory runs out the box comes back as it was.
-fn open_turn(table: &PacketTable, branch: DelayBox) -> Result<Turn, (DelayBox, AllocError)>
-    requires one_each { length branch ≡ length table.now.ranges }
-    ensures value { (scenario : Scenario) (known : ℕ) → StaysOpen scenario branch known
-        → IfOk result (λ turn. IsTurn scenario branch known turn) }
+fn open_turn(
+    scenario: &Scenario,
+    table: &PacketTable,
+    branch: Tracked,
+) -> Result<Turn, (Tracked, AllocError)>
+    requires packets { table.now ≡ table_of scenario.now }
+    requires of_scenario { branch.scenario ≡ scenario.now }
+    requires one_each { length branch.space ≡ length table.now.ranges }
+    ensures value { (known : ℕ) → StaysOpen scenario.now branch.space known
+        → IfOk result (λ turn. IsTurn scenario.now branch.space known turn) }
     ensures back { IfErr result (λ refused. refused.0 ≡ branch) }
 {
-    match place_to_split(table, &branch) {
+    match place_to_split(table, branch.space()) {
         None => Ok(Turn::Closed(Node::Point)),
         Some((packet, at)) => {
-            let (lower, upper) = branch.halves(usize::from(packet), at)?;
+            let (lower, upper) = branch.halves(scenario, table, usize::from(packet), at)?;
             Ok(Turn::Halves {
                 packet,
                 at,

@@ -5,3 +5,8 @@ pub mod Enclosing
 pub mod PlainBound
 pub mod PacketDelays
 pub mod Rivals
+pub mod Carrying
+pub mod SpanRows
+pub mod Following
+pub mod Destinations
+pub mod TrackedBoxes

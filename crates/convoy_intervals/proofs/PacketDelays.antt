@@ -15,7 +15,7 @@ use Rattle.convoy_sim.specs.Times.{arrive, propose_arrive}
 use Rattle.convoy_intervals.specs.Boxes.{IsBox, IsInside, range_at}
 
 -- a box has a range for each packet
-length-box : (plan : Scenario) (ranges : List (ℕ × ℕ)) → IsBox plan ranges → length ranges ≡ length (packets_of plan)
+pub length-box : (plan : Scenario) (ranges : List (ℕ × ℕ)) → IsBox plan ranges → length ranges ≡ length (packets_of plan)
 unfolding ranges_of
 length-box plan ranges box =
     sym (length_all_zip IsInside (ranges_of plan) ranges box) ∙ length-map (packets_of plan) (range_of plan)

@@ -1,7 +1,7 @@
 -- The plain bound: what may hold the target back under a schedule is among its rivals under tables that enclose it.
 use Rattle.std.specs.Prelude.{◌≡◌, ℕ, ◌≤◌, nat_le, max, Bool, true, false, List, [], ◌∷◌, map, cond}
 use Rattle.std.specs.List.{fold, filter, All}
-use Rattle.std.proofs.Common.{refl, arith}
+use Rattle.std.proofs.Common.{refl, sym, arith}
 use Rattle.std.proofs.lemmas.Bool.{false≢true}
 use Rattle.std.proofs.lemmas.Bool.Decides.{nat_tests}
 use Rattle.std.proofs.lemmas.List.Elements.{All-head, All-tail, All-weaker, filter_passes}
@@ -29,6 +29,10 @@ fold_max_filter_le p q f g (x ∷ xs) each a b le =
 -- the messages that arrive at the group no later than message m is committed there
 abbrev pub early : Scenario → List ℕ → ℕ → ℕ → List ℕ
 early plan delays m g = filter (λ n. nat_le (arrive plan delays n g) (settle plan delays m g)) (addressed_to plan g)
+
+-- where nothing differs
+same_raised : (first other last end settled again : ℕ) → first ≡ other → last ≡ end → settled ≡ again → (nat_le first last ≡ true → nat_le other end ≡ true) × (settled ≤ again)
+same_raised first other last end settled again a b c = (λ early_test. grind (arith, nat_tests), omega arith)
 
 module _ (plan : Scenario) (delays : List ℕ) (tables : Tables) (enclosed : Encloses plan delays tables) (addressed : GoesTo plan plan.target_message plan.target_group) where
   abbrev arrives_early : ℕ → Bool
@@ -65,3 +69,29 @@ module _ (plan : Scenario) (delays : List ℕ) (tables : Tables) (enclosed : Enc
   latency_le delivered =
       let most = early_settles_le in
       omega (arith, delivered, most)
+
+-- tables that agree on the messages that go to the target's group
+pub record DoAgree (plan : Scenario) (left right : Tables) : Type 0 where
+  pub arrivals : (n : ℕ) → GoesTo plan n plan.target_group → left.least_arrival n plan.target_group ≡ right.least_arrival n plan.target_group
+  pub settlings : (n : ℕ) → GoesTo plan n plan.target_group → left.greatest_settling n plan.target_group ≡ right.greatest_settling n plan.target_group
+
+-- the bound over them is no greater, and so it is the same
+bound_le : (plan : Scenario) (left right : Tables) → GoesTo plan plan.target_message plan.target_group → DoAgree plan left right → plain_bound_over plan left ≤ plain_bound_over plan right
+bound_le plan left right addressed agree =
+    let m = plan.target_message in
+    let g = plan.target_group in
+    let comes_left : ℕ → Bool = λ n. nat_le (left.least_arrival n g) (left.greatest_settling m g) in
+    let comes_right : ℕ → Bool = λ n. nat_le (right.least_arrival n g) (right.greatest_settling m g) in
+    let settled_left : ℕ → ℕ = λ n. left.greatest_settling n g in
+    let settled_right : ℕ → ℕ = λ n. right.greatest_settling n g in
+    let goes : ℕ → Bool = λ n. is_addressed (message_at plan n) g in
+    let here : left.greatest_settling m g ≡ right.greatest_settling m g = agree.settlings m addressed in
+    let raised : (n : ℕ) → goes n ≡ true → IsRaised comes_left comes_right settled_left settled_right n = λ n to. same_raised (left.least_arrival n g) (right.least_arrival n g) (left.greatest_settling m g) (right.greatest_settling m g) (settled_left n) (settled_right n) (agree.arrivals n to) here (agree.settlings n to) in
+    let each = All-weaker (λ n. goes n ≡ true) (IsRaised comes_left comes_right settled_left settled_right) raised (addressed_to plan g) (filter_passes goes (message_numbers plan)) in
+    let most = fold_max_filter_le comes_left comes_right settled_left settled_right (addressed_to plan g) each (max 0 (settled_left m)) (max 0 (settled_right m)) (omega arith) in
+    omega (arith, most)
+
+pub plain_bound_over-same : (plan : Scenario) (left right : Tables) → GoesTo plan plan.target_message plan.target_group → DoAgree plan left right → plain_bound_over plan left ≡ plain_bound_over plan right
+plain_bound_over-same plan left right addressed agree =
+    let back : DoAgree plan right left = record { arrivals = λ n to. sym (agree.arrivals n to); settlings = λ n to. sym (agree.settlings n to) } in
+    omega (arith, bound_le plan left right addressed agree, bound_le plan right left addressed back)

@@ -1,12 +1,16 @@
 -- What is proved of boxes and bounds. Each is the one clause of the function of its name in the crate's module `laws`.
-use Rattle.std.specs.Prelude.{◌≡◌, ℕ, ◌≤◌, ◌<◌, ◌↔◌, length, slice_index_or}
+use Rattle.std.specs.Prelude.{◌≡◌, ℕ, ◌≤◌, ◌<◌, ◌↔◌, slice_index_or, slice_set, Some, IsFalse}
+use Rattle.std.specs.List.{slice_get}
 use Rattle.convoy_scenario.specs.Scenario.{Scenario}
 use Rattle.convoy_scenario.specs.WellFormed.{IsScenario}
 use Rattle.convoy_packets.specs.Assignment.{Schedule, IsAssignment}
+use Rattle.convoy_packets.specs.declared.packet.Packet.{Packet}
+use Rattle.convoy_packets.specs.Packets.{packets_of}
 use Rattle.convoy_packets.specs.Table.{least_of}
 use Rattle.convoy_sim.specs.Delivery.{latency_of}
-use Rattle.convoy_intervals.specs.Boxes.{Box, CanSplit, IsBox, IsIn, IsPoint, root_of, range_at, lower_half, upper_half, greatest_of}
+use Rattle.convoy_intervals.specs.Boxes.{Box, CanSplit, IsBox, IsIn, IsPoint, root_of, lower_half, upper_half, greatest_of}
 use Rattle.convoy_intervals.specs.Bounds.{Tables, Encloses, tables_of, plain_bound_over, plain_bound}
+use Rattle.convoy_intervals.specs.Spans.{moves_arrival, moves_settling, arrival_span, settling_span}
 
 -- of a well-formed scenario the root is a box
 abbrev pub RootIsBox : Type 0
@@ -63,6 +67,14 @@ PointHasOneMember =
 abbrev pub MembersAreEnclosed : Type 0
 MembersAreEnclosed =
     (scenario : Scenario) (ranges : Box) (delays : Schedule) → IsIn ranges delays → Encloses scenario delays (tables_of scenario ranges)
+
+-- where a packet gets another range, the spans keep what its delay is no part of
+abbrev pub SpansAreCarried : Type 0
+SpansAreCarried =
+    (scenario : Scenario) (ranges : Box) (i : ℕ) (range : ℕ × ℕ) (packet : Packet) (m g : ℕ)
+    → slice_get (packets_of scenario) i ≡ Some packet
+    → (IsFalse (moves_arrival packet m g) → arrival_span scenario (slice_set ranges i range) m g ≡ arrival_span scenario ranges m g)
+    × (IsFalse (moves_settling packet m g) → settling_span scenario (slice_set ranges i range) m g ≡ settling_span scenario ranges m g)
 
 -- the latency under a schedule is at most the plain bound over any tables that enclose arrival and settling under it
 abbrev pub PlainBoundOverTables : Type 0

@@ -8,7 +8,9 @@ pub use Rattle.convoy_sim.specs.Times
 pub use Rattle.convoy_sim.specs.Moments
 pub use Rattle.convoy_sim.specs.Stamps
 pub use Rattle.convoy_sim.specs.Delivery
--- What a search and a check rest on: boxes of delays with their members and halves, bounds, and the laws of both. There are no words of the program's own parts.
+-- What a search and a check rest on: boxes of delays with their members and halves, bounds, boxes with what is kept of them, and the laws of these. There are no words of the program's own parts.
 pub mod Boxes
 pub mod Bounds
+pub mod Spans
+pub mod Tracked
 pub mod Laws

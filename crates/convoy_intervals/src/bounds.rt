@@ -4,10 +4,12 @@ ghost use Rattle.convoy_packets.specs.Table.{least_of, table_of};
 ghost use Rattle.convoy_sim.specs.Times.{arrive};
 ghost use Rattle.convoy_sim.specs.Delivery.{latency_of};
 ghost use Rattle.convoy_intervals.specs.Boxes.{IsBox, IsIn};
-ghost use Rattle.convoy_intervals.specs.Bounds.{plain_bound};
+ghost use Rattle.convoy_intervals.specs.Bounds.{plain_bound, plain_bound_over};
+ghost use Rattle.convoy_intervals.specs.Spans.{tables_in, AreAllSpans};
 
 use super::delay_box::DelayBox;
 use super::laws::plain_bound_holds;
+use super::spans::{Span, place};
 use super::times::{arrivals, settlings};
 use convoy_packets::PacketTable;
 use convoy_scenario::Scenario;
@@ -58,4 +60,33 @@ fn is_rival(
     }
     let (first, _) = arrivals(scenario, table, delay_box, message, group);
     first <= committed
+}
+
+/// The plain bound over the tables that a list of spans is, in ticks.
+pub(crate) fn bound_over(scenario: &Scenario, spans: &[Span]) -> u32
+    requires { AreAllSpans scenario.now spans.now }
+    ensures { result ≡ plain_bound_over scenario.now (tables_in scenario.now spans.now) }
+{
+    let target = scenario.target_message();
+    let group = scenario.target_group();
+    let (_, committed) = spans[place(scenario, target, group)].settling;
+    let mut last = committed;
+    for message in 0..scenario.message_count() {
+        let span = spans[place(scenario, message, group)];
+        if is_rival_by(scenario, span, message, committed) {
+            last = last.max(span.settling.1);
+        }
+    }
+    last.saturating_sub(scenario.issue_tick(target))
+}
+
+/// Whether a message goes to the target's group and, by its span there, may arrive by that tick.
+fn is_rival_by(scenario: &Scenario, span: Span, message: usize, committed: u32) -> bool
+    requires { message < length scenario.now.multicasts }
+    ensures { result
+        ≡ (is_addressed (message_at scenario.now message) scenario.now.target_group
+        && nat_le span.arrival.0 committed) }
+{
+    let group = scenario.target_group();
+    scenario.destinations(message).contains(&group) && span.arrival.0 <= committed
 }

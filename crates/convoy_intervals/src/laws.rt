@@ -4,9 +4,10 @@
 ghost use Rattle.convoy_intervals.specs.Laws.{RootIsBox, RootHoldsAll, MembersAreAssignments};
 ghost use Rattle.convoy_intervals.specs.Laws.{HalvesAreBoxes, HalvesPartition, UpperKeepsGreatest};
 ghost use Rattle.convoy_intervals.specs.Laws.{GreatestIsMember, LeastIsMember, PointHasOneMember};
-ghost use Rattle.convoy_intervals.specs.Laws.{MembersAreEnclosed};
+ghost use Rattle.convoy_intervals.specs.Laws.{MembersAreEnclosed, SpansAreCarried};
 ghost use Rattle.convoy_intervals.specs.Laws.{PlainBoundOverTables, PlainBoundHolds};
 
+use convoy_packets::laws::places_lead_back;
 use convoy_sim::laws::delivery_bound;
 
 /// Of a well-formed scenario the root is a box.
@@ -60,6 +61,14 @@ pub fn point_has_one_member()
 pub fn members_are_enclosed()
     ensures { MembersAreEnclosed }
 {}
+
+/// Where a packet gets another range, the spans keep what its delay is no part of: a message's own
+/// packets alone move its arrival and its settling.
+pub fn spans_are_carried()
+    ensures { SpansAreCarried }
+{
+    places_lead_back();
+}
 
 /// No schedule has a greater latency than the plain bound over tables that enclose arrival and
 /// settling under it.

@@ -3,10 +3,14 @@
 
 pub use bounds::bound;
 pub use delay_box::DelayBox;
+pub use spans::Span;
+pub use tracked::Tracked;
 
 mod bounds;
 mod delay_box;
 pub mod laws;
+mod spans;
 #[cfg(test)]
 mod tests;
 mod times;
+mod tracked;

@@ -3,7 +3,7 @@ ghost use Rattle.convoy_scenario.specs.Scenario.{Scenario};
 ghost use Rattle.convoy_packets.specs.Table.{table_of};
 ghost use Rattle.convoy_intervals.specs.Boxes.{IsBox};
 
-use super::{DelayBox, bound};
+use super::{DelayBox, Span, Tracked, bound};
 use convoy_packets::PacketTable;
 use convoy_scenario::{Scenario, read_toml};
 use std::alloc::{AllocError, Global};
@@ -47,7 +47,7 @@ fn root_bound(alloc: Global, scenario: &Scenario) -> Result<u32, Fail> {
     Ok(bound(scenario, &table, &root))
 }
 
-/// The bounds of the halves of the whole box at a packet.
+/// The bounds of the halves of the whole box at a packet, which are those that a tracked box has.
 fn half_bounds(
     rt: &impl Abort,
     alloc: Global,
@@ -56,16 +56,15 @@ fn half_bounds(
     at: u16,
 ) -> Result<(u32, u32), Fail> {
     let table = PacketTable::of(alloc, scenario)?;
-    let root = DelayBox::root(alloc, &table)?;
-    assert!(rt; packet < root.len());
-    let (least, most) = root.range(packet);
+    let root = Tracked::root(alloc, scenario, &table)?;
+    assert!(rt; packet < root.space().len());
+    let (least, most) = root.space().range(packet);
     assert!(rt; least <= at && at < most);
-    match root.halves(packet, at) {
+    match root.halves(scenario, &table, packet, at) {
         Ok((lower, upper)) => {
-            Ok((
-                bound(scenario, &table, &lower),
-                bound(scenario, &table, &upper),
-            ))
+            assert_eq!(rt; bound(scenario, &table, lower.space()), lower.bound());
+            assert_eq!(rt; bound(scenario, &table, upper.space()), upper.bound());
+            Ok((lower.bound(), upper.bound()))
         }
         Err((_, error)) => Err(error.into()),
     }
@@ -140,5 +139,22 @@ fn bound_of_a_point(rt: HostRuntime) -> Result<(), Fail> {
     for packet in 0..8 {
         assert_eq!(rt; delays.delay(packet), 3, "packet {packet}");
     }
+    Ok(())
+}
+
+#[test]
+fn spans_of_the_base(rt: HostRuntime) -> Result<(), Fail> {
+    let alloc = rt.alloc();
+    let scenario = base(alloc, "\"a\", \"b\"", 6)?;
+    let table = PacketTable::of(alloc, &scenario)?;
+    let root = Tracked::root(alloc, &scenario, &table)?;
+    assert!(rt; 1 < scenario.message_count() && 0 < scenario.group_count());
+    let target = Span {
+        arrival: (1, 3),
+        settling: (2, 6),
+    };
+    assert_eq!(rt; root.span(&scenario, 1, 0), target);
+    assert!(rt; !root.is_point());
+    assert_eq!(rt; root.copy()?.bound(), 12);
     Ok(())
 }

@@ -4,6 +4,7 @@ ghost use Rattle.convoy_scenario.specs.Scenario.{message_at};
 ghost use Rattle.convoy_packets.specs.Table.{least_of, table_of};
 ghost use Rattle.convoy_sim.specs.Times.{arrive, settle, propose_arrive};
 ghost use Rattle.convoy_intervals.specs.Boxes.{range_at, greatest_of, IsBox};
+ghost use Rattle.convoy_intervals.specs.Spans.{arrival_span};
 
 use super::delay_box::DelayBox;
 use convoy_packets::PacketTable;
@@ -55,9 +56,32 @@ fn proposals(
     ensures greatest { result.1
         ≡ propose_arrive scenario.now (greatest_of delay_box.now) message to from }
 {
-    let (first, last) = arrivals(scenario, table, delay_box, message, from);
+    let arrival = arrivals(scenario, table, delay_box, message, from);
+    proposals_after(scenario, table, delay_box, arrival, message, from, to)
+}
+
+/// The same from the least and the greatest tick at which the message arrives at the group `from`.
+pub(crate) fn proposals_after(
+    scenario: &Scenario,
+    table: &PacketTable,
+    delay_box: &DelayBox,
+    arrival: (u32, u32),
+    message: usize,
+    from: usize,
+    to: usize,
+) -> (u32, u32)
+    requires packets { table.now ≡ table_of scenario.now }
+    requires inside { IsBox scenario.now delay_box.now }
+    requires arrival { arrival ≡ arrival_span scenario.now delay_box.now message from }
+    requires fits { (arrival.0 ≤ GREATEST_AT + u16.MAX) × (arrival.1 ≤ GREATEST_AT + u16.MAX) }
+    ensures least { result.0
+        ≡ propose_arrive scenario.now (least_of delay_box.now) message to from }
+    ensures greatest { result.1
+        ≡ propose_arrive scenario.now (greatest_of delay_box.now) message to from }
+{
+    let _scenario = scenario;
     let (least, most) = range_of(delay_box, table.propose(message, from, to));
-    (first + u32::from(least), last + u32::from(most))
+    (arrival.0 + u32::from(least), arrival.1 + u32::from(most))
 }
 
 /// The least and the greatest tick at which a message is committed at a group, over the members of

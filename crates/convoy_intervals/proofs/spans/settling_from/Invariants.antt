@@ -1,0 +1,10 @@
+use Rattle.std.proofs.Common.{◌≡◌, map, take}
+use Rattle.convoy_packets.specs.Table.{least_of}
+use Rattle.convoy_sim.specs.Times.{greatest, propose_arrive}
+use Rattle.convoy_intervals.specs.Boxes.{greatest_of}
+use Rattle.convoy_intervals.proofs.spans.settling_from.Given as goal
+
+abbrev pub invariant-loop-from : goal.invariant-loop-from
+invariant-loop-from l =
+    (l.least ≡ greatest (map (propose_arrive l.scenario (least_of l.space) l.message l.group) (take l.from-index l.from-items)))
+    × (l.most ≡ greatest (map (propose_arrive l.scenario (greatest_of l.space) l.message l.group) (take l.from-index l.from-items)))

@@ -1,0 +1,11 @@
+use Rattle.std.proofs.Common.{length}
+use Rattle.convoy_intervals.specs.Spans.{AreAllSpans, AreArrivals, AreOthersKept, AreSettlings}
+use Rattle.convoy_intervals.proofs.spans.write_message.Given as goal
+
+abbrev pub invariant-loop-group : goal.invariant-loop-group
+invariant-loop-group l = record {
+  arrivals : AreArrivals l.scenario l.space l.spans l.message (length l.scenario.groups);
+  settlings : AreSettlings l.scenario l.space l.spans l.message l.group;
+  others : AreOthersKept l.scenario l.message l.fn.spans l.spans;
+  all : AreAllSpans l.scenario l.spans;
+}

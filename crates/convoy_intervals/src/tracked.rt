@@ -1,0 +1,181 @@
+ghost use Rattle.std.specs.Prelude.{◌≡◌, ℕ, List, ◌<◌, ◌≤◌, ◌↔◌, length, slice_set, IfOk, IsTrue, MatchResult};
+ghost use Rattle.convoy_packets.specs.Table.{table_of};
+ghost use Rattle.convoy_sim.specs.Delivery.{latency_of};
+ghost use Rattle.convoy_intervals.specs.Boxes.{CanSplit, IsBox, IsIn, IsPoint};
+ghost use Rattle.convoy_intervals.specs.Boxes.{lower_half, range_at, root_of, upper_half};
+ghost use Rattle.convoy_intervals.specs.Bounds.{plain_bound};
+ghost use Rattle.convoy_intervals.specs.Spans.{span_of, AreSpans};
+ghost use Rattle.convoy_intervals.specs.Tracked.{tracked_of};
+
+use super::bounds::bound_over;
+use super::delay_box::DelayBox;
+use super::laws::{plain_bound_holds, spans_are_carried};
+use super::spans::{Span, follow_packet, list_spans, place};
+use convoy_packets::PacketTable;
+use convoy_packets::laws::{packets_are_those_sent, packets_stand_once};
+use convoy_scenario::Scenario;
+use convoy_sim::Tag;
+use std::alloc::{AllocError, Global};
+use std::marker::Model;
+
+/// A box of delays of one scenario, which contracts name, with what a search asks of it: from when to
+/// when each message may arrive at each group and be committed there, and the plain bound. A half
+/// takes over what the split leaves as it is, so that to split a box costs little more than a copy
+/// of it.
+#[derive(Drop)]
+pub struct Tracked {
+    space: DelayBox,
+    spans: Vec<Span>,
+    bound: u32,
+    scenario: Tag<Scenario>,
+}
+
+impl Model for Tracked {
+    ghost use Rattle.convoy_intervals.specs.Tracked.{Tracked, IsTracked};
+
+    ghost Value = { Tracked };
+
+    ghost view = { λ t. record { scenario = t.scenario.value; space = t.space } };
+
+    ghost invariant = { λ t. IsTracked
+        (record { scenario = t.scenario.value; space = t.space }) t.spans.items t.bound };
+}
+
+impl Tracked {
+    /// The box in which each packet has its whole range.
+    pub fn root(
+        alloc: Global,
+        scenario: &Scenario,
+        table: &PacketTable,
+    ) -> Result<Tracked, AllocError>
+        requires packets { table.now ≡ table_of scenario.now }
+        ensures { IfOk result
+            (λ root. root ≡ tracked_of scenario.now (root_of scenario.now)) }
+    {
+        let space = DelayBox::root(alloc, table)?;
+        let spans = list_spans(alloc, scenario, table, &space)?;
+        Ok(Tracked::of(scenario, space, spans))
+    }
+
+    /// A box with its spans.
+    fn of(scenario: &Scenario, space: DelayBox, spans: Vec<Span>) -> Tracked
+        requires inside { IsBox scenario.now space }
+        requires spans { AreSpans scenario.now space spans.items }
+        ensures { result ≡ tracked_of scenario.now space }
+    {
+        let _delay = scenario.delay();
+        let bound = bound_over(scenario, &spans);
+        Tracked {
+            space,
+            spans,
+            bound,
+            scenario: Tag::of(scenario),
+        }
+    }
+
+    /// The box.
+    pub fn space(&self) -> &DelayBox
+        ensures value { result.now ≡ self.now.space }
+        ensures lawful { IsBox self.now.scenario self.now.space }
+    {
+        &self.space
+    }
+
+    /// Whether each packet has one delay left, so that the box has one member.
+    pub fn is_point(&self) -> bool
+        ensures { IsTrue result ↔ IsPoint self.now.space }
+    {
+        self.space.is_point()
+    }
+
+    /// The plain bound of the box, in ticks: no schedule of the box has a greater latency.
+    pub fn bound(&self) -> u32
+        ensures value { result ≡ plain_bound self.now.scenario self.now.space }
+        ensures holds { (delays : List ℕ) → IsIn self.now.space delays
+            → latency_of self.now.scenario delays ≤ result }
+    {
+        plain_bound_holds();
+        self.bound
+    }
+
+    /// From when to when a message may arrive at a group and be committed there, over the members of
+    /// the box.
+    pub fn span(&self, scenario: &Scenario, message: usize, group: usize) -> Span
+        requires of_scenario { self.now.scenario ≡ scenario.now }
+        requires message { message < length self.now.scenario.multicasts }
+        requires group { group < length self.now.scenario.groups }
+        ensures { result ≡ span_of self.now.scenario self.now.space message group }
+    {
+        self.spans[place(scenario, message, group)]
+    }
+
+    /// A copy of the box, with all that is kept of it.
+    pub fn copy(&self) -> Result<Tracked, AllocError>
+        ensures { IfOk result (λ t. t ≡ self.now) }
+    {
+        Ok(Tracked {
+            space: self.space.copy()?,
+            spans: Vec::from_slice(*self.spans.allocator(), &self.spans)?,
+            bound: self.bound,
+            scenario: self.scenario.copy(),
+        })
+    }
+
+    /// Splits the box at a packet into its halves: the lower one, in which the packet's delay is at
+    /// most `at` ticks, and the upper one, in which it is more. Where memory runs out, the box comes
+    /// back as it was.
+    pub fn halves(
+        self,
+        scenario: &Scenario,
+        table: &PacketTable,
+        packet: usize,
+        at: u16,
+    ) -> Result<(Tracked, Tracked), (Tracked, AllocError)>
+        requires of_scenario { self.scenario ≡ scenario.now }
+        requires packets { table.now ≡ table_of scenario.now }
+        requires can_split { CanSplit self.space packet at }
+        ensures { MatchResult result
+            (λ halves. halves ≡ (tracked_of self.scenario (lower_half self.space packet at),
+                tracked_of self.scenario (upper_half self.space packet at)))
+            (λ refused. refused.0 ≡ self) }
+    {
+        let (least, most) = self.space.range(packet);
+        match self.copy() {
+            Ok(copy) => {
+                let lower = self.with_range(scenario, table, packet, (least, at));
+                let upper = copy.with_range(scenario, table, packet, (at + 1, most));
+                Ok((lower, upper))
+            }
+            Err(error) => Err((self, error)),
+        }
+    }
+
+    /// The box with a smaller range in the place of a packet's.
+    fn with_range(
+        self,
+        scenario: &Scenario,
+        table: &PacketTable,
+        packet: usize,
+        range: (u16, u16),
+    ) -> Tracked
+        requires of_scenario { self.scenario ≡ scenario.now }
+        requires packets { table.now ≡ table_of scenario.now }
+        requires place { packet < length self.space }
+        requires holds { range.0 ≤ range.1 }
+        requires low { (range_at self.space packet).0 ≤ range.0 }
+        requires high { range.1 ≤ (range_at self.space packet).1 }
+        ensures { result ≡ tracked_of self.scenario (slice_set self.space packet range) }
+    {
+        spans_are_carried();
+        packets_are_those_sent();
+        packets_stand_once();
+        let Tracked {
+            mut space,
+            mut spans,
+            ..
+        } = self;
+        space.replace(packet, range);
+        follow_packet(&mut spans, scenario, table, &space, table.packet(packet));
+        Tracked::of(scenario, space, spans)
+    }
+}
