@@ -18,3 +18,6 @@ pub mod Outcomes
 pub mod Laws
 -- Where the program stands between two steps: no promise above this crate rests on it.
 pub mod Searching
+-- The search of many workers as a machine, and what holds in each state that it comes to.
+pub mod Machine
+pub mod Replays

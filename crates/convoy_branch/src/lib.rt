@@ -1,12 +1,20 @@
 //! Branch and bound: the step over one box, and the search of one worker.
 #![tactic(auto)]
 
+pub use event::Event;
+pub use machine::Core;
 pub use outcome::Outcome;
+pub use parts::WORKERS;
+pub use replaying::{ReplayFault, replay};
 pub use search::{search_alone, search_from};
 pub use step::{Step, Turn, step_branch};
 
+mod event;
 pub mod laws;
+mod machine;
 mod outcome;
+mod parts;
+mod replaying;
 #[cfg(test)]
 mod scenarios;
 mod search;

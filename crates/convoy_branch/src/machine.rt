@@ -1,0 +1,327 @@
+//! The search of many workers as a machine of its own: which events are lawful, and what becomes of
+//! the state.
+
+ghost use Rattle.std.specs.Prelude.{◌≡◌, ◌+◌, ◌<◌, ◌≤◌, ◌^◌, Bool, List, length, slice_set};
+ghost use Rattle.std.specs.Prelude.{IfNone, IfOk, IfSome, IsFalse, IsTrue, OnOk};
+ghost use Rattle.std.specs.List.{All};
+ghost use Rattle.convoy_scenario.specs.Scenario.{Scenario};
+ghost use Rattle.convoy_packets.specs.Table.{table_of};
+ghost use Rattle.convoy_sim.specs.Record.{IsAttained};
+ghost use Rattle.convoy_intervals.specs.Boxes.{CanSplit, IsBox, lower_half, upper_half};
+ghost use Rattle.convoy_checker.specs.Checks.{can_split, is_point};
+ghost use Rattle.convoy_branch.specs.Machine.{after, allows, best_after, branch_at, branches_after};
+ghost use Rattle.convoy_branch.specs.Machine.{closes, is_free, is_lawful, taken, HasBranch};
+ghost use Rattle.convoy_branch.specs.Machine.{is_with, stands, start, worker_after, worker_at};
+ghost use Rattle.convoy_branch.specs.Machine.{worker_of};
+ghost use Rattle.convoy_branch.specs.Replays.{IsFound, left_of};
+
+use super::event::Event;
+use super::parts::{Branch, BranchState, WORKERS, Worker};
+use convoy_intervals::laws::members_are_assignments;
+use convoy_intervals::{DelayBox, bound};
+use convoy_packets::{Delays, PacketTable};
+use convoy_scenario::Scenario;
+use convoy_sim::Record;
+use std::alloc::{AllocError, Global};
+use std::marker::Model;
+
+/// The state of a search of many workers between two events: the best record, what each worker has
+/// seen, drawn and spent, and what has become of each branch.
+#[derive(Drop)]
+pub struct Core {
+    best: Record,
+    workers: [Worker; WORKERS],
+    branches: Vec<Branch>,
+}
+
+impl Model for Core {
+    ghost use Rattle.convoy_branch.specs.Machine.{Core};
+
+    ghost Value = { Core };
+
+    ghost view = { λ c. record {
+      best = c.best;
+      workers = c.workers;
+      branches = c.branches.items;
+    } };
+}
+
+impl Core {
+    /// The record of the greatest latency that was published.
+    pub fn best(&self) -> &Record
+        ensures { result.now ≡ self.now.best }
+    {
+        &self.best
+    }
+
+    /// How many branches are left to be searched: free, or taken by a worker.
+    pub fn left(&self) -> usize
+        ensures { result ≡ left_of self.now }
+    {
+        self.branches
+            .iter()
+            .filter(|branch| branch.state.is_left())
+            .count()
+    }
+
+    /// The greatest latency that the worker has seen, in ticks.
+    pub fn seen(&self, worker: usize) -> u32
+        requires { worker < WORKERS }
+        ensures { result ≡ (worker_at self.now.workers worker).seen }
+    {
+        self.workers[worker].seen
+    }
+
+    /// How many tickets the worker has drawn.
+    pub fn drawn(&self, worker: usize) -> u64
+        requires { worker < WORKERS }
+        ensures { result ≡ (worker_at self.now.workers worker).drawn }
+    {
+        self.workers[worker].drawn
+    }
+
+    /// How many of its tickets the worker has spent.
+    pub fn spent(&self, worker: usize) -> u64
+        requires { worker < WORKERS }
+        ensures { result ≡ (worker_at self.now.workers worker).spent }
+    {
+        self.workers[worker].spent
+    }
+
+    /// The state at the start of a search.
+    pub(crate) fn start(
+        alloc: Global,
+        scenario: &Scenario,
+        table: &PacketTable,
+    ) -> Result<Core, AllocError>
+        requires { table.now ≡ table_of scenario.now }
+        ensures value { IfOk result (λ core. core ≡ start scenario.now) }
+        ensures attained { IfOk result (λ core. IsAttained core.best) }
+    {
+        let best = Record::of(scenario, table, Delays::least(alloc, table)?);
+        let worker = Worker {
+            seen: best.latency(),
+            drawn: 0,
+            spent: 0,
+        };
+        let mut branches = Vec::new(alloc);
+        branches.push(Branch {
+            delay_box: DelayBox::root(alloc, table)?,
+            state: BranchState::Taken(0),
+        })?;
+        Ok(Core {
+            best,
+            workers: [worker; WORKERS],
+            branches,
+        })
+    }
+
+    /// Whether the state allows an event.
+    pub(crate) fn is_lawful(
+        &self,
+        alloc: Global,
+        scenario: &Scenario,
+        table: &PacketTable,
+        event: &Event,
+    ) -> Result<bool, AllocError>
+        requires packets { table.now ≡ table_of scenario.now }
+        requires boxes { All (λ branch. IsBox scenario.now branch.delay_box) self.now.branches }
+        ensures { IfOk result (λ lawful. lawful ≡ is_lawful scenario.now self.now event.now) }
+    {
+        let worker = event.worker();
+        if worker >= WORKERS {
+            return Ok(false);
+        }
+        self.allows(alloc, scenario, table, &self.workers[worker], event)
+    }
+
+    /// Whether the state allows an event of that worker.
+    fn allows(
+        &self,
+        alloc: Global,
+        scenario: &Scenario,
+        table: &PacketTable,
+        doer: &Worker,
+        event: &Event,
+    ) -> Result<bool, AllocError>
+        requires packets { table.now ≡ table_of scenario.now }
+        requires boxes { All (λ branch. IsBox scenario.now branch.delay_box) self.now.branches }
+        requires doer { doer.now ≡ worker_at self.now.workers (worker_of event.now) }
+        ensures { IfOk result (λ allowed. allowed ≡ allows scenario.now self.now event.now) }
+    {
+        match event {
+            Event::Look { .. } | Event::Publish { .. } | Event::Draw { .. } => Ok(true),
+            Event::Put { worker, branch } => Ok(self.held_by(*worker, *branch).is_some()),
+            Event::Take { branch, .. } => Ok(self.is_free(*branch)),
+            Event::Split {
+                worker,
+                branch,
+                packet,
+                at,
+            } => {
+                match self.held_by(*worker, *branch) {
+                    None => Ok(false),
+                    Some(delay_box) => {
+                        Ok(doer.has_ticket() && can_split(delay_box, *packet, *at))
+                    }
+                }
+            }
+            Event::Close { worker, branch } => {
+                match self.held_by(*worker, *branch) {
+                    None => Ok(false),
+                    Some(delay_box) => {
+                        if doer.has_ticket() {
+                            closes(alloc, scenario, table, doer.seen, delay_box)
+                        } else {
+                            Ok(false)
+                        }
+                    }
+                }
+            }
+        }
+    }
+
+    /// The box of a branch that the worker has, where it has that branch.
+    fn held_by(&self, worker: usize, branch: usize) -> Option<&DelayBox>
+        ensures none { IfNone result (IsFalse (stands (is_with worker) self.now.branches branch)) }
+        ensures some { IfSome result (λ delay_box.
+            IsTrue (stands (is_with worker) self.now.branches branch)
+            × (delay_box.now ≡ (branch_at self.now.branches branch).delay_box)) }
+        ensures inside { (scenario : Scenario)
+            → All (λ branch. IsBox scenario branch.delay_box) self.now.branches
+            → IfSome result (λ delay_box. IsBox scenario delay_box.now) }
+    {
+        match self.branches.get(branch) {
+            Some(held) if held.state.is_with(worker) => Some(&held.delay_box),
+            _ => None,
+        }
+    }
+
+    /// Whether there is a branch of that number, and any worker may take it.
+    fn is_free(&self, branch: usize) -> bool
+        ensures { result ≡ stands is_free self.now.branches branch }
+    {
+        match self.branches.get(branch) {
+            Some(branch) => branch.state.is_free(),
+            None => false,
+        }
+    }
+
+    /// Does what a lawful event says.
+    pub(crate) fn follow(&mut self, event: &Event) -> Result<(), AllocError>
+        requires lawful { (scenario : Scenario) × IsTrue (is_lawful scenario self.old event.now) }
+        requires counts { All (λ worker. (worker.drawn < u64.MAX) × (worker.spent < u64.MAX))
+            self.old.workers }
+        ensures after { OnOk result (self.new ≡ after self.old event.now) }
+        ensures found { OnOk result (IsFound event.now) }
+    {
+        raise(&mut self.best, event)?;
+        let worker = event.worker();
+        let latency = self.best.latency();
+        self.workers[worker] = self.workers[worker].after(latency, event);
+        turn(&mut self.branches, event)
+    }
+}
+
+/// Takes over the record of an event as the best one, where its latency is greater.
+fn raise(best: &mut Record, event: &Event) -> Result<(), AllocError>
+    ensures best { OnOk result (best.new ≡ best_after best.old event.now) }
+    ensures found { OnOk result (IsFound event.now) }
+{
+    if let Event::Publish { found, .. } = event
+        && found.latency() > best.latency()
+    {
+        *best = found.copy()?;
+    }
+    Ok(())
+}
+
+/// Does to the branches what an event says.
+fn turn(branches: &mut Vec<Branch>, event: &Event) -> Result<(), AllocError>
+    requires { HasBranch branches.old.items event.now }
+    ensures { OnOk result (branches.new.items ≡ branches_after branches.old.items event.now) }
+{
+    match event {
+        Event::Look { .. } | Event::Publish { .. } | Event::Draw { .. } => {}
+        Event::Put { branch, .. } => branches[*branch].state = BranchState::Free,
+        Event::Take { worker, branch } => branches[*branch].state = BranchState::Taken(*worker),
+        Event::Split {
+            worker,
+            branch,
+            packet,
+            at,
+        } => {
+            let (lower, upper) = halves_of(&branches[*branch].delay_box, *packet, *at)?;
+            branches[*branch].state = BranchState::Split;
+            branches.push(taken(*worker, lower))?;
+            branches.push(taken(*worker, upper))?;
+        }
+        Event::Close { branch, .. } => branches[*branch].state = BranchState::Closed,
+    }
+    Ok(())
+}
+
+/// A branch that a worker has.
+fn taken(worker: usize, delay_box: DelayBox) -> Branch
+    ensures { result ≡ taken worker delay_box }
+{
+    Branch {
+        delay_box,
+        state: BranchState::Taken(worker),
+    }
+}
+
+/// The halves of a box that stays.
+fn halves_of(delay_box: &DelayBox, packet: u16, at: u16) -> Result<(DelayBox, DelayBox), AllocError>
+    requires { CanSplit delay_box.now packet at }
+    ensures { IfOk result (λ halves. halves
+        ≡ (lower_half delay_box.now packet at, upper_half delay_box.now packet at)) }
+{
+    match delay_box.copy()?.halves(usize::from(packet), at) {
+        Ok(halves) => Ok(halves),
+        Err((_, error)) => Err(error),
+    }
+}
+
+/// Whether the packet has a place in the box, and delays on both sides of the split.
+fn can_split(delay_box: &DelayBox, packet: u16, at: u16) -> bool
+    ensures { result ≡ can_split delay_box.now packet at }
+{
+    let packet = usize::from(packet);
+    if packet >= delay_box.len() {
+        return false;
+    }
+    let (least, most) = delay_box.range(packet);
+    least <= at && at < most
+}
+
+/// Whether the bound of the box, or the latency of its only member, is at most that latency, in
+/// ticks.
+fn closes(
+    alloc: Global,
+    scenario: &Scenario,
+    table: &PacketTable,
+    latency: u32,
+    delay_box: &DelayBox,
+) -> Result<bool, AllocError>
+    requires packets { table.now ≡ table_of scenario.now }
+    requires inside { IsBox scenario.now delay_box.now }
+    ensures { IfOk result (λ answer. answer ≡ closes scenario.now latency delay_box.now) }
+{
+    if bound(scenario, table, delay_box) <= latency {
+        return Ok(true);
+    }
+    if !is_point(delay_box) {
+        return Ok(false);
+    }
+    members_are_assignments();
+    let delays = delay_box.greatest(alloc)?;
+    Ok(convoy_sim::latency(scenario, table, &delays) <= latency)
+}
+
+/// Whether each packet has one delay left.
+fn is_point(delay_box: &DelayBox) -> bool
+    ensures { result ≡ is_point delay_box.now }
+{
+    delay_box.is_point()
+}

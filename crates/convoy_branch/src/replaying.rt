@@ -1,0 +1,71 @@
+ghost use Rattle.std.specs.Prelude.{◌≡◌, IfOk};
+ghost use Rattle.std.specs.List.{All};
+ghost use Rattle.convoy_scenario.specs.Memory.{IsUnlessMemory};
+ghost use Rattle.convoy_packets.specs.Table.{table_of};
+ghost use Rattle.convoy_branch.specs.Machine.{replayed};
+ghost use Rattle.convoy_branch.specs.Replays.{IsEventOf, IsReplayed};
+
+use super::event::Event;
+use super::machine::Core;
+use convoy_checker::laws::{bound_leaves_cover, point_leaves_cover};
+use convoy_intervals::laws::{halves_are_boxes, halves_partition, root_holds_all, root_is_box};
+use convoy_packets::PacketTable;
+use convoy_scenario::Scenario;
+use std::alloc::{AllocError, Global};
+
+#[cfg(test)]
+mod tests;
+
+/// Why a list of events was not replayed.
+#[derive(Clone, Copy, Debug, PartialEq, Eq)]
+pub enum ReplayFault {
+    /// An event is not lawful in the state that those before it lead to: the place of the first one,
+    /// from 0.
+    Unlawful(usize),
+    /// Memory ran out, which says nothing of the events.
+    Memory,
+}
+
+impl From<AllocError> for ReplayFault {
+    ghost use Rattle.std.specs.Prelude.{◌≡◌};
+    ghost use Rattle.convoy_branch.specs.declared.replaying.ReplayFault.TheVariants.{Memory};
+
+    ghost from_gives = { λ _ fault. fault ≡ Memory };
+
+    fn from(_error: AllocError) -> ReplayFault {
+        ReplayFault::Memory
+    }
+}
+
+/// Replays a search of up to 16 workers as a list of events, from its start: the record of all least
+/// delays is the best, every worker has seen its latency, and worker 0 has the root box as branch 0
+/// (docs/PROTOCOL.md). Whatever the threads of a search do, and in whatever order, is such a list.
+///
+/// Answers the state that the events lead to, where each is lawful in the state before it, or else
+/// the place of the first that is not.
+pub fn replay(
+    alloc: Global,
+    scenario: &Scenario,
+    table: &PacketTable,
+    events: &[Event],
+) -> Result<Core, ReplayFault>
+    requires packets { table.now ≡ table_of scenario.now }
+    requires records { All (IsEventOf scenario.now) events.now }
+    ensures exact { IsUnlessMemory ReplayFault.Memory (replayed scenario.now events.now) result }
+    ensures state { IfOk result (IsReplayed scenario.now events.now) }
+{
+    root_is_box();
+    root_holds_all();
+    halves_are_boxes();
+    halves_partition();
+    bound_leaves_cover();
+    point_leaves_cover();
+    let mut core = Core::start(alloc, scenario, table)?;
+    for (place, event) in events.iter().enumerate() {
+        if !core.is_lawful(alloc, scenario, table, event)? {
+            return Err(ReplayFault::Unlawful(place));
+        }
+        core.follow(event)?;
+    }
+    Ok(core)
+}
