@@ -6,7 +6,8 @@ pub use record::Record;
 pub use run::{Proposal, Run};
 pub use simulation::simulate;
 pub use tag::Tag;
-pub use target::latency;
+pub use target::{latency, latency_by};
+pub use ticks::Ticks;
 pub use timestamp::Timestamp;
 
 mod agenda;
@@ -24,6 +25,7 @@ mod tag;
 mod target;
 #[cfg(test)]
 mod tests;
+mod ticks;
 mod times;
 mod timestamp;
 mod timetable;

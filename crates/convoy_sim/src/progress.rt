@@ -4,6 +4,7 @@ ghost use Rattle.convoy_sim.specs.Progress.{progress_told, TellsAll};
 
 use super::delivery::delivery_tick;
 use super::stamps::Stamps;
+use super::ticks::Ticks;
 use super::timetable::Timetable;
 use convoy_scenario::MOST_GROUPS;
 use std::alloc::{AllocError, Global};

@@ -7,6 +7,7 @@ use super::agenda::Agenda;
 use super::delivery::delivery_tick;
 use super::moment::{Moment, MomentKind};
 use super::stamps::Stamps;
+use super::ticks::Ticks;
 use super::times::Times;
 use super::timetable::Timetable;
 use convoy_packets::{Delays, PacketTable};
@@ -20,7 +21,15 @@ pub fn latency(scenario: &Scenario, table: &PacketTable, delays: &Delays) -> u32
     requires assignment { IsAssignment scenario.now delays.now }
     ensures value { result ≡ latency_of scenario.now delays.now }
 {
-    let times = Timetable::of(Times::new(scenario, table, delays));
+    latency_by(&Timetable::of(Times::new(scenario, table, delays)))
+}
+
+/// The latency in ticks of a scenario under a schedule, from the ticks of the schedule. Takes no
+/// memory, and reads no more than [`latency`] does.
+pub fn latency_by<T: Ticks>(times: &T) -> u32
+    ensures { result ≡ latency_of (T.scheduled times.now).scenario (T.scheduled times.now).delays }
+{
+    let scenario = times.scenario();
     let (message, group) = (scenario.target_message(), scenario.target_group());
     let commit = Moment {
         tick: times.settling(message, group),
@@ -28,6 +37,6 @@ pub fn latency(scenario: &Scenario, table: &PacketTable, delays: &Delays) -> u32
         message,
         group,
     };
-    let stamps = Stamps::of(&Agenda::before(&times, &commit));
-    delivery_tick(&times, &stamps, message, group) - scenario.issue_tick(message)
+    let stamps = Stamps::of(&Agenda::before(times, &commit));
+    delivery_tick(times, &stamps, message, group) - scenario.issue_tick(message)
 }

@@ -4,6 +4,7 @@ ghost use Rattle.convoy_sim.specs.Times.{arrive, settle};
 ghost use Rattle.convoy_sim.specs.Places.{place, IsRow, AreOthersKept};
 
 use super::place::{PLACES, place};
+use super::ticks::Ticks;
 use super::times::Times;
 use convoy_scenario::Scenario;
 use std::marker::Model;
@@ -30,8 +31,6 @@ impl<'a> Model for Timetable<'a> {
 }
 
 impl<'a> Timetable<'a> {
-    ghost use Rattle.convoy_scenario.specs.WellFormed.{IsScenario};
-
     /// The timetable of a scenario under a schedule.
     pub(crate) fn of(times: Times<'a>) -> Self
         requires { IsAssignment times.scenario times.delays }
@@ -49,32 +48,21 @@ impl<'a> Timetable<'a> {
             settlings,
         }
     }
+}
 
-    /// The scenario of which the timetable is.
-    pub(crate) fn scenario(&self) -> &'a Scenario
-        ensures value { result.now ≡ self.now.scenario }
-        ensures lawful { IsScenario self.now.scenario }
-        ensures assignment { IsAssignment self.now.scenario self.now.delays }
-    {
+impl<'a> Ticks for Timetable<'a> {
+    ghost scheduled = { λ t. t };
+
+    fn scenario(&self) -> &Scenario {
         self.times.scenario()
     }
 
-    /// The tick at which the message arrives at the group.
-    pub(crate) fn arrival(&self, message: usize, group: usize) -> u32
-        requires message { message < length self.now.scenario.multicasts }
-        requires group { group < length self.now.scenario.groups }
-        ensures { result ≡ arrive self.now.scenario self.now.delays message group }
-    {
+    fn arrival(&self, message: usize, group: usize) -> u32 {
         let arrivals = &self.arrivals;
         arrivals[place(message, group)]
     }
 
-    /// The tick at which the message is committed at the group.
-    pub(crate) fn settling(&self, message: usize, group: usize) -> u32
-        requires message { message < length self.now.scenario.multicasts }
-        requires group { group < length self.now.scenario.groups }
-        ensures { result ≡ settle self.now.scenario self.now.delays message group }
-    {
+    fn settling(&self, message: usize, group: usize) -> u32 {
         let settlings = &self.settlings;
         settlings[place(message, group)]
     }

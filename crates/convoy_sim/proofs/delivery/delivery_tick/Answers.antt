@@ -10,27 +10,27 @@ use Rattle.convoy_sim.proofs.delivery.delivery_tick.Goals as goal
 use Rattle.convoy_sim.proofs.delivery.delivery_tick.Goals.{then-is_ahead, else-is_ahead}
 
 pub greatest-last-requires : goal.greatest-last-requires
-greatest-last-requires c =
-    let known = number_of_goes c.args.times.now.scenario c.args.message c.args.group c.requires.goes in
+greatest-last-requires over c =
+    let known = number_of_goes (over.T.Ticks.scheduled c.args.times.now).scenario c.args.message c.args.group c.requires.goes in
     let most = c.scenario.ensures.lawful.multicasts_high in
     omega arith
 
 pub settling-tick-requires-clause-message : goal.settling-tick-requires-clause-message
-settling-tick-requires-clause-message c = number_of_goes c.args.times.now.scenario c.args.message c.args.group c.requires.goes
+settling-tick-requires-clause-message over c = number_of_goes (over.T.Ticks.scheduled c.args.times.now).scenario c.args.message c.args.group c.requires.goes
 
 pub settling-tick-requires-clause-group : goal.settling-tick-requires-clause-group
-settling-tick-requires-clause-group c = group_known c.args.times.now.scenario c.scenario.ensures.lawful c.args.message c.args.group c.requires.goes
+settling-tick-requires-clause-group over c = group_known (over.T.Ticks.scheduled c.args.times.now).scenario c.scenario.ensures.lawful c.args.message c.args.group c.requires.goes
 
 pub is_ahead-requires-clause-group : goal.is_ahead-requires-clause-group
-is_ahead-requires-clause-group c = group_below c.args.times.now.scenario c.scenario.ensures.lawful c.args.message c.args.group c.requires.goes
+is_ahead-requires-clause-group over c = group_below (over.T.Ticks.scheduled c.args.times.now).scenario c.scenario.ensures.lawful c.args.message c.args.group c.requires.goes
 
 pub settling-requires-clause-group : goal.settling-requires-clause-group
-settling-requires-clause-group c = group_known c.args.times.now.scenario c.scenario.ensures.lawful c.args.message c.args.group c.requires.goes
+settling-requires-clause-group over c = group_known (over.T.Ticks.scheduled c.args.times.now).scenario c.scenario.ensures.lawful c.args.message c.args.group c.requires.goes
 
 pub loop-other-preserved : goal.loop-other-preserved
-loop-other-preserved c =
-    let plan : Scenario = c.args.times.now.scenario in
-    let settles : ℕ → ℕ = λ n. settle plan c.args.times.now.delays n c.args.group in
+loop-other-preserved over c =
+    let plan : Scenario = (over.T.Ticks.scheduled c.args.times.now).scenario in
+    let settles : ℕ → ℕ = λ n. settle plan (over.T.Ticks.scheduled c.args.times.now).delays n c.args.group in
     let ahead : ℕ → Bool = is_ahead c.args.stamps.now c.args.group c.greatest-last.result in
     let i : ℕ = c.loop-other.other in
     let n : ℕ = length plan.multicasts in
@@ -49,9 +49,9 @@ loop-other-preserved c =
     ]
 
 pub returns : goal.returns
-returns c =
-    let plan : Scenario = c.args.times.now.scenario in
-    let delays : List ℕ = c.args.times.now.delays in
+returns over c =
+    let plan : Scenario = (over.T.Ticks.scheduled c.args.times.now).scenario in
+    let delays : List ℕ = (over.T.Ticks.scheduled c.args.times.now).delays in
     let m : ℕ = c.args.message in
     let g : ℕ = c.args.group in
     let settles : ℕ → ℕ = λ n. settle plan delays n g in

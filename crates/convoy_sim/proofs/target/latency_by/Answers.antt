@@ -1,0 +1,79 @@
+use Rattle.std.proofs.Common.{◌≡◌, ℕ, ◌<◌, refl, sym, ap, subst, ◌∙◌}
+use Rattle.std.specs.List.{All}
+use Rattle.convoy_scenario.specs.Scenario.{Scenario, message_at}
+use Rattle.convoy_sim.specs.Scheduled.{Scheduled}
+use Rattle.convoy_sim.specs.declared.moment.Moment.{Moment}
+use Rattle.convoy_sim.specs.declared.moment.MomentKind.TheVariants.{Commit}
+use Rattle.convoy_sim.specs.Moments.{moments_of}
+use Rattle.convoy_sim.specs.Moments.{commit_of}
+use Rattle.convoy_sim.specs.Agenda.{before}
+use Rattle.convoy_sim.specs.StampTables.{no_stamps, with_moments}
+use Rattle.convoy_sim.specs.Deliveries.{TellsAhead}
+use Rattle.convoy_sim.proofs.Destinations.{group_known}
+use Rattle.convoy_sim.proofs.ScenarioMoments.{number_of_goes}
+use Rattle.convoy_sim.proofs.StampsTold.{told_enough, enough_by_commit, all_within}
+use Rattle.convoy_sim.proofs.TargetOf.{IsTarget, target_well, target_goes, target_issued, target_latency}
+use Rattle.convoy_sim.proofs.target.latency_by.Given as given
+use Rattle.convoy_sim.proofs.target.latency_by.Goals as goal
+use Rattle.convoy_sim.proofs.target.latency_by.Goals.{After-target_group-group, After-before-2, After-issue_tick}
+
+is_target : (over : given.Over) (c : After-target_group-group over)
+    → IsTarget (over.T.Ticks.scheduled c.args.times.now).scenario (over.T.Ticks.scheduled c.args.times.now).delays (over.T.Ticks.scheduled c.args.times.now) c.target_message-message.result c.target_group-group.result
+is_target over c = record {
+  same = refl;
+  well = c.scenario-scenario.ensures.lawful;
+  message = c.target_message-message.ensures.value ∙ ap (λ (p : Scenario). p.target_message) c.scenario-scenario.ensures.value;
+  group = c.target_group-group.ensures.value ∙ ap (λ (p : Scenario). p.target_group) c.scenario-scenario.ensures.value;
+}
+
+-- the moments that are read are those before the commit of the target
+agenda_is : (over : given.Over) (c : After-before-2 over)
+    → c.before-2.result
+    ≡ before (commit_of (over.T.Ticks.scheduled c.args.times.now).scenario (over.T.Ticks.scheduled c.args.times.now).delays c.target_message-message.result c.target_group-group.result)
+    (moments_of (over.T.Ticks.scheduled c.args.times.now).scenario (over.T.Ticks.scheduled c.args.times.now).delays)
+agenda_is over c =
+    let times : Scheduled = over.T.Ticks.scheduled c.args.times.now in
+    let last : ℕ → Moment = λ t. record { tick = t; kind = Commit; message = c.target_message-message.result; group = c.target_group-group.result } in
+    c.before-2.ensures ∙ ap (λ t. before (last t) (moments_of times.scenario times.delays)) c.settling.ensures
+
+issued : (over : given.Over) (c : After-issue_tick over) → c.issue_tick.result ≡ (message_at (over.T.Ticks.scheduled c.args.times.now).scenario c.target_message-message.result).at
+issued over c =
+    c.issue_tick.ensures.value ∙ ap (λ (p : Scenario). (message_at p c.target_message-message.result).at) c.scenario-scenario.ensures.value
+
+pub settling-requires-clause-message : goal.settling-requires-clause-message
+settling-requires-clause-message over c =
+    let is = is_target over (goal.at.settling-requires-clause-message over c).After-target_group-group in
+    number_of_goes (over.T.Ticks.scheduled c.args.times.now).scenario c.target_message-message.result c.target_group-group.result (target_goes _ _ _ _ _ is)
+
+pub settling-requires-clause-group : goal.settling-requires-clause-group
+settling-requires-clause-group over c =
+    let is = is_target over (goal.at.settling-requires-clause-group over c).After-target_group-group in
+    group_known _ (target_well _ _ _ _ _ is) c.target_message-message.result c.target_group-group.result (target_goes _ _ _ _ _ is)
+
+pub of-stamps-requires : goal.of-stamps-requires
+of-stamps-requires over c =
+    let is = is_target over (goal.at.of-stamps-requires over c).After-target_group-group in
+    subst (λ ms. All (λ x. (x.message < 16) × (x.group < 8)) ms) (sym (agenda_is over (goal.at.of-stamps-requires over c).After-before-2))
+    (all_within _ (target_well _ _ _ _ _ is) _ _)
+
+pub delivery_tick-requires-clause-told : goal.delivery_tick-requires-clause-told
+delivery_tick-requires-clause-told over c =
+    let is = is_target over (goal.at.delivery_tick-requires-clause-told over c).After-target_group-group in
+    let agenda = agenda_is over (goal.at.delivery_tick-requires-clause-told over c).After-before-2 in
+    let well = target_well _ _ _ _ _ is in
+    let goes = target_goes _ _ _ _ _ is in
+    let times : Scheduled = over.T.Ticks.scheduled c.args.times.now in
+    let m : ℕ = c.target_message-message.result in
+    let g : ℕ = c.target_group-group.result in
+    subst (TellsAhead times.scenario times.delays m g) (sym (c.of-stamps.ensures ∙ ap (with_moments no_stamps) agenda))
+    (told_enough times.scenario well times.delays (commit_of times.scenario times.delays m g) m g goes (enough_by_commit times.scenario well times.delays m g goes))
+
+pub overflow_sub-result : goal.overflow_sub-result
+overflow_sub-result over c =
+    target_issued _ _ _ _ _ (is_target over (goal.at.overflow_sub-result over c).After-target_group-group)
+    c.issue_tick.result c.delivery_tick.result (issued over (goal.at.overflow_sub-result over c).After-issue_tick) c.delivery_tick.ensures
+
+pub returns : goal.returns
+returns over c =
+    target_latency _ _ _ _ _ (is_target over (goal.at.returns over c).After-target_group-group)
+    c.issue_tick.result c.delivery_tick.result (issued over (goal.at.returns over c).After-issue_tick) c.delivery_tick.ensures
