@@ -5,7 +5,7 @@ use Rattle.std.specs.Option.{is_some, option_map_or}
 use Rattle.std.proofs.lemmas.Bool.{true≢false, not-true}
 use Rattle.std.proofs.lemmas.List.{length-map, get_or-map}
 use Rattle.std.proofs.lemmas.List.Elements.{All-head, All-tail, All-map, recursion_from_All}
-use Rattle.std.proofs.lemmas.Option.{slice_get_within}
+use Rattle.std.proofs.lemmas.Option.{same_Some, slice_get-get_or, slice_get_within}
 use Rattle.convoy_scenario.specs.Scenario.{Link, Scenario, is_same_sender}
 use Rattle.convoy_scenario.specs.WellFormed.{IsLink, IsScenario}
 use Rattle.convoy_packets.specs.declared.packet.Packet.{Packet}
@@ -88,10 +88,12 @@ no_delay plan delays p none = rw none refl
 within_at_place : (plan : Scenario) (delays : List ℕ) (p : Packet) (i : ℕ) → IsAssignment plan delays → place_of p (packets_of plan) ≡ Some i → IsWithin (range_of plan p) (delay_of plan delays p)
 unfolding ranges_of
 within_at_place plan delays p i is found =
-    let here = slice_get_within (packets_of plan) i p (stands_where_found (packets_of plan) i p found) in
+    let stands = stands_where_found (packets_of plan) i p found in
+    let here = slice_get_within (packets_of plan) i p stands in
+    let same : get_or (packets_of plan) i p ≡ p = same_Some (get_or (packets_of plan) i p) p (sym (slice_get-get_or (packets_of plan) i p here) ∙ stands) in
     let long = length-ranges_of plan in
     let within = within_at (ranges_of plan) delays i (range_of plan p) is (omega arith) in
-    rw (delay_at_place plan delays p i found) (rw (get_or-map (range_of plan) (packets_of plan) i p (range_of plan p) here) at within)
+    rw (delay_at_place plan delays p i found) (rw (get_or-map (range_of plan) (packets_of plan) i p (range_of plan p) here, same) at within)
 
 module _ (plan : Scenario) (delays : List ℕ) (p : Packet) where
   pub within_if_sent : IsAssignment plan delays → IsTrue (is_sent plan p) → IsWithin (range_of plan p) (delay_of plan delays p)
