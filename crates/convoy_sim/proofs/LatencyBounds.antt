@@ -10,6 +10,7 @@ use Rattle.convoy_sim.proofs.Membership.{IsIn, greatest_most, greatest_mono}
 use Rattle.convoy_sim.proofs.MomentsOrder.{less_after, less_trans}
 use Rattle.convoy_sim.proofs.StampLaws.{earlier_arrives, not_greater}
 use Rattle.convoy_sim.proofs.DeliveryTick.{in-ahead, in_of_ahead, delivery_law}
+use Rattle.convoy_scenario.specs.WellFormed.{IsScenario}
 use Rattle.convoy_sim.proofs.PacketDelays.{committed_within}
 
 pub order_law : OrderLaw
