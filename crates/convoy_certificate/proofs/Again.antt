@@ -6,7 +6,10 @@ use Rattle.std.proofs.lemmas.List.Elements.{All-head, All-tail}
 use Rattle.convoy_scenario.specs.declared.line_fault.Expected.{Expected}
 use Rattle.convoy_scenario.specs.declared.line_fault.Expected.TheVariants as expected
 use Rattle.convoy_scenario.specs.declared.limits.TheConstants.{GREATEST_DELAY}
-use Rattle.convoy_scenario.specs.Scenario.{Scenario}
+use Rattle.convoy_scenario.specs.declared.version.Version.{Version}
+use Rattle.convoy_scenario.specs.declared.version.Version.TheVariants.{One, Two}
+use Rattle.convoy_scenario.specs.Laws.{CanSay}
+use Rattle.convoy_scenario.specs.Scenario.{Link, Scenario}
 use Rattle.convoy_scenario.specs.WellFormed.{IsScenario}
 use Rattle.convoy_lines.specs.Labels.{number_in}
 use Rattle.convoy_lines.specs.Laws.{IsWord, IsLine}
@@ -14,6 +17,7 @@ use Rattle.convoy_lines.specs.Places.{Lines, Place, place_before, is_at_end, lin
 use Rattle.convoy_scenario.specs.LineReading.{form_at, scenario_at}
 use Rattle.convoy_scenario.specs.Lines.{scenario_lines}
 use Rattle.convoy_packets.specs.Assignment.{AreWithin, IsAssignment, ranges_of, range_of}
+use Rattle.convoy_packets.proofs.Ranges.{range_within}
 use Rattle.convoy_packets.specs.Packets.{packets_of}
 use Rattle.convoy_packets.specs.declared.packet.Packet.{Packet}
 use Rattle.convoy_certificate.specs.declared.certificate.TheConstants.{MOST_NODES}
@@ -24,10 +28,10 @@ use Rattle.convoy_certificate.specs.declared.text_fault.TextFault.TheVariants as
 use Rattle.convoy_certificate.specs.Certificate.{Certificate, IsNode, IsCertificate}
 use Rattle.convoy_certificate.specs.Forms.{version_in, delays_in, schedule_in, node_or_end, greatest_number_of_delay}
 use Rattle.convoy_lines.specs.Results.{◌>>=◌}
-use Rattle.convoy_certificate.specs.Reading.{in_text, is_assignment, nodes_in, nodes_at, certificate_of, IsTextOf}
+use Rattle.convoy_certificate.specs.Reading.{in_text, is_same_version, whole, is_assignment, nodes_in, nodes_at, certificate_of, IsTextOf}
 use Rattle.convoy_certificate.specs.Laws.{TextsAreRead}
 use Rattle.convoy_scenario.specs.Memory.{IsUnlessMemory}
-use Rattle.convoy_certificate.specs.Text.{version_line, latency_line, schedule_line, node_line, end_line, certificate_lines, certificate_text}
+use Rattle.convoy_certificate.specs.Text.{version_of, version_line, latency_line, schedule_line, node_line, end_line, certificate_lines, certificate_text}
 use Rattle.convoy_certificate.proofs.Assigned.{passes}
 use Rattle.convoy_certificate.proofs.LineLaws.{WrittenGrounds, AreWords, AreLines, lines_append, decimal_word, number_again, line_made, label_again, number_line_again, lines_again, scenario_lines_are}
 use Rattle.convoy_certificate.proofs.NodeLaws.{split_word, split_again}
@@ -44,13 +48,13 @@ latency_word = record { some = omega arith; spaceless = refl; endless = refl }
 abbrev pub Small : List ℕ → Type 0
 Small delays = AllByRecursion (λ d. d ≤ greatest_number_of_delay) delays
 
-small_within : (plan : Scenario) (packets : List Packet) (delays : List ℕ) → plan.delay ≤ GREATEST_DELAY → AreWithin (map (range_of plan) packets) delays → Small delays
+small_within : (plan : Scenario) (packets : List Packet) (delays : List ℕ) → IsScenario plan → AreWithin (map (range_of plan) packets) delays → Small delays
 small_within plan [] [] low within = tt
 small_within plan [] (d ∷ ds) low within = absurd within
 small_within plan (p ∷ ps) [] low within = absurd within
-small_within plan (p ∷ ps) (d ∷ ds) low within = (omega (arith, within.0.1), small_within plan ps ds low within.1)
+small_within plan (p ∷ ps) (d ∷ ds) low within = (omega (arith, within.0.1, (range_within plan p low).high, low.delay_high), small_within plan ps ds low within.1)
 
-pub small_assigned : (plan : Scenario) (delays : List ℕ) → plan.delay ≤ GREATEST_DELAY → IsAssignment plan delays → Small delays
+pub small_assigned : (plan : Scenario) (delays : List ℕ) → IsScenario plan → IsAssignment plan delays → Small delays
 unfolding ranges_of
 small_assigned plan delays low within = small_within plan (packets_of plan) delays low within
 
@@ -78,6 +82,28 @@ after_at ls n = record { ended = ls; rest = []; number = n }
 
 abbrev tail_of : Certificate → List (List ℕ)
 tail_of c = latency_line c.latency ∷ schedule_line c.delays ∷ (map node_line c.nodes ++ end_line ∷ [])
+
+-- the version in which a certificate is written can say its scenario
+can_say : (c : Certificate) → CanSay (version_of c) c.scenario
+can_say c = with_links c.scenario.links where
+  with_links : (links : List Link) → CanSay (version_of (record c { scenario = record c.scenario { links = links } })) (record c.scenario { links = links })
+  with_links [] = refl
+  with_links (l ∷ ls) = tt
+
+version_again : (version : Version) → version_in (version_line version) ≡ Some version
+version_again One = refl
+version_again Two = refl
+
+version_line_is : (version : Version) → IsLine (version_line version)
+version_line_is One = refl
+version_line_is Two = refl
+
+same_version : (version : Version) → is_same_version version version ≡ true
+same_version One = refl
+same_version Two = refl
+
+whole_again : (c : Certificate) (past : Place) → is_at_end past ≡ true → whole (version_of c) c past ≡ Ok c
+whole_again c past end = rw (same_version (version_of c), end) refl
 
 module _ (grounds : WrittenGrounds) where
   small_words : (delays : List ℕ) → Small delays → AreWords (map decimal delays)
@@ -120,8 +146,8 @@ module _ (grounds : WrittenGrounds) where
 
   lines_are : (c : Certificate) → IsCertificate c → AreLines (certificate_lines c)
   lines_are c is =
-      let small = small_assigned c.scenario c.delays is.scenario.delay_high is.assigned in (
-        refl,
+      let small = small_assigned c.scenario c.delays is.scenario is.assigned in (
+        version_line_is (version_of c),
         lines_append (scenario_lines c.scenario) (latency_line c.latency ∷ schedule_line c.delays ∷ (map node_line c.nodes ++ end_line ∷ [])) (scenario_lines_are grounds c.scenario is.scenario) (
           line_made grounds (codes "latency") (decimal c.latency ∷ []) (latency_word, (decimal_word grounds c.latency (omega (arith, is.latency)), tt)),
           (
@@ -133,51 +159,52 @@ module _ (grounds : WrittenGrounds) where
 
   -- ---- the certificate
 
-  scenario_again : (plan : Scenario) (more : List (List ℕ)) → IsScenario plan
-      → scenario_at (record { ended = scenario_lines plan ++ more; rest = []; number = 2 }) ≡ Ok (plan, record { ended = more; rest = []; number = 2 + length (scenario_lines plan) })
-  scenario_again plan more is =
-      (grounds.scenarios plan (record { ended = scenario_lines plan ++ more; rest = []; number = 2 }) (record { ended = more; rest = []; number = 2 + length (scenario_lines plan) })).1
-      (is, record { ended = refl; rest = refl; number = refl })
+  scenario_again : (version : Version) (plan : Scenario) (more : List (List ℕ)) → IsScenario plan → CanSay version plan
+      → scenario_at version (record { ended = scenario_lines plan ++ more; rest = []; number = 2 }) ≡ Ok (plan, record { ended = more; rest = []; number = 2 + length (scenario_lines plan) })
+  scenario_again version plan more is said =
+      (grounds.scenarios version plan (record { ended = scenario_lines plan ++ more; rest = []; number = 2 }) (record { ended = more; rest = []; number = 2 + length (scenario_lines plan) })).1
+      (is, said, record { ended = refl; rest = refl; number = refl })
 
   pub certificate_again : (c : Certificate) → IsCertificate c → length c.nodes ≤ MOST_NODES → certificate_of (certificate_text c) ≡ Ok c
   unfolding certificate_of
   certificate_again c is few =
       let nodes : List (List ℕ) = map node_line c.nodes ++ end_line ∷ [] in
       let tail : List (List ℕ) = latency_line c.latency ∷ schedule_line c.delays ∷ nodes in
-      let p0 : Place = record { ended = version_line 1 ∷ (scenario_lines c.scenario ++ tail); rest = []; number = 1 } in
+      let v = version_of c in
+      let p0 : Place = record { ended = version_line v ∷ (scenario_lines c.scenario ++ tail); rest = []; number = 1 } in
       let p1 : Place = record { ended = scenario_lines c.scenario ++ tail; rest = []; number = 2 } in
       let n : ℕ = 2 + length (scenario_lines c.scenario) in
       let p2 : Place = record { ended = tail; rest = []; number = n } in
-      let scenario = scenario_again c.scenario tail is.scenario in
+      let scenario = scenario_again v c.scenario tail is.scenario (can_say c) in
       let p3 : Place = record { ended = schedule_line c.delays ∷ nodes; rest = []; number = n + 1 } in
       let p4 : Place = record { ended = nodes; rest = []; number = n + 1 + 1 } in
       let p5 : Place = record { ended = []; rest = []; number = n + 1 + 1 + length c.nodes + 1 } in
-      let small = small_assigned c.scenario c.delays is.scenario.delay_high is.assigned in
+      let small = small_assigned c.scenario c.delays is.scenario is.assigned in
       let start : place_before (certificate_text c) 1 ≡ p0 =
       ap (λ (l : Lines). record { ended = l.ended; rest = l.rest; number = 1 }) (lines_again grounds (certificate_lines c) (lines_are c is)) in
-      let from : Place → Result Certificate TextFault = λ p. in_text (form_at expected.Convoy version_in p) >>= λ version. in_text (scenario_at version.1) >>= λ scenario. in_text (form_at expected.Latency (number_in (codes "latency")) scenario.1) >>= λ latency.
+      let from : Place → Result Certificate TextFault = λ p. in_text (form_at expected.Convoy version_in p) >>= λ version. in_text (scenario_at version.0 version.1) >>= λ scenario. in_text (form_at expected.Latency (number_in (codes "latency")) scenario.1) >>= λ latency.
       in_text (form_at expected.Schedule schedule_in latency.1) >>= λ delays. cond (is_assignment scenario.0 delays.0) (nodes_at 0 delays.1) (Err faults.Schedule) >>= λ nodes.
-      cond (is_at_end nodes.1) (Ok (record { scenario = scenario.0; latency = latency.0; delays = delays.0; nodes = nodes.0 })) (Err faults.AfterEnd) in
+      whole version.0 (record { scenario = scenario.0; latency = latency.0; delays = delays.0; nodes = nodes.0 }) nodes.1 in
       let read : from p0 ≡ Ok c =
-      then_ok (in_text (form_at expected.Convoy version_in p0)) (λ version. in_text (scenario_at version.1) >>= λ scenario. in_text (form_at expected.Latency (number_in (codes "latency")) scenario.1) >>= λ latency.
+      then_ok (in_text (form_at expected.Convoy version_in p0)) (λ version. in_text (scenario_at version.0 version.1) >>= λ scenario. in_text (form_at expected.Latency (number_in (codes "latency")) scenario.1) >>= λ latency.
       in_text (form_at expected.Schedule schedule_in latency.1) >>= λ delays. cond (is_assignment scenario.0 delays.0) (nodes_at 0 delays.1) (Err faults.Schedule) >>= λ nodes.
-      cond (is_at_end nodes.1) (Ok (record { scenario = scenario.0; latency = latency.0; delays = delays.0; nodes = nodes.0 })) (Err faults.AfterEnd))
-      (1, p1) (Ok c) refl
-      (then_ok (in_text (scenario_at p1)) (λ scenario. in_text (form_at expected.Latency (number_in (codes "latency")) scenario.1) >>= λ latency.
+      whole version.0 (record { scenario = scenario.0; latency = latency.0; delays = delays.0; nodes = nodes.0 }) nodes.1)
+      (v, p1) (Ok c) (form_again expected.Convoy version_in 1 [] (version_line v) (scenario_lines c.scenario ++ tail) v (version_again v))
+      (then_ok (in_text (scenario_at v p1)) (λ scenario. in_text (form_at expected.Latency (number_in (codes "latency")) scenario.1) >>= λ latency.
       in_text (form_at expected.Schedule schedule_in latency.1) >>= λ delays. cond (is_assignment scenario.0 delays.0) (nodes_at 0 delays.1) (Err faults.Schedule) >>= λ nodes.
-      cond (is_at_end nodes.1) (Ok (record { scenario = scenario.0; latency = latency.0; delays = delays.0; nodes = nodes.0 })) (Err faults.AfterEnd))
+      whole v (record { scenario = scenario.0; latency = latency.0; delays = delays.0; nodes = nodes.0 }) nodes.1)
       (c.scenario, p2) (Ok c) (ap in_text scenario)
       (then_ok (in_text (form_at expected.Latency (number_in (codes "latency")) p2)) (λ latency.
       in_text (form_at expected.Schedule schedule_in latency.1) >>= λ delays. cond (is_assignment c.scenario delays.0) (nodes_at 0 delays.1) (Err faults.Schedule) >>= λ nodes.
-      cond (is_at_end nodes.1) (Ok (record { scenario = c.scenario; latency = latency.0; delays = delays.0; nodes = nodes.0 })) (Err faults.AfterEnd))
+      whole v (record { scenario = c.scenario; latency = latency.0; delays = delays.0; nodes = nodes.0 }) nodes.1)
       (c.latency, p3) (Ok c) (form_again expected.Latency (number_in (codes "latency")) n [] (latency_line c.latency) (schedule_line c.delays ∷ nodes) c.latency (number_line_again grounds (codes "latency") c.latency latency_word (omega (arith, is.latency))))
       (then_ok (in_text (form_at expected.Schedule schedule_in p3)) (λ delays. cond (is_assignment c.scenario delays.0) (nodes_at 0 delays.1) (Err faults.Schedule) >>= λ nodes.
-      cond (is_at_end nodes.1) (Ok (record { scenario = c.scenario; latency = c.latency; delays = delays.0; nodes = nodes.0 })) (Err faults.AfterEnd))
+      whole v (record { scenario = c.scenario; latency = c.latency; delays = delays.0; nodes = nodes.0 }) nodes.1)
       (c.delays, p4) (Ok c) (form_again expected.Schedule schedule_in (n + 1) [] (schedule_line c.delays) nodes c.delays (schedule_again c.delays small))
       (then_ok (cond (is_assignment c.scenario c.delays) (nodes_at 0 p4) (Err faults.Schedule)) (λ nodes.
-      cond (is_at_end nodes.1) (Ok (record { scenario = c.scenario; latency = c.latency; delays = c.delays; nodes = nodes.0 })) (Err faults.AfterEnd))
+      whole v (record { scenario = c.scenario; latency = c.latency; delays = c.delays; nodes = nodes.0 }) nodes.1)
       (c.nodes, p5) (Ok c) (cond-true (is_assignment c.scenario c.delays) (nodes_at 0 p4) (Err faults.Schedule) (assigned c.scenario c.delays is.assigned) ∙ nodes_again c.nodes 0 (n + 1 + 1) [] [] is.nodes (omega (arith, few)))
-      refl)))) in
+      (whole_again c p5 refl))))) in
       ap from start ∙ read
 
   -- ---- two certificates with one text
@@ -203,11 +230,13 @@ module _ (grounds : WrittenGrounds) where
   is_unique b c p q e =
       let lines : certificate_lines b ≡ certificate_lines c =
       ap (λ (l : Lines). l.ended) (sym (lines_again grounds (certificate_lines b) (lines_are b p)) ∙ ap lines_in e ∙ lines_again grounds (certificate_lines c) (lines_are c q)) in
-      let after = (parts (version_line 1) (version_line 1) (scenario_lines b.scenario ++ tail_of b) (scenario_lines c.scenario ++ tail_of c) lines).1 in
-      let one = scenario_again b.scenario (tail_of b) p.scenario in
-      let two = scenario_again c.scenario (tail_of c) q.scenario in
+      let top = parts (version_line (version_of b)) (version_line (version_of c)) (scenario_lines b.scenario ++ tail_of b) (scenario_lines c.scenario ++ tail_of c) lines in
+      let after = top.1 in
+      let version : version_of b ≡ version_of c = same_some (version_of b) (version_of c) (sym (version_again (version_of b)) ∙ ap version_in top.0 ∙ version_again (version_of c)) in
+      let one = scenario_again (version_of b) b.scenario (tail_of b) p.scenario (can_say b) in
+      let two = scenario_again (version_of c) c.scenario (tail_of c) q.scenario (can_say c) in
       let read = same_ok (b.scenario, after_at (tail_of b) (2 + length (scenario_lines b.scenario))) (c.scenario, after_at (tail_of c) (2 + length (scenario_lines c.scenario)))
-      (sym one ∙ ap (λ ls. scenario_at (after_at ls 2)) after ∙ two) in
+      (sym one ∙ ap (λ ls. scenario_at (version_of b) (after_at ls 2)) after ∙ ap (λ v. scenario_at v (after_at (scenario_lines c.scenario ++ tail_of c) 2)) version ∙ two) in
       let scenario : b.scenario ≡ c.scenario = ap (λ (x : Scenario × Place). x.0) read in
       let tails : tail_of b ≡ tail_of c = ap (λ (x : Scenario × Place). x.1.ended) read in
       let first = parts (latency_line b.latency) (latency_line c.latency) _ _ tails in
@@ -215,7 +244,7 @@ module _ (grounds : WrittenGrounds) where
       let latency : b.latency ≡ c.latency = same_some b.latency c.latency
       (sym (number_line_again grounds (codes "latency") b.latency latency_word (omega (arith, p.latency))) ∙ ap (number_in (codes "latency")) first.0 ∙ number_line_again grounds (codes "latency") c.latency latency_word (omega (arith, q.latency))) in
       let delays : b.delays ≡ c.delays = same_some b.delays c.delays
-      (sym (schedule_again b.delays (small_assigned b.scenario b.delays p.scenario.delay_high p.assigned)) ∙ ap schedule_in second.0 ∙ schedule_again c.delays (small_assigned c.scenario c.delays q.scenario.delay_high q.assigned)) in
+      (sym (schedule_again b.delays (small_assigned b.scenario b.delays p.scenario p.assigned)) ∙ ap schedule_in second.0 ∙ schedule_again c.delays (small_assigned c.scenario c.delays q.scenario q.assigned)) in
       let nodes : b.nodes ≡ c.nodes = nodes_unique b.nodes c.nodes p.nodes q.nodes second.1 in
       made scenario latency delays nodes where
         made : b.scenario ≡ c.scenario → b.latency ≡ c.latency → b.delays ≡ c.delays → b.nodes ≡ c.nodes → b ≡ c

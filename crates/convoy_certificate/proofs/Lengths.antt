@@ -1,9 +1,10 @@
 -- How many bytes the lines of a certificate have at most, and its text.
-use Rattle.std.proofs.Common.{◌≡◌, ℕ, zero, suc, ◌+◌, ◌*◌, ◌<◌, ◌≤◌, ◌^◌, nat_le, true, ◌&&◌, not, List, [], ◌∷◌, ◌++◌, length, length-append, map, get_or, All, ap, ◌∙◌, add-one, arith, codes, decimal}
+use Rattle.std.proofs.Common.{◌≡◌, ℕ, zero, suc, ◌+◌, ◌*◌, ◌<◌, ◌≤◌, ◌^◌, nat_le, nat_lt, ◌==◌, true, ◌&&◌, ◌||◌, not, Option, Some, None, List, [], ◌∷◌, ◌++◌, length, length-append, map, get_or, All, ap, ◌∙◌, add-one, arith, refl, codes, decimal}
 use Rattle.std.specs.List.{AllByRecursion, flat_map, list_all}
 use Rattle.std.specs.List.Sorted.{IsStrictlyIncreasing}
 use Rattle.std.specs.Str.{bytes_eq}
 use Rattle.std.proofs.lemmas.Bool.{and_parts, leb-true}
+use Rattle.std.proofs.lemmas.Bool.Decides.{nat_tests}
 use Rattle.std.proofs.lemmas.Fmt.{length-decimal-le}
 use Rattle.std.proofs.lemmas.List.{length-map}
 use Rattle.std.proofs.lemmas.List.Concat.{flat_map-append}
@@ -11,16 +12,18 @@ use Rattle.std.proofs.lemmas.List.Elements.{recursion_from_All}
 use Rattle.convoy_scenario.specs.declared.limits.TheConstants.{LONGEST_NAME, MOST_GROUPS}
 use Rattle.convoy_scenario.specs.declared.sender.Sender.{Sender}
 use Rattle.convoy_scenario.specs.declared.sender.Sender.TheVariants.{Client, Group}
+use Rattle.convoy_scenario.specs.declared.version.Version.{Version}
+use Rattle.convoy_scenario.specs.declared.version.Version.TheVariants.{One, Two}
 use Rattle.convoy_lines.specs.Texts.{spaced, line_of, ended, text_of}
-use Rattle.convoy_scenario.specs.Lines.{sender_word, delay_line, groups_line, multicast_line, target_line, scenario_lines}
-use Rattle.convoy_scenario.specs.Scenario.{Message, Scenario, message_at, group_name_at, no_message}
-use Rattle.convoy_scenario.specs.WellFormed.{is_letter, is_name_byte, is_name, client_word, is_group_name, IsMulticast, IsScenario}
+use Rattle.convoy_scenario.specs.Lines.{sender_word, delay_line, groups_line, link_line, multicast_line, target_line, scenario_lines}
+use Rattle.convoy_scenario.specs.Scenario.{Link, Message, Scenario, message_at, group_name_at, no_message}
+use Rattle.convoy_scenario.specs.WellFormed.{is_letter, is_name_byte, is_name, client_word, is_group_name, sender_place, is_before, follows, ascend_after, IsSender, IsLink, IsMulticast, IsScenario}
 use Rattle.convoy_packets.specs.Laws.{PacketsAreFew, DelaysAreOneEach}
 use Rattle.convoy_certificate.specs.declared.certificate.TheConstants.{LONGEST_TEXT, MOST_NODES}
 use Rattle.convoy_certificate.specs.declared.node.Node.{Node}
 use Rattle.convoy_certificate.specs.declared.node.Node.TheVariants.{Split, Bound, Point}
 use Rattle.convoy_certificate.specs.Certificate.{Certificate, IsNode, IsCertificate}
-use Rattle.convoy_certificate.specs.Text.{version_line, latency_line, schedule_line, node_line, end_line, certificate_text}
+use Rattle.convoy_certificate.specs.Text.{version_of, version_line, latency_line, schedule_line, node_line, end_line, certificate_text}
 use Rattle.convoy_certificate.proofs.Again.{Small, small_assigned}
 
 -- ---- words, lines and texts
@@ -152,12 +155,56 @@ multicasts_short plan [] few short are = tt
 multicasts_short plan (message ∷ messages) few short are =
     (multicast_length plan message few short are.0, multicasts_short plan messages few short are.1)
 
+-- ---- links
+
+link_length : (plan : Scenario) (link : Link) → IsScenario plan → AreShort plan.groups → IsLink (length plan.groups) plan.delay link → length (link_line plan link) ≤ 300
+link_length plan link is short known =
+    let low = number_length link.least (omega (arith, known.ordered, known.high, is.delay_high)) in
+    let high = number_length link.most (omega (arith, known.high, is.delay_high)) in
+    let words : List (List ℕ) = sender_word plan link.sender ∷ group_name_at plan link.to ∷ decimal link.least ∷ decimal link.most ∷ [] in
+    let line = line_length (codes "link") words (sender_length plan link.sender short, (word_at plan.groups link.to short, (low, (high, tt)))) in
+    omega arith
+
+links_short : (plan : Scenario) (links : List Link) → IsScenario plan → AreShort plan.groups → AllByRecursion (IsLink (length plan.groups) plan.delay) links → AreShortLines (map (link_line plan) links)
+links_short plan [] is short are = tt
+links_short plan (link ∷ links) is short are = (link_length plan link is short are.0, links_short plan links is short are.1)
+
+-- the number of a link among all that there may be
+abbrev link_number : Link → ℕ
+link_number link = sender_place link.sender * 8 + link.to
+
+place_most : (groups : ℕ) (sender : Sender) → IsSender groups sender → sender_place sender ≤ groups
+place_most groups Client is = omega arith
+place_most groups (Group g) is = omega arith
+
+numbers_rise : (p q s t : ℕ) → s < 8 → (nat_lt p q || ((p == q) && nat_lt s t)) ≡ true → p * 8 + s < q * 8 + t
+numbers_rise p q s t low e = grind (arith, nat_tests)
+
+few_after : (groups delay : ℕ) (before : Link) (links : List Link) → groups ≤ 8 → IsLink groups delay before → AllByRecursion (IsLink groups delay) links → ascend_after (Some before) links ≡ true → length links + link_number before < 72
+few_after groups delay before [] few is are up =
+    let place = place_most groups before.sender is.sender in
+    let to = is.to in
+    omega arith
+few_after groups delay before (link ∷ links) few is are up =
+    let parts = and_parts (is_before before link) (ascend_after (Some link) links) up in
+    let rest = few_after groups delay link links few are.0 are.1 parts.1 in
+    let to = is.to in
+    let more = numbers_rise (sender_place before.sender) (sender_place link.sender) before.to link.to (omega arith) parts.0 in
+    omega arith
+
+few_links : (groups delay : ℕ) (links : List Link) → groups ≤ 8 → AllByRecursion (IsLink groups delay) links → ascend_after None links ≡ true → length links ≤ 72
+few_links groups delay [] few are up = omega arith
+few_links groups delay (link ∷ links) few are up =
+    let parts = and_parts (follows None link) (ascend_after (Some link) links) up in
+    let rest = few_after groups delay link links few are.0 are.1 parts.1 in
+    omega arith
+
 lines_append : (xs ys : List (List ℕ)) → AreShortLines xs → AreShortLines ys → AreShortLines (xs ++ ys)
 lines_append [] ys a b = b
 lines_append (x ∷ xs) ys a b = (a.0, lines_append xs ys a.1 b)
 
--- the text of a scenario has at most 19 lines of at most 301 bytes, their ends among them
-scenario_length : (plan : Scenario) → IsScenario plan → length (text_of (scenario_lines plan)) ≤ 5_719
+-- the text of a scenario has at most 91 lines of at most 301 bytes, their ends among them
+scenario_length : (plan : Scenario) → IsScenario plan → length (text_of (scenario_lines plan)) ≤ 27_391
 scenario_length plan is =
     let delay_within = is.delay_high in
     let groups_within = is.groups_high in
@@ -173,7 +220,13 @@ scenario_length plan is =
     let delay_short : length (delay_line plan) ≤ 300 = omega arith in
     let groups_short : length (groups_line plan) ≤ 300 = omega arith in
     let target_short : length (target_line plan) ≤ 300 = omega arith in
-    let lines = lines_append (map (multicast_line plan) plan.multicasts) (target_line plan ∷ []) multicasts (target_short, tt) in
+    let messages_and_target = lines_append (map (multicast_line plan) plan.multicasts) (target_line plan ∷ []) multicasts (target_short, tt) in
+    let are_links = recursion_from_All (IsLink (length plan.groups) plan.delay) plan.links is.links in
+    let links = links_short plan plan.links is short are_links in
+    let lines = lines_append (map (link_line plan) plan.links) (map (multicast_line plan) plan.multicasts ++ target_line plan ∷ []) links messages_and_target in
+    let few = few_links (length plan.groups) plan.delay plan.links groups_within are_links is.ascending in
+    let all = length-append (map (link_line plan) plan.links) (map (multicast_line plan) plan.multicasts ++ target_line plan ∷ []) in
+    let linked = length-map plan.links (link_line plan) in
     let text = text_length (scenario_lines plan) (delay_short, (groups_short, lines)) in
     let count = length-append (map (multicast_line plan) plan.multicasts) (target_line plan ∷ []) in
     let many = length-map plan.multicasts (multicast_line plan) in
@@ -191,9 +244,13 @@ schedule_length : PacketsAreFew → DelaysAreOneEach → (c : Certificate) → I
 schedule_length few one_each c is =
     let packets = few c.scenario is.scenario in
     let each = one_each c.scenario c.delays is.assigned in
-    let line = line_length (codes "schedule") (map decimal c.delays) (delays_short c.delays (small_assigned c.scenario c.delays is.scenario.delay_high is.assigned)) in
+    let line = line_length (codes "schedule") (map decimal c.delays) (delays_short c.delays (small_assigned c.scenario c.delays is.scenario is.assigned)) in
     let count = length-map c.delays decimal in
     omega arith
+
+version_length : (version : Version) → length (ended (version_line version)) ≡ 9
+version_length One = refl
+version_length Two = refl
 
 -- the text of a certificate is within the limit
 pub certificate_length : PacketsAreFew → DelaysAreOneEach → (c : Certificate) → IsCertificate c → length c.nodes ≤ MOST_NODES → length (certificate_text c) ≤ LONGEST_TEXT
@@ -205,7 +262,8 @@ certificate_length few one_each c is nodes_within =
     let schedule = schedule_length few one_each c is in
     let scenario = scenario_length c.scenario is.scenario in
     let all_nodes = nodes_length c.nodes (recursion_from_All IsNode c.nodes is.nodes) in
-    let s0 : length (certificate_text c) ≡ 9 + length (text_of (scenario_lines c.scenario ++ tail)) = length-append (ended (version_line 1)) (text_of (scenario_lines c.scenario ++ tail)) in
+    let s0 : length (certificate_text c) ≡ length (ended (version_line (version_of c))) + length (text_of (scenario_lines c.scenario ++ tail)) = length-append (ended (version_line (version_of c))) (text_of (scenario_lines c.scenario ++ tail)) in
+    let s : length (ended (version_line (version_of c))) ≡ 9 = version_length (version_of c) in
     let s1 : length (text_of (scenario_lines c.scenario ++ tail)) ≡ length (text_of (scenario_lines c.scenario)) + length (text_of tail) = texts_append (scenario_lines c.scenario) tail in
     let s2 : length (text_of tail) ≡ length (ended (latency_line c.latency)) + length (text_of (schedule_line c.delays ∷ (nodes ++ foot))) = length-append (ended (latency_line c.latency)) (text_of (schedule_line c.delays ∷ (nodes ++ foot))) in
     let s3 : length (text_of (schedule_line c.delays ∷ (nodes ++ foot))) ≡ length (ended (schedule_line c.delays)) + length (text_of (nodes ++ foot)) = length-append (ended (schedule_line c.delays)) (text_of (nodes ++ foot)) in

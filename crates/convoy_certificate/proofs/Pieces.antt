@@ -35,6 +35,7 @@ in_pieces c plan latency delays nodes p l d n t1 t2 t3 t4 t5 t6 e1 e2 e3 e4 e5 e
     let all : t6 ≡ ((((ended (version_line (version_of c)) ++ scenario_text plan) ++ ended (latency_line latency)) ++ ended (schedule_line delays)) ++ text_of (map node_line nodes)) ++ ended end_line = rw (e6, e5, e4, e3, e2, e1) refl in
     let same : parts ≡ c = rw (p, l, d, n) refl in
     all ∙ regroup (ended (version_line (version_of c))) (scenario_text plan) (ended (latency_line latency)) (ended (schedule_line delays)) (text_of (map node_line nodes)) (ended end_line)
+    ∙ ap (λ (x : Certificate). ended (version_line (version_of x)) ++ (scenario_text plan ++ (ended (latency_line latency) ++ (ended (schedule_line delays) ++ (text_of (map node_line nodes) ++ ended end_line))))) (sym same)
     ∙ sym (pieces parts) ∙ ap certificate_text same
 
 pub in_line : (t s w : List ℕ) (u v : List ℕ) → u ≡ (t ++ s) ++ w → v ≡ u ++ 10 ∷ [] → v ≡ t ++ (s ++ (w ++ 10 ∷ []))

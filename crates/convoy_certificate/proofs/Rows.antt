@@ -4,7 +4,7 @@ use Rattle.std.specs.Fmt.{digits}
 use Rattle.convoy_scenario.specs.declared.line_fault.Expected.TheVariants as expected
 use Rattle.convoy_scenario.specs.declared.sender.Sender.{Sender}
 use Rattle.convoy_scenario.specs.declared.sender.Sender.TheVariants.{Client, Group}
-use Rattle.convoy_scenario.specs.LineReading.{messages_in, scenario_at}
+use Rattle.convoy_scenario.specs.LineReading.{links_in, messages_in, scenario_at}
 use Rattle.convoy_scenario.specs.Scenario.{Message}
 use Rattle.convoy_packets.specs.Assignment.{ranges_of}
 use Rattle.convoy_packets.specs.Packets.{packets_of}
@@ -23,6 +23,7 @@ base = record {
   scenario = record {
     delay = 3;
     groups = codes "a" ∷ codes "b" ∷ [];
+    links = [];
     multicasts = message (codes "x") Client (1 ∷ []) 0 ∷ message (codes "t") Client (0 ∷ 1 ∷ []) 0 ∷ message (codes "y") (Group 0) (0 ∷ 1 ∷ []) 6 ∷ [];
     target_message = 1;
     target_group = 0;
@@ -38,6 +39,7 @@ lone = record {
   scenario = record {
     delay = 5;
     groups = codes "a" ∷ [];
+    links = [];
     multicasts = message (codes "m") (Group 0) (0 ∷ []) 0 ∷ [];
     target_message = 0;
     target_group = 0;
@@ -62,19 +64,40 @@ text_of_lone : certificate_text lone ≡ codes "convoy 1\ndelay 5\ngroups a\nmul
 unfolding digits
 text_of_lone = refl
 
+-- the base with links from clients to b and from b to a, with another schedule
+abbrev linked : Certificate
+linked = record base {
+  scenario = record base.scenario { links = record { sender = Client; to = 1; least = 2; most = 3 } ∷ record { sender = Group 1; to = 0; least = 1; most = 1 } ∷ [] };
+}
+
+text_of_linked : certificate_text linked
+    ≡ codes "convoy 2\ndelay 3\ngroups a b\nlink client b 2 3\nlink b a 1 1\nmulticast x client 0 b\nmulticast t client 0 a b\nmulticast y a 6 a b\n" ++ foot ++ codes "b\nend\n"
+unfolding digits
+text_of_linked = refl
+
+-- version 1 has no lines `link`
+link_in_version_one : certificate_of (codes "convoy 1\ndelay 3\ngroups a b\nlink b a 1 1\n") ≡ Err (faults.Line 4 expected.Multicast)
+unfolding certificate_of scenario_at links_in messages_in nodes_in ranges_of packets_of
+link_in_version_one = refl
+
+-- a line `link` that has not its form
+link_without_most : certificate_of (codes "convoy 2\ndelay 3\ngroups a b\nlink b a 1\n") ≡ Err (faults.Line 4 expected.Link)
+unfolding certificate_of scenario_at links_in messages_in nodes_in ranges_of packets_of
+link_without_most = refl
+
 -- a line `multicast` that is cut off
 cut_off : certificate_of (head ++ codes "multicast") ≡ Err (faults.Line 7 expected.Multicast)
-unfolding certificate_of scenario_at messages_in nodes_in ranges_of packets_of
+unfolding certificate_of scenario_at links_in messages_in nodes_in ranges_of packets_of
 cut_off = refl
 
 no_text : certificate_of [] ≡ Err (faults.Line 1 expected.Convoy)
-unfolding certificate_of scenario_at messages_in nodes_in ranges_of packets_of
+unfolding certificate_of scenario_at links_in messages_in nodes_in ranges_of packets_of
 no_text = refl
 
 delay_with_zero : certificate_of (codes "convoy 1\ndelay 03\n") ≡ Err (faults.Line 2 expected.Delay)
-unfolding certificate_of scenario_at messages_in nodes_in ranges_of packets_of
+unfolding certificate_of scenario_at links_in messages_in nodes_in ranges_of packets_of
 delay_with_zero = refl
 
 delay_after_two_spaces : certificate_of (codes "convoy 1\ndelay  3\n") ≡ Err (faults.Line 2 expected.Delay)
-unfolding certificate_of scenario_at messages_in nodes_in ranges_of packets_of
+unfolding certificate_of scenario_at links_in messages_in nodes_in ranges_of packets_of
 delay_after_two_spaces = refl

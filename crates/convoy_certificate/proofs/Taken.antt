@@ -3,7 +3,7 @@ use Rattle.std.proofs.Common.{◌≡◌, ℕ, ◌+◌, ◌≤◌, ◌==◌, if�
 use Rattle.std.specs.Prelude.{IfOk}
 use Rattle.std.specs.Str.{bytes_eq}
 use Rattle.convoy_scenario.specs.Memory.{IsUnlessMemory}
-use Rattle.std.proofs.lemmas.Bool.{and_parts, cases_Bool, eqb-true, eqb-false}
+use Rattle.std.proofs.lemmas.Bool.{and_parts, cases_Bool, eqb-true, eqb-false, false≢true}
 use Rattle.std.proofs.lemmas.List.{nil_from_length}
 use Rattle.std.proofs.lemmas.Option.{cond_some, same_Some}
 use Rattle.convoy_scenario.specs.declared.line_fault.Expected.TheVariants as expected
@@ -11,6 +11,8 @@ use Rattle.convoy_scenario.specs.declared.line_fault.LineFault.{LineFault}
 use Rattle.convoy_lines.specs.Labels.{words_after, number_in}
 use Rattle.convoy_lines.specs.Words.{number_of}
 use Rattle.convoy_lines.specs.Places.{Lines, lines_in, Place, place_before, is_at_end}
+use Rattle.convoy_scenario.specs.declared.version.Version.{Version}
+use Rattle.convoy_scenario.specs.declared.version.Version.TheVariants.{One, Two}
 use Rattle.convoy_scenario.specs.LineReading.{form_at, scenario_at}
 use Rattle.convoy_lines.specs.Texts.{line_of}
 use Rattle.convoy_scenario.specs.Lines.{scenario_lines}
@@ -25,9 +27,9 @@ use Rattle.convoy_certificate.specs.declared.text_fault.TextFault.TheVariants as
 use Rattle.convoy_certificate.specs.Certificate.{Certificate}
 use Rattle.convoy_certificate.specs.Forms.{version_in, delays_in, schedule_in, node_in, node_or_end, greatest_number_of_delay}
 use Rattle.convoy_lines.specs.Results.{◌>>=◌}
-use Rattle.convoy_certificate.specs.Reading.{in_text, is_assignment, from_node, nodes_in, nodes_at, certificate_of, IsTextOf}
+use Rattle.convoy_certificate.specs.Reading.{in_text, is_same_version, whole, is_assignment, from_node, nodes_in, nodes_at, certificate_of, IsTextOf}
 use Rattle.convoy_certificate.specs.Laws.{TextsAreKept}
-use Rattle.convoy_certificate.specs.Text.{version_line, latency_line, schedule_line, node_line, end_line, certificate_lines, certificate_text}
+use Rattle.convoy_certificate.specs.Text.{version_of, version_line, latency_line, schedule_line, node_line, end_line, certificate_lines, certificate_text}
 
 bind_ok : {A B : Type 0} (r : Result A TextFault) (f : A → Result B TextFault) (y : B) → (r >>= f) ≡ Ok y → (x : A) × (r ≡ Ok x) × (f x ≡ Ok y)
 bind_ok (Ok x) f y e = (x, refl, e)
@@ -73,8 +75,23 @@ took expected form p x e = took_at expected form p.number p.rest p.ended x e
 latency_word : IsWord (codes "latency")
 latency_word = record { some = omega arith; spaceless = refl; endless = refl }
 
-version_takes : (line : List ℕ) (version : ℕ) → version_in line ≡ Some version → line ≡ version_line 1
-version_takes line version e = same_bytes line (version_line 1) (cond_some (bytes_eq line (version_line 1)) 1 version e).0
+version_takes : (line : List ℕ) (version : Version) → version_in line ≡ Some version → line ≡ version_line version
+version_takes line version e =
+    elim (cases_Bool (bytes_eq line (version_line One))) [
+      | inl one ↦
+          let read : Some One ≡ Some version = rw one at e in
+          same_bytes line (version_line One) one ∙ ap version_line (same_Some One version read)
+      | inr other ↦
+          let read : cond (bytes_eq line (version_line Two)) (Some Two) None ≡ Some version = rw other at e in
+          let two = cond_some (bytes_eq line (version_line Two)) Two version read in
+          same_bytes line (version_line Two) two.0 ∙ ap version_line two.1
+    ]
+
+one_version : (version other : Version) → is_same_version version other ≡ true → version ≡ other
+one_version One One e = refl
+one_version Two Two e = refl
+one_version One Two e = absurd (false≢true e)
+one_version Two One e = absurd (false≢true e)
 
 abbrev line_for : Option Node → List ℕ
 line_for None = end_line
@@ -160,25 +177,26 @@ module _ (grounds : ReadGrounds) where
   unfolding certificate_of
   certificate_takes text c e =
       let start = place_before text 1 in
-      let a = bind_ok (in_text (form_at expected.Convoy version_in start)) (λ version. in_text (scenario_at version.1) >>= λ scenario. in_text (form_at expected.Latency (number_in (codes "latency")) scenario.1) >>= λ latency.
+      let a = bind_ok (in_text (form_at expected.Convoy version_in start)) (λ version. in_text (scenario_at version.0 version.1) >>= λ scenario. in_text (form_at expected.Latency (number_in (codes "latency")) scenario.1) >>= λ latency.
       in_text (form_at expected.Schedule schedule_in latency.1) >>= λ delays. cond (is_assignment scenario.0 delays.0) (nodes_at 0 delays.1) (Err faults.Schedule) >>= λ nodes.
-      cond (is_at_end nodes.1) (Ok (record { scenario = scenario.0; latency = latency.0; delays = delays.0; nodes = nodes.0 })) (Err faults.AfterEnd)) c e in
-      let b = bind_ok (in_text (scenario_at a.0.1)) (λ scenario. in_text (form_at expected.Latency (number_in (codes "latency")) scenario.1) >>= λ latency.
+      whole version.0 (record { scenario = scenario.0; latency = latency.0; delays = delays.0; nodes = nodes.0 }) nodes.1) c e in
+      let b = bind_ok (in_text (scenario_at a.0.0 a.0.1)) (λ scenario. in_text (form_at expected.Latency (number_in (codes "latency")) scenario.1) >>= λ latency.
       in_text (form_at expected.Schedule schedule_in latency.1) >>= λ delays. cond (is_assignment scenario.0 delays.0) (nodes_at 0 delays.1) (Err faults.Schedule) >>= λ nodes.
-      cond (is_at_end nodes.1) (Ok (record { scenario = scenario.0; latency = latency.0; delays = delays.0; nodes = nodes.0 })) (Err faults.AfterEnd)) c a.2 in
+      whole a.0.0 (record { scenario = scenario.0; latency = latency.0; delays = delays.0; nodes = nodes.0 }) nodes.1) c a.2 in
       let d = bind_ok (in_text (form_at expected.Latency (number_in (codes "latency")) b.0.1)) (λ latency.
       in_text (form_at expected.Schedule schedule_in latency.1) >>= λ delays. cond (is_assignment b.0.0 delays.0) (nodes_at 0 delays.1) (Err faults.Schedule) >>= λ nodes.
-      cond (is_at_end nodes.1) (Ok (record { scenario = b.0.0; latency = latency.0; delays = delays.0; nodes = nodes.0 })) (Err faults.AfterEnd)) c b.2 in
+      whole a.0.0 (record { scenario = b.0.0; latency = latency.0; delays = delays.0; nodes = nodes.0 }) nodes.1) c b.2 in
       let f = bind_ok (in_text (form_at expected.Schedule schedule_in d.0.1)) (λ delays. cond (is_assignment b.0.0 delays.0) (nodes_at 0 delays.1) (Err faults.Schedule) >>= λ nodes.
-      cond (is_at_end nodes.1) (Ok (record { scenario = b.0.0; latency = d.0.0; delays = delays.0; nodes = nodes.0 })) (Err faults.AfterEnd)) c d.2 in
+      whole a.0.0 (record { scenario = b.0.0; latency = d.0.0; delays = delays.0; nodes = nodes.0 }) nodes.1) c d.2 in
       let g = bind_ok (cond (is_assignment b.0.0 f.0.0) (nodes_at 0 f.0.1) (Err faults.Schedule)) (λ nodes.
-      cond (is_at_end nodes.1) (Ok (record { scenario = b.0.0; latency = d.0.0; delays = f.0.0; nodes = nodes.0 })) (Err faults.AfterEnd)) c f.2 in
+      whole a.0.0 (record { scenario = b.0.0; latency = d.0.0; delays = f.0.0; nodes = nodes.0 }) nodes.1) c f.2 in
       let made : Certificate = record { scenario = b.0.0; latency = d.0.0; delays = f.0.0; nodes = g.0.0 } in
-      let last = if_true (is_at_end g.0.1) faults.AfterEnd (Ok made) c g.2 in
+      let version = if_true (is_same_version a.0.0 (version_of made)) (faults.Line 1 expected.Convoy) (cond (is_at_end g.0.1) (Ok made) (Err faults.AfterEnd)) c g.2 in
+      let last = if_true (is_at_end g.0.1) faults.AfterEnd (Ok made) c version.1 in
       let same : made ≡ c = same_ok made c last.1 in
       let over = nil_ended g.0.1 last.0 in
       let t-version = took expected.Convoy version_in start a.0 a.1 in
-      let t-scenario = ((grounds.scenarios b.0.0 a.0.1 b.0.1).0 (from_lines (scenario_at a.0.1) b.0 b.1)).1 in
+      let t-scenario = ((grounds.scenarios a.0.0 b.0.0 a.0.1 b.0.1).0 (from_lines (scenario_at a.0.0 a.0.1) b.0 b.1)).2 in
       let t-latency = took expected.Latency (number_in (codes "latency")) b.0.1 d.0 d.1 in
       let t-schedule = took expected.Schedule schedule_in d.0.1 f.0 f.1 in
       let t-nodes = nodes_take 0 f.0.1.number f.0.1.rest f.0.1.ended g.0 (omega arith) (if_true (is_assignment b.0.0 f.0.0) faults.Schedule (nodes_at 0 f.0.1) g.0 g.1).1 in
@@ -188,7 +206,7 @@ module _ (grounds : ReadGrounds) where
       let latency : b.0.1.ended ≡ latency_line d.0.0 ∷ schedule_line f.0.0 ∷ (map node_line g.0.0 ++ end_line ∷ []) =
       t-latency.ended ∙ ap (λ l. l ∷ d.0.1.ended) ((grounds.number_lines (codes "latency") t-latency.line d.0.0 latency_word).0 t-latency.has).0 ∙ ap (λ ls. latency_line d.0.0 ∷ ls) schedule in
       let whole : start.ended ≡ certificate_lines made =
-      t-version.ended ∙ ap (λ l. l ∷ a.0.1.ended) (version_takes t-version.line a.0.0 t-version.has) ∙ ap (λ ls. version_line 1 ∷ ls) (t-scenario.ended ∙ ap (λ ls. scenario_lines b.0.0 ++ ls) latency) in
+      t-version.ended ∙ ap (λ l. l ∷ a.0.1.ended) (version_takes t-version.line a.0.0 t-version.has ∙ ap version_line (one_version a.0.0 (version_of made) version.0)) ∙ ap (λ ls. version_line (version_of made) ∷ ls) (t-scenario.ended ∙ ap (λ ls. scenario_lines b.0.0 ++ ls) latency) in
       let nothing : start.rest ≡ [] = t-version.rest ∙ t-scenario.rest ∙ t-latency.rest ∙ t-schedule.rest ∙ t-nodes.after ∙ over.1 in
       let read : text ≡ certificate_text made =
       ((grounds.texts text (certificate_lines made)).0 (both (lines_in text) (certificate_lines made) whole nothing)).0 in

@@ -2,6 +2,8 @@
 use Rattle.std.specs.Prelude.{ℕ, nat_le, ◌==◌, ◌&&◌, if◌then◌else◌, List, [], ◌∷◌, length, codes, Option, Some, None, option_map, option_and_then}
 use Rattle.std.specs.Str.{bytes_eq}
 use Rattle.convoy_scenario.specs.declared.limits.TheConstants.{GREATEST_DELAY}
+use Rattle.convoy_scenario.specs.declared.version.Version.{Version}
+use Rattle.convoy_scenario.specs.declared.version.Version.TheVariants.{One, Two}
 use Rattle.convoy_lines.specs.Options.{◌>>=◌}
 use Rattle.convoy_lines.specs.Labels.{words_after}
 use Rattle.convoy_lines.specs.Words.{words_of, next_word, number_of}
@@ -14,9 +16,9 @@ use Rattle.convoy_certificate.specs.Text.{version_line, end_line}
 abbrev pub greatest_number_of_delay : ℕ
 greatest_number_of_delay = 65_535
 
--- the version of a text whose first line this is: 1 alone, today
-abbrev pub version_in : List ℕ → Option ℕ
-version_in line = if bytes_eq line (version_line 1) then Some 1 else None
+-- the version of a text whose first line this is
+abbrev pub version_in : List ℕ → Option Version
+version_in line = if bytes_eq line (version_line One) then Some One else if bytes_eq line (version_line Two) then Some Two else None
 
 -- the numbers that the words are, where each of them is one
 abbrev pub delays_in : List (List ℕ) → Option (List ℕ)

@@ -1,5 +1,5 @@
 -- What reading a text answers: the certificate, or the first fault in the order of the lines.
-use Rattle.std.specs.Prelude.{◌≡◌, ℕ, ◌+◌, ◌≤◌, ◌==◌, nat_le, Bool, ◌&&◌, if◌then◌else◌, List, [], ◌∷◌, length, codes, Option, Some, None, ok_or, Result, Ok, Err}
+use Rattle.std.specs.Prelude.{◌≡◌, ℕ, ◌+◌, ◌≤◌, ◌==◌, nat_le, Bool, true, false, ◌&&◌, if◌then◌else◌, List, [], ◌∷◌, length, codes, Option, Some, None, ok_or, Result, Ok, Err}
 use Rattle.std.specs.Cmp.Lexicographic.{pointwise}
 use Rattle.convoy_scenario.specs.declared.line_fault.Expected.TheVariants as expected
 use Rattle.convoy_scenario.specs.declared.line_fault.LineFault.{LineFault}
@@ -7,6 +7,8 @@ use Rattle.convoy_scenario.specs.declared.line_fault.LineFault.TheVariants as li
 use Rattle.convoy_lines.specs.Labels.{number_in}
 use Rattle.convoy_lines.specs.Places.{Place, place_before, is_at_end}
 use Rattle.convoy_scenario.specs.LineReading.{form_at, scenario_at}
+use Rattle.convoy_scenario.specs.declared.version.Version.{Version}
+use Rattle.convoy_scenario.specs.declared.version.Version.TheVariants.{One, Two}
 use Rattle.convoy_lines.specs.Results.{◌>>=◌}
 use Rattle.convoy_scenario.specs.Scenario.{Scenario}
 use Rattle.convoy_packets.specs.Assignment.{ranges_of}
@@ -15,7 +17,7 @@ use Rattle.convoy_certificate.specs.declared.node.Node.{Node}
 use Rattle.convoy_certificate.specs.declared.text_fault.TextFault.{TextFault}
 use Rattle.convoy_certificate.specs.declared.text_fault.TextFault.TheVariants as faults
 use Rattle.convoy_certificate.specs.Certificate.{Certificate, IsCertificate}
-use Rattle.convoy_certificate.specs.Text.{certificate_text}
+use Rattle.convoy_certificate.specs.Text.{version_of, certificate_text}
 use Rattle.convoy_certificate.specs.Forms.{version_in, schedule_in, node_or_end}
 
 -- the fault of a line, told of a text
@@ -52,16 +54,28 @@ nodes_in count number rest (line ∷ lines) = do
 abbrev pub nodes_at : ℕ → Place → Result (List Node × Place) TextFault
 nodes_at count place = nodes_in count place.number place.rest place.ended
 
+-- the two are one version
+abbrev pub is_same_version : Version → Version → Bool
+is_same_version One One = true
+is_same_version Two Two = true
+is_same_version One Two = false
+is_same_version Two One = false
+
+-- the certificate that was read up to a place, if it is written in that version, and nothing follows
+abbrev pub whole : Version → Certificate → Place → Result Certificate TextFault
+whole version certificate past =
+    if is_same_version version (version_of certificate) then (if is_at_end past then Ok certificate else Err faults.AfterEnd)
+    else Err (faults.Line 1 expected.Convoy)
+
 -- the certificate that a text is; else the first fault
 unfoldable pub certificate_of : List ℕ → Result Certificate TextFault
 certificate_of text = do
   version ← in_text (form_at expected.Convoy version_in (place_before text 1))
-  scenario ← in_text (scenario_at version.1)
+  scenario ← in_text (scenario_at version.0 version.1)
   latency ← in_text (form_at expected.Latency (number_in (codes "latency")) scenario.1)
   delays ← in_text (form_at expected.Schedule schedule_in latency.1)
   nodes ← if is_assignment scenario.0 delays.0 then nodes_at 0 delays.1 else Err faults.Schedule
-  if is_at_end nodes.1 then Ok (record { scenario = scenario.0; latency = latency.0; delays = delays.0; nodes = nodes.0 })
-      else Err faults.AfterEnd
+  whole version.0 (record { scenario = scenario.0; latency = latency.0; delays = delays.0; nodes = nodes.0 }) nodes.1
 
 -- the text is that of the certificate, which has no more nodes than may be read
 abbrev pub IsTextOf : Certificate → List ℕ → Type 0

@@ -1,18 +1,25 @@
 -- The text of a certificate: the one text of each.
-use Rattle.std.specs.Prelude.{ℕ, ◌+◌, List, [], ◌∷◌, ◌++◌, map, codes, decimal}
+use Rattle.std.specs.Prelude.{ℕ, List, [], ◌∷◌, ◌++◌, map, codes, decimal}
 use Rattle.convoy_lines.specs.Texts.{line_of, number_line, text_of}
+use Rattle.convoy_scenario.specs.declared.version.Version.{Version}
+use Rattle.convoy_scenario.specs.declared.version.Version.TheVariants.{One, Two}
 use Rattle.convoy_scenario.specs.Lines.{scenario_lines}
+use Rattle.convoy_scenario.specs.Scenario.{Link}
 use Rattle.convoy_certificate.specs.declared.node.Node.{Node}
 use Rattle.convoy_certificate.specs.declared.node.Node.TheVariants.{Split, Bound, Point}
 use Rattle.convoy_certificate.specs.Certificate.{Certificate}
 
--- the version in which a certificate is written: 1 for each, today
-abbrev pub version_of : Certificate → ℕ
-version_of certificate = 1
+-- the version in which a certificate is written: 2 where its scenario has a link, else 1
+abbrev pub version_of : Certificate → Version
+version_of certificate = with_links certificate.scenario.links where
+  with_links : List Link → Version
+  with_links [] = One
+  with_links (link ∷ links) = Two
 
--- the first line; a version is a digit
-abbrev pub version_line : ℕ → List ℕ
-version_line version = line_of (codes "convoy") (((48 + version) ∷ []) ∷ [])
+-- the first line
+abbrev pub version_line : Version → List ℕ
+version_line One = codes "convoy 1"
+version_line Two = codes "convoy 2"
 
 abbrev pub latency_line : ℕ → List ℕ
 latency_line latency = number_line (codes "latency") latency

@@ -2,10 +2,11 @@ ghost use Rattle.std.specs.Prelude.{◌≡◌};
 ghost use Rattle.std.specs.List.{All};
 ghost use Rattle.convoy_packets.specs.Assignment.{IsAssignment};
 ghost use Rattle.convoy_certificate.specs.Certificate.{IsNode, IsCertificate};
+ghost use Rattle.convoy_certificate.specs.Text.{version_of};
 
 use super::node::Node;
 use convoy_packets::Delays;
-use convoy_scenario::Scenario;
+use convoy_scenario::{Scenario, Version};
 use std::marker::Model;
 
 /// How many nodes a certificate that is read has at most.
@@ -73,6 +74,18 @@ impl Certificate {
         ensures { result.now ≡ self.now.scenario }
     {
         &self.scenario
+    }
+
+    /// The version in which the certificate is written: `Two` where its scenario has a link, else `One`
+    /// (docs/FORMATS.md, "Certificate text").
+    pub fn version(&self) -> Version
+        ensures { result ≡ version_of self.now }
+    {
+        if self.scenario.link_count() == 0 {
+            Version::One
+        } else {
+            Version::Two
+        }
     }
 
     /// The stated latency, in ticks.

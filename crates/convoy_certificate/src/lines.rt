@@ -8,14 +8,20 @@ ghost use Rattle.convoy_certificate.specs.Forms.{version_in, schedule_in, split_
 use super::node::{GREATEST_PACKET, Node};
 use super::text_fault::TextFault;
 use convoy_lines::{Words, number_of, words_after};
-use convoy_scenario::GREATEST_DELAY;
+use convoy_scenario::{GREATEST_DELAY, Version};
 use std::alloc::Global;
 
 /// The version of a text whose first line this is.
-pub fn version_in(line: &[u8]) -> Option<u32>
+pub fn version_in(line: &[u8]) -> Option<Version>
     ensures { result ≡ version_in line.now }
 {
-    (line == b"convoy 1".as_slice()).then_some(1)
+    if line == b"convoy 1".as_slice() {
+        Some(Version::One)
+    } else if line == b"convoy 2".as_slice() {
+        Some(Version::Two)
+    } else {
+        None
+    }
 }
 
 /// The node of a line, or `Some(None)` at the line `end`; None where the line has neither form.

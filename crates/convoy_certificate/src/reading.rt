@@ -7,7 +7,7 @@ ghost use Rattle.convoy_lines.specs.Labels.{number_in};
 ghost use Rattle.convoy_scenario.specs.LineReading.{form_at, scenario_at};
 ghost use Rattle.convoy_certificate.specs.Certificate.{Certificate, IsCertificate, IsNode};
 ghost use Rattle.convoy_certificate.specs.Forms.{version_in, schedule_in, node_or_end};
-ghost use Rattle.convoy_certificate.specs.Reading.{in_text, is_within, nodes_at, certificate_of, IsTextOf};
+ghost use Rattle.convoy_certificate.specs.Reading.{in_text, is_same_version, is_within, nodes_at, certificate_of, IsTextOf};
 
 use super::certificate::{Certificate, MOST_NODES};
 use super::laws::{texts_are_kept, texts_are_read};
@@ -16,7 +16,7 @@ use super::node::Node;
 use super::text_fault::TextFault;
 use convoy_lines::{LineReader, number_in};
 use convoy_packets::{Delays, PacketTable};
-use convoy_scenario::{Expected, Scenario, read_lines};
+use convoy_scenario::{Expected, Scenario, Version, read_lines};
 use std::alloc::Global;
 
 /// Reads the text of a certificate (docs/FORMATS.md, "Certificate text").
@@ -45,8 +45,8 @@ fn read_all(alloc: Global, text: &[u8]) -> Result<Certificate, TextFault>
     ensures { IsUnlessMemory TextFault.Memory (certificate_of text.now) result }
 {
     let mut reader = LineReader::over(text);
-    let _version = read_version(&mut reader)?;
-    let scenario = read_scenario(alloc, &mut reader)?;
+    let version = read_version(&mut reader)?;
+    let scenario = read_scenario(alloc, version, &mut reader)?;
     let latency = read_latency(&mut reader)?;
     let delays = read_schedule(alloc, &mut reader)?;
     let table = PacketTable::of(alloc, &scenario)?;
@@ -54,13 +54,27 @@ fn read_all(alloc: Global, text: &[u8]) -> Result<Certificate, TextFault>
         return Err(TextFault::Schedule);
     }
     let nodes = read_nodes(alloc, &mut reader)?;
+    let certificate = Certificate::new(scenario, latency, Delays::from_vec(delays), nodes);
+    if !is_same_version(version, certificate.version()) {
+        return Err(TextFault::Line(1, Expected::Convoy));
+    }
     if !reader.at_end() {
         return Err(TextFault::AfterEnd);
     }
-    Ok(Certificate::new(scenario, latency, Delays::from_vec(delays), nodes))
+    Ok(certificate)
 }
 
-fn read_version(reader: &mut LineReader) -> Result<u32, TextFault>
+fn is_same_version(version: Version, other: Version) -> bool
+    ensures { result ≡ is_same_version version other }
+{
+    match (version, other) {
+        (Version::One, Version::One) => true,
+        (Version::Two, Version::Two) => true,
+        _ => false,
+    }
+}
+
+fn read_version(reader: &mut LineReader) -> Result<Version, TextFault>
     ensures { result_map_both (λ version. (version, reader.new)) (λ fault. fault) result
         ≡ in_text (form_at Expected.Convoy version_in reader.old) }
 {
@@ -69,11 +83,15 @@ fn read_version(reader: &mut LineReader) -> Result<u32, TextFault>
     version_in(line).ok_or(wrong)
 }
 
-fn read_scenario(alloc: Global, reader: &mut LineReader) -> Result<Scenario, TextFault>
-    ensures { IsUnlessMemory TextFault.Memory (in_text (scenario_at reader.old))
+fn read_scenario(
+    alloc: Global,
+    version: Version,
+    reader: &mut LineReader,
+) -> Result<Scenario, TextFault>
+    ensures { IsUnlessMemory TextFault.Memory (in_text (scenario_at version reader.old))
         (result_map_both (λ scenario. (scenario, reader.new)) (λ fault. fault) result) }
 {
-    Ok(read_lines(alloc, reader)?)
+    Ok(read_lines(alloc, version, reader)?)
 }
 
 fn read_latency(reader: &mut LineReader) -> Result<u32, TextFault>

@@ -1,11 +1,11 @@
 ghost use Rattle.std.specs.Prelude.{◌≡◌, ◌++◌, map, codes, decimal, IfOk, OnOk, OnErr};
 ghost use Rattle.convoy_lines.specs.Texts.{ended, spaced, text_of};
-ghost use Rattle.convoy_certificate.specs.Text.{schedule_line, node_line, certificate_text};
+ghost use Rattle.convoy_certificate.specs.Text.{version_line, schedule_line, node_line, certificate_text};
 
 use super::certificate::Certificate;
 use super::node::Node;
 use convoy_lines::{push_number, push_number_line};
-use convoy_scenario::write_lines;
+use convoy_scenario::{Version, write_lines};
 use std::alloc::{AllocError, Global};
 
 /// Appends the text of a certificate (docs/FORMATS.md, "Certificate text"). Where memory runs out,
@@ -21,13 +21,23 @@ pub fn write(alloc: Global, certificate: &Certificate, out: &mut Vec<u8>) -> Res
 fn text_of(alloc: Global, certificate: &Certificate) -> Result<Vec<u8>, AllocError>
     ensures { IfOk result (λ text. text.items ≡ certificate_text certificate.now) }
 {
-    let mut text = Vec::from_slice(alloc, b"convoy 1\n")?;
+    let mut text = Vec::from_slice(alloc, version_line(certificate.version()))?;
     write_lines(alloc, certificate.scenario(), &mut text)?;
     push_number_line(&mut text, "latency", certificate.latency())?;
     push_schedule(&mut text, certificate.delays().as_slice())?;
     push_nodes(&mut text, certificate.nodes())?;
     text.extend_from_slice(b"end\n")?;
     Ok(text)
+}
+
+/// The first line, ended.
+fn version_line(version: Version) -> &'static [u8]
+    ensures { result.now ≡ ended (version_line version) }
+{
+    match version {
+        Version::One => b"convoy 1\n",
+        Version::Two => b"convoy 2\n",
+    }
 }
 
 /// Appends the line of a schedule, the delays in packet order. Where memory runs out, a front of the

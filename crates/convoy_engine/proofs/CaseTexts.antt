@@ -27,29 +27,29 @@ pub made_answered : (made : Case → List ℕ) (read : Result Case Fault) (case 
 made_answered made read case (inl is) = rw (← is) refl
 made_answered made read case (inr is) = cc
 
-list_number : (refused : ListFault) → (row_of (told_of_list refused)).0 ≤ 13
+list_number : (refused : ListFault) → (row_of (told_of_list refused)).0 ≤ 14
 list_number lists.Length = lit≤ tt
 list_number (lists.Range packet) = lit≤ tt
 list_number lists.Memory = lit≤ tt
 
 mapped_number : {X Y E : Type 0} (made : X → Y) (told : E → Fault) (read : Result X E) (fault : Fault) →
-    ((refused : E) → read ≡ Err refused → (row_of (told refused)).0 ≤ 13) →
-    result_map_both made told read ≡ Err fault → (row_of fault).0 ≤ 13
+    ((refused : E) → read ≡ Err refused → (row_of (told refused)).0 ≤ 14) →
+    result_map_both made told read ≡ Err fault → (row_of fault).0 ≤ 14
 mapped_number made told (Ok value) fault low is = cc
 mapped_number made told (Err refused) fault low is =
     let same : told refused ≡ fault = cc in rw same at (low refused refl)
 
 chosen_number : (ranges : List (ℕ × ℕ)) (given : Option (List ℤ)) (fault : Fault) →
-    chosen_schedule ranges given ≡ Err fault → (row_of fault).0 ≤ 13
+    chosen_schedule ranges given ≡ Err fault → (row_of fault).0 ≤ 14
 chosen_number ranges None fault is = cc
 chosen_number ranges (Some numbers) fault is =
     mapped_number _ told_of_list (schedule_of ranges numbers) fault (λ refused same. list_number refused) is
 
-input_number : (read : Result InputView ScenarioFault) (fault : Fault) → case_of_input read ≡ Err fault → (row_of fault).0 ≤ 13
+input_number : (read : Result InputView ScenarioFault) (fault : Fault) → case_of_input read ≡ Err fault → (row_of fault).0 ≤ 14
 input_number (Err refused) fault is =
     let same : told_of refused ≡ fault = cc in
     let low = told_number refused in
-    let also : (row_of (told_of refused)).0 ≤ 13 = omega (arith, low) in
+    let also : (row_of (told_of refused)).0 ≤ 14 = omega (arith, low) in
     rw same at also
 input_number (Ok given) fault is =
     mapped_number _ (λ f. f) (chosen_schedule (ranges_of given.scenario) given.schedule) fault
@@ -57,6 +57,6 @@ input_number (Ok given) fault is =
 
 -- the faults of a case have the first numbers, and so have those of what is written for one
 pub made_number : (made : Case → List ℕ) (text : List ℕ) (fault : Fault) →
-    result_map_both made (λ f. f) (case_of_text text) ≡ Err fault → (row_of fault).0 ≤ 13
+    result_map_both made (λ f. f) (case_of_text text) ≡ Err fault → (row_of fault).0 ≤ 14
 made_number made text fault is =
     mapped_number made (λ f. f) (case_of_text text) fault (λ refused same. input_number (input_of_text text) refused same) is

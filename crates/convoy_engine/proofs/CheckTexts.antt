@@ -89,6 +89,6 @@ text_fault (Ok certificate) fault is = check_fault (checked certificate) fault i
 text_fault (Err texts.Memory) fault is = cc
 text_fault (Err other) fault is = cc
 
-pub check_number : (text : List ℕ) (fault : Fault) → CheckSays text (Err fault) → (row_of fault).0 ≤ 13
+pub check_number : (text : List ℕ) (fault : Fault) → CheckSays text (Err fault) → (row_of fault).0 ≤ 14
 unfolding check_reply
 check_number text fault allowed = let none = text_fault (certificate_of text) fault allowed.exact in rw none (lit≤ tt)

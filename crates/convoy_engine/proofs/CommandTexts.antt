@@ -20,14 +20,14 @@ fault_of_fine (Ok out) fault is = cc
 fault_of_fine (Err refused) fault is = cc
 
 -- the fault of a text is one of its scenario
-faulty_number : (text : List ℕ) (fault : Fault) → IsFaulty text fault → (row_of fault).0 ≤ 13
+faulty_number : (text : List ℕ) (fault : Fault) → IsFaulty text fault → (row_of fault).0 ≤ 14
 faulty_number text fault faulty =
     let low = told_number faulty.cause in
     rw faulty.told (omega (arith, low))
 
 -- none is a device's, by its number
 pub says_number : (command : Command) (text : List ℕ) (fault : Fault) →
-    says_for command text (Err fault) → (row_of fault).0 ≤ 13
+    says_for command text (Err fault) → (row_of fault).0 ≤ 14
 unfolding simulate_text timeline_of_text
 says_number First text fault says =
     let low = first_number text fault (fault_of_fine (first_text text) fault says) in omega (arith, low)

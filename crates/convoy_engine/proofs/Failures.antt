@@ -40,7 +40,7 @@ in_stop longest most_reads reads Memory stop = none_in_pieces reads stop.each
 in_stop longest most_reads reads other stop = absurd stop
 
 -- where the text has a fault, which is no device's
-in_refusal : (fault : Fault) → (row_of fault).0 ≤ 13 → 0 ≡ told_reads (Err fault)
+in_refusal : (fault : Fault) → (row_of fault).0 ≤ 14 → 0 ≡ told_reads (Err fault)
 in_refusal Read low = absurd (omega arith)
 in_refusal other low = refl
 

@@ -28,7 +28,7 @@ text_answered text plan (inl is) = rw (← is) refl
 text_answered text plan (inr is) = cc
 
 -- the faults of scenarios have the first numbers
-pub told_number : (refused : ScenarioFault) → (row_of (told_of refused)).0 ≤ 11
+pub told_number : (refused : ScenarioFault) → (row_of (told_of refused)).0 ≤ 14
 told_number scenario.NotToml = lit≤ tt
 told_number (scenario.Shape key) = lit≤ tt
 told_number (scenario.OverLimit limit) = lit≤ tt
@@ -39,14 +39,15 @@ told_number scenario.NoDestination = lit≤ tt
 told_number scenario.DoubleDestination = lit≤ tt
 told_number scenario.UnknownTarget = lit≤ tt
 told_number scenario.TargetNotAddressed = lit≤ tt
+told_number scenario.LinkToItself = lit≤ tt
 told_number scenario.Memory = lit≤ tt
 
 mapped_number : {X : Type 0} (made : X → List ℕ) (read : Result X ScenarioFault) (fault : Fault) →
-    result_map_both made told_of read ≡ Err fault → (row_of fault).0 ≤ 11
+    result_map_both made told_of read ≡ Err fault → (row_of fault).0 ≤ 14
 mapped_number made (Ok plan) fault is = cc
 mapped_number made (Err refused) fault is = let same : told_of refused ≡ fault = cc in rw same at (told_number refused)
 
 -- so have those of texts: none is a device's
-pub first_number : (text : List ℕ) (fault : Fault) → first_text text ≡ Err fault → (row_of fault).0 ≤ 11
+pub first_number : (text : List ℕ) (fault : Fault) → first_text text ≡ Err fault → (row_of fault).0 ≤ 14
 unfolding first_text
 first_number text fault is = mapped_number _ (scenario_of_text text) fault is

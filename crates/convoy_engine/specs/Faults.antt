@@ -10,7 +10,7 @@ use Rattle.convoy_scenario.specs.declared.fault.ScenarioFault.TheVariants as sce
 use Rattle.convoy_engine.specs.declared.fault.Ending.{Ending}
 use Rattle.convoy_engine.specs.declared.fault.Ending.TheVariants as endings
 use Rattle.convoy_engine.specs.declared.fault.Fault.{Fault}
-use Rattle.convoy_engine.specs.declared.fault.Fault.TheVariants.{NotToml, Shape, OverLimit, BadName, DoubleName, UnknownGroup, NoDestination, DoubleDestination, UnknownTarget, TargetNotAddressed, ScheduleLength, DelayOutOfRange, Memory, Read, Write, TooLong, TooManyReads}
+use Rattle.convoy_engine.specs.declared.fault.Fault.TheVariants.{NotToml, Shape, OverLimit, BadName, DoubleName, UnknownGroup, NoDestination, DoubleDestination, UnknownTarget, TargetNotAddressed, LinkToItself, ScheduleLength, DelayOutOfRange, Memory, Read, Write, TooLong, TooManyReads}
 
 -- a limit's word
 abbrev pub limit_word : Limit → List ℕ
@@ -18,6 +18,7 @@ limit_word limits.Delay = codes "delay"
 limit_word limits.Groups = codes "groups"
 limit_word limits.Multicasts = codes "multicasts"
 limit_word limits.At = codes "at"
+limit_word limits.Link = codes "link"
 
 -- a fault's number and its text
 abbrev pub row_of : Fault → ℕ × List ℕ
@@ -31,6 +32,7 @@ row_of NoDestination = (7, codes "no destination")
 row_of DoubleDestination = (8, codes "double destination")
 row_of UnknownTarget = (9, codes "unknown target")
 row_of TargetNotAddressed = (10, codes "target not addressed")
+row_of LinkToItself = (14, codes "link to itself")
 row_of ScheduleLength = (12, codes "schedule length")
 row_of (DelayOutOfRange packet) = (13, codes "delay out of range " ++ decimal packet)
 row_of Memory = (11, codes "out of memory")
@@ -60,6 +62,7 @@ told_of scenario.NoDestination = NoDestination
 told_of scenario.DoubleDestination = DoubleDestination
 told_of scenario.UnknownTarget = UnknownTarget
 told_of scenario.TargetNotAddressed = TargetNotAddressed
+told_of scenario.LinkToItself = LinkToItself
 told_of scenario.Memory = Memory
 
 -- a fault of a schedule that was given as a list, as the engine tells it

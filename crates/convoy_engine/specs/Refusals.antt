@@ -16,6 +16,7 @@ abbrev pub line_word : Expected → List ℕ
 line_word lines.Convoy = codes "convoy"
 line_word lines.Delay = codes "delay"
 line_word lines.Groups = codes "groups"
+line_word lines.Link = codes "link"
 line_word lines.Multicast = codes "multicast"
 line_word lines.Target = codes "target"
 line_word lines.Latency = codes "latency"

@@ -30,6 +30,8 @@ pub enum Fault {
     UnknownTarget,
     #[error("the target's message does not go to its group")]
     TargetNotAddressed,
+    #[error("a link leads from a group to itself")]
+    LinkToItself,
     /// The schedule has not one delay for each packet.
     #[error("the schedule has not one delay for each packet")]
     ScheduleLength,
@@ -84,6 +86,7 @@ impl From<ScenarioFault> for Fault {
             ScenarioFault::DoubleDestination => Fault::DoubleDestination,
             ScenarioFault::UnknownTarget => Fault::UnknownTarget,
             ScenarioFault::TargetNotAddressed => Fault::TargetNotAddressed,
+            ScenarioFault::LinkToItself => Fault::LinkToItself,
             ScenarioFault::Memory => Fault::Memory,
         }
     }
@@ -149,6 +152,7 @@ pub(crate) fn row(fault: &Fault) -> (u8, &'static str, Ending)
         Fault::DoubleDestination => (8, "double destination", NOTHING),
         Fault::UnknownTarget => (9, "unknown target", NOTHING),
         Fault::TargetNotAddressed => (10, "target not addressed", NOTHING),
+        Fault::LinkToItself => (14, "link to itself", NOTHING),
         Fault::ScheduleLength => (12, "schedule length", NOTHING),
         Fault::DelayOutOfRange(packet) => (13, "delay out of range ", Ending::Number(*packet)),
         Fault::Memory => (11, "out of memory", NOTHING),
@@ -167,5 +171,6 @@ fn word_of_limit(limit: Limit) -> &'static str
         Limit::Groups => "groups",
         Limit::Multicasts => "multicasts",
         Limit::At => "at",
+        Limit::Link => "link",
     }
 }

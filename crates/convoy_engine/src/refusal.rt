@@ -84,6 +84,7 @@ fn word_of_line(expected: Expected) -> &'static str
         Expected::Convoy => "convoy",
         Expected::Delay => "delay",
         Expected::Groups => "groups",
+        Expected::Link => "link",
         Expected::Multicast => "multicast",
         Expected::Target => "target",
         Expected::Latency => "latency",

@@ -1,20 +1,43 @@
 -- Ranges, and the delays of schedules by packet.
-use Rattle.std.proofs.Common.{◌≡◌, ℕ, zero, suc, ◌<◌, ◌≤◌, not, List, [], ◌∷◌, length, get_or, slice_set, IfSome, Option, Some, None, arith, refl, sym, ap, ◌∙◌, IsTrue}
-use Rattle.std.specs.List.{All, slice_get}
-use Rattle.std.specs.Option.{is_some}
+use Rattle.std.proofs.Common.{◌≡◌, ℕ, zero, suc, ◌<◌, ◌≤◌, ◌==◌, ◌&&◌, Bool, true, false, cond, not, List, [], ◌∷◌, length, get_or, slice_set, IfSome, Option, Some, None, arith, refl, sym, ap, ◌∙◌, IsTrue}
+use Rattle.std.specs.List.{All, AllByRecursion, find, slice_get}
+use Rattle.std.specs.Option.{is_some, option_map_or}
 use Rattle.std.proofs.lemmas.Bool.{true≢false, not-true}
 use Rattle.std.proofs.lemmas.List.{length-map, get_or-map}
-use Rattle.std.proofs.lemmas.List.Elements.{All-head, All-tail, All-map}
-use Rattle.std.proofs.lemmas.Option.{slice_get_within}
-use Rattle.convoy_scenario.specs.Scenario.{Scenario}
-use Rattle.convoy_scenario.specs.WellFormed.{IsScenario}
+use Rattle.std.proofs.lemmas.List.Elements.{All-head, All-tail, All-map, recursion_from_All}
+use Rattle.std.proofs.lemmas.Option.{same_Some, slice_get-get_or, slice_get_within}
+use Rattle.convoy_scenario.specs.Scenario.{Link, Scenario, is_same_sender}
+use Rattle.convoy_scenario.specs.WellFormed.{IsLink, IsScenario}
 use Rattle.convoy_packets.specs.declared.packet.Packet.{Packet}
 use Rattle.convoy_packets.specs.Packets.{packets_of, place_of}
-use Rattle.convoy_packets.specs.Assignment.{AreWithin, IsAssignment, IsWithin, delay_of, range_of, ranges_of}
+use Rattle.convoy_packets.specs.Assignment.{AreWithin, IsAssignment, IsWithin, delay_of, sender_of, receiver_of, range_of, ranges_of}
 use Rattle.convoy_packets.specs.Laws.{is_sent}
 use Rattle.convoy_packets.specs.Table.{IsRange, least_of, greatest_of}
 use Rattle.convoy_packets.proofs.Places.{stands_where_found}
 use Rattle.convoy_packets.proofs.Sent.{found_if_sent}
+
+-- a range of one tick or more, within D
+pub record IsWithinDelay (delay : ℕ) (range : ℕ × ℕ) : Type 0 where
+  pub low : 1 ≤ range.0
+  pub ordered : range.0 ≤ range.1
+  pub high : range.1 ≤ delay
+
+abbrev ends : Option Link → ℕ → ℕ × ℕ
+ends found delay = option_map_or (λ link. (link.least, link.most)) found (1, delay)
+
+found_within : (groups delay : ℕ) (p : Link → Bool) (links : List Link) → 1 ≤ delay → AllByRecursion (IsLink groups delay) links → IsWithinDelay delay (ends (find p links) delay)
+found_within groups delay p [] some all = record { low = omega arith; ordered = some; high = omega arith }
+found_within groups delay p (link ∷ links) some all =
+    elim (p link) as (λ b. IsWithinDelay delay (ends (cond b (Some link) (find p links)) delay)) [
+      | true ↦ record { low = all.0.low; ordered = all.0.ordered; high = all.0.high }
+      | false ↦ found_within groups delay p links some all.1
+    ]
+
+-- the range of each packet is within D
+pub range_within : (plan : Scenario) (packet : Packet) → IsScenario plan → IsWithinDelay plan.delay (range_of plan packet)
+range_within plan packet is =
+    found_within (length plan.groups) plan.delay (λ link. is_same_sender (sender_of plan packet) link.sender && (receiver_of packet == link.to)) plan.links is.delay_low
+    (recursion_from_All (IsLink (length plan.groups) plan.delay) plan.links is.links)
 
 pub AreWithin-least : (ranges : List (ℕ × ℕ)) → All IsRange ranges → AreWithin ranges (least_of ranges)
 AreWithin-least [] h = tt
@@ -65,10 +88,12 @@ no_delay plan delays p none = rw none refl
 within_at_place : (plan : Scenario) (delays : List ℕ) (p : Packet) (i : ℕ) → IsAssignment plan delays → place_of p (packets_of plan) ≡ Some i → IsWithin (range_of plan p) (delay_of plan delays p)
 unfolding ranges_of
 within_at_place plan delays p i is found =
-    let here = slice_get_within (packets_of plan) i p (stands_where_found (packets_of plan) i p found) in
+    let stands = stands_where_found (packets_of plan) i p found in
+    let here = slice_get_within (packets_of plan) i p stands in
+    let same : get_or (packets_of plan) i p ≡ p = same_Some (get_or (packets_of plan) i p) p (sym (slice_get-get_or (packets_of plan) i p here) ∙ stands) in
     let long = length-ranges_of plan in
     let within = within_at (ranges_of plan) delays i (range_of plan p) is (omega arith) in
-    rw (delay_at_place plan delays p i found) (rw (get_or-map (range_of plan) (packets_of plan) i p (range_of plan p) here) at within)
+    rw (delay_at_place plan delays p i found) (rw (get_or-map (range_of plan) (packets_of plan) i p (range_of plan p) here, same) at within)
 
 module _ (plan : Scenario) (delays : List ℕ) (p : Packet) where
   pub within_if_sent : IsAssignment plan delays → IsTrue (is_sent plan p) → IsWithin (range_of plan p) (delay_of plan delays p)
@@ -83,15 +108,15 @@ module _ (plan : Scenario) (delays : List ℕ) (p : Packet) where
     by_place None e = no_delay plan delays p e
     by_place (Some i) e = absurd (true≢false (sym (ap is_some e) ∙ found_if_sent plan p ∙ not-true (is_sent plan p) unsent))
 
-  pub at_most : IsAssignment plan delays → delay_of plan delays p ≤ plan.delay
-  at_most is = by_place (place_of p (packets_of plan)) refl where
+  pub at_most : IsScenario plan → IsAssignment plan delays → delay_of plan delays p ≤ plan.delay
+  at_most formed is = by_place (place_of p (packets_of plan)) refl where
     by_place : (o : Option ℕ) → place_of p (packets_of plan) ≡ o → delay_of plan delays p ≤ plan.delay
     by_place None e = rw (no_delay plan delays p e) (omega arith)
-    by_place (Some i) e = (within_at_place plan delays p i is e).1
+    by_place (Some i) e = let within = (within_at_place plan delays p i is e).1 in let most = (range_within plan p formed).high in omega arith
 
 pub least_assignment : (plan : Scenario) → IsScenario plan → IsAssignment plan (least_of (ranges_of plan))
 unfolding ranges_of
 least_assignment plan is =
     AreWithin-least (ranges_of plan)
     (All-map IsRange (range_of plan) (packets_of plan)
-    (λ k d l. record { low = omega arith; ordered = is.delay_low; high = is.delay_high }))
+    (λ k d l. let range = range_within plan (get_or (packets_of plan) k d) is in record { low = range.low; ordered = range.ordered; high = omega (arith, range.high, is.delay_high) }))

@@ -2,13 +2,26 @@
 use Rattle.std.specs.Prelude.{ℕ, ◌≤◌, List, map, slice_index}
 use Rattle.std.specs.List.{AllZip}
 use Rattle.std.specs.Option.{option_map_or}
-use Rattle.convoy_scenario.specs.Scenario.{Scenario}
+use Rattle.convoy_scenario.specs.declared.sender.Sender.{Sender}
+use Rattle.convoy_scenario.specs.declared.sender.Sender.TheVariants.{Group}
+use Rattle.convoy_scenario.specs.Scenario.{Scenario, message_at, range_between}
 use Rattle.convoy_packets.specs.declared.packet.Packet.{Packet}
+use Rattle.convoy_packets.specs.declared.packet.Packet.TheVariants.{Multicast, Propose}
 use Rattle.convoy_packets.specs.Packets.{packets_of, place_of}
 
--- the least and the greatest delay of a packet, in ticks: today 1 and D for each packet
+-- who sends a packet: the sender of its message, or the group of which it is the stamp
+abbrev pub sender_of : Scenario → Packet → Sender
+sender_of scenario (Multicast m g) = (message_at scenario m).sender
+sender_of scenario (Propose m h g) = Group h
+
+-- the group to which a packet goes
+abbrev pub receiver_of : Packet → ℕ
+receiver_of (Multicast m g) = g
+receiver_of (Propose m h g) = g
+
+-- the least and the greatest delay of a packet, in ticks: those of the link between its ends, or 1 and D without one
 abbrev pub range_of : Scenario → Packet → ℕ × ℕ
-range_of scenario packet = (1, scenario.delay)
+range_of scenario packet = range_between scenario (sender_of scenario packet) (receiver_of packet)
 
 -- the ranges of all packets, in the order of the packet list
 unfoldable pub ranges_of : Scenario → List (ℕ × ℕ)

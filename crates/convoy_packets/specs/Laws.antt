@@ -67,7 +67,8 @@ UnsentTakesNoTime =
 -- in an assignment nothing takes longer than the greatest delay
 abbrev pub DelaysAreAtMost : Type 0
 DelaysAreAtMost =
-    (scenario : Scenario) (delays : Schedule) (packet : Packet) → IsAssignment scenario delays → delay_of scenario delays packet ≤ scenario.delay
+    (scenario : Scenario) (delays : Schedule) (packet : Packet) → IsScenario scenario → IsAssignment scenario delays
+    → delay_of scenario delays packet ≤ scenario.delay
 
 -- a list of numbers gives a schedule just where its members are the delays, each in the range at its place
 abbrev pub ListsOfDelaysAreSchedules : Type 0

@@ -1,6 +1,6 @@
 ghost use Rattle.std.specs.Prelude.{◌≡◌, ◌<◌, ◌==◌, length, map, IfOk, Some};
 ghost use Rattle.std.specs.List.{All, slice_get};
-ghost use Rattle.convoy_packets.specs.Assignment.{delay_in, range_of};
+ghost use Rattle.convoy_packets.specs.Assignment.{delay_in, sender_of, receiver_of, range_of};
 ghost use Rattle.convoy_packets.specs.Packets.{place_of};
 ghost use Rattle.convoy_packets.specs.Table.{table_of, IsRange, IsTable};
 ghost use Rattle.convoy_packets.specs.declared.packet.Packet.TheVariants.{Multicast, Propose};
@@ -9,7 +9,7 @@ use super::delays::Delays;
 use super::listing::list_packets;
 use super::packet::Packet;
 use super::slots::{entry_of, slots_for};
-use convoy_scenario::Scenario;
+use convoy_scenario::{Scenario, Sender};
 use std::alloc::{AllocError, Global};
 use std::marker::Model;
 
@@ -146,9 +146,32 @@ fn list_ranges(
 }
 
 /// The least and the greatest delay of a packet, in ticks.
-fn range_of(scenario: &Scenario, _packet: Packet) -> (u16, u16)
-    ensures value { result ≡ range_of scenario.now _packet }
+#[tactic(auto, using(crate::proofs::Ranges::range_within))]
+fn range_of(scenario: &Scenario, packet: Packet) -> (u16, u16)
+    ensures value { result ≡ range_of scenario.now packet }
     ensures lawful { IsRange result }
 {
-    (1, scenario.delay())
+    scenario.range_between(sender_of(scenario, packet), receiver_of(packet))
+}
+
+/// Who sends a packet; a client where the scenario has no such message.
+fn sender_of(scenario: &Scenario, packet: Packet) -> Sender
+    ensures { result ≡ sender_of scenario.now packet }
+{
+    match packet {
+        Packet::Multicast { message, .. } if message < scenario.message_count() => {
+            scenario.sender(message)
+        }
+        Packet::Multicast { .. } => Sender::Client,
+        Packet::Propose { from, .. } => Sender::Group(from),
+    }
+}
+
+fn receiver_of(packet: Packet) -> usize
+    ensures { result ≡ receiver_of packet }
+{
+    match packet {
+        Packet::Multicast { to, .. } => to,
+        Packet::Propose { to, .. } => to,
+    }
 }

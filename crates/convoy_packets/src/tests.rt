@@ -77,6 +77,24 @@ fn lists_the_base(rt: HostRuntime) -> Result<(), Fail> {
 }
 
 #[test]
+fn takes_ranges_of_links(rt: HostRuntime) -> Result<(), Fail> {
+    let links =
+        "[[link]]\nfrom = \"b\"\nto = \"a\"\nleast = 1\nmost = 1\n[[link]]\nto = \"b\"\nleast = 2\nmost = 3\n";
+    let text = format!(in rt.alloc(); "{BASE}{links}")?;
+    let table = PacketTable::of(rt.alloc(), &scenario(&text, rt.alloc())?)?;
+    let by_client = (2, 3);
+    let back = (1, 1);
+    let other = (1, 3);
+    for (i, range) in [by_client, other, by_client, other, back, other, other, back]
+        .iter()
+        .enumerate()
+    {
+        assert_eq!(rt; table.range(i), *range, "at {i}");
+    }
+    Ok(())
+}
+
+#[test]
 fn looks_up_the_base(rt: HostRuntime) -> Result<(), Fail> {
     let table = PacketTable::of(rt.alloc(), &scenario(BASE, rt.alloc())?)?;
     let delays = Delays::least(rt.alloc(), &table)?;

@@ -1,22 +1,23 @@
 -- The draft of a scenario, with names in place of its numbers: it passes the checks, and gives the scenario.
-use Rattle.std.proofs.Common.{◌≡◌, ℕ, pos, ◌+◌, ◌<◌, ◌≤◌, ◌==◌, not, Bool, true, false, leb, le-leb, List, [], ◌∷◌, length, get_or, map, All, None, Ok, refl, ap, sym, subst, ◌∙◌, arith, inl, inr}
+use Rattle.std.proofs.Common.{◌≡◌, ℕ, pos, ◌+◌, ◌<◌, ◌≤◌, ◌==◌, ◌&&◌, not, Bool, true, false, leb, le-leb, List, [], ◌∷◌, length, get_or, map, All, Option, Some, None, Ok, eq-eqb, refl, ap, sym, subst, ◌∙◌, arith, inl, inr}
 use Rattle.std.specs.List.{list_all, list_any, AllByRecursion, IsDistinct}
 use Rattle.std.specs.Str.{bytes_eq}
-use Rattle.std.proofs.lemmas.Bool.{and_from, or_cases, cases_order, eqb-true, both_ways, false≢true}
+use Rattle.std.proofs.lemmas.Bool.{and_parts, and_from, or_cases, cases_order, eqb-true, ne_eqb, both_ways, false≢true, not-true, false_from_ne_true}
 use Rattle.std.proofs.lemmas.List.{length-map, get_or-map}
 use Rattle.std.proofs.lemmas.List.Elements.{All-head, All-tail, All-get_or}
 use Rattle.std.proofs.lemmas.Slice.Eq.{bytes_eq-Decides}
 use Rattle.convoy_scenario.specs.declared.limits.TheConstants.{GREATEST_AT, GREATEST_DELAY, MOST_GROUPS, MOST_MULTICASTS}
 use Rattle.convoy_scenario.specs.declared.sender.Sender.{Sender}
 use Rattle.convoy_scenario.specs.declared.sender.Sender.TheVariants.{Client, Group}
-use Rattle.convoy_scenario.specs.Draft.{DraftMessage}
-use Rattle.convoy_scenario.specs.Scenario.{Scenario, Message, message_at, group_name_at, no_message}
-use Rattle.convoy_scenario.specs.WellFormed.{is_name, is_group_name, IsSender, IsMulticast, IsScenario}
-use Rattle.convoy_scenario.specs.Checks.{Check, checks, judge, is_within, is_count, is_among, all_differ, is_known_sender, knows, is_message, messages_differ, is_target_addressed}
-use Rattle.convoy_scenario.specs.Naming.{sender_name, draft_message, draft_for}
-use Rattle.convoy_scenario.specs.Numbering.{message_place, ticks, sender_of, message_of, scenario_of, scenario_of_draft}
+use Rattle.convoy_scenario.specs.Draft.{DraftLink, DraftMessage}
+use Rattle.convoy_scenario.specs.Scenario.{Scenario, Link, Message, message_at, group_name_at, no_message, is_same_sender}
+use Rattle.convoy_scenario.specs.WellFormed.{is_name, is_group_name, sender_place, is_before, is_whole, follows, ascend_after, IsSender, IsLink, IsMulticast, IsScenario}
+use Rattle.convoy_scenario.specs.Checks.{Check, checks, judge, is_within, is_count, is_among, all_differ, is_known_sender, knows, is_message, messages_differ, is_named_alike, is_same_pair, links_differ, has_range, knows_link, leads_elsewhere, is_target_addressed}
+use Rattle.convoy_scenario.specs.Naming.{sender_name, draft_link, draft_message, draft_for}
+use Rattle.convoy_scenario.specs.Numbering.{message_place, ticks, sender_of, link_of, message_of, in_order, scenario_of, scenario_of_draft}
 use Rattle.convoy_scenario.proofs.LineLaws.{itself, same_bytes}
-use Rattle.convoy_scenario.proofs.NumberedAgain.{any_at, apart, among_at, place_again, numbers_again, Rises, rises, above, among_named}
+use Rattle.convoy_scenario.proofs.NumberedAgain.{any_at, apart, one_place, among_at, place_again, numbers_again, Rises, rises, above, among_named}
+use Rattle.convoy_scenario.proofs.LinkLemmas.{ticks_again, not_itself, before_all, stay}
 use Rattle.convoy_scenario.proofs.PlaceLemmas.{place_within, place_passes, find_place}
 
 -- ---- back to numbers
@@ -25,8 +26,18 @@ sender_again : (plan : Scenario) (s : Sender) → IsDistinct bytes_eq plan.group
 sender_again plan Client distinct is = refl
 sender_again plan (Group g) distinct is = ap (λ n. Group n) (place_again plan.groups g distinct is)
 
-ticks_again : (most t : ℕ) → t ≤ most → ticks most (pos t) ≡ t
-ticks_again most t le = rw (le-leb 0 t (omega arith), le-leb t most le) refl
+link_again : (plan : Scenario) (l : Link) → IsScenario plan → IsLink (length plan.groups) plan.delay l → link_of plan.groups (draft_link plan l) ≡ l
+link_again plan l s is =
+    rw (sender_again plan l.sender s.group_names_differ is.sender, place_again plan.groups l.to s.group_names_differ is.to, ticks_again GREATEST_DELAY l.least (omega (arith, is.ordered, is.high, s.delay_high)), ticks_again GREATEST_DELAY l.most (omega (arith, is.high, s.delay_high))) refl
+
+pub links_again : (plan : Scenario) (ls : List Link) → IsScenario plan → All (IsLink (length plan.groups) plan.delay) ls → map (link_of plan.groups) (map (draft_link plan) ls) ≡ ls
+links_again plan [] s are = refl
+links_again plan (l ∷ ls) s are =
+    rw (link_again plan l s (All-head (IsLink (length plan.groups) plan.delay) l ls are), links_again plan ls s (All-tail (IsLink (length plan.groups) plan.delay) l ls are)) refl
+
+pub none_whole : (groups delay : ℕ) (ls : List Link) → All (IsLink groups delay) ls → AllByRecursion (λ l. is_whole delay l ≡ false) ls
+none_whole groups delay [] are = tt
+none_whole groups delay (l ∷ ls) are = (not-true (is_whole delay l) (All-head (IsLink groups delay) l ls are).partial, none_whole groups delay ls (All-tail (IsLink groups delay) l ls are))
 
 message_again : (plan : Scenario) (m : Message) → IsDistinct bytes_eq plan.groups → IsMulticast (length plan.groups) m → message_of plan.groups (draft_message plan m) ≡ m
 message_again plan m distinct is =
@@ -78,7 +89,47 @@ group_known plan s = known (length plan.groups) plan.target_group (message_at pl
 
 pub draft_again : (plan : Scenario) → IsScenario plan → scenario_of (draft_for plan) ≡ plan
 draft_again plan s =
-    rw (ticks_again GREATEST_DELAY plan.delay s.delay_high, messages_again plan plan.multicasts s.group_names_differ s.messages, target_again plan s, place_again plan.groups plan.target_group s.group_names_differ (group_known plan s)) refl
+    rw (ticks_again GREATEST_DELAY plan.delay s.delay_high, links_again plan plan.links s s.links, stay plan.delay None plan.links s.ascending (none_whole (length plan.groups) plan.delay plan.links s.links), messages_again plan plan.multicasts s.group_names_differ s.messages, target_again plan s, place_again plan.groups plan.target_group s.group_names_differ (group_known plan s)) refl
+
+-- ---- the links
+
+all_links : (plan : Scenario) (p : DraftLink → Bool) (ls : List Link) → All (IsLink (length plan.groups) plan.delay) ls → ((l : Link) → IsLink (length plan.groups) plan.delay l → p (draft_link plan l) ≡ true)
+    → list_all p (map (draft_link plan) ls) ≡ true
+all_links plan p [] are each = refl
+all_links plan p (l ∷ ls) are each =
+    and_from _ _ (each l (All-head (IsLink (length plan.groups) plan.delay) l ls are)) (all_links plan p ls (All-tail (IsLink (length plan.groups) plan.delay) l ls are) each)
+
+-- senders that are written alike are one
+alike : (plan : Scenario) (s t : Sender) → IsDistinct bytes_eq plan.groups → IsSender (length plan.groups) s → IsSender (length plan.groups) t → is_named_alike (sender_name plan s) (sender_name plan t) ≡ true → sender_place s ≡ sender_place t
+alike plan Client Client distinct a b e = refl
+alike plan Client (Group h) distinct a b e = absurd (false≢true e)
+alike plan (Group g) Client distinct a b e = absurd (false≢true e)
+alike plan (Group g) (Group h) distinct a b e = ap (λ n. n + 1) (one_place plan.groups g h distinct a b (same_bytes _ _ e))
+
+-- a link leads between other places than one that comes after it
+other_pair : (plan : Scenario) (l k : Link) → IsDistinct bytes_eq plan.groups → IsLink (length plan.groups) plan.delay l → IsLink (length plan.groups) plan.delay k → is_before l k ≡ true → is_same_pair (draft_link plan l) (draft_link plan k) ≡ false
+other_pair plan l k distinct a b before =
+    false_from_ne_true _ (λ e.
+    let p = and_parts (is_named_alike (sender_name plan l.sender) (sender_name plan k.sender)) (bytes_eq (group_name_at plan l.to) (group_name_at plan k.to)) e in
+    not_itself l k (alike plan l.sender k.sender distinct a.sender b.sender p.0) (one_place plan.groups l.to k.to distinct a.to b.to (same_bytes _ _ p.1)) before)
+
+other_pairs : (plan : Scenario) (l : Link) (ls : List Link) → IsDistinct bytes_eq plan.groups → IsLink (length plan.groups) plan.delay l → All (IsLink (length plan.groups) plan.delay) ls → AllByRecursion (λ k. is_before l k ≡ true) ls
+    → AllByRecursion (λ k. is_same_pair (draft_link plan l) (draft_link plan k) ≡ false) ls
+other_pairs plan l [] distinct a are before = tt
+other_pairs plan l (k ∷ ks) distinct a are before =
+    (other_pair plan l k distinct a (All-head (IsLink (length plan.groups) plan.delay) k ks are) before.0, other_pairs plan l ks distinct a (All-tail (IsLink (length plan.groups) plan.delay) k ks are) before.1)
+
+none_within : (least most delay : ℕ) → 1 ≤ least → least ≤ most → most ≤ delay → (leb 1 least && leb least most && leb most delay) ≡ true
+none_within least most delay low ordered high = rw (le-leb 1 least low, le-leb least most ordered, le-leb most delay high) refl
+
+elsewhere : (plan : Scenario) (l : Link) → IsDistinct bytes_eq plan.groups → IsLink (length plan.groups) plan.delay l → leads_elsewhere (draft_link plan l) ≡ true
+elsewhere plan l distinct is = apart_from l.sender is.sender is.apart where
+  apart_from : (s : Sender) → IsSender (length plan.groups) s → not (is_same_sender s (Group l.to)) ≡ true → not (is_named_alike (sender_name plan s) (Some (group_name_at plan l.to))) ≡ true
+  apart_from Client known other = refl
+  apart_from (Group g) known other =
+      ap not (false_from_ne_true _ (λ e.
+      let same : g ≡ l.to = one_place plan.groups g l.to distinct known is.to (same_bytes _ _ e) in
+      both_ways _ (not-true (g == l.to) other) (eq-eqb g l.to same)))
 
 -- ---- the checks
 
@@ -118,6 +169,16 @@ messages_are plan [] distinct = refl
 messages_are plan (m ∷ ms) distinct =
     and_from _ _ (none_of (λ b. bytes_eq m.name b.name) (map (draft_message plan) ms) (AllByRecursion-map (λ b. bytes_eq m.name b.name ≡ false) (draft_message plan) ms distinct.0)) (messages_are plan ms distinct.1)
 
+links_are : (plan : Scenario) (ls : List Link) → IsDistinct bytes_eq plan.groups → All (IsLink (length plan.groups) plan.delay) ls → (before : Option Link) → ascend_after before ls ≡ true → links_differ (map (draft_link plan) ls) ≡ true
+links_are plan [] distinct are before up = refl
+links_are plan (l ∷ ls) distinct are before up =
+    let others = All-tail (IsLink (length plan.groups) plan.delay) l ls are in
+    let rest = (and_parts (follows before l) (ascend_after (Some l) ls) up).1 in
+    and_from _ _
+    (none_of (is_same_pair (draft_link plan l)) (map (draft_link plan) ls)
+    (AllByRecursion-map (λ k. is_same_pair (draft_link plan l) k ≡ false) (draft_link plan) ls (other_pairs plan l ls distinct (All-head (IsLink (length plan.groups) plan.delay) l ls are) others (before_all l ls rest))))
+    (links_are plan ls distinct others (Some l) rest)
+
 names_known : (groups : List (List ℕ)) (ds : List ℕ) → All (λ d. d < length groups) ds → list_all (λ name. is_among name groups) (map (λ d. get_or groups d []) ds) ≡ true
 names_known groups [] known = refl
 names_known groups (d ∷ ds) known =
@@ -148,8 +209,9 @@ addressed_again plan s =
 pub passes_again : (plan : Scenario) → IsScenario plan → judge (checks (draft_for plan)) ≡ Ok tt
 passes_again plan s =
     let each = all_drafts plan in
+    let links = all_links plan in
     judged (checks (draft_for plan))
-    (within_again 1 GREATEST_DELAY plan.delay s.delay_low s.delay_high, (count_again MOST_GROUPS plan.groups s.groups_low s.groups_high, (rw (length-map plan.multicasts (draft_message plan)) (count_again MOST_MULTICASTS plan.multicasts s.multicasts_low s.multicasts_high), (each (λ m. is_within 0 GREATEST_AT m.at) plan.multicasts s.messages (λ m is. within_again 0 GREATEST_AT m.at (omega arith) is.at), (all_true is_group_name plan.groups s.group_names, (each (λ m. is_name m.name) plan.multicasts s.messages (λ m is. is.name), (differ plan.groups s.group_names_differ, (messages_are plan plan.multicasts s.message_names_differ, (each (knows plan.groups) plan.multicasts s.messages (λ m is. and_from _ _ (sender_known plan m.sender is.sender) (names_known plan.groups m.destinations is.known)), (among_at plan.groups plan.target_group (group_known plan s), (each (λ m. leb 1 (length m.to)) plan.multicasts s.messages (λ m is. rw (length-map m.destinations (group_name_at plan)) (le-leb 1 (length m.destinations) is.destinations)), (each (λ m. all_differ m.to) plan.multicasts s.messages (λ m is. names_differ plan.groups m.destinations 0 s.group_names_differ is.known (rises 0 m.destinations is.ascending (λ some. omega arith))), (is_there plan s, (addressed_again plan s, tt))))))))))))))
+    (within_again 1 GREATEST_DELAY plan.delay s.delay_low s.delay_high, (count_again MOST_GROUPS plan.groups s.groups_low s.groups_high, (rw (length-map plan.multicasts (draft_message plan)) (count_again MOST_MULTICASTS plan.multicasts s.multicasts_low s.multicasts_high), (each (λ m. is_within 0 GREATEST_AT m.at) plan.multicasts s.messages (λ m is. within_again 0 GREATEST_AT m.at (omega arith) is.at), (links (has_range (pos plan.delay)) plan.links s.links (λ l is. none_within l.least l.most plan.delay is.low is.ordered is.high), (all_true is_group_name plan.groups s.group_names, (each (λ m. is_name m.name) plan.multicasts s.messages (λ m is. is.name), (differ plan.groups s.group_names_differ, (messages_are plan plan.multicasts s.message_names_differ, (links_are plan plan.links s.group_names_differ s.links None s.ascending, (each (knows plan.groups) plan.multicasts s.messages (λ m is. and_from _ _ (sender_known plan m.sender is.sender) (names_known plan.groups m.destinations is.known)), (among_at plan.groups plan.target_group (group_known plan s), (links (knows_link plan.groups) plan.links s.links (λ l is. and_from _ _ (sender_known plan l.sender is.sender) (among_at plan.groups l.to is.to)), (each (λ m. leb 1 (length m.to)) plan.multicasts s.messages (λ m is. rw (length-map m.destinations (group_name_at plan)) (le-leb 1 (length m.destinations) is.destinations)), (each (λ m. all_differ m.to) plan.multicasts s.messages (λ m is. names_differ plan.groups m.destinations 0 s.group_names_differ is.known (rises 0 m.destinations is.ascending (λ some. omega arith))), (is_there plan s, (addressed_again plan s, (links leads_elsewhere plan.links s.links (λ l is. elsewhere plan l s.group_names_differ is), tt))))))))))))))))))
 
 pub made_again : (plan : Scenario) → IsScenario plan → scenario_of_draft (draft_for plan) ≡ Ok plan
 made_again plan s = rw (passes_again plan s) (ap (λ (p : Scenario). Ok p) (draft_again plan s))

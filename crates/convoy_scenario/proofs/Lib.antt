@@ -1,5 +1,8 @@
 mod Rows
 pub mod KeyLemmas
+pub mod LinkLemmas
+pub mod LinkPlaces
+pub mod Links
 pub mod NumberLemmas
 pub mod NumberedLemmas
 pub mod GivenScenarios

@@ -46,6 +46,9 @@ delay_word = record { some = omega arith; spaceless = refl; endless = refl }
 pub groups_word : IsWord (codes "groups")
 groups_word = record { some = omega arith; spaceless = refl; endless = refl }
 
+pub link_word : IsWord (codes "link")
+link_word = record { some = omega arith; spaceless = refl; endless = refl }
+
 pub multicast_word : IsWord (codes "multicast")
 multicast_word = record { some = omega arith; spaceless = refl; endless = refl }
 

@@ -1,20 +1,22 @@
 -- A draft that passes all the checks gives a scenario that is well formed.
-use Rattle.std.proofs.Common.{◌≡◌, ℕ, ℤ, subst, leb-true, ◌||◌, pos, negsuc, ◌<◌, ◌≤◌, Bool, true, false, not, cond, nat_le, List, [], ◌∷◌, length, get_or, map, Option, Some, None, Result, Ok, Err, refl, sym}
+use Rattle.std.proofs.Common.{◌≡◌, ℕ, ℤ, int_le, leb, ◌==◌, ◌&&◌, ◌∙◌, ap, arith, subst, leb-true, ◌||◌, pos, negsuc, ◌<◌, ◌≤◌, Bool, true, false, not, cond, nat_le, List, [], ◌∷◌, length, get_or, map, Option, Some, None, Result, Ok, Err, refl, sym}
 use Rattle.std.specs.List.{list_all, list_any, find, AllByRecursion, IsDistinct}
 use Rattle.std.specs.Str.{bytes_eq}
-use Rattle.std.proofs.lemmas.Bool.{and_parts, false≢true}
+use Rattle.std.proofs.lemmas.Bool.{and_parts, eqb-true, false≢true, false_from_ne_true}
 use Rattle.std.proofs.lemmas.List.{length-map, get_or-map}
 use Rattle.std.proofs.Math.Dec.{leb-zero}
-use Rattle.std.proofs.lemmas.List.Elements.{All-map}
+use Rattle.std.proofs.lemmas.List.Elements.{All-map, All-from_recursion}
 use Rattle.std.proofs.lemmas.List.Sums.{AllPass-from_list_all}
 use Rattle.std.proofs.lemmas.Slice.Eq.{bytes_eq-Decides}
 use Rattle.convoy_scenario.specs.declared.fault.ScenarioFault.{ScenarioFault}
 use Rattle.convoy_scenario.specs.declared.limits.TheConstants.{GREATEST_AT, GREATEST_DELAY, MOST_GROUPS, MOST_MULTICASTS}
-use Rattle.convoy_scenario.specs.Scenario.{Message, message_at, no_message}
-use Rattle.convoy_scenario.specs.WellFormed.{is_name, is_group_name, IsSender, IsMulticast, IsScenario}
-use Rattle.convoy_scenario.specs.Draft.{Draft, DraftMessage}
-use Rattle.convoy_scenario.specs.Checks.{is_within, is_count, is_among, all_differ, is_message, messages_differ, is_known_sender, knows, is_target_addressed, checks, judge, Check}
-use Rattle.convoy_scenario.specs.Numbering.{place, message_place, ticks, sender_of, numbers_of, message_of, scenario_of}
+use Rattle.convoy_scenario.specs.Scenario.{Link, Message, message_at, no_message, is_same_sender}
+use Rattle.convoy_scenario.specs.WellFormed.{is_name, is_group_name, is_whole, IsSender, IsLink, IsMulticast, IsScenario}
+use Rattle.convoy_scenario.specs.declared.sender.Sender.TheVariants.{Client, Group}
+use Rattle.convoy_scenario.specs.Draft.{Draft, DraftLink, DraftMessage}
+use Rattle.convoy_scenario.specs.Checks.{is_within, is_count, is_among, all_differ, is_message, messages_differ, is_known_sender, knows, is_named_alike, links_differ, has_range, knows_link, leads_elsewhere, is_target_addressed, checks, judge, Check}
+use Rattle.convoy_scenario.specs.Numbering.{place, message_place, ticks, sender_of, numbers_of, link_of, message_of, in_order, delay_of_draft, links_of_draft, scenario_of}
+use Rattle.convoy_scenario.proofs.LinkLemmas.{ticks_again, in_order_all, in_order_ascends}
 use Rattle.convoy_scenario.proofs.NumberLemmas.{numbers_have, numbers_some, numbers_rise, numbers_below}
 use Rattle.convoy_scenario.proofs.PlaceLemmas.{place_within, find_place, name_at_place}
 
@@ -24,15 +26,18 @@ record Passes (draft : Draft) : Type 0 where
   groups : is_count MOST_GROUPS draft.groups ≡ true
   messages : is_count MOST_MULTICASTS draft.messages ≡ true
   at : list_all (λ m. is_within 0 GREATEST_AT m.at) draft.messages ≡ true
+  ranges : list_all (has_range draft.delay) draft.links ≡ true
   group_names : list_all is_group_name draft.groups ≡ true
   message_names : list_all (λ m. is_name m.name) draft.messages ≡ true
   groups_differ : all_differ draft.groups ≡ true
   messages_differ : messages_differ draft.messages ≡ true
   known : list_all (knows draft.groups) draft.messages ≡ true
+  ends : list_all (knows_link draft.groups) draft.links ≡ true
   target_group : is_among draft.target_group draft.groups ≡ true
   somewhere : list_all (λ m. nat_le 1 (length m.to)) draft.messages ≡ true
   target : is_message draft.target_message draft.messages ≡ true
   addressed : is_target_addressed draft ≡ true
+  elsewhere : list_all leads_elsewhere draft.links ≡ true
 
 next_holds : (b : Bool) (fault : ScenarioFault) (rest : Result (Unit {0}) ScenarioFault) → cond b rest (Err fault) ≡ Ok tt → (b ≡ true) × (rest ≡ Ok tt)
 next_holds true fault rest h = (refl, h)
@@ -47,22 +52,25 @@ all_hold (c ∷ cs) h =
 passes : (draft : Draft) → judge (checks draft) ≡ Ok tt → Passes draft
 passes draft h =
     let a = all_hold (checks draft) h in
-    let b = a.1.1.1.1 in
-    let c = b.1.1.1.1 in
+    let b = a.1.1.1.1.1 in
+    let c = b.1.1.1.1.1 in
     record {
       delay = a.0;
       groups = a.1.0;
       messages = a.1.1.0;
       at = a.1.1.1.0;
+      ranges = a.1.1.1.1.0;
       group_names = b.0;
       message_names = b.1.0;
       groups_differ = b.1.1.0;
       messages_differ = b.1.1.1.0;
       known = c.0;
       target_group = c.1.0;
-      somewhere = c.1.1.0;
-      target = c.1.1.1.1.0;
-      addressed = c.1.1.1.1.1.0;
+      ends = c.1.1.0;
+      somewhere = c.1.1.1.0;
+      target = c.1.1.1.1.1.0;
+      addressed = c.1.1.1.1.1.1.0;
+      elsewhere = c.1.1.1.1.1.1.1.0;
     }
 
 ticks-within : (least most : ℕ) (z : ℤ) → is_within least most z ≡ true → (least ≤ ticks most z) × (ticks most z ≤ most)
@@ -126,6 +134,56 @@ multicast_formed groups message name known some within =
       at = (ticks-within 0 GREATEST_AT message.at within).1;
     }
 
+pub ranged : (least most delay : ℤ) → is_within 1 GREATEST_DELAY delay ≡ true → (int_le (pos 1) least && int_le least most && int_le most delay) ≡ true
+    → (1 ≤ ticks GREATEST_DELAY least) × (ticks GREATEST_DELAY least ≤ ticks GREATEST_DELAY most) × (ticks GREATEST_DELAY most ≤ ticks GREATEST_DELAY delay)
+ranged (pos a) (pos b) (pos d) within h =
+    let p = and_parts (leb 1 d) (leb d GREATEST_DELAY) within in
+    let q = and_parts (leb 1 a && leb a b) (leb b d) h in
+    let r = and_parts (leb 1 a) (leb a b) q.0 in
+    let low = leb-true 1 a r.0 in
+    let ordered = leb-true a b r.1 in
+    let high = leb-true b d q.1 in
+    let top = leb-true d GREATEST_DELAY p.1 in
+    rw (ticks_again GREATEST_DELAY a (omega arith), ticks_again GREATEST_DELAY b (omega arith), ticks_again GREATEST_DELAY d top) (low, ordered, high)
+ranged (negsuc a) most delay within h = absurd (false≢true (and_parts (int_le (pos 1) (negsuc a)) (int_le (negsuc a) most) (and_parts _ (int_le most delay) h).0).0)
+ranged (pos a) (negsuc b) delay within h = absurd (false≢true (and_parts (leb 1 a) (int_le (pos a) (negsuc b)) (and_parts _ (int_le (negsuc b) delay) h).0).1)
+ranged (pos a) (pos b) (negsuc d) within h = absurd (false≢true within)
+
+-- a link that is written between two places leads between two
+parted : (groups : List (List ℕ)) (sender : Option (List ℕ)) (to : List ℕ) → is_known_sender groups sender ≡ true → is_among to groups ≡ true → not (is_named_alike sender (Some to)) ≡ true
+    → not (is_same_sender (sender_of groups sender) (Group (place to groups))) ≡ true
+parted groups None to known among other = refl
+parted groups (Some name) to known among other =
+    ap not (false_from_ne_true _ (λ e.
+    let one : place name groups ≡ place to groups = eqb-true _ _ e in
+    let same : name ≡ to = sym (name_at_place name groups known) ∙ ap (λ g. get_or groups g []) one ∙ name_at_place to groups among in
+    let twice : not (bytes_eq name to) ≡ false = ap not ((bytes_eq-Decides name to).1 same) in
+    false≢true (sym twice ∙ other)))
+
+link_formed : (draft : Draft) (link : DraftLink) → is_within 1 GREATEST_DELAY draft.delay ≡ true → has_range draft.delay link ≡ true → knows_link draft.groups link ≡ true → leads_elsewhere link ≡ true
+    → is_whole (delay_of_draft draft) (link_of draft.groups link) ≡ false → IsLink (length draft.groups) (delay_of_draft draft) (link_of draft.groups link)
+link_formed draft link within range known other part =
+    let ends = and_parts (is_known_sender draft.groups link.sender) (is_among link.to draft.groups) known in
+    let ticks = ranged link.least link.most draft.delay within range in
+    record {
+      sender = sender_known draft.groups link.sender ends.0;
+      to = place_within (bytes_eq link.to) draft.groups ends.1;
+      apart = parted draft.groups link.sender link.to ends.0 ends.1 other;
+      low = ticks.0;
+      ordered = ticks.1;
+      high = ticks.2;
+      partial = ap not part;
+    }
+
+links_formed : (draft : Draft) (links : List DraftLink) → is_within 1 GREATEST_DELAY draft.delay ≡ true → list_all (has_range draft.delay) links ≡ true → list_all (knows_link draft.groups) links ≡ true → list_all leads_elsewhere links ≡ true
+    → AllByRecursion (λ l. is_whole (delay_of_draft draft) l ≡ false → IsLink (length draft.groups) (delay_of_draft draft) l) (map (link_of draft.groups) links)
+links_formed draft [] within ranges known other = tt
+links_formed draft (link ∷ links) within ranges known other =
+    let a = and_parts (has_range draft.delay link) (list_all (has_range draft.delay) links) ranges in
+    let b = and_parts (knows_link draft.groups link) (list_all (knows_link draft.groups) links) known in
+    let c = and_parts (leads_elsewhere link) (list_all leads_elsewhere links) other in
+    (link_formed draft link within a.0 b.0 c.0, links_formed draft links within a.1 b.1 c.1)
+
 -- the first message of the target's name
 target_is : (draft : Draft) (m : DraftMessage) → find (λ message. bytes_eq draft.target_message message.name) draft.messages ≡ Some m → is_target_addressed draft ≡ true → is_among draft.target_group m.to ≡ true
 target_is draft m e h = rw e at h
@@ -164,6 +222,8 @@ scenario_formed draft h =
       multicasts_high = rw numbered (leb-true _ _ messages.1);
       group_names = named;
       group_names_differ = groups_distinct draft.groups p.groups_differ;
+      links = All-from_recursion (IsLink (length draft.groups) (delay_of_draft draft)) (in_order (delay_of_draft draft) (links_of_draft draft)) (in_order_all (IsLink (length draft.groups) (delay_of_draft draft)) (delay_of_draft draft) (links_of_draft draft) (links_formed draft draft.links p.delay p.ranges p.ends p.elsewhere));
+      ascending = in_order_ascends (delay_of_draft draft) (links_of_draft draft);
       message_names_differ = messages_distinct draft.groups draft.messages p.messages_differ;
       messages = All-map (IsMulticast (length draft.groups)) (message_of draft.groups) draft.messages (λ k d within. multicast_formed draft.groups (get_or draft.messages k d) (names k d within) (known k d within) (some k d within) (at k d within));
       target = rw numbered t_within;
@@ -171,12 +231,13 @@ scenario_formed draft h =
     }
 
 -- the same of a scenario that is made part by part, each from a part of the draft or from an equal of it
-pub parts_formed : (draft : Draft) (delay : ℤ) (groups : List (List ℕ)) (messages : List DraftMessage) (message group : List ℕ)
-    → record { delay = delay; groups = groups; messages = messages; target_message = message; target_group = group } ≡ draft
+pub parts_formed : (draft : Draft) (delay : ℤ) (groups : List (List ℕ)) (links : List DraftLink) (messages : List DraftMessage) (message group : List ℕ)
+    → record { delay = delay; groups = groups; links = links; messages = messages; target_message = message; target_group = group } ≡ draft
     → judge (checks draft) ≡ Ok tt
-    → {most : ℕ} {lent lent' : List (List ℕ)} {sent : List DraftMessage} {d t g : ℕ} {multicasts : List Message}
-    → most ≡ GREATEST_DELAY → d ≡ ticks most delay → lent ≡ groups → multicasts ≡ map (message_of lent) messages
+    → {lent lent' linking : List (List ℕ)} {lines : List DraftLink} {linked : List Link} {sent : List DraftMessage} {d t g : ℕ} {multicasts : List Message}
+    → d ≡ ticks GREATEST_DELAY delay → linking ≡ groups → lines ≡ links → linked ≡ in_order d (map (link_of linking) lines)
+    → lent ≡ groups → multicasts ≡ map (message_of lent) messages
     → sent ≡ messages → t ≡ message_place message sent → lent' ≡ groups → g ≡ place group lent'
-    → IsScenario (record { delay = d; groups = groups; multicasts = multicasts; target_message = t; target_group = g })
-parts_formed draft delay groups messages message group seen h a b c d e f i j =
-    rw (b, a, d, c, f, e, j, i) (scenario_formed (record { delay = delay; groups = groups; messages = messages; target_message = message; target_group = group }) (subst (λ (d : Draft). judge (checks d) ≡ Ok tt) (sym seen) h))
+    → IsScenario (record { delay = d; groups = groups; links = linked; multicasts = multicasts; target_message = t; target_group = g })
+parts_formed draft delay groups links messages message group seen h b k l n c d e f i j =
+    rw (n, k, l, b, d, c, f, e, j, i) (scenario_formed (record { delay = delay; groups = groups; links = links; messages = messages; target_message = message; target_group = group }) (subst (λ (d : Draft). judge (checks d) ≡ Ok tt) (sym seen) h))

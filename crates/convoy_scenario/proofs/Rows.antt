@@ -1,12 +1,12 @@
 -- Worked rows: what the definitions of the reader give for some drafts, tables and texts.
-use Rattle.std.proofs.Common.{◌≡◌, refl, true, ℕ, pos, negsuc, List, [], ◌∷◌, Some, None, Ok, Err, codes}
+use Rattle.std.proofs.Common.{◌≡◌, refl, true, ℕ, pos, negsuc, List, [], ◌∷◌, Option, Some, None, Ok, Err, codes}
 use Rattle.toml.specs.Data.{Items, no_items, item, Members, no_members, member, string, integer, boolean, array, table}
-use Rattle.convoy_scenario.specs.declared.fault.ScenarioFault.TheVariants.{Shape, OverLimit, BadName, DoubleName, UnknownGroup, NoDestination, DoubleDestination, UnknownTarget, TargetNotAddressed}
+use Rattle.convoy_scenario.specs.declared.fault.ScenarioFault.TheVariants.{Shape, OverLimit, BadName, DoubleName, UnknownGroup, NoDestination, DoubleDestination, UnknownTarget, TargetNotAddressed, LinkToItself}
 use Rattle.convoy_scenario.specs.declared.fault.Key.TheVariants as key
 use Rattle.convoy_scenario.specs.declared.fault.Limit.TheVariants as limit
 use Rattle.convoy_scenario.specs.declared.sender.Sender.TheVariants.{Client, Group}
-use Rattle.convoy_scenario.specs.Scenario.{Scenario}
-use Rattle.convoy_scenario.specs.Draft.{Draft}
+use Rattle.convoy_scenario.specs.Scenario.{Scenario, range_between}
+use Rattle.convoy_scenario.specs.Draft.{Draft, DraftLink}
 use Rattle.convoy_scenario.specs.Numbering.{scenario_of_draft}
 use Rattle.convoy_scenario.specs.Reading.{input_of_table, scenario_of_table}
 
@@ -15,6 +15,7 @@ abbrev base : Draft
 base = record {
   delay = pos 3;
   groups = codes "a" ∷ codes "b" ∷ [];
+  links = [];
   messages =
       record { name = codes "x"; sender = None; to = codes "b" ∷ []; at = pos 0 }
       ∷ record { name = codes "t"; sender = None; to = codes "b" ∷ codes "a" ∷ []; at = pos 0 }
@@ -28,6 +29,7 @@ abbrev base_scenario : Scenario
 base_scenario = record {
   delay = 3;
   groups = codes "a" ∷ codes "b" ∷ [];
+  links = [];
   multicasts =
       record { name = codes "x"; sender = Client; destinations = 1 ∷ []; at = 0 }
       ∷ record { name = codes "t"; sender = Client; destinations = 0 ∷ 1 ∷ []; at = 0 }
@@ -109,6 +111,7 @@ odd = member (codes "zone") (boolean true) no_members
 table_read : scenario_of_table (top (one (message_table no_members)) (target_table no_members) no_members) ≡ Ok (record {
   delay = 3;
   groups = codes "a" ∷ [];
+  links = [];
   multicasts = record { name = codes "t"; sender = Client; destinations = 0 ∷ []; at = 0 } ∷ [];
   target_message = 0;
   target_group = 0;
@@ -144,6 +147,7 @@ schedule_given : input_of_table (top (one (message_table no_members)) (target_ta
   scenario = record {
     delay = 3;
     groups = codes "a" ∷ [];
+    links = [];
     multicasts = record { name = codes "t"; sender = Client; destinations = 0 ∷ []; at = 0 } ∷ [];
     target_message = 0;
     target_group = 0;
@@ -169,3 +173,56 @@ schedule_before_limits = refl
 
 no_multicast : scenario_of_table (top no_items (target_table no_members) no_members) ≡ Err (OverLimit limit.Multicasts)
 no_multicast = refl
+
+-- ---- links
+
+-- the base with these links
+abbrev linked : List DraftLink → Draft
+linked links = record base { links = links }
+
+-- from a client or a group to a group, with a range
+abbrev link : Option (List ℕ) → List ℕ → ℕ → ℕ → DraftLink
+link sender to least most = record { sender = sender; to = to; least = pos least; most = pos most }
+
+links_numbered : scenario_of_draft (linked (link (Some (codes "b")) (codes "a") 1 1 ∷ link (Some (codes "a")) (codes "b") 1 3 ∷ link None (codes "b") 2 3 ∷ [])) ≡ Ok (record base_scenario {
+  links = record { sender = Client; to = 1; least = 2; most = 3 } ∷ record { sender = Group 1; to = 0; least = 1; most = 1 } ∷ [];
+})
+links_numbered = refl
+
+link_beyond : scenario_of_draft (linked (link (Some (codes "b")) (codes "a") 1 4 ∷ [])) ≡ Err (OverLimit limit.Link)
+link_beyond = refl
+
+link_turned : scenario_of_draft (linked (link (Some (codes "c")) (codes "c") 3 2 ∷ [])) ≡ Err (OverLimit limit.Link)
+link_turned = refl
+
+link_twice : scenario_of_draft (linked (link None (codes "c") 1 2 ∷ link None (codes "c") 1 1 ∷ [])) ≡ Err DoubleName
+link_twice = refl
+
+link_of_client_by_name : scenario_of_draft (linked (link (Some (codes "client")) (codes "a") 1 2 ∷ [])) ≡ Err UnknownGroup
+link_of_client_by_name = refl
+
+link_to_nowhere : scenario_of_draft (linked (link None (codes "c") 1 2 ∷ [])) ≡ Err UnknownGroup
+link_to_nowhere = refl
+
+link_to_itself : scenario_of_draft (linked (link (Some (codes "a")) (codes "a") 1 2 ∷ [])) ≡ Err LinkToItself
+link_to_itself = refl
+
+ranges_between : (range_between (record base_scenario { links = record { sender = Client; to = 1; least = 2; most = 3 } ∷ record { sender = Group 1; to = 0; least = 1; most = 1 } ∷ [] }) (Group 1) 0 ≡ (1, 1))
+    × (range_between (record base_scenario { links = record { sender = Client; to = 1; least = 2; most = 3 } ∷ record { sender = Group 1; to = 0; least = 1; most = 1 } ∷ [] }) (Group 0) 1 ≡ (1, 3))
+ranges_between = (refl, refl)
+
+-- the members of links, after those of a scenario of one message
+abbrev links_given : Items → Members
+links_given links = top (one (message_table no_members)) (target_table no_members) (member (codes "link") (array links) no_members)
+
+link_no_table : scenario_of_table (links_given (item (table odd) (item (boolean true) no_items))) ≡ Err (Shape key.Link)
+link_no_table = refl
+
+link_without_most : scenario_of_table (links_given (one (member (codes "least") (integer (pos 1)) (member (codes "to") (string (codes "a")) odd)))) ≡ Err (Shape key.Most)
+link_without_most = refl
+
+link_after_target : scenario_of_table (top no_items (target_table odd) (member (codes "link") (boolean true) no_members)) ≡ Err (Shape key.Unknown)
+link_after_target = refl
+
+link_before_schedule : scenario_of_table (top no_items (target_table no_members) (member (codes "link") (array (one odd)) (member (codes "schedule") (boolean true) odd))) ≡ Err (Shape key.To)
+link_before_schedule = refl

@@ -7,29 +7,34 @@ use Rattle.std.proofs.lemmas.List.Elements.{All-head, All-tail, All-cons, All-ge
 use Rattle.std.proofs.lemmas.Slice.Eq.{slice_eq-Decides, bytes_eq-Decides}
 use Rattle.std.proofs.lemmas.Str.{IsUtf8-from_ascii, is_utf8-from_IsUtf8}
 use Rattle.std.specs.Str.{IsAscii}
-use Rattle.convoy_scenario.specs.declared.limits.TheConstants.{MOST_MULTICASTS}
+use Rattle.convoy_scenario.specs.declared.limits.TheConstants.{GREATEST_DELAY, MOST_MULTICASTS}
 use Rattle.convoy_scenario.specs.declared.line_fault.Expected.{Expected}
-use Rattle.convoy_scenario.specs.declared.line_fault.Expected.TheVariants.{Delay, Groups, Target}
+use Rattle.convoy_scenario.specs.declared.line_fault.Expected.TheVariants.{Delay, Groups, Link, Multicast, Target}
 use Rattle.convoy_scenario.specs.declared.line_fault.LineFault.{LineFault}
+use Rattle.convoy_scenario.specs.declared.version.Version.{Version}
+use Rattle.convoy_scenario.specs.declared.version.Version.TheVariants.{One, Two}
 use Rattle.convoy_scenario.specs.declared.sender.Sender.{Sender}
 use Rattle.convoy_scenario.specs.declared.sender.Sender.TheVariants.{Client, Group}
+use Rattle.convoy_scenario.specs.Scenario as plans
 use Rattle.convoy_scenario.specs.Scenario.{Scenario, Message, message_at, group_name_at, no_message}
-use Rattle.convoy_scenario.specs.WellFormed.{is_letter, is_digit, is_name_byte, is_name, is_group_name, client_word, IsSender, IsMulticast, IsScenario}
+use Rattle.convoy_scenario.specs.WellFormed.{is_letter, is_digit, is_name_byte, is_name, is_group_name, client_word, IsSender, IsLink, IsMulticast, IsScenario}
 use Rattle.convoy_scenario.specs.Checks.{is_among}
-use Rattle.convoy_scenario.specs.Numbering.{scenario_of_draft}
-use Rattle.convoy_scenario.specs.Lines.{sender_word, delay_line, groups_line, multicast_line, target_line, scenario_lines}
+use Rattle.convoy_scenario.specs.Laws.{CanSay}
+use Rattle.convoy_scenario.specs.Numbering.{link_of, links_of_draft, scenario_of_draft}
+use Rattle.convoy_scenario.specs.Lines.{sender_word, delay_line, groups_line, link_line, multicast_line, target_line, scenario_lines}
 use Rattle.convoy_lines.specs.Labels.{greatest_number, begins_with, number_in}
-use Rattle.convoy_scenario.specs.LineForms.{name_of, named_sender, groups_in, multicast_in, target_in}
+use Rattle.convoy_scenario.specs.LineForms.{name_of, named_sender, greatest_delay_number, groups_in, link_in, multicast_in, target_in}
 use Rattle.convoy_lines.specs.Words.{Lacks, words_of}
 use Rattle.convoy_lines.specs.Results.{◌>>=◌}
-use Rattle.convoy_lines.specs.Places.{Place}
-use Rattle.convoy_scenario.specs.LineReading.{form_at, is_multicast_due, messages_in, messages_at, draft_of, told, is_ordered, first_unordered, where_ordered, scenario_at}
-use Rattle.convoy_scenario.specs.Naming.{draft_for, draft_message, sender_name}
-use Rattle.convoy_scenario.proofs.DraftAgain.{made_again}
+use Rattle.convoy_lines.specs.Places.{Place, upcoming}
+use Rattle.convoy_scenario.specs.LineReading.{form_at, is_link_due, links_in, links_at, first_misplaced_link, is_multicast_due, messages_in, messages_at, draft_of, told, is_ordered, first_unordered, where_ordered, scenario_at}
+use Rattle.convoy_scenario.specs.Naming.{draft_for, draft_link, draft_message, sender_name}
+use Rattle.convoy_scenario.proofs.DraftAgain.{links_again, made_again, none_whole}
+use Rattle.convoy_scenario.proofs.LinkLemmas.{ticks_again, none_misplaced}
 use Rattle.convoy_scenario.proofs.NumberedAgain.{numbers_again}
-use Rattle.convoy_scenario.proofs.ScenarioTakes.{named, count_lines}
+use Rattle.convoy_scenario.proofs.ScenarioTakes.{named, count_lines, lines_before, after_delay, after_groups, after_links, after_messages, after_target}
 use Rattle.convoy_lines.specs.Laws.{IsWord}
-use Rattle.convoy_scenario.proofs.LineLaws.{LineLaws, AreWords, AreLines, delay_word, groups_word, multicast_word, target_word, number_again, decimal_word, words_again, line_made, label_again, number_line_again}
+use Rattle.convoy_scenario.proofs.LineLaws.{LineLaws, AreWords, AreLines, delay_word, groups_word, link_word, multicast_word, target_word, number_again, decimal_word, words_again, line_made, label_again, number_line_again}
 
 -- ---- names are words
 
@@ -113,6 +118,19 @@ module _ (laws : LineLaws) where
       let n = group_name (group_name_at plan g) (All-get_or (λ name. is_group_name name ≡ true) plan.groups g [] is all) in
       (name_word (group_name_at plan g) n.0, rw (n.1, name_again (group_name_at plan g) n.0) refl)
 
+  link_words : (plan : Scenario) (l : plans.Link) → IsScenario plan → IsLink (length plan.groups) plan.delay l → AreWords (sender_word plan l.sender ∷ group_name_at plan l.to ∷ decimal l.least ∷ decimal l.most ∷ [])
+  link_words plan l s is =
+      let to = group_name (group_name_at plan l.to) (All-get_or (λ name. is_group_name name ≡ true) plan.groups l.to [] is.to s.group_names) in
+      let sender = sender_is plan l.sender s.group_names is.sender in
+      (sender.0, (name_word (group_name_at plan l.to) to.0, (decimal_word laws l.least (omega (arith, is.ordered, is.high, s.delay_high)), (decimal_word laws l.most (omega (arith, is.high, s.delay_high)), tt))))
+
+  link_line_again : (plan : Scenario) (l : plans.Link) → IsScenario plan → IsLink (length plan.groups) plan.delay l → link_in (link_line plan l) ≡ Some (draft_link plan l)
+  link_line_again plan l s is =
+      let to = group_name (group_name_at plan l.to) (All-get_or (λ name. is_group_name name ≡ true) plan.groups l.to [] is.to s.group_names) in
+      let sender = sender_is plan l.sender s.group_names is.sender in
+      let words = label_again laws (codes "link") (sender_word plan l.sender ∷ group_name_at plan l.to ∷ decimal l.least ∷ decimal l.most ∷ []) link_word (link_words plan l s is) in
+      rw (words, number_again laws greatest_delay_number l.least (omega arith) (omega (arith, is.ordered, is.high, s.delay_high)), number_again laws greatest_delay_number l.most (omega arith) (omega (arith, is.high, s.delay_high)), sender.1, name_again (group_name_at plan l.to) to.0) refl
+
   pub message_line_again : (plan : Scenario) (m : Message) → IsScenario plan → IsMulticast (length plan.groups) m → multicast_in (multicast_line plan m) ≡ Some (draft_message plan m)
   message_line_again plan m s is =
       let sender = sender_is plan m.sender s.group_names is.sender in
@@ -158,6 +176,58 @@ module _ (laws : LineLaws) where
       let words = words_again laws (codes "target") ((message_at plan plan.target_message).name ∷ group_name_at plan plan.target_group ∷ []) target_word (name_word _ m, (name_word _ g.0, tt)) in
       or_from (n == 0) (begins_with (codes "multicast") (words_of (target_line plan))) (ne_eqb n 0 (λ e. omega arith)) (ap (begins_with (codes "multicast")) words)
 
+  -- a line `multicast` is no line `link`
+  no_link : (plan : Scenario) (m : Message) → IsScenario plan → IsMulticast (length plan.groups) m → (version : Version) → is_link_due version (multicast_line plan m) ≡ false
+  no_link plan m s is One = refl
+  no_link plan m s is Two =
+      let sender = sender_is plan m.sender s.group_names is.sender in
+      let to = names_words (map (group_name_at plan) m.destinations) (at_numbers plan.groups m.destinations s.group_names is.known) in
+      ap (begins_with (codes "link")) (words_again laws (codes "multicast") (m.name ∷ sender_word plan m.sender ∷ decimal m.at ∷ map (group_name_at plan) m.destinations) multicast_word
+      (name_word m.name is.name, (sender.0, (decimal_word laws m.at (omega (arith, is.at)), to.0))))
+
+  -- the first line after those of the links
+  none_due : (plan : Scenario) (ms : List Message) (t : List ℕ) (more : List (List ℕ)) (rest : List ℕ) (number : ℕ) (version : Version) → IsScenario plan → All (IsMulticast (length plan.groups)) ms → 1 ≤ length ms
+      → is_link_due version (upcoming (record { ended = map (multicast_line plan) ms ++ t ∷ more; rest = rest; number = number })) ≡ false
+  none_due plan [] t more rest number version s are some = absurd (omega arith)
+  none_due plan (m ∷ ms) t more rest number version s are some = no_link plan m s (All-head (IsMulticast (length plan.groups)) m ms are) version
+
+  over : (version : Version) (number : ℕ) (rest : List ℕ) (lines : List (List ℕ)) → is_link_due version (upcoming (record { ended = lines; rest = rest; number = number })) ≡ false
+      → links_in version number rest lines ≡ Ok ([], record { ended = lines; rest = rest; number = number })
+  unfolding links_in
+  over version number rest [] other = rw other refl
+  over version number rest (line ∷ lines) other = rw other refl
+
+  link_begins : (plan : Scenario) (l : plans.Link) → IsScenario plan → IsLink (length plan.groups) plan.delay l → is_link_due Two (link_line plan l) ≡ true
+  link_begins plan l s is =
+      ap (begins_with (codes "link")) (words_again laws (codes "link") (sender_word plan l.sender ∷ group_name_at plan l.to ∷ decimal l.least ∷ decimal l.most ∷ []) link_word (link_words plan l s is))
+
+  lines_of_links : (plan : Scenario) (ls : List plans.Link) (lines : List (List ℕ)) (rest : List ℕ) (number : ℕ) → IsScenario plan → All (IsLink (length plan.groups) plan.delay) ls
+      → ((n : ℕ) → is_link_due Two (upcoming (record { ended = lines; rest = rest; number = n })) ≡ false)
+      → links_in Two number rest (map (link_line plan) ls ++ lines) ≡ Ok (map (draft_link plan) ls, record { ended = lines; rest = rest; number = number + length ls })
+  unfolding links_in
+  lines_of_links plan [] lines rest number s are other =
+      let e : number + 0 ≡ number = omega arith in
+      rw e (over Two number rest lines (other number))
+  lines_of_links plan (l ∷ ls) lines rest number s are other =
+      let is = All-head (IsLink (length plan.groups) plan.delay) l ls are in
+      let e : number + suc (length ls) ≡ (number + 1) + length ls = omega arith in
+      rw (link_begins plan l s is, link_line_again plan l s is, lines_of_links plan ls lines rest (number + 1) s (All-tail (IsLink (length plan.groups) plan.delay) l ls are) other, e) refl
+
+  pub links_read : (version : Version) (plan : Scenario) (t : List ℕ) (more : List (List ℕ)) (rest : List ℕ) (number : ℕ) → IsScenario plan → CanSay version plan
+      → links_in version number rest (map (link_line plan) plan.links ++ (map (multicast_line plan) plan.multicasts ++ t ∷ more))
+      ≡ Ok (map (draft_link plan) plan.links, record { ended = map (multicast_line plan) plan.multicasts ++ t ∷ more; rest = rest; number = number + length plan.links })
+  links_read One plan t more rest number s none =
+      let lines = map (multicast_line plan) plan.multicasts ++ t ∷ more in
+      let e : number + 0 ≡ number = omega arith in
+      rw (none, e) (over One number rest lines refl)
+  links_read Two plan t more rest number s any =
+      lines_of_links plan plan.links (map (multicast_line plan) plan.multicasts ++ t ∷ more) rest number s s.links (λ n. none_due plan plan.multicasts t more rest n Two s s.messages s.multicasts_low)
+
+  -- no link is out of order
+  none_astray : (plan : Scenario) (number : ℕ) → IsScenario plan → first_misplaced_link number (draft_for plan) ≡ None
+  none_astray plan number s =
+      rw (ticks_again GREATEST_DELAY plan.delay s.delay_high, links_again plan plan.links s s.links) (none_misplaced plan.delay None number plan.links s.ascending (none_whole (length plan.groups) plan.delay plan.links s.links))
+
   messages_again : (plan : Scenario) (ms : List Message) (t : List ℕ) (more : List (List ℕ)) (rest : List ℕ) (count number : ℕ) → IsScenario plan → All (IsMulticast (length plan.groups)) ms
       → ((n : ℕ) → 0 < n → is_multicast_due n t ≡ false) → count + length ms ≤ MOST_MULTICASTS → 0 < count + length ms
       → messages_in count number rest (map (multicast_line plan) ms ++ t ∷ more) ≡ Ok (map (draft_message plan) ms, record { ended = t ∷ more; rest = rest; number = number + length ms })
@@ -179,39 +249,42 @@ module _ (laws : LineLaws) where
       → form_at expected form (record { ended = line ∷ lines; rest = rest; number = number }) ≡ Ok (x, record { ended = lines; rest = rest; number = number + 1 })
   form_again expected form number rest line lines x e = rw e refl
 
-  pub scenario_again : (plan : Scenario) (number : ℕ) (rest : List ℕ) (more : List (List ℕ)) → IsScenario plan → plan.target_group < length plan.groups
-      → scenario_at (record { ended = scenario_lines plan ++ more; rest = rest; number = number }) ≡ Ok (plan, record { ended = more; rest = rest; number = number + length (scenario_lines plan) })
+  pub scenario_again : (version : Version) (plan : Scenario) (number : ℕ) (rest : List ℕ) (more : List (List ℕ)) → IsScenario plan → CanSay version plan → plan.target_group < length plan.groups
+      → scenario_at version (record { ended = scenario_lines plan ++ more; rest = rest; number = number }) ≡ Ok (plan, record { ended = more; rest = rest; number = number + length (scenario_lines plan) })
   unfolding scenario_at
-  scenario_again plan number rest more s within =
+  scenario_again version plan number rest more s said within =
       let ms = map (draft_message plan) plan.multicasts in
+      let ls = map (draft_link plan) plan.links in
       let target : List ℕ × List ℕ = ((message_at plan plan.target_message).name, group_name_at plan plan.target_group) in
       let count = length plan.multicasts in
+      let many = length plan.links in
       let lines : List (List ℕ) = map (multicast_line plan) plan.multicasts ++ target_line plan ∷ more in
-      let p0 : Place = record { ended = delay_line plan ∷ groups_line plan ∷ lines; rest = rest; number = number } in
-      let p1 : Place = record { ended = groups_line plan ∷ lines; rest = rest; number = number + 1 } in
-      let p2 : Place = record { ended = lines; rest = rest; number = number + 1 + 1 } in
-      let p3 : Place = record { ended = target_line plan ∷ more; rest = rest; number = number + 1 + 1 + count } in
-      let p4 : Place = record { ended = more; rest = rest; number = number + 1 + 1 + count + 1 } in
+      let linked : List (List ℕ) = map (link_line plan) plan.links ++ lines in
+      let p0 : Place = record { ended = delay_line plan ∷ groups_line plan ∷ linked; rest = rest; number = number } in
+      let p1 : Place = record { ended = groups_line plan ∷ linked; rest = rest; number = number + 1 } in
+      let p2 : Place = record { ended = linked; rest = rest; number = number + 1 + 1 } in
+      let p3 : Place = record { ended = lines; rest = rest; number = number + 1 + 1 + many } in
+      let p4 : Place = record { ended = target_line plan ∷ more; rest = rest; number = number + 1 + 1 + many + count } in
+      let p5 : Place = record { ended = more; rest = rest; number = number + 1 + 1 + many + count + 1 } in
       let start : record { ended = scenario_lines plan ++ more; rest = rest; number = number } ≡ p0 =
-      ap (λ (ls : List (List ℕ)). record { ended = delay_line plan ∷ groups_line plan ∷ ls; rest = rest; number = number }) (append_assoc (map (multicast_line plan) plan.multicasts) (target_line plan ∷ []) more) in
-      let read : scenario_at p0 ≡ Ok (plan, p4) =
-      then_ok (form_at Delay (number_in (codes "delay")) p0) (λ delay. form_at Groups groups_in delay.1 >>= λ groups. messages_at 0 groups.1 >>= λ messages. form_at Target target_in messages.1 >>= λ target.
-      told (scenario_of_draft (draft_of delay.0 groups.0 messages.0 target.0)) >>= λ plan. where_ordered (first_unordered groups.0 groups.1.number messages.0) plan >>= λ ordered. Ok (ordered, target.1))
-      (plan.delay, p1) (Ok (plan, p4)) (form_again Delay (number_in (codes "delay")) number rest (delay_line plan) (groups_line plan ∷ lines) plan.delay (delay_again plan s))
-      (then_ok (form_at Groups groups_in p1) (λ groups. messages_at 0 groups.1 >>= λ messages. form_at Target target_in messages.1 >>= λ target.
-      told (scenario_of_draft (draft_of plan.delay groups.0 messages.0 target.0)) >>= λ plan. where_ordered (first_unordered groups.0 groups.1.number messages.0) plan >>= λ ordered. Ok (ordered, target.1))
-      (plan.groups, p2) (Ok (plan, p4)) (form_again Groups groups_in (number + 1) rest (groups_line plan) lines plan.groups (groups_again plan s))
-      (then_ok (messages_at 0 p2) (λ messages. form_at Target target_in messages.1 >>= λ target.
-      told (scenario_of_draft (draft_of plan.delay plan.groups messages.0 target.0)) >>= λ plan'. where_ordered (first_unordered plan.groups p2.number messages.0) plan' >>= λ ordered. Ok (ordered, target.1))
-      (ms, p3) (Ok (plan, p4)) (messages_again plan plan.multicasts (target_line plan) more rest 0 (number + 1 + 1) s s.messages (not_due plan s within) (omega (arith, s.multicasts_high)) (omega (arith, s.multicasts_low)))
-      (then_ok (form_at Target target_in p3) (λ target.
-      told (scenario_of_draft (draft_of plan.delay plan.groups ms target.0)) >>= λ plan'. where_ordered (first_unordered plan.groups p2.number ms) plan' >>= λ ordered. Ok (ordered, target.1))
-      (target, p4) (Ok (plan, p4)) (form_again Target target_in p3.number rest (target_line plan) more target (target_line_again plan s within))
-      (then_ok (told (scenario_of_draft (draft_for plan))) (λ plan'. where_ordered (first_unordered plan.groups p2.number ms) plan' >>= λ ordered. Ok (ordered, p4))
-      plan (Ok (plan, p4)) (ap told (made_again plan s))
-      (ap (λ o. where_ordered o plan >>= λ ordered. Ok (ordered, p4)) (none_unordered plan p2.number plan.multicasts s s.messages)))))) in
-      let past : p4.number ≡ number + length (scenario_lines plan) = omega (arith, count_lines plan) in
-      ap scenario_at start ∙ read ∙ ap (λ n. Ok (plan, record { ended = more; rest = rest; number = n })) past
+      ap (λ (ls : List (List ℕ)). record { ended = ls; rest = rest; number = number }) (lines_before plan more) in
+      let read : scenario_at version p0 ≡ Ok (plan, p5) =
+      then_ok (form_at Delay (number_in (codes "delay")) p0) (after_delay version)
+      (plan.delay, p1) (Ok (plan, p5)) (form_again Delay (number_in (codes "delay")) number rest (delay_line plan) (groups_line plan ∷ linked) plan.delay (delay_again plan s))
+      (then_ok (form_at Groups groups_in p1) (after_groups version plan.delay)
+      (plan.groups, p2) (Ok (plan, p5)) (form_again Groups groups_in (number + 1) rest (groups_line plan) linked plan.groups (groups_again plan s))
+      (then_ok (links_at version p2) (after_links plan.delay p2.number plan.groups)
+      (ls, p3) (Ok (plan, p5)) (links_read version plan (target_line plan) more rest (number + 1 + 1) s said)
+      (then_ok (messages_at 0 p3) (after_messages plan.delay p2.number plan.groups ls p3.number)
+      (ms, p4) (Ok (plan, p5)) (messages_again plan plan.multicasts (target_line plan) more rest 0 p3.number s s.messages (not_due plan s within) (omega (arith, s.multicasts_high)) (omega (arith, s.multicasts_low)))
+      (then_ok (form_at Target target_in p4) (after_target plan.delay p2.number plan.groups ls p3.number ms)
+      (target, p5) (Ok (plan, p5)) (form_again Target target_in p4.number rest (target_line plan) more target (target_line_again plan s within))
+      (then_ok (told (scenario_of_draft (draft_for plan))) (λ plan'. where_ordered Link (first_misplaced_link p2.number (draft_for plan)) plan' >>= λ linked. where_ordered Multicast (first_unordered plan.groups p3.number ms) linked >>= λ ordered. Ok (ordered, p5))
+      plan (Ok (plan, p5)) (ap told (made_again plan s))
+      (ap (λ o. where_ordered Link o plan >>= λ linked. where_ordered Multicast (first_unordered plan.groups p3.number ms) linked >>= λ ordered. Ok (ordered, p5)) (none_astray plan p2.number s)
+      ∙ ap (λ o. where_ordered Multicast o plan >>= λ ordered. Ok (ordered, p5)) (none_unordered plan p3.number plan.multicasts s s.messages))))))) in
+      let past : p5.number ≡ number + length (scenario_lines plan) = omega (arith, count_lines plan) in
+      ap (scenario_at version) start ∙ read ∙ ap (λ n. Ok (plan, record { ended = more; rest = rest; number = n })) past
 
   -- ---- no line has a byte 10 in it
 
@@ -230,6 +303,12 @@ module _ (laws : LineLaws) where
         message_lines plan ms s (All-tail (IsMulticast (length plan.groups)) m ms are),
       )
 
+  link_lines : (plan : Scenario) (ls : List plans.Link) → IsScenario plan → All (IsLink (length plan.groups) plan.delay) ls → AreLines (map (link_line plan) ls)
+  link_lines plan [] s are = tt
+  link_lines plan (l ∷ ls) s are =
+      let is = All-head (IsLink (length plan.groups) plan.delay) l ls are in
+      (line_made laws (codes "link") (sender_word plan l.sender ∷ group_name_at plan l.to ∷ decimal l.least ∷ decimal l.most ∷ []) link_word (link_words plan l s is), link_lines plan ls s (All-tail (IsLink (length plan.groups) plan.delay) l ls are))
+
   pub scenario_lines_are : (plan : Scenario) → IsScenario plan → plan.target_group < length plan.groups → AreLines (scenario_lines plan)
   scenario_lines_are plan s within =
       let m = target_name_is plan s in
@@ -238,6 +317,7 @@ module _ (laws : LineLaws) where
         line_made laws (codes "delay") (decimal plan.delay ∷ []) delay_word (decimal_word laws plan.delay (omega (arith, s.delay_high)), tt),
         (
           line_made laws (codes "groups") plan.groups groups_word (names_words plan.groups s.group_names).0,
-          lines_append (map (multicast_line plan) plan.multicasts) (target_line plan ∷ []) (message_lines plan plan.multicasts s s.messages) (target, tt),
+          lines_append (map (link_line plan) plan.links) (map (multicast_line plan) plan.multicasts ++ target_line plan ∷ []) (link_lines plan plan.links s s.links)
+              (lines_append (map (multicast_line plan) plan.multicasts) (target_line plan ∷ []) (message_lines plan plan.multicasts s s.messages) (target, tt)),
         ),
       )

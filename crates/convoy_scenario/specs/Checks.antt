@@ -3,10 +3,10 @@ use Rattle.std.specs.Prelude.{ℕ, ℤ, pos, int_le, Bool, true, false, ◌&&◌
 use Rattle.std.specs.List.{list_all, list_any}
 use Rattle.std.specs.Str.{bytes_eq}
 use Rattle.convoy_scenario.specs.declared.fault.ScenarioFault.{ScenarioFault}
-use Rattle.convoy_scenario.specs.declared.fault.ScenarioFault.TheVariants.{OverLimit, BadName, DoubleName, UnknownGroup, NoDestination, DoubleDestination, UnknownTarget, TargetNotAddressed}
-use Rattle.convoy_scenario.specs.declared.fault.Limit.TheVariants.{Delay, Groups, Multicasts, At}
+use Rattle.convoy_scenario.specs.declared.fault.ScenarioFault.TheVariants.{OverLimit, BadName, DoubleName, UnknownGroup, NoDestination, DoubleDestination, UnknownTarget, TargetNotAddressed, LinkToItself}
+use Rattle.convoy_scenario.specs.declared.fault.Limit.TheVariants.{Delay, Groups, Multicasts, At, Link}
 use Rattle.convoy_scenario.specs.declared.limits.TheConstants.{GREATEST_AT, GREATEST_DELAY, MOST_GROUPS, MOST_MULTICASTS}
-use Rattle.convoy_scenario.specs.Draft.{Draft, DraftMessage}
+use Rattle.convoy_scenario.specs.Draft.{Draft, DraftLink, DraftMessage}
 use Rattle.convoy_scenario.specs.WellFormed.{is_name, is_group_name}
 
 -- a number from the least to the most
@@ -44,6 +44,34 @@ abbrev pub messages_differ : List DraftMessage → Bool
 messages_differ [] = true
 messages_differ (message ∷ rest) = not (is_message message.name rest) && messages_differ rest
 
+-- the two are written as one sender
+abbrev pub is_named_alike : Option (List ℕ) → Option (List ℕ) → Bool
+is_named_alike None None = true
+is_named_alike (Some name) (Some other) = bytes_eq name other
+is_named_alike None (Some other) = false
+is_named_alike (Some name) None = false
+
+-- the two links lead from one sender to one group
+abbrev pub is_same_pair : DraftLink → DraftLink → Bool
+is_same_pair link other = is_named_alike link.sender other.sender && bytes_eq link.to other.to
+
+-- no two of the links lead from one sender to one group
+abbrev pub links_differ : List DraftLink → Bool
+links_differ [] = true
+links_differ (link ∷ rest) = not (list_any (is_same_pair link) rest) && links_differ rest
+
+-- the link has a range, which is within 1 to D
+abbrev pub has_range : ℤ → DraftLink → Bool
+has_range delay link = int_le (pos 1) link.least && int_le link.least link.most && int_le link.most delay
+
+-- both ends of the link are among the groups
+abbrev pub knows_link : List (List ℕ) → DraftLink → Bool
+knows_link groups link = is_known_sender groups link.sender && is_among link.to groups
+
+-- the link leads to another place than its sender
+abbrev pub leads_elsewhere : DraftLink → Bool
+leads_elsewhere link = not (is_named_alike link.sender (Some link.to))
+
 -- the first message of the target's name goes to the target's group
 abbrev pub is_target_addressed : Draft → Bool
 is_target_addressed draft = goes (find (λ message. bytes_eq draft.target_message message.name) draft.messages) where
@@ -62,6 +90,7 @@ limit_checks draft =
     ∷ (is_count MOST_GROUPS draft.groups, OverLimit Groups)
     ∷ (is_count MOST_MULTICASTS draft.messages, OverLimit Multicasts)
     ∷ (list_all (λ message. is_within 0 GREATEST_AT message.at) draft.messages, OverLimit At)
+    ∷ (list_all (has_range draft.delay) draft.links, OverLimit Link)
     ∷ []
 
 -- the rules on names
@@ -71,6 +100,7 @@ name_checks draft =
     ∷ (list_all (λ message. is_name message.name) draft.messages, BadName)
     ∷ (all_differ draft.groups, DoubleName)
     ∷ (messages_differ draft.messages, DoubleName)
+    ∷ (links_differ draft.links, DoubleName)
     ∷ []
 
 -- the rules on what refers to groups and messages
@@ -78,10 +108,12 @@ abbrev pub reference_checks : Draft → List Check
 reference_checks draft =
     (list_all (knows draft.groups) draft.messages, UnknownGroup)
     ∷ (is_among draft.target_group draft.groups, UnknownGroup)
+    ∷ (list_all (knows_link draft.groups) draft.links, UnknownGroup)
     ∷ (list_all (λ message. nat_le 1 (length message.to)) draft.messages, NoDestination)
     ∷ (list_all (λ message. all_differ message.to) draft.messages, DoubleDestination)
     ∷ (is_message draft.target_message draft.messages, UnknownTarget)
     ∷ (is_target_addressed draft, TargetNotAddressed)
+    ∷ (list_all leads_elsewhere draft.links, LinkToItself)
     ∷ []
 
 -- all the rules, in order

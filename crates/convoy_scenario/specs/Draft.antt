@@ -8,10 +8,18 @@ pub record DraftMessage : Type 0 where
   pub to : List (List ℕ)
   pub at : ℤ
 
+-- a link as it is written: the group that sends (none for a client), the group that it leads to, and the least and the greatest delay
+pub record DraftLink : Type 0 where
+  pub sender : Option (List ℕ)
+  pub to : List ℕ
+  pub least : ℤ
+  pub most : ℤ
+
 -- a scenario as it is written
 pub record Draft : Type 0 where
   pub delay : ℤ
   pub groups : List (List ℕ)
+  pub links : List DraftLink
   pub messages : List DraftMessage
   pub target_message : List ℕ
   pub target_group : List ℕ

@@ -1,5 +1,7 @@
 -- What is proved of drafts, of scenario texts and of the lines of scenarios. Each is the one clause of the function of its name in the crate's module `laws`.
 use Rattle.std.specs.Prelude.{◌≡◌, ℕ, ◌+◌, ◌<◌, ◌≤◌, ◌^◌, ◌↔◌, List, [], ◌∷◌, ◌++◌, length, decimal, Some, Ok, All}
+use Rattle.convoy_scenario.specs.declared.version.Version.{Version}
+use Rattle.convoy_scenario.specs.declared.version.Version.TheVariants.{One, Two}
 use Rattle.convoy_lines.specs.Laws.{IsLine}
 use Rattle.convoy_lines.specs.Places.{Place}
 use Rattle.convoy_scenario.specs.Draft.{Draft}
@@ -33,8 +35,13 @@ pub record IsBetween (scenario : Scenario) (place past : Place) : Type 0 where
   pub rest : place.rest ≡ past.rest
   pub number : place.number + length (scenario_lines scenario) ≡ past.number
 
--- a scenario is read at a place, up to another, just where it is well formed and its lines stand between them
+-- the lines of that version can say the scenario: those of version 1 say no link
+abbrev pub CanSay : Version → Scenario → Type 0
+CanSay One scenario = scenario.links ≡ []
+CanSay Two scenario = Unit {0}
+
+-- a scenario is read at a place, up to another, just where it is well formed, that version can say it, and its lines stand between the places
 abbrev pub ScenariosAreTheirLines : Type 0
 ScenariosAreTheirLines =
-    (scenario : Scenario) (place past : Place)
-    → (scenario_at place ≡ Ok (scenario, past)) ↔ (IsScenario scenario × IsBetween scenario place past)
+    (version : Version) (scenario : Scenario) (place past : Place)
+    → (scenario_at version place ≡ Ok (scenario, past)) ↔ (IsScenario scenario × CanSay version scenario × IsBetween scenario place past)

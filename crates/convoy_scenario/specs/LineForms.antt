@@ -4,7 +4,7 @@ use Rattle.std.specs.Str.{bytes_eq, is_utf8}
 use Rattle.convoy_lines.specs.Labels.{greatest_number, words_after}
 use Rattle.convoy_lines.specs.Options.{◌>>=◌}
 use Rattle.convoy_lines.specs.Words.{next_word, number_of}
-use Rattle.convoy_scenario.specs.Draft.{DraftMessage}
+use Rattle.convoy_scenario.specs.Draft.{DraftLink, DraftMessage}
 use Rattle.convoy_scenario.specs.WellFormed.{client_word}
 
 -- A word as a name. One that is not UTF-8 is no name; it stands as the name of no bytes, which is none, either.
@@ -20,6 +20,22 @@ abbrev pub groups_in : List ℕ → Option (List (List ℕ))
 groups_in line = do
   words ← words_after (codes "groups") line
   if nat_le 1 (length words) then Some (map name_of words) else None
+
+-- the greatest number of 16 bits
+abbrev pub greatest_delay_number : ℕ
+greatest_delay_number = 65_535
+
+-- the link of a line `link`
+abbrev pub link_in : List ℕ → Option DraftLink
+link_in line = do
+  words ← words_after (codes "link") line
+  from ← next_word words
+  to ← next_word from.1
+  least ← next_word to.1
+  most ← next_word least.1
+  low ← number_of greatest_delay_number least.0
+  high ← number_of greatest_delay_number most.0
+  if length most.1 == 0 then Some (record { sender = named_sender from.0; to = name_of to.0; least = pos low; most = pos high }) else None
 
 -- the message of a line `multicast`
 abbrev pub multicast_in : List ℕ → Option DraftMessage

@@ -3,10 +3,10 @@ use Rattle.std.specs.Prelude.{ℕ, List, [], ◌∷◌, ◌++◌, map, codes, de
 use Rattle.convoy_lines.specs.Texts.{line_of, number_line, text_of}
 use Rattle.convoy_scenario.specs.declared.sender.Sender.{Sender}
 use Rattle.convoy_scenario.specs.declared.sender.Sender.TheVariants.{Client, Group}
-use Rattle.convoy_scenario.specs.Scenario.{Message, Scenario, message_at, group_name_at}
+use Rattle.convoy_scenario.specs.Scenario.{Link, Message, Scenario, message_at, group_name_at}
 use Rattle.convoy_scenario.specs.WellFormed.{client_word}
 
--- the word for who sends a message
+-- the word for a sender
 abbrev pub sender_word : Scenario → Sender → List ℕ
 sender_word scenario Client = client_word
 sender_word scenario (Group g) = group_name_at scenario g
@@ -16,6 +16,11 @@ delay_line scenario = number_line (codes "delay") scenario.delay
 
 abbrev pub groups_line : Scenario → List ℕ
 groups_line scenario = line_of (codes "groups") scenario.groups
+
+-- the ends of a link, and its range
+abbrev pub link_line : Scenario → Link → List ℕ
+link_line scenario link = line_of (codes "link")
+    (sender_word scenario link.sender ∷ group_name_at scenario link.to ∷ decimal link.least ∷ decimal link.most ∷ [])
 
 -- name, sender and tick of a message, and its destinations, ascending
 abbrev pub multicast_line : Scenario → Message → List ℕ
@@ -29,7 +34,8 @@ target_line scenario = line_of (codes "target")
 -- the lines of a scenario
 abbrev pub scenario_lines : Scenario → List (List ℕ)
 scenario_lines scenario =
-    delay_line scenario ∷ groups_line scenario ∷ (map (multicast_line scenario) scenario.multicasts ++ target_line scenario ∷ [])
+    delay_line scenario ∷ groups_line scenario
+    ∷ (map (link_line scenario) scenario.links ++ (map (multicast_line scenario) scenario.multicasts ++ target_line scenario ∷ []))
 
 -- the text of a scenario
 abbrev pub scenario_text : Scenario → List ℕ

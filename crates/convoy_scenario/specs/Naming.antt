@@ -2,10 +2,10 @@
 use Rattle.std.specs.Prelude.{ℕ, pos, List, map, Option, Some, None}
 use Rattle.convoy_scenario.specs.declared.sender.Sender.{Sender}
 use Rattle.convoy_scenario.specs.declared.sender.Sender.TheVariants.{Client, Group}
-use Rattle.convoy_scenario.specs.Draft.{Draft, DraftMessage}
-use Rattle.convoy_scenario.specs.Scenario.{Scenario, Message, message_at, group_name_at}
+use Rattle.convoy_scenario.specs.Draft.{Draft, DraftLink, DraftMessage}
+use Rattle.convoy_scenario.specs.Scenario.{Scenario, Link, Message, message_at, group_name_at}
 
--- who sends a message, by name
+-- a sender by name
 abbrev pub sender_name : Scenario → Sender → Option (List ℕ)
 sender_name scenario Client = None
 sender_name scenario (Group g) = Some (group_name_at scenario g)
@@ -19,11 +19,21 @@ draft_message scenario message = record {
   at = pos message.at;
 }
 
+-- a link by names
+abbrev pub draft_link : Scenario → Link → DraftLink
+draft_link scenario link = record {
+  sender = sender_name scenario link.sender;
+  to = group_name_at scenario link.to;
+  least = pos link.least;
+  most = pos link.most;
+}
+
 -- a scenario by names: what is written of it
 abbrev pub draft_for : Scenario → Draft
 draft_for scenario = record {
   delay = pos scenario.delay;
   groups = scenario.groups;
+  links = map (draft_link scenario) scenario.links;
   messages = map (draft_message scenario) scenario.multicasts;
   target_message = (message_at scenario scenario.target_message).name;
   target_group = group_name_at scenario scenario.target_group;

@@ -1,5 +1,5 @@
 -- The scenario of a draft, with numbers in place of names. Each word here has a value for any draft; only where all the checks hold do they mean what they say.
-use Rattle.std.specs.Prelude.{ℕ, ℤ, nat_abs, if◌then◌else◌, List, [], map, length, filter, Option, Some, None, unwrap_or, position, Result, Ok}
+use Rattle.std.specs.Prelude.{ℕ, ℤ, nat_abs, if◌then◌else◌, List, [], ◌∷◌, map, length, filter, Option, Some, None, unwrap_or, position, Result, Ok}
 use Rattle.std.specs.List.{range_with_len}
 use Rattle.std.specs.Result.{result_and}
 use Rattle.std.specs.Str.{bytes_eq}
@@ -8,9 +8,10 @@ use Rattle.convoy_scenario.specs.declared.fault.ScenarioFault.{ScenarioFault}
 use Rattle.convoy_scenario.specs.declared.limits.TheConstants.{GREATEST_AT, GREATEST_DELAY}
 use Rattle.convoy_scenario.specs.declared.sender.Sender.{Sender}
 use Rattle.convoy_scenario.specs.declared.sender.Sender.TheVariants.{Client, Group}
-use Rattle.convoy_scenario.specs.Scenario.{Message, Scenario}
-use Rattle.convoy_scenario.specs.Draft.{Draft, DraftMessage}
+use Rattle.convoy_scenario.specs.Scenario.{Link, Message, Scenario}
+use Rattle.convoy_scenario.specs.Draft.{Draft, DraftLink, DraftMessage}
 use Rattle.convoy_scenario.specs.Checks.{is_within, is_among, checks, judge}
+use Rattle.convoy_scenario.specs.WellFormed.{is_before, is_whole}
 
 -- the place of the name, or 0 where it is not there
 abbrev pub place : List ℕ → List (List ℕ) → ℕ
@@ -24,7 +25,7 @@ message_place name messages = unwrap_or (position (λ message. bytes_eq name mes
 abbrev pub ticks : ℕ → ℤ → ℕ
 ticks most z = if is_within 0 most z then nat_abs z else 0
 
--- who sends a message that is written with this sender
+-- the sender that is written so
 abbrev pub sender_of : List (List ℕ) → Option (List ℕ) → Sender
 sender_of groups None = Client
 sender_of groups (Some name) = Group (place name groups)
@@ -42,11 +43,42 @@ message_of groups message = record {
   at = ticks GREATEST_AT message.at;
 }
 
+-- a link with numbers
+abbrev pub link_of : List (List ℕ) → DraftLink → Link
+link_of groups link = record {
+  sender = sender_of groups link.sender;
+  to = place link.to groups;
+  least = ticks GREATEST_DELAY link.least;
+  most = ticks GREATEST_DELAY link.most;
+}
+
+-- a link put among others that ascend; of two between the same places the one that is there stays
+abbrev pub put : Link → List Link → List Link
+put link [] = link ∷ []
+put link (other ∷ others) =
+    if is_before other link then other ∷ put link others
+    else if is_before link other then link ∷ other ∷ others
+    else other ∷ others
+
+-- the links, ascending, but for those with the whole range
+abbrev pub in_order : ℕ → List Link → List Link
+in_order delay [] = []
+in_order delay (link ∷ links) = if is_whole delay link then in_order delay links else put link (in_order delay links)
+
+-- D of a scenario as it is written
+abbrev pub delay_of_draft : Draft → ℕ
+delay_of_draft draft = ticks GREATEST_DELAY draft.delay
+
+-- the links of a scenario as it is written, with numbers
+abbrev pub links_of_draft : Draft → List Link
+links_of_draft draft = map (link_of draft.groups) draft.links
+
 -- a scenario with numbers
 abbrev pub scenario_of : Draft → Scenario
 scenario_of draft = record {
-  delay = ticks GREATEST_DELAY draft.delay;
+  delay = delay_of_draft draft;
   groups = draft.groups;
+  links = in_order (delay_of_draft draft) (links_of_draft draft);
   multicasts = map (message_of draft.groups) draft.messages;
   target_message = message_place draft.target_message draft.messages;
   target_group = place draft.target_group draft.groups;

@@ -1,6 +1,7 @@
 -- What a scenario says, as plain data: groups and messages go by number, from 0, in the order of the text.
-use Rattle.std.specs.Prelude.{ℕ, Bool, false, ◌==◌, List, [], length, slice_index_or, IsTrue}
+use Rattle.std.specs.Prelude.{ℕ, Bool, true, false, ◌==◌, ◌&&◌, List, [], length, find, slice_index_or, Option, IsTrue}
 use Rattle.std.specs.List.{list_any, range_with_len}
+use Rattle.std.specs.Option.{option_map_or}
 use Rattle.convoy_scenario.specs.declared.sender.Sender.{Sender}
 use Rattle.convoy_scenario.specs.declared.sender.Sender.TheVariants.{Client, Group}
 
@@ -11,10 +12,18 @@ pub record Message : Type 0 where
   pub destinations : List ℕ
   pub at : ℕ
 
--- a scenario: D, the groups' names, the messages, and the message and the group of which the latency is asked
+-- a link: what goes from the sender to the group takes a number of ticks from the least to the most
+pub record Link : Type 0 where
+  pub sender : Sender
+  pub to : ℕ
+  pub least : ℕ
+  pub most : ℕ
+
+-- a scenario: D, the groups' names, the links whose range is not 1 to D, the messages, and the message and the group of which the latency is asked
 pub record Scenario : Type 0 where
   pub delay : ℕ
   pub groups : List (List ℕ)
+  pub links : List Link
   pub multicasts : List Message
   pub target_message : ℕ
   pub target_group : ℕ
@@ -49,3 +58,19 @@ is_addressed message g = list_any (λ h. h == g) message.destinations
 -- group g is a destination of message m
 abbrev pub GoesTo : Scenario → ℕ → ℕ → Type 0
 GoesTo scenario m g = IsTrue (is_addressed (message_at scenario m) g)
+
+-- the two are one sender
+abbrev pub is_same_sender : Sender → Sender → Bool
+is_same_sender Client Client = true
+is_same_sender (Group g) (Group h) = g == h
+is_same_sender Client (Group h) = false
+is_same_sender (Group g) Client = false
+
+-- the link from the one to the other, if there is one
+abbrev pub link_between : List Link → Sender → ℕ → Option Link
+link_between links sender to = find (λ link. is_same_sender sender link.sender && (to == link.to)) links
+
+-- the least and the greatest delay of what goes from the one to the other: those of their link, or 1 and D
+abbrev pub range_between : Scenario → Sender → ℕ → ℕ × ℕ
+range_between scenario sender to =
+    option_map_or (λ link. (link.least, link.most)) (link_between scenario.links sender to) (1, scenario.delay)

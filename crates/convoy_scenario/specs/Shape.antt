@@ -4,16 +4,16 @@ use Rattle.std.specs.BTreeMap.{BTreeMap}
 use Rattle.std.specs.declared.alloc.Global.{Global}
 use Rattle.toml.specs.View.{table_view}
 use Rattle.toml.specs.declared.value.Value.{Value}
-use Rattle.std.specs.Prelude.{Vec, String, map, Bool, true, ◌&&◌, if◌then◌else◌, ℕ, ℤ, List, [], ◌∷◌, codes, Option, Some, None, option_map, option_and_then, ok_or, Result, Ok, Err}
+use Rattle.std.specs.Prelude.{Vec, String, map, Bool, true, ◌&&◌, if◌then◌else◌, ℕ, ℤ, List, [], ◌∷◌, codes, Option, Some, None, option_map, option_and_then, ok_or, unwrap_or, Result, Ok, Err}
 use Rattle.std.specs.List.{list_any}
 use Rattle.std.specs.Str.{bytes_eq}
 use Rattle.toml.specs.Data.{Data, Items, no_items, item, Members, no_members, member, get_member, as_str, as_integer, as_array, as_table}
 use Rattle.convoy_lines.specs.Results.{◌>>=◌}
 use Rattle.convoy_scenario.specs.declared.fault.Key.{Key}
-use Rattle.convoy_scenario.specs.declared.fault.Key.TheVariants.{Delay, Groups, Multicast, Name, From, To, At, Target, Message, Group, Schedule, Unknown}
+use Rattle.convoy_scenario.specs.declared.fault.Key.TheVariants.{Delay, Groups, Multicast, Name, From, To, At, Target, Message, Group, Link, Least, Most, Schedule, Unknown}
 use Rattle.convoy_scenario.specs.declared.fault.ScenarioFault.{ScenarioFault}
 use Rattle.convoy_scenario.specs.declared.fault.ScenarioFault.TheVariants.{Shape}
-use Rattle.convoy_scenario.specs.Draft.{Draft, DraftMessage}
+use Rattle.convoy_scenario.specs.Draft.{Draft, DraftLink, DraftMessage}
 
 -- the word for a key
 abbrev pub key_word : Key → List ℕ
@@ -27,6 +27,9 @@ key_word At = codes "at"
 key_word Target = codes "target"
 key_word Message = codes "message"
 key_word Group = codes "group"
+key_word Link = codes "link"
+key_word Least = codes "least"
+key_word Most = codes "most"
 key_word Schedule = codes "schedule"
 key_word Unknown = codes "unknown"
 
@@ -81,6 +84,28 @@ messages_of (table ∷ tables) = do
   messages ← messages_of tables
   Ok (message ∷ messages)
 
+-- a link as it is written
+abbrev pub link_of_table : Members → Result DraftLink ScenarioFault
+link_of_table table = do
+  sender ← wish From as_str table
+  to ← need To as_str table
+  least ← need Least as_integer table
+  most ← need Most as_integer table
+  _ ← need_only (From ∷ To ∷ Least ∷ Most ∷ []) table
+  Ok (record { sender = sender; to = to; least = least; most = most })
+
+-- the links, unless one is at fault
+abbrev pub links_of : List Members → Result (List DraftLink) ScenarioFault
+links_of [] = Ok []
+links_of (table ∷ tables) = do
+  link ← link_of_table table
+  links ← links_of tables
+  Ok (link ∷ links)
+
+-- the links of a scenario's table; none where the key is absent
+abbrev pub links_of_table : Members → Result (List DraftLink) ScenarioFault
+links_of_table table = wish_all Link as_table table >>= λ tables. links_of (unwrap_or tables [])
+
 -- the scenario as it is written, whatever else stands in the table
 abbrev pub draft_of_table : Members → Result Draft ScenarioFault
 draft_of_table table = do
@@ -92,7 +117,8 @@ draft_of_table table = do
   target_message ← need Message as_str target
   target_group ← need Group as_str target
   _ ← need_only (Message ∷ Group ∷ []) target
-  Ok (record { delay = delay; groups = groups; messages = messages; target_message = target_message; target_group = target_group })
+  links ← links_of_table table
+  Ok (record { delay = delay; groups = groups; links = links; messages = messages; target_message = target_message; target_group = target_group })
 
 -- what is written in a scenario's table: the scenario, and the delays of a schedule where they are given
 pub record Written : Type 0 where
@@ -104,7 +130,7 @@ abbrev pub written_of_table : Members → Result Written ScenarioFault
 written_of_table table = do
   draft ← draft_of_table table
   schedule ← wish_all Schedule as_integer table
-  _ ← need_only (Delay ∷ Groups ∷ Multicast ∷ Target ∷ Schedule ∷ []) table
+  _ ← need_only (Delay ∷ Groups ∷ Multicast ∷ Target ∷ Link ∷ Schedule ∷ []) table
   Ok (record { draft = draft; schedule = schedule })
 
 -- how a call's answer is seen: a vector as the list that it holds

@@ -1,12 +1,12 @@
 -- When a scenario is well formed: its limits, its names and its references.
-use Rattle.std.specs.Prelude.{ℕ, ◌<◌, ◌≤◌, ◌==◌, Bool, false, ◌&&◌, ◌||◌, not, nat_le, List, [], ◌∷◌, length, codes, IsTrue, All}
+use Rattle.std.specs.Prelude.{ℕ, ◌+◌, ◌<◌, ◌≤◌, ◌==◌, Bool, true, false, ◌&&◌, ◌||◌, not, nat_le, nat_lt, List, [], ◌∷◌, length, codes, Option, Some, None, IsTrue, All}
 use Rattle.std.specs.List.{list_all, IsDistinct}
 use Rattle.std.specs.List.Sorted.{IsStrictlyIncreasing}
 use Rattle.std.specs.Str.{bytes_eq}
 use Rattle.convoy_scenario.specs.declared.sender.Sender.{Sender}
 use Rattle.convoy_scenario.specs.declared.sender.Sender.TheVariants.{Client, Group}
 use Rattle.convoy_scenario.specs.declared.limits.TheConstants.{GREATEST_AT, GREATEST_DELAY, LONGEST_NAME, MOST_GROUPS, MOST_MULTICASTS}
-use Rattle.convoy_scenario.specs.Scenario.{Message, Scenario, message_at, is_addressed}
+use Rattle.convoy_scenario.specs.Scenario.{Link, Message, Scenario, message_at, is_addressed, is_same_sender}
 
 -- a letter from a to z
 abbrev pub is_letter : ℕ → Bool
@@ -47,7 +47,42 @@ pub record IsMulticast (groups : ℕ) (message : Message) : Type 0 where
   pub known : All (λ g. g < groups) message.destinations
   pub at : message.at ≤ GREATEST_AT
 
--- the limits hold, names are names and differ, and all that is referred to is there
+-- the link has the range of what has no link: 1 to D
+abbrev pub is_whole : ℕ → Link → Bool
+is_whole delay link = (link.least == 1) && (link.most == delay)
+
+-- a link among so many groups, where D is so much: from a client or a group to another group, with a range within 1 to D that is not the whole of it
+pub record IsLink (groups delay : ℕ) (link : Link) : Type 0 where
+  pub sender : IsSender groups link.sender
+  pub to : link.to < groups
+  pub apart : IsTrue (not (is_same_sender link.sender (Group link.to)))
+  pub low : 1 ≤ link.least
+  pub ordered : link.least ≤ link.most
+  pub high : link.most ≤ delay
+  pub partial : IsTrue (not (is_whole delay link))
+
+-- the place of a sender in the order of links: a client comes first, and then the groups by number
+abbrev pub sender_place : Sender → ℕ
+sender_place Client = 0
+sender_place (Group g) = g + 1
+
+-- the one link comes before the other: by sender, and then by the group that it leads to
+abbrev pub is_before : Link → Link → Bool
+is_before link other =
+    nat_lt (sender_place link.sender) (sender_place other.sender)
+    || ((sender_place link.sender == sender_place other.sender) && nat_lt link.to other.to)
+
+-- the link comes after the one before it, if there is one
+abbrev pub follows : Option Link → Link → Bool
+follows None link = true
+follows (Some before) link = is_before before link
+
+-- each of the links comes after the one before it
+abbrev pub ascend_after : Option Link → List Link → Bool
+ascend_after before [] = true
+ascend_after before (link ∷ links) = follows before link && ascend_after (Some link) links
+
+-- the limits hold, names are names and differ, links stand in their order, and all that is referred to is there
 pub record IsScenario (scenario : Scenario) : Type 0 where
   pub delay_low : 1 ≤ scenario.delay
   pub delay_high : scenario.delay ≤ GREATEST_DELAY
@@ -58,6 +93,8 @@ pub record IsScenario (scenario : Scenario) : Type 0 where
   pub group_names : All (λ name. IsTrue (is_group_name name)) scenario.groups
   pub group_names_differ : IsDistinct bytes_eq scenario.groups
   pub message_names_differ : IsDistinct (λ a b. bytes_eq a.name b.name) scenario.multicasts
+  pub links : All (IsLink (length scenario.groups) scenario.delay) scenario.links
+  pub ascending : IsTrue (ascend_after None scenario.links)
   pub messages : All (IsMulticast (length scenario.groups)) scenario.multicasts
   pub target : scenario.target_message < length scenario.multicasts
   pub addressed : IsTrue (is_addressed (message_at scenario scenario.target_message) scenario.target_group)

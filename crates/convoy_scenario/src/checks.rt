@@ -1,10 +1,10 @@
-ghost use Rattle.std.specs.Prelude.{◌≡◌, ◌&&◌, length, nat_le, find, option_copied};
-ghost use Rattle.std.specs.List.{list_all};
+ghost use Rattle.std.specs.Prelude.{◌≡◌, ◌&&◌, length, nat_le, find, not, option_copied};
+ghost use Rattle.std.specs.List.{list_all, list_any};
 ghost use Rattle.std.specs.Str.{bytes_eq};
 ghost use Rattle.convoy_scenario.specs.WellFormed.{is_name, is_group_name};
-ghost use Rattle.convoy_scenario.specs.Checks.{is_within, is_count, is_among, all_differ, is_known_sender, is_message, messages_differ, knows, is_target_addressed, limit_checks, name_checks, reference_checks, checks, judge};
+ghost use Rattle.convoy_scenario.specs.Checks.{is_within, is_count, is_among, all_differ, is_known_sender, is_message, messages_differ, knows, is_target_addressed, is_named_alike, is_same_pair, links_differ, has_range, knows_link, leads_elsewhere, limit_checks, name_checks, reference_checks, checks, judge};
 
-use super::draft::{DraftMulticast, DraftScenario};
+use super::draft::{DraftLink, DraftMulticast, DraftScenario};
 use super::fault::{Limit, ScenarioFault};
 use super::limits::{GREATEST_AT, GREATEST_DELAY, MOST_GROUPS, MOST_MULTICASTS};
 use super::name::Name;
@@ -33,6 +33,9 @@ fn check_limits(draft: &DraftScenario) -> Result<(), ScenarioFault>
     if !ticks_are_within(&draft.multicasts) {
         return Err(ScenarioFault::OverLimit(Limit::At));
     }
+    if !all_have_ranges(draft.delay, &draft.links) {
+        return Err(ScenarioFault::OverLimit(Limit::Link));
+    }
     Ok(())
 }
 
@@ -51,6 +54,9 @@ fn check_names(draft: &DraftScenario) -> Result<(), ScenarioFault>
     if !messages_differ(&draft.multicasts) {
         return Err(ScenarioFault::DoubleName);
     }
+    if !links_differ(&draft.links) {
+        return Err(ScenarioFault::DoubleName);
+    }
     Ok(())
 }
 
@@ -61,6 +67,9 @@ fn check_references(draft: &DraftScenario) -> Result<(), ScenarioFault>
         return Err(ScenarioFault::UnknownGroup);
     }
     if !is_among(&draft.target_group, &draft.groups) {
+        return Err(ScenarioFault::UnknownGroup);
+    }
+    if !all_links_are_known(&draft.groups, &draft.links) {
         return Err(ScenarioFault::UnknownGroup);
     }
     if !all_go_somewhere(&draft.multicasts) {
@@ -74,6 +83,9 @@ fn check_references(draft: &DraftScenario) -> Result<(), ScenarioFault>
     }
     if !is_target_addressed(draft) {
         return Err(ScenarioFault::TargetNotAddressed);
+    }
+    if !all_lead_elsewhere(&draft.links) {
+        return Err(ScenarioFault::LinkToItself);
     }
     Ok(())
 }
@@ -203,4 +215,79 @@ fn find_message<'a>(name: &Name, multicasts: &'a [DraftMulticast]) -> Option<&'a
     ensures { option_copied result ≡ find (λ m. bytes_eq name.now m.name) multicasts.now }
 {
     multicasts.iter().find(|m| name.is_same(&m.name))
+}
+
+fn has_range(delay: i64, link: &DraftLink) -> bool
+    ensures { result ≡ has_range delay link.now }
+{
+    1 <= link.least && link.least <= link.most && link.most <= delay
+}
+
+fn all_have_ranges(delay: i64, links: &[DraftLink]) -> bool
+    ensures { result ≡ list_all (has_range delay) links.now }
+{
+    links.iter().all(|link| has_range(delay, link))
+}
+
+fn is_named_alike(name: &Option<Name>, other: &Option<Name>) -> bool
+    ensures { result ≡ is_named_alike name.now other.now }
+{
+    match (name, other) {
+        (None, None) => true,
+        (Some(name), Some(other)) => name.is_same(other),
+        _ => false,
+    }
+}
+
+fn is_same_pair(link: &DraftLink, other: &DraftLink) -> bool
+    ensures { result ≡ is_same_pair link.now other.now }
+{
+    is_named_alike(&link.sender, &other.sender) && link.to.is_same(&other.to)
+}
+
+fn has_same_pair(link: &DraftLink, links: &[DraftLink]) -> bool
+    ensures { result ≡ list_any (is_same_pair link.now) links.now }
+{
+    links.iter().any(|other| is_same_pair(link, other))
+}
+
+/// Whether no two of the links lead from one sender to one group.
+fn links_differ(links: &[DraftLink]) -> bool
+    ensures { result ≡ links_differ links.now }
+{
+    let mut rest = links;
+    while let Some((first, tail)) = rest.split_first() {
+        if has_same_pair(first, tail) {
+            return false;
+        }
+        rest = tail;
+    }
+    true
+}
+
+fn knows_link(groups: &[Name], link: &DraftLink) -> bool
+    ensures { result ≡ knows_link groups.now link.now }
+{
+    is_known_sender(groups, &link.sender) && is_among(&link.to, groups)
+}
+
+fn all_links_are_known(groups: &[Name], links: &[DraftLink]) -> bool
+    ensures { result ≡ list_all (knows_link groups.now) links.now }
+{
+    links.iter().all(|link| knows_link(groups, link))
+}
+
+fn leads_elsewhere(link: &DraftLink) -> bool
+    ensures { result ≡ leads_elsewhere link.now }
+{
+    match &link.sender {
+        Some(sender) => !sender.is_same(&link.to),
+        None => true,
+    }
+}
+
+fn all_lead_elsewhere(links: &[DraftLink]) -> bool
+    ensures { result ≡ list_all leads_elsewhere links.now }
+{
+    links.iter().all(|link| leads_elsewhere(link))
 }

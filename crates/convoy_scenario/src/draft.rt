@@ -24,11 +24,35 @@ impl Model for DraftMulticast {
     } };
 }
 
+/// A link as it is written.
+#[derive(Debug, Drop)]
+pub struct DraftLink {
+    /// The group that sends, or none where a client does.
+    pub sender: Option<Name>,
+    pub to: Name,
+    pub least: i64,
+    pub most: i64,
+}
+
+impl Model for DraftLink {
+    ghost use Rattle.convoy_scenario.specs.Draft.{DraftLink};
+
+    ghost Value = { DraftLink };
+
+    ghost view = { λ l. record {
+      sender = l.sender;
+      to = l.to;
+      least = l.least;
+      most = l.most;
+    } };
+}
+
 /// A scenario as it is written, of the right shape and before any other rule is asked.
 #[derive(Debug, Drop)]
 pub struct DraftScenario {
     pub delay: i64,
     pub groups: Vec<Name>,
+    pub links: Vec<DraftLink>,
     pub multicasts: Vec<DraftMulticast>,
     pub target_message: Name,
     pub target_group: Name,
@@ -42,6 +66,7 @@ impl Model for DraftScenario {
     ghost view = { λ d. record {
       delay = d.delay;
       groups = d.groups.items;
+      links = d.links.items;
       messages = d.multicasts.items;
       target_message = d.target_message;
       target_group = d.target_group;

@@ -13,6 +13,9 @@ pub enum Key {
     Target,
     Message,
     Group,
+    Link,
+    Least,
+    Most,
     Schedule,
     /// A key that a scenario text may not have.
     Unknown,
@@ -29,6 +32,8 @@ pub enum Limit {
     Multicasts,
     /// A message is issued at a tick from 0 to `GREATEST_AT`.
     At,
+    /// The least delay of a link is 1 or more, and its greatest not less and at most D.
+    Link,
 }
 
 /// Why a text is no scenario. Where it has several faults, the first in the order of these variants
@@ -44,9 +49,9 @@ pub enum ScenarioFault {
     /// A name is not of 1 to `LONGEST_NAME` bytes of `a` to `z`, `0` to `9`, `_` and `-` with a
     /// letter first, or a group is named `client`.
     BadName,
-    /// Two groups, or two messages, have one name.
+    /// Two groups, or two messages, have one name, or two links lead from one sender to one group.
     DoubleName,
-    /// A sender, a destination or the target's group is no group.
+    /// A sender, a destination, the target's group or an end of a link is no group.
     UnknownGroup,
     /// A message goes nowhere.
     NoDestination,
@@ -56,6 +61,8 @@ pub enum ScenarioFault {
     UnknownTarget,
     /// The target's message does not go to the target's group.
     TargetNotAddressed,
+    /// A link leads from a group to that group.
+    LinkToItself,
     /// Memory ran out, which says nothing of the text.
     Memory,
 }
@@ -79,6 +86,9 @@ impl Key {
             Key::Target => "target",
             Key::Message => "message",
             Key::Group => "group",
+            Key::Link => "link",
+            Key::Least => "least",
+            Key::Most => "most",
             Key::Schedule => "schedule",
             Key::Unknown => "unknown",
         }

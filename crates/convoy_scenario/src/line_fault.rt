@@ -7,6 +7,7 @@ pub enum Expected {
     Convoy,
     Delay,
     Groups,
+    Link,
     Multicast,
     Target,
     Latency,

@@ -1,9 +1,9 @@
 ghost use Rattle.std.specs.Prelude.{◌≡◌, ◌==◌, Ok, map, codes, length, option_map, ok_or, IfOk};
 ghost use Rattle.std.specs.Result.{result_map_both};
 ghost use Rattle.convoy_scenario.specs.Memory.{IsUnlessMemory};
-ghost use Rattle.convoy_scenario.specs.LineForms.{name_of, named_sender, groups_in, multicast_in, target_in};
+ghost use Rattle.convoy_scenario.specs.LineForms.{name_of, named_sender, groups_in, link_in, multicast_in, target_in};
 
-use super::draft::DraftMulticast;
+use super::draft::{DraftLink, DraftMulticast};
 use super::line_fault::LineFault;
 use super::name::Name;
 use convoy_lines::{Words, number_of, words_after};
@@ -53,6 +53,28 @@ pub fn groups_in(alloc: Global, line: &[u8], wrong: LineFault) -> Result<Vec<Nam
         return Err(wrong);
     }
     Ok(groups)
+}
+
+/// The link of a line `link`; `wrong` where the line has not its form.
+pub fn link_in(alloc: Global, line: &[u8], wrong: LineFault) -> Result<DraftLink, LineFault>
+    ensures { IsUnlessMemory LineFault.Memory (ok_or (link_in line.now) wrong) result }
+{
+    let mut words = words_after(line, b"link").ok_or(wrong)?;
+    let from = words.next().ok_or(wrong)?;
+    let to = words.next().ok_or(wrong)?;
+    let least = words.next().ok_or(wrong)?;
+    let most = words.next().ok_or(wrong)?;
+    let least = number_of(least, u32::from(u16::MAX)).ok_or(wrong)?;
+    let most = number_of(most, u32::from(u16::MAX)).ok_or(wrong)?;
+    if !words.are_over() {
+        return Err(wrong);
+    }
+    Ok(DraftLink {
+        sender: named_sender(alloc, from)?,
+        to: name_of(alloc, to)?,
+        least: i64::from(least),
+        most: i64::from(most),
+    })
 }
 
 /// The message of a line `multicast`; `wrong` where the line has not its form.

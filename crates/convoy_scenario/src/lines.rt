@@ -2,8 +2,10 @@ ghost use Rattle.std.specs.Prelude.{◌≡◌, ◌<◌, ◌++◌, length, map, I
 ghost use Rattle.std.specs.List.{flat_map};
 ghost use Rattle.convoy_scenario.specs.Scenario.{message_at, group_name_at};
 ghost use Rattle.convoy_lines.specs.Texts.{ended, spaced, text_of};
-ghost use Rattle.convoy_scenario.specs.Lines.{sender_word, delay_line, groups_line, multicast_line, target_line, scenario_text};
+ghost use Rattle.convoy_scenario.specs.WellFormed.{IsLink, IsSender};
+ghost use Rattle.convoy_scenario.specs.Lines.{sender_word, delay_line, groups_line, link_line, multicast_line, target_line, scenario_text};
 
+use super::link::Link;
 use super::scenario::Scenario;
 use super::sender::Sender;
 use convoy_lines::{push_further_word, push_number, push_number_line};
@@ -25,6 +27,7 @@ fn lines_of(alloc: Global, scenario: &Scenario) -> Result<Vec<u8>, AllocError>
     let mut text = Vec::new(alloc);
     push_number_line(&mut text, "delay", u32::from(scenario.delay()))?;
     push_groups(&mut text, scenario)?;
+    push_links(&mut text, scenario)?;
     push_multicasts(&mut text, scenario)?;
     push_target(&mut text, scenario)?;
     Ok(text)
@@ -37,6 +40,32 @@ fn push_groups(text: &mut Vec<u8>, scenario: &Scenario) -> Result<(), AllocError
     for g in 0..scenario.group_count() {
         push_further_word(text, scenario.group_name(g))?;
     }
+    Ok(text.push(b'\n')?)
+}
+
+fn push_links(text: &mut Vec<u8>, scenario: &Scenario) -> Result<(), AllocError>
+    ensures { OnOk result
+        (text.new.items ≡ text.old.items
+        ++ text_of (map (link_line scenario.now) scenario.now.links)) }
+{
+    for link in scenario.links() {
+        push_link(text, scenario, link)?;
+    }
+    Ok(())
+}
+
+fn push_link(text: &mut Vec<u8>, scenario: &Scenario, link: &Link) -> Result<(), AllocError>
+    requires { IsLink (length scenario.now.groups) scenario.now.delay link.now }
+    ensures { OnOk result
+        (text.new.items ≡ text.old.items ++ ended (link_line scenario.now link.now)) }
+{
+    text.extend_from_slice(b"link")?;
+    push_sender(text, scenario, link.sender)?;
+    push_further_word(text, scenario.group_name(link.to))?;
+    text.push(b' ')?;
+    push_number(text, u32::from(link.least))?;
+    text.push(b' ')?;
+    push_number(text, u32::from(link.most))?;
     Ok(text.push(b'\n')?)
 }
 
@@ -59,20 +88,19 @@ fn push_multicast(text: &mut Vec<u8>, scenario: &Scenario, m: usize) -> Result<(
 {
     text.extend_from_slice(b"multicast")?;
     push_further_word(text, scenario.message_name(m))?;
-    push_sender(text, scenario, m)?;
+    push_sender(text, scenario, scenario.sender(m))?;
     text.push(b' ')?;
     push_number(text, scenario.issue_tick(m))?;
     push_destinations(text, scenario, m)?;
     Ok(text.push(b'\n')?)
 }
 
-fn push_sender(text: &mut Vec<u8>, scenario: &Scenario, m: usize) -> Result<(), AllocError>
-    requires { m < length scenario.now.multicasts }
+fn push_sender(text: &mut Vec<u8>, scenario: &Scenario, sender: Sender) -> Result<(), AllocError>
+    requires { IsSender (length scenario.now.groups) sender }
     ensures { OnOk result
-        (text.new.items ≡ text.old.items
-        ++ spaced (sender_word scenario.now (message_at scenario.now m).sender)) }
+        (text.new.items ≡ text.old.items ++ spaced (sender_word scenario.now sender)) }
 {
-    match scenario.sender(m) {
+    match sender {
         Sender::Client => push_further_word(text, "client"),
         Sender::Group(g) => push_further_word(text, scenario.group_name(g)),
     }

@@ -1,6 +1,6 @@
 ghost use Rattle.std.specs.Prelude.{◌≡◌, map, option_map, IfOk};
 
-use super::draft::{DraftMulticast, DraftScenario};
+use super::draft::{DraftLink, DraftMulticast, DraftScenario};
 use super::name::Name;
 use std::alloc::{AllocError, Global};
 use std::marker::Model;
@@ -31,6 +31,30 @@ impl<'a> Model for MessageParts<'a> {
     } };
 }
 
+/// A link in plain parts: what goes from the sender to the group `to` takes `least` to `most` ticks.
+#[derive(Debug, Drop)]
+pub struct LinkParts<'a> {
+    /// The group that sends, or none where a client does.
+    pub sender: Option<&'a str>,
+    pub to: &'a str,
+    pub least: u32,
+    pub most: u32,
+}
+
+impl<'a> Model for LinkParts<'a> {
+    ghost use Rattle.std.specs.Prelude.{pos, option_map};
+    ghost use Rattle.convoy_scenario.specs.Draft.{DraftLink};
+
+    ghost Value = { DraftLink };
+
+    ghost view = { λ l. record {
+      sender = option_map (λ name. name.now) l.sender;
+      to = l.to.now;
+      least = pos l.least;
+      most = pos l.most;
+    } };
+}
+
 /// A scenario in plain parts, well formed or not.
 #[derive(Debug, Drop)]
 pub struct ScenarioParts<'a> {
@@ -38,6 +62,8 @@ pub struct ScenarioParts<'a> {
     pub delay: u32,
     /// The names of the groups.
     pub groups: &'a [&'a str],
+    /// The links, in any order; between places without a link a packet takes 1 to `delay` ticks.
+    pub links: &'a [LinkParts<'a>],
     pub messages: &'a [MessageParts<'a>],
     /// The name of the message of which the latency is asked.
     pub target_message: &'a str,
@@ -54,6 +80,7 @@ impl<'a> Model for ScenarioParts<'a> {
     ghost view = { λ s. record {
       delay = pos s.delay;
       groups = map (λ name. name.now) s.groups.now;
+      links = s.links.now;
       messages = s.messages.now;
       target_message = s.target_message.now;
       target_group = s.target_group.now;
@@ -68,6 +95,7 @@ impl<'a> ScenarioParts<'a> {
         Ok(DraftScenario {
             delay: i64::from(self.delay),
             groups: names_of(alloc, self.groups)?,
+            links: links_of(alloc, self.links)?,
             multicasts: messages_of(alloc, self.messages)?,
             target_message: Name::new(alloc, self.target_message)?,
             target_group: Name::new(alloc, self.target_group)?,
@@ -92,6 +120,21 @@ fn sender_of(alloc: Global, sender: Option<&str>) -> Result<Option<Name>, AllocE
         Some(text) => Ok(Some(Name::new(alloc, text)?)),
         None => Ok(None),
     }
+}
+
+fn links_of(alloc: Global, parts: &[LinkParts]) -> Result<Vec<DraftLink>, AllocError>
+    ensures { IfOk result (λ links. links.items ≡ parts.now) }
+{
+    let mut links = Vec::new(alloc);
+    for link in parts {
+        links.push(DraftLink {
+            sender: sender_of(alloc, link.sender)?,
+            to: Name::new(alloc, link.to)?,
+            least: i64::from(link.least),
+            most: i64::from(link.most),
+        })?;
+    }
+    Ok(links)
 }
 
 fn messages_of(alloc: Global, parts: &[MessageParts]) -> Result<Vec<DraftMulticast>, AllocError>

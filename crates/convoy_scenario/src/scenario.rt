@@ -1,13 +1,13 @@
 ghost use Rattle.std.specs.Prelude.{◌≡◌, ◌<◌, length, IfOk};
-ghost use Rattle.convoy_scenario.specs.Scenario.{message_at, group_name_at};
+ghost use Rattle.convoy_scenario.specs.Scenario.{message_at, group_name_at, range_between};
 ghost use Rattle.convoy_scenario.specs.WellFormed.{IsScenario};
 
 use super::checks::check;
 use super::draft::DraftScenario;
 use super::fault::ScenarioFault;
-use super::limits::GREATEST_DELAY;
+use super::link::{Link, link_between};
 use super::name::Name;
-use super::numbering::{message_place, multicasts_of, place, ticks};
+use super::numbering::{delay_ticks, links_of, message_place, multicasts_of, place};
 use super::parts::ScenarioParts;
 use super::sender::Sender;
 use std::alloc::{AllocError, Global};
@@ -58,6 +58,7 @@ impl Multicast {
 pub struct Scenario {
     delay: u16,
     groups: Vec<Name>,
+    links: Vec<Link>,
     multicasts: Vec<Multicast>,
     target_message: usize,
     target_group: usize,
@@ -72,6 +73,7 @@ impl Model for Scenario {
     ghost view = { λ s. record {
       delay = s.delay;
       groups = s.groups.items;
+      links = s.links.items;
       multicasts = s.multicasts.items;
       target_message = s.target_message;
       target_group = s.target_group;
@@ -80,6 +82,7 @@ impl Model for Scenario {
     ghost invariant = { λ s. IsScenario (record {
       delay = s.delay;
       groups = s.groups.items;
+      links = s.links.items;
       multicasts = s.multicasts.items;
       target_message = s.target_message;
       target_group = s.target_group;
@@ -107,9 +110,10 @@ impl Scenario {
         ensures { IsUnlessMemory ScenarioFault.Memory (scenario_of_draft draft) result }
     {
         check(&draft)?;
-        let delay = ticks(draft.delay, u32::from(GREATEST_DELAY)) as u16;
+        let delay = delay_ticks(draft.delay);
         let target_message = message_place(&draft.target_message, &draft.multicasts);
         let target_group = place(&draft.target_group, &draft.groups);
+        let links = links_of(alloc, delay, &draft.groups, &draft.links)?;
         let DraftScenario {
             groups,
             multicasts,
@@ -119,6 +123,7 @@ impl Scenario {
         Ok(Scenario {
             delay,
             groups,
+            links,
             multicasts,
             target_message,
             target_group,
@@ -130,10 +135,12 @@ impl Scenario {
         ensures { IfOk result (λ copy. copy ≡ self.now) }
     {
         let groups = copy_names(*self.groups.allocator(), &self.groups)?;
+        let links = copy_links(*self.links.allocator(), &self.links)?;
         let multicasts = copy_multicasts(*self.multicasts.allocator(), &self.multicasts)?;
         Ok(Scenario {
             delay: self.delay,
             groups,
+            links,
             multicasts,
             target_message: self.target_message,
             target_group: self.target_group,
@@ -162,6 +169,34 @@ impl Scenario {
         ensures { result.now ≡ group_name_at self.now g }
     {
         self.groups[g].as_str()
+    }
+
+    /// How many links there are whose range is not 1 to D.
+    pub fn link_count(&self) -> usize
+        ensures value { result ≡ length self.now.links }
+        ensures lawful { IsScenario self.now }
+    {
+        self.links.len()
+    }
+
+    /// The links whose range is not 1 to D, in ascending order: by sender, a client first, and then by
+    /// the group that they lead to.
+    pub(crate) fn links(&self) -> &[Link]
+        ensures value { result.now ≡ self.now.links }
+        ensures lawful { IsScenario self.now }
+    {
+        self.links.as_slice()
+    }
+
+    /// The least and the greatest delay, in ticks, of what goes from a sender to the group `to`.
+    pub fn range_between(&self, sender: Sender, to: usize) -> (u16, u16)
+        ensures value { result ≡ range_between self.now sender to }
+        ensures lawful { IsScenario self.now }
+    {
+        match link_between(&self.links, sender, to) {
+            Some(link) => (link.least, link.most),
+            None => (1, self.delay),
+        }
     }
 
     /// How many messages there are.
@@ -235,6 +270,17 @@ fn copy_names(alloc: Global, names: &[Name]) -> Result<Vec<Name>, AllocError>
     let mut copies = Vec::with_capacity(alloc, names.len())?;
     for name in names {
         copies.push(name.copy()?)?;
+    }
+    Ok(copies)
+}
+
+/// The same links, in memory of their own.
+fn copy_links(alloc: Global, links: &[Link]) -> Result<Vec<Link>, AllocError>
+    ensures { IfOk result (λ copies. copies.items ≡ links.now) }
+{
+    let mut copies = Vec::with_capacity(alloc, links.len())?;
+    for link in links {
+        copies.push(link.copy())?;
     }
     Ok(copies)
 }

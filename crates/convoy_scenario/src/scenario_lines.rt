@@ -1,49 +1,62 @@
-ghost use Rattle.std.specs.Prelude.{◌≡◌, ◌==◌, ◌≤◌, ◌^◌, Ok, codes, OnErr};
+ghost use Rattle.std.specs.Prelude.{◌≡◌, ◌==◌, ◌≤◌, ◌^◌, Ok, None, codes, map, OnErr};
 ghost use Rattle.std.specs.Cmp.Lexicographic.{pointwise};
 ghost use Rattle.std.specs.Result.{result_map_both};
 ghost use Rattle.convoy_scenario.specs.Memory.{IsUnlessMemory};
 ghost use Rattle.convoy_lines.specs.Labels.{number_in};
-ghost use Rattle.convoy_scenario.specs.LineForms.{groups_in, multicast_in, target_in};
-ghost use Rattle.convoy_scenario.specs.LineReading.{form_at, messages_at, is_multicast_due, is_ordered, first_unordered, told, scenario_at};
+ghost use Rattle.convoy_scenario.specs.LineForms.{groups_in, link_in, multicast_in, target_in};
+ghost use Rattle.convoy_scenario.specs.LineReading.{form_at, is_link_due, links_at, first_misplaced, first_misplaced_link, messages_at, is_multicast_due, is_ordered, first_unordered, told, scenario_at};
 ghost use Rattle.convoy_lines.specs.Places.{upcoming};
-ghost use Rattle.convoy_scenario.specs.Numbering.{scenario_of_draft};
+ghost use Rattle.convoy_scenario.specs.Numbering.{link_of, scenario_of_draft};
 
 use super::checks::is_among;
-use super::draft::{DraftMulticast, DraftScenario};
+use super::draft::{DraftLink, DraftMulticast, DraftScenario};
 use super::fault::{Limit, ScenarioFault};
 use super::limits::MOST_MULTICASTS;
 use super::line_fault::{Expected, LineFault};
-use super::line_forms::{groups_in, multicast_in, target_in};
+use super::line_forms::{groups_in, link_in, multicast_in, target_in};
 use super::name::Name;
+use super::numbering::{delay_ticks, link_of};
 use super::scenario::Scenario;
+use super::version::Version;
 use convoy_lines::{LineReader, number_in};
 use std::alloc::Global;
 
-/// Reads the lines of a scenario, from `delay` to `target` (docs/FORMATS.md, "Certificate text").
+/// Reads the lines of a scenario, from `delay` to `target`, as a version has them (docs/FORMATS.md,
+/// "Certificate text").
 ///
 /// A fault is the first in the order of the lines: a line that is absent, not ended or not of its
-/// form; then, at the line `target`, a scenario that is none; then a line whose destinations are
-/// not in the order of the groups. The reader then stands where it stood, as it does where memory
+/// form; then, at the line `target`, a scenario that is none; then a line `link` that is out of order
+/// or has the range 1 to D; then a line whose destinations are not in the order of the groups. The reader then stands where it stood, as it does where memory
 /// runs out.
-pub fn read_lines(alloc: Global, reader: &mut LineReader) -> Result<Scenario, LineFault>
-    ensures value { IsUnlessMemory LineFault.Memory (scenario_at reader.old)
+pub fn read_lines(
+    alloc: Global,
+    version: Version,
+    reader: &mut LineReader,
+) -> Result<Scenario, LineFault>
+    ensures value { IsUnlessMemory LineFault.Memory (scenario_at version reader.old)
         (result_map_both (λ scenario. (scenario, reader.new)) (λ fault. fault) result) }
     ensures err { OnErr result (reader.new ≡ reader.old) }
 {
     let mut ahead = reader.copy();
-    let scenario = read_scenario(alloc, &mut ahead)?;
+    let scenario = read_scenario(alloc, version, &mut ahead)?;
     *reader = ahead;
     Ok(scenario)
 }
 
 /// Reads the lines of a scenario. After a fault the reader stands somewhere among them.
 #[tactic(auto, unfolding(crate::specs::LineReading::scenario_at))]
-fn read_scenario(alloc: Global, reader: &mut LineReader) -> Result<Scenario, LineFault>
-    ensures { IsUnlessMemory LineFault.Memory (scenario_at reader.old)
+fn read_scenario(
+    alloc: Global,
+    version: Version,
+    reader: &mut LineReader,
+) -> Result<Scenario, LineFault>
+    ensures { IsUnlessMemory LineFault.Memory (scenario_at version reader.old)
         (result_map_both (λ scenario. (scenario, reader.new)) (λ fault. fault) result) }
 {
     let delay = read_delay(reader)?;
     let groups = read_groups(alloc, reader)?;
+    let first_link = reader.number();
+    let links = read_links(alloc, version, reader)?;
     let first = reader.number();
     let multicasts = read_multicasts(alloc, reader)?;
     let (target_message, target_group) = read_target(alloc, reader)?;
@@ -51,11 +64,16 @@ fn read_scenario(alloc: Global, reader: &mut LineReader) -> Result<Scenario, Lin
     let draft = DraftScenario {
         delay: i64::from(delay),
         groups,
+        links,
         multicasts,
         target_message,
         target_group,
     };
+    let misplaced = first_misplaced_link(first_link, &draft);
     let scenario = scenario_of(alloc, draft)?;
+    if let Some(number) = misplaced {
+        return Err(LineFault::Line(number, Expected::Link));
+    }
     match unordered {
         Some(number) => Err(LineFault::Line(number, Expected::Multicast)),
         None => Ok(scenario),
@@ -88,6 +106,41 @@ fn read_groups(alloc: Global, reader: &mut LineReader) -> Result<Vec<Name>, Line
     let wrong = LineFault::Line(reader.number(), Expected::Groups);
     let line = reader.line().ok_or(wrong)?;
     groups_in(alloc, line, wrong)
+}
+
+fn read_link(alloc: Global, reader: &mut LineReader) -> Result<DraftLink, LineFault>
+    ensures { IsUnlessMemory LineFault.Memory (form_at Expected.Link link_in reader.old)
+        (result_map_both (λ link. (link, reader.new)) (λ fault. fault) result) }
+{
+    let wrong = LineFault::Line(reader.number(), Expected::Link);
+    let line = reader.line().ok_or(wrong)?;
+    link_in(alloc, line, wrong)
+}
+
+fn read_links(
+    alloc: Global,
+    version: Version,
+    reader: &mut LineReader,
+) -> Result<Vec<DraftLink>, LineFault>
+    ensures { IsUnlessMemory LineFault.Memory (links_at version reader.old)
+        (result_map_both (λ links. (links.items, reader.new)) (λ fault. fault) result) }
+{
+    let mut links = Vec::new(alloc);
+    while is_link_due(version, reader) {
+        let link = read_link(alloc, reader)?;
+        links.push(link)?;
+    }
+    Ok(links)
+}
+
+/// Whether a line `link` is due: the version has such lines, and what comes next begins with that word.
+fn is_link_due(version: Version, reader: &LineReader) -> bool
+    ensures { result ≡ is_link_due version (upcoming reader.now) }
+{
+    match version {
+        Version::One => false,
+        Version::Two => reader.begins_with(b"link"),
+    }
 }
 
 fn read_multicast(alloc: Global, reader: &mut LineReader) -> Result<DraftMulticast, LineFault>
@@ -129,6 +182,35 @@ fn read_target(alloc: Global, reader: &mut LineReader) -> Result<(Name, Name), L
     let wrong = LineFault::Line(reader.number(), Expected::Target);
     let line = reader.line().ok_or(wrong)?;
     target_in(alloc, line, wrong)
+}
+
+/// The number of the first line `link` that is out of order or has the range 1 to D, where `number` is
+/// that of the first of the lines.
+fn first_misplaced_link(number: usize, draft: &DraftScenario) -> Option<usize>
+    requires { number ≤ 2 ^ 63 }
+    ensures { result ≡ first_misplaced_link number draft.now }
+{
+    first_misplaced(
+        u32::from(delay_ticks(draft.delay)),
+        &draft.groups,
+        number,
+        &draft.links,
+    )
+}
+
+fn first_misplaced(delay: u32, groups: &[Name], number: usize, links: &[DraftLink]) -> Option<usize>
+    requires { number ≤ 2 ^ 63 }
+    ensures { result ≡ first_misplaced delay None number (map (link_of groups.now) links.now) }
+{
+    let mut before = None;
+    for (i, draft) in links.iter().enumerate() {
+        let link = link_of(groups, draft);
+        if !link.follows(&before) || link.is_whole(delay) {
+            return Some(number + i);
+        }
+        before = Some(link);
+    }
+    None
 }
 
 /// The number of the first line whose destinations are not in the order of the groups, where `number`

@@ -5,9 +5,9 @@ ghost use Rattle.std.specs.Result.{result_map_both};
 ghost use Rattle.toml.specs.Data.{as_integer, as_str, as_array, as_table, get_member};
 ghost use Rattle.toml.specs.View.{view, array_view, table_view};
 ghost use Rattle.convoy_scenario.specs.Memory.{IsUnlessMemory};
-ghost use Rattle.convoy_scenario.specs.Shape.{key_word, all_of, need, need_all, wish, wish_all, has_only, need_only, message_of_table, messages_of, draft_of_table, written_of_table, listed, listed_if_there, tables_listed};
+ghost use Rattle.convoy_scenario.specs.Shape.{key_word, all_of, need, need_all, wish, wish_all, has_only, need_only, message_of_table, messages_of, link_of_table, links_of, links_of_table, draft_of_table, written_of_table, listed, listed_if_there, tables_listed};
 
-use super::draft::{DraftInput, DraftMulticast, DraftScenario};
+use super::draft::{DraftInput, DraftLink, DraftMulticast, DraftScenario};
 use super::fault::{Key, ScenarioFault};
 use super::name::Name;
 use std::alloc::Global;
@@ -187,6 +187,46 @@ fn multicasts_of(alloc: Global, tables: &[&Table]) -> Result<Vec<DraftMulticast>
     Ok(multicasts)
 }
 
+fn link_of_table(alloc: Global, table: &Table) -> Result<DraftLink, ScenarioFault>
+    ensures { IsUnlessMemory ScenarioFault.Memory (link_of_table (table_view table.now)) result }
+{
+    let sender = sender(alloc, table)?;
+    let to = name(alloc, table, Key::To)?;
+    let least = integer(table, Key::Least)?;
+    let most = integer(table, Key::Most)?;
+    need_only(table, &[Key::From, Key::To, Key::Least, Key::Most])?;
+    Ok(DraftLink {
+        sender,
+        to,
+        least,
+        most,
+    })
+}
+
+fn links_of(alloc: Global, tables: &[&Table]) -> Result<Vec<DraftLink>, ScenarioFault>
+    ensures { IsUnlessMemory ScenarioFault.Memory
+        (links_of (map (λ t. table_view t.now) tables.now)) (listed result) }
+{
+    let mut links = Vec::new(alloc);
+    for table in tables {
+        links.push(link_of_table(alloc, table)?)?;
+    }
+    Ok(links)
+}
+
+/// The links of a scenario's table; none where the key is absent.
+fn links_of_table(alloc: Global, table: &Table) -> Result<Vec<DraftLink>, ScenarioFault>
+    ensures { IsUnlessMemory ScenarioFault.Memory
+        (links_of_table (table_view table.now)) (listed result) }
+{
+    let Some(value) = value_at(table, Key::Link) else {
+        return Ok(Vec::new(alloc));
+    };
+    let items = value.as_array().ok_or(ScenarioFault::Shape(Key::Link))?;
+    let tables = tables_of(alloc, items, Key::Link)?;
+    links_of(alloc, &tables)
+}
+
 /// What is written in a table, or the first key that is at fault (docs/FORMATS.md, "Scenario text").
 pub fn written_of_table(alloc: Global, table: &Table) -> Result<DraftInput, ScenarioFault>
     ensures { IsUnlessMemory ScenarioFault.Memory (written_of_table (table_view table.now)) result }
@@ -200,6 +240,7 @@ pub fn written_of_table(alloc: Global, table: &Table) -> Result<DraftInput, Scen
             Key::Groups,
             Key::Multicast,
             Key::Target,
+            Key::Link,
             Key::Schedule,
         ],
     )?;
@@ -218,9 +259,11 @@ fn draft_of_table(alloc: Global, table: &Table) -> Result<DraftScenario, Scenari
     let target_message = name(alloc, target, Key::Message)?;
     let target_group = name(alloc, target, Key::Group)?;
     need_only(target, &[Key::Message, Key::Group])?;
+    let links = links_of_table(alloc, table)?;
     Ok(DraftScenario {
         delay,
         groups,
+        links,
         multicasts,
         target_message,
         target_group,

@@ -51,7 +51,7 @@ module _ (plan : Scenario) (well : IsScenario plan) where
       → arrive plan delays m g ≤ 1000016
   comes_soon delays within m g l =
       let at = (multicast_at plan well m l).at in
-      let soon = arrives_within plan delays within m g in
+      let soon = arrives_within plan delays well within m g in
       let most = well.delay_high in
       omega arith
 
@@ -59,6 +59,6 @@ module _ (plan : Scenario) (well : IsScenario plan) where
       → settle plan delays m g ≤ 1000032
   settles_soon delays within m g l =
       let at = (multicast_at plan well m l).at in
-      let soon = committed_within plan delays within m g in
+      let soon = committed_within plan delays well within m g in
       let most = well.delay_high in
       omega arith

@@ -10,6 +10,7 @@ use Rattle.convoy_sim.proofs.Membership.{IsIn, greatest_most, greatest_mono}
 use Rattle.convoy_sim.proofs.MomentsOrder.{less_after, less_trans}
 use Rattle.convoy_sim.proofs.StampLaws.{earlier_arrives, not_greater}
 use Rattle.convoy_sim.proofs.DeliveryTick.{in-ahead, in_of_ahead, delivery_law}
+use Rattle.convoy_scenario.specs.WellFormed.{IsScenario}
 use Rattle.convoy_sim.proofs.PacketDelays.{committed_within}
 
 pub order_law : OrderLaw
@@ -24,15 +25,15 @@ order_law plan delays well m n less g hm hn =
           inr (in-ahead plan delays k n g r.0 (less_trans _ (final_stamp plan delays m) _ r.1 less))
 
 -- a message that arrives by some tick is committed within 2 D of that
-committed_soon : (plan : Scenario) (delays : List ℕ) → IsAssignment plan delays → (n g tick : ℕ)
+committed_soon : (plan : Scenario) (delays : List ℕ) → IsScenario plan → IsAssignment plan delays → (n g tick : ℕ)
     → arrive plan delays n g ≤ tick → settle plan delays n g ≤ tick + 2 * plan.delay
 unfolding arrive
-committed_soon plan delays h n g tick l = let r = committed_within plan delays h n g in omega arith
+committed_soon plan delays well h n g tick l = let r = committed_within plan delays well h n g in omega arith
 
 pub within_four : LatencyWithinFourDelays
 unfolding latency_at
 within_four plan delays well h m g hm =
-    let mine = committed_within plan delays h m g in
+    let mine = committed_within plan delays well h m g in
     let most : last_commit plan delays g (m ∷ ahead_of plan delays m g) ≤ (message_at plan m).at + 4 * plan.delay =
     greatest_most (λ k. settle plan delays k g) ((message_at plan m).at + 4 * plan.delay) (m ∷ ahead_of plan delays m g)
     (λ k i. elim i [
@@ -40,7 +41,7 @@ within_four plan delays well h m g hm =
       | inr j ↦
           let r = in_of_ahead plan delays k m g j in
           let come = earlier_arrives plan delays well k m g r.0 hm r.1 in
-          let soon = committed_soon plan delays h k g (settle plan delays m g) come in
+          let soon = committed_soon plan delays well h k g (settle plan delays m g) come in
           omega arith
     ]) in
     let law = delivery_law plan delays well m g hm in
@@ -49,7 +50,7 @@ within_four plan delays well h m g hm =
 pub lone_within_two : LoneLatencyWithinTwoDelays
 unfolding latency_at
 lone_within_two plan delays well h m g hm lone =
-    let mine = committed_within plan delays h m g in
+    let mine = committed_within plan delays well h m g in
     let most : last_commit plan delays g (m ∷ ahead_of plan delays m g) ≤ (message_at plan m).at + 2 * plan.delay =
     greatest_most (λ k. settle plan delays k g) ((message_at plan m).at + 2 * plan.delay) (m ∷ ahead_of plan delays m g)
     (λ k i. elim i [

@@ -19,6 +19,7 @@ base_with_y_at : ℕ → Scenario
 base_with_y_at at = record {
   delay = 3;
   groups = codes "a" ∷ codes "b" ∷ [];
+  links = [];
   multicasts = message (codes "x") Client (1 ∷ []) 0 ∷ message (codes "t") Client (0 ∷ 1 ∷ []) 0
       ∷ message (codes "y") (Group 0) (0 ∷ 1 ∷ []) at ∷ [];
   target_message = 1;
@@ -33,6 +34,7 @@ swapped : Scenario
 swapped = record {
   delay = 3;
   groups = codes "b" ∷ codes "a" ∷ [];
+  links = [];
   multicasts = message (codes "x") Client (0 ∷ []) 0 ∷ message (codes "t") Client (0 ∷ 1 ∷ []) 0
       ∷ message (codes "y") (Group 1) (0 ∷ 1 ∷ []) 6 ∷ [];
   target_message = 1;
@@ -44,6 +46,7 @@ raced : Scenario
 raced = record {
   delay = 3;
   groups = codes "a" ∷ codes "b" ∷ [];
+  links = [];
   multicasts = message (codes "t") Client (0 ∷ 1 ∷ []) 0 ∷ message (codes "x") Client (1 ∷ []) 1
       ∷ message (codes "y") (Group 0) (0 ∷ 1 ∷ []) 5 ∷ [];
   target_message = 0;
@@ -54,6 +57,7 @@ lone : Sender → List ℕ → Scenario
 lone sender destinations = record {
   delay = 5;
   groups = codes "a" ∷ codes "b" ∷ [];
+  links = [];
   multicasts = message (codes "m") sender destinations 0 ∷ [];
   target_message = 0;
   target_group = 0;
@@ -64,6 +68,7 @@ raised_twice : Scenario
 raised_twice = record {
   delay = 3;
   groups = codes "c" ∷ codes "a" ∷ codes "b" ∷ [];
+  links = [];
   multicasts = message (codes "u") Client (1 ∷ 2 ∷ []) 0 ∷ message (codes "v") Client (1 ∷ 2 ∷ []) 0
       ∷ message (codes "t") Client (0 ∷ 1 ∷ []) 5 ∷ message (codes "w1") (Group 0) (0 ∷ []) 9
       ∷ message (codes "w2") (Group 0) (0 ∷ []) 9 ∷ message (codes "n") (Group 0) (0 ∷ 2 ∷ []) 10 ∷ [];
@@ -76,6 +81,7 @@ largest : Scenario
 largest = record {
   delay = 16;
   groups = replicate 8 (codes "g");
+  links = [];
   multicasts = replicate 16 (message (codes "m") Client (0 ∷ 1 ∷ 2 ∷ 3 ∷ 4 ∷ 5 ∷ 6 ∷ 7 ∷ []) 0);
   target_message = 0;
   target_group = 0;

@@ -94,13 +94,13 @@ SenderHasItAtOnce =
 -- A message arrives at a group within D ticks of its issue.
 abbrev pub ArrivesWithinOneDelay : Type 0
 ArrivesWithinOneDelay =
-    (scenario : Scenario) (delays : Schedule) → IsAssignment scenario delays → (m g : ℕ)
+    (scenario : Scenario) (delays : Schedule) → IsScenario scenario → IsAssignment scenario delays → (m g : ℕ)
     → arrive scenario delays m g ≤ (message_at scenario m).at + scenario.delay
 
 -- A message is committed at a group within 2 D ticks of its issue.
 abbrev pub CommittedWithinTwoDelays : Type 0
 CommittedWithinTwoDelays =
-    (scenario : Scenario) (delays : Schedule) → IsAssignment scenario delays → (m g : ℕ)
+    (scenario : Scenario) (delays : Schedule) → IsScenario scenario → IsAssignment scenario delays → (m g : ℕ)
     → settle scenario delays m g ≤ (message_at scenario m).at + 2 * scenario.delay
 
 -- The latency of a message at a group is at most 4 D.

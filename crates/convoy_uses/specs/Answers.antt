@@ -58,6 +58,7 @@ abbrev pub exchange : ℕ → Draft
 exchange delay = record {
   delay = pos delay;
   groups = codes "a" ∷ codes "b" ∷ [];
+  links = [];
   messages = record { name = codes "m"; sender = None; to = codes "a" ∷ codes "b" ∷ []; at = pos 0 } ∷ [];
   target_message = codes "m";
   target_group = codes "a";

@@ -22,6 +22,7 @@ pub fn exchange(alloc: Global, delay: u32) -> Result<Scenario, Fault>
     let parts = ScenarioParts {
         delay,
         groups: &["a", "b"],
+        links: &[],
         messages: &[MessageParts {
             name: "m",
             sender: None,

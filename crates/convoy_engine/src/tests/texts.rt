@@ -63,6 +63,22 @@ b
 end
 ";
 
+/// The base's certificate where b answers a in one tick.
+pub(super) const CERTIFICATE_OF_LINKED: &str = "\
+convoy 2
+delay 3
+groups a b
+link b a 1 1
+multicast x client 0 b
+multicast t client 0 a b
+multicast y a 6 a b
+target t a
+latency 4
+schedule 3 3 3 3 1 3 3 1
+b
+end
+";
+
 /// With the groups the other way round the greatest latency is less, and the bound of the root box is
 /// above it.
 pub(super) const CERTIFICATE_OF_SWAPPED: &str = "\

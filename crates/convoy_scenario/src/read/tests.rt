@@ -92,6 +92,7 @@ fn base_in_parts(rt: HostRuntime) -> Result<(), Fail> {
     let mut parts = ScenarioParts {
         delay: 3,
         groups: &["a", "b"],
+        links: &[],
         messages: &messages,
         target_message: "t",
         target_group: "a",

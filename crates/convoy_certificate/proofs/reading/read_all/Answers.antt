@@ -3,8 +3,8 @@ use Rattle.convoy_packets.specs.Table.{PacketTable}
 use Rattle.convoy_certificate.proofs.Assigned.{assigned}
 use Rattle.convoy_certificate.proofs.reading.read_all.Goals as goal
 
-pub new-requires-clause-assigned : goal.new-requires-clause-assigned
-new-requires-clause-assigned c =
+pub new-certificate-requires-clause-assigned : goal.new-certificate-requires-clause-assigned
+new-certificate-requires-clause-assigned c =
     rw (c.from_vec.ensures)
     (assigned c.in_ok-scenario.scenario c.in_ok-delays.delays.items c.ranges-2.result.now c.deref.result.now c.are_within.result
     (c.ranges-2.ensures.value ∙ ap (λ (t : PacketTable). t.ranges) c.in_ok-table.ensures.value) c.deref.ensures.value c.are_within.ensures c.if-not-are_within.false)

@@ -1,8 +1,11 @@
-use Rattle.std.proofs.Common.{◌∙◌}
+use Rattle.std.proofs.Common.{ap, ◌∙◌}
+use Rattle.convoy_lines.specs.Texts.{ended}
+use Rattle.convoy_scenario.specs.declared.version.Version.{Version}
+use Rattle.convoy_certificate.specs.Text.{version_line}
 use Rattle.convoy_certificate.proofs.Pieces.{in_pieces}
 use Rattle.convoy_certificate.proofs.writing.text_of.Goals as goal
 
 pub returns : goal.returns
 returns c =
     in_pieces c.args.certificate.now _ _ _ _ c.scenario.ensures c.latency.ensures (c.as_slice.ensures ∙ c.delays.ensures.value) c.nodes.ensures.value _ _ _ _ _ _
-    c.in_ok-text.ensures.items c.in_ok-write_lines.ensures.ok c.in_ok-push_number_line.ensures c.in_ok-push_schedule.ensures c.in_ok-push_nodes.ensures c.in_ok-extend_from_slice.ensures.items
+    (c.in_ok-text.ensures.items ∙ c.version_line.ensures ∙ ap (λ (v : Version). ended (version_line v)) c.version.ensures) c.in_ok-write_lines.ensures.ok c.in_ok-push_number_line.ensures c.in_ok-push_schedule.ensures c.in_ok-push_nodes.ensures c.in_ok-extend_from_slice.ensures.items

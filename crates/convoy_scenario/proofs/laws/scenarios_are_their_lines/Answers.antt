@@ -7,7 +7,7 @@ use Rattle.convoy_scenario.proofs.Texts.{target_known}
 use Rattle.convoy_scenario.proofs.laws.scenarios_are_their_lines.Goals as goal
 
 pub returns : goal.returns
-returns c plan place past =
+returns c version plan place past =
     let laws : LineLaws = record {
       numbers = c.numbers_are_decimals.ensures;
       decimals = c.decimals_are_words.ensures;
@@ -16,10 +16,10 @@ returns c plan place past =
       labelled = c.labelled_lines.ensures;
       number_lines = c.number_lines.ensures;
     } in (
-      scenario_takes laws place (plan, past),
+      scenario_takes laws version place (plan, past),
       λ stands.
-          let between = stands.1 in
-          ap₂ (λ ended rest. scenario_at (record { ended = ended; rest = rest; number = place.number })) between.ended between.rest
-          ∙ scenario_again laws plan place.number past.rest past.ended stands.0 (target_known plan stands.0)
+          let between = stands.2 in
+          ap₂ (λ ended rest. scenario_at version (record { ended = ended; rest = rest; number = place.number })) between.ended between.rest
+          ∙ scenario_again laws version plan place.number past.rest past.ended stands.0 stands.1 (target_known plan stands.0)
           ∙ ap (λ n. Ok (plan, record { ended = past.ended; rest = past.rest; number = n })) between.number,
     )
