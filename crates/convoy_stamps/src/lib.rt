@@ -1,0 +1,4 @@
+//! Bounds that see stamps: a rival is left out where its stamp is surely greater than the target's.
+#![tactic(auto)]
+
+pub mod laws;
