@@ -1,8 +1,8 @@
 -- A bound over some of the rivals: those may be left out that are not ahead of the target.
-use Rattle.std.proofs.Common.{◌≡◌, ℕ, ◌-◌, ◌≤◌, Bool, true, not, nat_le, max, inl, inr, List, [], ◌∷◌, map, sym, subst, arith}
-use Rattle.std.specs.List.{filter, fold}
+use Rattle.std.proofs.Common.{◌≡◌, ℕ, ◌-◌, ◌≤◌, Bool, true, not, nat_le, inl, inr, List, ◌∷◌, map, subst, arith}
+use Rattle.std.specs.List.{filter}
 use Rattle.std.proofs.lemmas.Bool.{le-leb, not_from_false}
-use Rattle.convoy_scenario.specs.Scenario.{Scenario, message_at, is_addressed, message_numbers, GoesTo}
+use Rattle.convoy_scenario.specs.Scenario.{Scenario, GoesTo}
 use Rattle.convoy_scenario.specs.WellFormed.{IsScenario}
 use Rattle.convoy_packets.specs.Assignment.{Schedule}
 use Rattle.convoy_sim.specs.Times.{greatest, arrive, settle}

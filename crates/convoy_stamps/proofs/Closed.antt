@@ -1,6 +1,5 @@
 -- What is reached from an element is closed, and the least that is.
 use Rattle.std.proofs.Common.{◌≡◌, ℕ, ◌<◌, ◌≤◌, zero, suc, Bool, true, ◌⊎◌, inl, inr, List, [], ◌∷◌, length, filter, refl, sym, ap, subst, ◌∙◌, arith}
-use Rattle.std.specs.List.{list_any}
 use Rattle.std.proofs.lemmas.Bool.{cases_Bool, both_ways}
 use Rattle.convoy_sim.proofs.Membership.{IsIn, filter_keeps, filter_drops, in-filter, in_of_filter, list_any_in, in_of_list_any}
 use Rattle.convoy_stamps.specs.Closures.{is_follower, reached_after, reached_from}

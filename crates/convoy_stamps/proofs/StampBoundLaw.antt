@@ -1,18 +1,18 @@
 -- The stamp bound: a rival that it leaves out is not ahead of the target.
-use Rattle.std.proofs.Common.{◌≡◌, ℕ, ◌+◌, ◌≤◌, true, false, List, [], ◌∷◌, inl, inr, length, map, fold, sym, subst, arith}
+use Rattle.std.proofs.Common.{◌≡◌, ℕ, ◌+◌, ◌≤◌, true, List, [], ◌∷◌, inl, inr, length, map, fold, sym, subst, arith}
 use Rattle.std.proofs.lemmas.Bool.{false_from_ne_true}
 use Rattle.std.proofs.lemmas.Bool.Decides.{nat_tests}
-use Rattle.convoy_scenario.specs.Scenario.{Scenario, message_at, GoesTo}
+use Rattle.convoy_scenario.specs.Scenario.{Scenario, message_at}
 use Rattle.convoy_scenario.specs.WellFormed.{IsScenario}
 use Rattle.convoy_packets.specs.Assignment.{Schedule}
 use Rattle.convoy_sim.specs.declared.timestamp.Timestamp.{Timestamp}
-use Rattle.convoy_sim.specs.Stamps.{is_less, later, no_stamp, local_stamp, final_stamp}
+use Rattle.convoy_sim.specs.Stamps.{is_less, later, no_stamp, local_stamp}
 use Rattle.convoy_sim.specs.Laws.{FinalStampIsLocal, LocalStampNamesGroup}
 use Rattle.convoy_sim.proofs.Membership.{IsIn, in-map}
 use Rattle.convoy_sim.proofs.Addressed.{in_of_goes}
 use Rattle.convoy_intervals.specs.Bounds.{Tables, Encloses}
 use Rattle.convoy_stamps.specs.Reach.{reach_of}
-use Rattle.convoy_stamps.specs.StampBounds.{sure_before, lowest_stamp, highest_stamp, highest_final, is_surely_behind}
+use Rattle.convoy_stamps.specs.StampBounds.{sure_before, lowest_stamp, highest_stamp, is_surely_behind}
 use Rattle.convoy_stamps.specs.Laws.{KeepsThoseAhead, StampsWithinReach, StampsPastSureBefore}
 
 -- ---- the greatest of some stamps

@@ -15,7 +15,8 @@ use Rattle.convoy_sim.specs.RaiseLaws.{FollowsArrival, FollowsCommit, StampsHave
 use Rattle.convoy_sim.proofs.Membership.{IsIn, IsOnce, in_of_contains, contains-in, in_of_filter, once-range}
 use Rattle.convoy_sim.proofs.Addressed.{goes_of_addressed}
 use Rattle.convoy_intervals.specs.Bounds.{Tables, Encloses}
-use Rattle.convoy_stamps.specs.Reach.{pairs_of, is_pair, leads_to, may_precede, may_raise, follows, reach_of}
+use Rattle.convoy_stamps.specs.declared.pair.Pair.{Pair}
+use Rattle.convoy_stamps.specs.Reach.{pair_of, IsPair, pairs_of, is_same, leads_to, may_precede, may_raise, follows, reach_of}
 use Rattle.convoy_stamps.specs.StampBounds.{sure_before}
 use Rattle.convoy_stamps.specs.Laws.{ReachIsClosed, ReachIsLeast}
 use Rattle.convoy_stamps.proofs.Closed.{start_in, closed, least}
@@ -23,26 +24,26 @@ use Rattle.convoy_stamps.proofs.Counting.{at_least, at_most, once-filter}
 use Rattle.convoy_stamps.proofs.Pairs.{in-pairs, goes_of_pair, pair_itself, same_pair}
 
 -- ---- the reach
-pub follows_itself : (scenario : Scenario) (tables : Tables) (m : ℕ) (pair : ℕ × ℕ) → follows scenario tables m pair pair ≡ true
-follows_itself scenario tables m pair = or_left (is_pair pair pair) (leads_to scenario tables m pair pair) (pair_itself pair)
+pub follows_itself : (scenario : Scenario) (tables : Tables) (m : ℕ) (pair : Pair) → follows scenario tables m pair pair ≡ true
+follows_itself scenario tables m pair = or_left (is_same pair pair) (leads_to scenario tables m pair pair) (pair_itself pair)
 
-start_in_reach : (scenario : Scenario) (tables : Tables) (m g : ℕ) → GoesTo scenario m g → IsIn (m, g) (reach_of scenario tables m g)
+start_in_reach : (scenario : Scenario) (tables : Tables) (m g : ℕ) → GoesTo scenario m g → IsIn (pair_of m g) (reach_of scenario tables m g)
 unfolding reach_of
 start_in_reach scenario tables m g goes =
-    start_in (follows scenario tables m) (follows_itself scenario tables m) (pairs_of scenario) (m, g) (in-pairs scenario m g goes)
+    start_in (follows scenario tables m) (follows_itself scenario tables m) (pairs_of scenario) (pair_of m g) (in-pairs scenario (pair_of m g) goes)
     (suc (length (pairs_of scenario)))
 
-led_to : (scenario : Scenario) (tables : Tables) (m g : ℕ) → GoesTo scenario m g → (pair next : ℕ × ℕ)
-    → IsIn pair (reach_of scenario tables m g) → GoesTo scenario next.0 next.1 → leads_to scenario tables m pair next ≡ true
+led_to : (scenario : Scenario) (tables : Tables) (m g : ℕ) → GoesTo scenario m g → (pair next : Pair)
+    → IsIn pair (reach_of scenario tables m g) → IsPair scenario next → leads_to scenario tables m pair next ≡ true
     → IsIn next (reach_of scenario tables m g)
 unfolding reach_of
 led_to scenario tables m g goes pair next i h l =
-    closed (follows scenario tables m) (follows_itself scenario tables m) (pairs_of scenario) (m, g) (in-pairs scenario m g goes)
-    pair next i (in-pairs scenario next.0 next.1 h) (or_right (is_pair pair next) (leads_to scenario tables m pair next) l)
+    closed (follows scenario tables m) (follows_itself scenario tables m) (pairs_of scenario) (pair_of m g) (in-pairs scenario (pair_of m g) goes)
+    pair next i (in-pairs scenario next h) (or_right (is_same pair next) (leads_to scenario tables m pair next) l)
 
 pub reach_closed : ReachIsClosed
 reach_closed scenario tables m g goes = (
-  contains-in (m, g) (reach_of scenario tables m g) (start_in_reach scenario tables m g goes),
+  contains-in (pair_of m g) (reach_of scenario tables m g) (start_in_reach scenario tables m g goes),
   λ pair next i h l.
       contains-in next (reach_of scenario tables m g)
       (led_to scenario tables m g goes pair next (in_of_contains pair (reach_of scenario tables m g) i) h l),
@@ -52,9 +53,9 @@ pub reach_least : ReachIsLeast
 unfolding reach_of
 reach_least scenario tables m g pairs goes start step pair i =
     contains-in pair pairs
-    (least (follows scenario tables m) (follows_itself scenario tables m) (pairs_of scenario) (m, g) (in-pairs scenario m g goes)
-    (λ p. IsIn p pairs) (in_of_contains (m, g) pairs start)
-    (λ x y j k f. elim (or_cases (is_pair x y) (leads_to scenario tables m x y) f) [
+    (least (follows scenario tables m) (follows_itself scenario tables m) (pairs_of scenario) (pair_of m g) (in-pairs scenario (pair_of m g) goes)
+    (λ p. IsIn p pairs) (in_of_contains (pair_of m g) pairs start)
+    (λ x y j k f. elim (or_cases (is_same x y) (leads_to scenario tables m x y) f) [
       | inl e ↦ subst (λ p. IsIn p pairs) (same_pair x y e) j
       | inr l ↦ in_of_contains y pairs (step x y (contains-in x pairs j) (goes_of_pair scenario y k) l)
     ])
@@ -62,37 +63,37 @@ reach_least scenario tables m g pairs goes start step pair i =
 
 -- ---- a stamp is within its reach
 module _ (steps : StampsHaveSteps) (arrives : ArrivesBeforeCommit) (scenario : Scenario) (delays : Schedule) (tables : Tables) (well : IsScenario scenario) (enclosed : Encloses scenario delays tables) (m g : ℕ) (goes : GoesTo scenario m g) where
-  time_at : ℕ × ℕ → ℕ
-  time_at pair = (local_stamp scenario delays pair.0 pair.1).time
+  time_at : Pair → ℕ
+  time_at pair = (local_stamp scenario delays pair.message pair.group).time
 
   -- going back from the stamp, the one that is d less belongs to a pair of the reach
-  record IsBack (d : ℕ) (pair : ℕ × ℕ) : Type 0 where
+  record IsBack (d : ℕ) (pair : Pair) : Type 0 where
     pub there : IsIn pair (reach_of scenario tables m g)
-    pub to : GoesTo scenario pair.0 pair.1
-    pub time : time_at pair + d ≡ time_at (m, g)
-    pub early : arrive scenario delays pair.0 pair.1 ≤ arrive scenario delays m g
+    pub to : IsPair scenario pair
+    pub time : time_at pair + d ≡ time_at (pair_of m g)
+    pub early : arrive scenario delays pair.message pair.group ≤ arrive scenario delays m g
 
-  leads_by_arrival : (n k p : ℕ) → GoesTo scenario n k → FollowsArrival scenario delays n k p → leads_to scenario tables m (n, k) (p, k) ≡ true
+  leads_by_arrival : (n k p : ℕ) → GoesTo scenario n k → FollowsArrival scenario delays n k p → leads_to scenario tables m (pair_of n k) (pair_of p k) ≡ true
   leads_by_arrival n k p to after =
       let late : arrive scenario delays p k ≤ arrive scenario delays n k = after.no_later in
       let low : tables.least_arrival p k ≤ arrive scenario delays p k = enclosed.arrival_low p k after.goes in
       let high : arrive scenario delays n k ≤ tables.greatest_arrival n k = enclosed.arrival_high n k to in
-      and_from (not (p == n)) (may_precede tables (n, k) (p, k) || (not (p == m) && may_raise scenario tables (n, k) (p, k)))
+      and_from (not (p == n)) (may_precede tables (pair_of n k) (pair_of p k) || (not (p == m) && may_raise scenario tables (pair_of n k) (pair_of p k)))
       (not_from_false (p == n) (false_from_ne_true (p == n) (λ t. after.other (eqb-true p n t))))
-      (or_left (may_precede tables (n, k) (p, k)) (not (p == m) && may_raise scenario tables (n, k) (p, k))
+      (or_left (may_precede tables (pair_of n k) (pair_of p k)) (not (p == m) && may_raise scenario tables (pair_of n k) (pair_of p k))
       (and_from (k == k) (nat_le (tables.least_arrival p k) (tables.greatest_arrival n k)) (eq-eqb k k refl)
       (le-leb (tables.least_arrival p k) (tables.greatest_arrival n k) (omega arith))))
 
   leads_by_commit : (n k p h : ℕ) → GoesTo scenario n k → arrive scenario delays n k ≤ arrive scenario delays m g
-      → FollowsCommit scenario delays n k p h → leads_to scenario tables m (n, k) (p, h) ≡ true
+      → FollowsCommit scenario delays n k p h → leads_to scenario tables m (pair_of n k) (pair_of p h) ≡ true
   leads_by_commit n k p h to early after =
       let before : settle scenario delays p k < arrive scenario delays n k = after.before in
       let low : tables.least_settling p k ≤ settle scenario delays p k = enclosed.settling_low p k after.goes in
       let high : arrive scenario delays n k ≤ tables.greatest_arrival n k = enclosed.arrival_high n k to in
-      and_from (not (p == n)) (may_precede tables (n, k) (p, h) || (not (p == m) && may_raise scenario tables (n, k) (p, h)))
+      and_from (not (p == n)) (may_precede tables (pair_of n k) (pair_of p h) || (not (p == m) && may_raise scenario tables (pair_of n k) (pair_of p h)))
       (not_from_false (p == n) (false_from_ne_true (p == n) (λ t. after.other (eqb-true p n t))))
-      (or_right (may_precede tables (n, k) (p, h)) (not (p == m) && may_raise scenario tables (n, k) (p, h))
-      (and_from (not (p == m)) (may_raise scenario tables (n, k) (p, h))
+      (or_right (may_precede tables (pair_of n k) (pair_of p h)) (not (p == m) && may_raise scenario tables (pair_of n k) (pair_of p h))
+      (and_from (not (p == m)) (may_raise scenario tables (pair_of n k) (pair_of p h))
       (not_from_false (p == m) (false_from_ne_true (p == m) (λ t.
       let own : arrive scenario delays m g ≤ settle scenario delays m k = arrives scenario delays m k g goes in
       let same : settle scenario delays p k ≡ settle scenario delays m k = ap (λ x. settle scenario delays x k) (eqb-true p m t) in
@@ -100,13 +101,13 @@ module _ (steps : StampsHaveSteps) (arrives : ArrivesBeforeCommit) (scenario : S
       (and_from (is_addressed (message_at scenario p) k) (nat_lt (tables.least_settling p k) (tables.greatest_arrival n k)) after.goes
       (lt-ltb (tables.least_settling p k) (tables.greatest_arrival n k) (omega arith)))))
 
-  back : (d : ℕ) → d < time_at (m, g) → (pair : ℕ × ℕ) × IsBack d pair
+  back : (d : ℕ) → d < time_at (pair_of m g) → (pair : Pair) × IsBack d pair
   unfolding time_at
-  back zero l = ((m, g), record { there = start_in_reach scenario tables m g goes; to = goes; time = omega arith; early = omega arith })
+  back zero l = (pair_of m g, record { there = start_in_reach scenario tables m g goes; to = goes; time = omega arith; early = omega arith })
   back (suc d) l =
       let now = back d (omega arith) in
-      let n : ℕ = now.0.0 in
-      let k : ℕ = now.0.1 in
+      let n : ℕ = now.0.message in
+      let k : ℕ = now.0.group in
       let is : IsBack d now.0 = now.1 in
       let time : (local_stamp scenario delays n k).time + d ≡ (local_stamp scenario delays m g).time = is.time in
       let early : arrive scenario delays n k ≤ arrive scenario delays m g = is.early in
@@ -116,9 +117,9 @@ module _ (steps : StampsHaveSteps) (arrives : ArrivesBeforeCommit) (scenario : S
             let after : FollowsArrival scenario delays n k z.0 = z.1 in
             let late : arrive scenario delays z.0 k ≤ arrive scenario delays n k = after.no_later in
             let next : (local_stamp scenario delays n k).time ≡ (local_stamp scenario delays z.0 k).time + 1 = after.next in (
-              (z.0, k),
+              pair_of z.0 k,
               record {
-                there = led_to scenario tables m g goes now.0 (z.0, k) is.there after.goes (leads_by_arrival n k z.0 is.to after);
+                there = led_to scenario tables m g goes now.0 (pair_of z.0 k) is.there after.goes (leads_by_arrival n k z.0 is.to after);
                 to = after.goes;
                 time = omega arith;
                 early = omega arith;
@@ -129,9 +130,9 @@ module _ (steps : StampsHaveSteps) (arrives : ArrivesBeforeCommit) (scenario : S
             let before : settle scenario delays c.0 k < arrive scenario delays n k = after.before in
             let came : arrive scenario delays c.0 c.1 ≤ settle scenario delays c.0 k = arrives scenario delays c.0 k c.1 after.from in
             let next : (local_stamp scenario delays n k).time ≡ (local_stamp scenario delays c.0 c.1).time + 1 = after.next in (
-              (c.0, c.1),
+              pair_of c.0 c.1,
               record {
-                there = led_to scenario tables m g goes now.0 (c.0, c.1) is.there after.from (leads_by_commit n k c.0 c.1 is.to early after);
+                there = led_to scenario tables m g goes now.0 (pair_of c.0 c.1) is.there after.from (leads_by_commit n k c.0 c.1 is.to early after);
                 to = after.from;
                 time = omega arith;
                 early = omega arith;

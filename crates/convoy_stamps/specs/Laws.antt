@@ -8,26 +8,27 @@ use Rattle.convoy_sim.specs.Stamps.{is_less, local_stamp, final_stamp}
 use Rattle.convoy_sim.specs.Delivery.{latency_of}
 use Rattle.convoy_intervals.specs.Boxes.{Box, IsIn}
 use Rattle.convoy_intervals.specs.Bounds.{Tables, Encloses, plain_bound}
-use Rattle.convoy_stamps.specs.Reach.{leads_to, reach_of}
+use Rattle.convoy_stamps.specs.declared.pair.Pair.{Pair}
+use Rattle.convoy_stamps.specs.Reach.{pair_of, IsPair, leads_to, reach_of}
 use Rattle.convoy_stamps.specs.StampBounds.{bound_by, sure_before, stamp_bound_over, stamp_bound}
 
 -- pairs that hold, with each pair, those to which it leads in the reach of message m
-abbrev pub IsClosed : Scenario → Tables → ℕ → List (ℕ × ℕ) → Type 0
+abbrev pub IsClosed : Scenario → Tables → ℕ → List Pair → Type 0
 IsClosed scenario tables m pairs =
-    (pair next : ℕ × ℕ) → Contains pairs pair → GoesTo scenario next.0 next.1 → IsTrue (leads_to scenario tables m pair next) → Contains pairs next
+    (pair next : Pair) → Contains pairs pair → IsPair scenario next → IsTrue (leads_to scenario tables m pair next) → Contains pairs next
 
 -- the reach of a local stamp holds its own pair, and it is closed, ..
 abbrev pub ReachIsClosed : Type 0
 ReachIsClosed =
     (scenario : Scenario) (tables : Tables) (m g : ℕ) → GoesTo scenario m g
-    → Contains (reach_of scenario tables m g) (m, g) × IsClosed scenario tables m (reach_of scenario tables m g)
+    → Contains (reach_of scenario tables m g) (pair_of m g) × IsClosed scenario tables m (reach_of scenario tables m g)
 
 -- .. and all such pairs hold the reach: it is the least that does both
 abbrev pub ReachIsLeast : Type 0
 ReachIsLeast =
-    (scenario : Scenario) (tables : Tables) (m g : ℕ) (pairs : List (ℕ × ℕ)) → GoesTo scenario m g
-    → Contains pairs (m, g) → IsClosed scenario tables m pairs
-    → (pair : ℕ × ℕ) → Contains (reach_of scenario tables m g) pair → Contains pairs pair
+    (scenario : Scenario) (tables : Tables) (m g : ℕ) (pairs : List Pair) → GoesTo scenario m g
+    → Contains pairs (pair_of m g) → IsClosed scenario tables m pairs
+    → (pair : Pair) → Contains (reach_of scenario tables m g) pair → Contains pairs pair
 
 -- the time of a local stamp is at most the size of its reach over any tables that enclose arrival and settling
 abbrev pub StampsWithinReach : Type 0
