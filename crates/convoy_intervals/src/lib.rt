@@ -3,6 +3,7 @@
 
 pub use bounds::bound;
 pub use delay_box::DelayBox;
+pub use times::{arrivals, settlings};
 
 mod bounds;
 mod delay_box;

@@ -1,5 +1,5 @@
 -- What is reached from an element is closed, and the least that is.
-use Rattle.std.proofs.Common.{◌≡◌, ℕ, ◌<◌, ◌≤◌, zero, suc, Bool, true, ◌⊎◌, inl, inr, List, [], ◌∷◌, length, filter, refl, sym, ap, subst, ◌∙◌, arith}
+use Rattle.std.proofs.Common.{◌≡◌, ℕ, ◌+◌, ◌<◌, ◌≤◌, zero, suc, Bool, true, ◌⊎◌, inl, inr, List, [], ◌∷◌, length, filter, refl, sym, ap, subst, ◌∙◌, arith}
 use Rattle.std.proofs.lemmas.Bool.{cases_Bool, both_ways}
 use Rattle.convoy_sim.proofs.Membership.{IsIn, filter_keeps, filter_drops, in-filter, in_of_filter, list_any_in, in_of_list_any}
 use Rattle.convoy_stamps.specs.Closures.{is_follower, reached_after, reached_from}
@@ -35,6 +35,19 @@ module _ {X : Type 0} (p q : X → Bool) where
             | inl same ↦ inl (λ y i t. elim i [ inl s ↦ absurd (both_ways (q x) f (ap q s ∙ t)) | inr j ↦ same y j t ])
             | inr more ↦ inr (omega (arith, ap length (filter_drops p x xs e), ap length (filter_drops q x xs f)))
           ]
+        ]
+      ]
+
+  same_filter : (xs : List X) → ((x : X) → IsIn x xs → p x ≡ true → q x ≡ true) → ((x : X) → IsIn x xs → q x ≡ true → p x ≡ true)
+      → filter q xs ≡ filter p xs
+  same_filter [] h k = refl
+  same_filter (x ∷ xs) h k =
+      let rest = same_filter xs (λ y i. h y (inr i)) (λ y i. k y (inr i)) in
+      elim (cases_Bool (p x)) [
+        | inl e ↦ filter_keeps q x xs (h x (inl refl) e) ∙ ap (λ ys. x ∷ ys) rest ∙ sym (filter_keeps p x xs e)
+        | inr e ↦ elim (cases_Bool (q x)) [
+          | inl f ↦ absurd (both_ways (p x) e (k x (inl refl) f))
+          | inr f ↦ filter_drops q x xs f ∙ rest ∙ sym (filter_drops p x xs e)
         ]
       ]
 
@@ -110,3 +123,22 @@ module _ {X : Type 0} (follows : X → X → Bool) (itself : (x : X) → follows
       let r = in_of_filter (λ y. is_follower follows (reached_after follows all start rounds) y) x all i in
       let p = in_of_list_any (λ z. follows z x) (reached_after follows all start rounds) r.1 in
       c p.0 x (least P s c rounds p.0 p.1) r.0 p.2
+
+  -- where a round adds none, no later one does
+  unchanged : (rounds : ℕ) → length (after (suc (suc rounds))) ≡ length (after (suc rounds)) → after (suc (suc rounds)) ≡ after (suc rounds)
+  unfolding is_next
+  unchanged rounds long =
+      let kept : (x : X) → IsIn x all → is_next rounds x ≡ true → is_next (suc rounds) x ≡ true = λ x i t.
+      (in_of_filter (is_next (suc rounds)) x all (stays (suc rounds) x (in-filter (is_next rounds) x all i t))).1 in
+      elim (same_or_more (is_next rounds) (is_next (suc rounds)) all kept) [
+        | inl same ↦ same_filter (is_next rounds) (is_next (suc rounds)) all kept same
+        | inr more ↦ absurd (omega arith)
+      ]
+
+  pub stable : (rounds more : ℕ) → length (after (suc (suc rounds))) ≡ length (after (suc rounds)) → after (suc (rounds + more)) ≡ after (suc rounds)
+  stable rounds zero long = let none : rounds + 0 ≡ rounds = omega arith in ap (λ r. after (suc r)) none
+  stable rounds (suc more) long =
+      let next : rounds + suc more ≡ suc (rounds + more) = omega arith in
+      ap (λ r. after (suc r)) next
+      ∙ ap (λ some. filter (is_follower follows some) all) (stable rounds more long)
+      ∙ unchanged rounds long

@@ -15,6 +15,17 @@ message : List ℕ → Sender → List ℕ → ℕ → Message
 message name sender destinations at =
     record { name = name; sender = sender; destinations = destinations; at = at }
 
+-- the base scenario, where y may hold t back
+base : Scenario
+base = record {
+  delay = 3;
+  groups = codes "a" ∷ codes "b" ∷ [];
+  multicasts = message (codes "x") Client (1 ∷ []) 0 ∷ message (codes "t") Client (0 ∷ 1 ∷ []) 0
+      ∷ message (codes "y") (Group 0) (0 ∷ 1 ∷ []) 6 ∷ [];
+  target_message = 1;
+  target_group = 0;
+}
+
 -- the base with its groups in the order b, a
 swapped : Scenario
 swapped = record {
@@ -37,6 +48,10 @@ raised_twice = record {
   target_message = 2;
   target_group = 0;
 }
+
+base_stamp : stamp_bound base (root_of base) ≡ 12
+unfolding base message packets_of ranges_of delay_of arrive settle reach_of stamp_bound
+base_stamp = refl
 
 swapped_plain : plain_bound swapped (root_of swapped) ≡ 12
 unfolding swapped message packets_of ranges_of delay_of arrive settle plain_bound

@@ -15,3 +15,5 @@ pub mod Closures
 pub mod Reach
 pub mod StampBounds
 pub mod Laws
+-- Words of the crate's own parts: no promise rests on them.
+pub mod Spans

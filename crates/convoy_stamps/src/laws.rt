@@ -7,9 +7,10 @@ ghost use Rattle.convoy_stamps.specs.Laws.{BoundByHolds, StampBoundOverTables, S
 ghost use Rattle.convoy_stamps.specs.Laws.{StampBoundAtMostPlain};
 
 use convoy_intervals::laws::members_are_enclosed;
-use convoy_sim::laws::{arrives_before_commit, delivery_law, earlier_arrives_before_commit};
-use convoy_sim::laws::{final_stamp_is_local, local_stamp_names_group};
-use convoy_sim::laws::{stamps_have_steps, stamps_rise};
+use convoy_sim::laws::{
+    arrives_before_commit, delivery_law, earlier_arrives_before_commit, final_stamp_is_local,
+    local_stamp_names_group, stamps_have_steps, stamps_rise,
+};
 
 /// The reach of a local stamp holds its own pair and, with each pair, those to which it leads.
 pub fn reach_is_closed()
