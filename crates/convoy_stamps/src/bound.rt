@@ -16,9 +16,9 @@ use std::alloc::{AllocError, Global};
 
 /// The stamp bound of a box: no schedule of the box has a greater latency, in ticks, and it is at
 /// most the plain bound. It is that without the rivals whose stamps at the target's group are surely
-/// greater than the target's final stamp: as many messages surely arrive there before such a rival as
-/// there are stamps from which one of the target may have risen (docs/PROTOCOL.md). The error is that
-/// memory ran out.
+/// greater than the target's final stamp: the former by how many messages surely arrive there before,
+/// the latter by how many stamps it may have risen from (docs/PROTOCOL.md). The error is that memory
+/// ran out.
 pub fn stamp_bound(
     alloc: Global,
     scenario: &Scenario,
