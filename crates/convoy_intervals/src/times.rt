@@ -18,8 +18,9 @@ fn range_of(delay_box: &DelayBox, place: Option<u16>) -> (u16, u16)
     place.map_or((0, 0), |packet| delay_box.range(usize::from(packet)))
 }
 
-/// The least and the greatest tick at which a message arrives at a group, over the members of a box.
-pub(crate) fn arrivals(
+/// The least and the greatest tick at which a message arrives at a group, over the members of a box:
+/// those of the box's least and greatest delays (docs/PROTOCOL.md).
+pub fn arrivals(
     scenario: &Scenario,
     table: &PacketTable,
     delay_box: &DelayBox,
@@ -85,9 +86,9 @@ pub(crate) fn proposals_after(
 }
 
 /// The least and the greatest tick at which a message is committed at a group, over the members of
-/// a box.
+/// a box: those of the box's least and greatest delays (docs/PROTOCOL.md).
 #[tactic(auto, unfolding(convoy_sim::specs::Times::settle))]
-pub(crate) fn settlings(
+pub fn settlings(
     scenario: &Scenario,
     table: &PacketTable,
     delay_box: &DelayBox,

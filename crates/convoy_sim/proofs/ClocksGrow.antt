@@ -46,7 +46,7 @@ length_read s (c ∷ cs) = length_read (after_moment s c) cs ∙ length_step c.k
 abbrev pub AreWithin : Clocks → List Moment → Type 0
 AreWithin s ms = (c : Moment) → IsIn c ms → c.group < length s.numbers
 
-within_next : (s : Clocks) (c : Moment) (cs : List Moment) → AreWithin s (c ∷ cs) → AreWithin (after_moment s c) cs
+pub within_next : (s : Clocks) (c : Moment) (cs : List Moment) → AreWithin s (c ∷ cs) → AreWithin (after_moment s c) cs
 within_next s c cs w d i =
     let e = length_step c.kind s c.message c.group in
     let l = w d (inr i) in

@@ -9,7 +9,8 @@ use Rattle.convoy_sim.specs.Delivery.{last_commit, addressed_to, holds_back, is_
 use Rattle.convoy_sim.specs.Laws.{ahead_of, arrive_by, DeliveryIsLeast, DeliveryLaw, DeliveryBound, DeliveredByLastCommit, ArrivesAfterIssue, DeliveredAfterCommit, LatencyIsNeverNegative}
 use Rattle.convoy_scenario.specs.Scenario.{GoesTo}
 use Rattle.convoy_sim.proofs.Membership.{IsIn, in-filter, in_of_filter, list_any_in, in_of_list_any, in_greatest, greatest_most, greatest_mono}
-use Rattle.convoy_sim.proofs.ScenarioMoments.{in-addressed, goes_of_addressed, arrive_settle}
+use Rattle.convoy_sim.proofs.Addressed.{in-addressed, goes_of_addressed}
+use Rattle.convoy_sim.proofs.ScenarioMoments.{arrive_settle}
 use Rattle.convoy_sim.proofs.StampLaws.{earlier_arrives}
 
 -- the first tick is the one that is not too far, passes the test, and before which none does

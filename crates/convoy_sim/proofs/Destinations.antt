@@ -6,7 +6,8 @@ use Rattle.convoy_packets.specs.Assignment.{IsAssignment}
 use Rattle.convoy_sim.specs.Times.{arrive, settle}
 use Rattle.convoy_scenario.specs.Scenario.{GoesTo}
 use Rattle.convoy_sim.proofs.Membership.{all-in}
-use Rattle.convoy_sim.proofs.ScenarioMoments.{in_of_goes, multicast_at, number_of_goes}
+use Rattle.convoy_sim.proofs.Addressed.{in_of_goes, number_of_goes}
+use Rattle.convoy_sim.proofs.ScenarioMoments.{multicast_at}
 use Rattle.convoy_sim.proofs.PacketDelays.{arrives_within, committed_within}
 use Rattle.convoy_sim.proofs.Ranges.{length-rising-le}
 

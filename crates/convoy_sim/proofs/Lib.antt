@@ -1,4 +1,5 @@
 pub mod Membership
+pub mod Addressed
 pub mod MomentsOrder
 pub mod Rows
 pub mod MomentsInOrder
@@ -6,6 +7,10 @@ pub mod ClocksGrow
 pub mod Runs
 pub mod ScenarioMoments
 pub mod StampLaws
+pub mod MomentTicks
+pub mod Raises
+pub mod RaiseLaws
+pub mod StampSteps
 pub mod DeliveryTick
 pub mod PacketDelays
 pub mod LatencyBounds

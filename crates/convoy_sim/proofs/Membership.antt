@@ -1,8 +1,8 @@
--- Membership in a list, by recursion, and what it is in lists that are made of others.
+-- Membership in a list, by recursion, and what it is in lists that are made of others. This file is open to the crates above.
 use Rattle.std.proofs.Common.{All, ◌≡◌, ℕ, ◌+◌, ◌<◌, ◌≤◌, zero, suc, max, Bool, true, false, ◌⊎◌, inl, inr, List, [], ◌∷◌, ◌++◌, map, filter, flat_map, fold, find, Some, None, refl, sym, ap, subst, ◌∙◌, arith}
 use Rattle.std.specs.List.Sorted.{IsStrictlyIncreasing}
 use Rattle.std.proofs.lemmas.List.Elements.{All-head, All-tail}
-use Rattle.std.specs.List.{range_with_len, list_any}
+use Rattle.std.specs.List.{Contains, range_with_len, list_any}
 use Rattle.std.proofs.lemmas.Bool.{cases_Bool, cases_lt, cases_eq, cond-true, cond-false, or_left, or_right, or_cases, false≢true}
 use Rattle.std.proofs.lemmas.Option.{none-some, same_Some}
 
@@ -10,6 +10,17 @@ use Rattle.std.proofs.lemmas.Option.{none-some, same_Some}
 abbrev pub IsIn : {X : Type 0} → X → List X → Type 0
 IsIn x [] = ⊥
 IsIn x (y ∷ ys) = (y ≡ x) ⊎ IsIn x ys
+
+-- as contracts say it: some place of the list has the element
+pub in_of_contains : {X : Type 0} (x : X) (xs : List X) → Contains xs x → IsIn x xs
+in_of_contains x [] (k, l, e) = absurd (omega arith)
+in_of_contains x (y ∷ ys) (zero, l, e) = inl e
+in_of_contains x (y ∷ ys) (suc k, l, e) = inr (in_of_contains x ys (k, omega arith, e))
+
+pub contains-in : {X : Type 0} (x : X) (xs : List X) → IsIn x xs → Contains xs x
+contains-in x [] i = absurd i
+contains-in x (y ∷ ys) (inl e) = (0, omega arith, e)
+contains-in x (y ∷ ys) (inr i) = let r = contains-in x ys i in (suc r.0, omega arith, r.2)
 
 pub in-append_left : {X : Type 0} (x : X) (xs ys : List X) → IsIn x xs → IsIn x (xs ++ ys)
 in-append_left x [] ys h = absurd h

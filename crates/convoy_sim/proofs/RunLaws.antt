@@ -14,7 +14,7 @@ use Rattle.convoy_sim.specs.Laws.{ahead_of}
 use Rattle.convoy_sim.specs.Run.{Run, IsRunOf, proposed_of, committed_of, delivered_of, final_stamp_of}
 use Rattle.convoy_sim.specs.RunLaws.{IsStampedBefore, IsAhead, IsAwaited, IsLastAwaited, IsAloneAt, KeepsLaws, RunsKeepTheLaws}
 use Rattle.convoy_sim.proofs.Membership.{IsIn, in_greatest, greatest_is_one}
-use Rattle.convoy_sim.proofs.ScenarioMoments.{number_of_goes}
+use Rattle.convoy_sim.proofs.Addressed.{number_of_goes}
 use Rattle.convoy_sim.proofs.StampLaws.{finals_differ}
 use Rattle.convoy_sim.proofs.DeliveryTick.{in-ahead, in_of_ahead, delivery_law, never_negative}
 use Rattle.convoy_sim.proofs.LatencyBounds.{order_law, within_four, lone_within_two}

@@ -21,7 +21,7 @@ use Rattle.convoy_scenario.specs.Scenario.{GoesTo}
 use Rattle.convoy_sim.specs.Places.{place}
 use Rattle.convoy_sim.specs.Progress.{no_progress, progress_at, progress_told}
 use Rattle.convoy_sim.specs.Run.{IsTabled, IsSilent, IsRunOf, progress_of}
-use Rattle.convoy_sim.proofs.ScenarioMoments.{number_of_goes}
+use Rattle.convoy_sim.proofs.Addressed.{number_of_goes}
 use Rattle.convoy_sim.proofs.StampLaws.{local_names}
 use Rattle.convoy_sim.proofs.Destinations.{group_below}
 use Rattle.convoy_sim.proofs.WholeRun.{table, tells_all, finals_at, final_count}

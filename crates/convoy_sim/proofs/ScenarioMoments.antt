@@ -1,8 +1,7 @@
 -- The moments of a scenario: which they are, and that they make a run.
-use Rattle.std.proofs.Common.{◌≡◌, ℕ, ◌<◌, ◌≤◌, true, ◌==◌, ◌⊎◌, inl, inr, List, [], length, flat_map, refl, sym, ap, ap₂, subst, ◌∙◌, arith}
-use Rattle.std.proofs.lemmas.Bool.{cases_lt, false≢true, eq-eqb, eqb-true}
-use Rattle.std.proofs.lemmas.List.{length-replicate, get_or_past}
-use Rattle.convoy_scenario.specs.Scenario.{Scenario, no_message, message_at, message_numbers, is_addressed}
+use Rattle.std.proofs.Common.{◌≡◌, ℕ, ◌<◌, ◌≤◌, ◌⊎◌, inl, inr, List, [], length, flat_map, refl, sym, ap, ap₂, subst, ◌∙◌, arith}
+use Rattle.std.proofs.lemmas.List.{length-replicate}
+use Rattle.convoy_scenario.specs.Scenario.{Scenario, no_message, message_at, message_numbers}
 use Rattle.convoy_scenario.specs.WellFormed.{IsScenario, IsMulticast}
 use Rattle.convoy_sim.specs.declared.moment.Moment.{Moment}
 use Rattle.convoy_sim.specs.declared.moment.MomentKind.{MomentKind}
@@ -10,36 +9,11 @@ use Rattle.convoy_sim.specs.declared.moment.MomentKind.TheVariants.{Arrival, Com
 use Rattle.convoy_sim.specs.Times.{arrive, settle, propose_arrive}
 use Rattle.convoy_sim.specs.Moments.{arrival_of, commit_of, moments_at, unordered_moments, moments_of}
 use Rattle.convoy_sim.specs.Stamps.{first_clocks}
-use Rattle.convoy_sim.specs.Delivery.{addressed_to}
 use Rattle.convoy_scenario.specs.Scenario.{GoesTo}
-use Rattle.convoy_sim.proofs.Membership.{IsIn, IsOnce, in-flat_map, in_of_flat_map, in-range, in_of_range, in-filter, in_of_filter, list_any_in, in_of_list_any, in_greatest, once-flat_map, once-range, once-rising, all-in}
+use Rattle.convoy_sim.proofs.Membership.{IsIn, IsOnce, in-flat_map, in_of_flat_map, in_of_range, in_greatest, once-flat_map, once-range, once-rising, all-in}
+use Rattle.convoy_sim.proofs.Addressed.{in_of_goes, goes_from_in, number_of_goes, in-numbers}
 use Rattle.convoy_sim.proofs.MomentsInOrder.{IsOrdered, in-inserts, in_of_inserts, inserts_ordered, inserts_once}
 use Rattle.convoy_sim.proofs.Runs.{IsRun}
-
--- ---- destinations
-pub in_of_goes : (plan : Scenario) (m g : ℕ) → GoesTo plan m g → IsIn g (message_at plan m).destinations
-in_of_goes plan m g h =
-    let r = in_of_list_any (λ x. x == g) (message_at plan m).destinations h in
-    subst (λ x. IsIn x (message_at plan m).destinations) (eqb-true r.0 g r.2) r.1
-
-pub goes_from_in : (plan : Scenario) (m g : ℕ) → IsIn g (message_at plan m).destinations → GoesTo plan m g
-goes_from_in plan m g i = list_any_in (λ x. x == g) g (message_at plan m).destinations i (eq-eqb g g refl)
-
--- what goes somewhere is a message of the scenario
-pub number_of_goes : (plan : Scenario) (m g : ℕ) → GoesTo plan m g → m < length plan.multicasts
-number_of_goes plan m g h = elim (cases_lt m (length plan.multicasts)) [
-  | inl l ↦ l
-  | inr l ↦ absurd (false≢true (subst (λ x. is_addressed x g ≡ true) (get_or_past plan.multicasts m no_message l) h))
-]
-
-pub in-numbers : (plan : Scenario) (m g : ℕ) → GoesTo plan m g → IsIn m (message_numbers plan)
-in-numbers plan m g h = in-range m 0 (length plan.multicasts) (omega arith) (let l = number_of_goes plan m g h in omega arith)
-
-pub in-addressed : (plan : Scenario) (m g : ℕ) → GoesTo plan m g → IsIn m (addressed_to plan g)
-in-addressed plan m g h = in-filter (λ n. is_addressed (message_at plan n) g) m (message_numbers plan) (in-numbers plan m g h) h
-
-pub goes_of_addressed : (plan : Scenario) (m g : ℕ) → IsIn m (addressed_to plan g) → GoesTo plan m g
-goes_of_addressed plan m g i = (in_of_filter (λ n. is_addressed (message_at plan n) g) m (message_numbers plan) i).1
 
 pub multicast_at : (plan : Scenario) → IsScenario plan → (m : ℕ) → m < length plan.multicasts → IsMulticast (length plan.groups) (message_at plan m)
 multicast_at plan well m l = well.messages m no_message l
@@ -104,6 +78,13 @@ pub coming_is : (plan : Scenario) (delays : List ℕ) (c : Moment) → IsIn c (m
     → (c ≡ arrival_of plan delays c.message c.group) × GoesTo plan c.message c.group
 unfolding moment_by
 coming_is plan delays c i k =
+    let r = moment_is plan delays c i in
+    (r.0 ∙ ap (λ q. moment_by plan delays q c.message c.group) k, r.1)
+
+pub commit_is : (plan : Scenario) (delays : List ℕ) (c : Moment) → IsIn c (moments_of plan delays) → c.kind ≡ Commit
+    → (c ≡ commit_of plan delays c.message c.group) × GoesTo plan c.message c.group
+unfolding moment_by
+commit_is plan delays c i k =
     let r = moment_is plan delays c i in
     (r.0 ∙ ap (λ q. moment_by plan delays q c.message c.group) k, r.1)
 

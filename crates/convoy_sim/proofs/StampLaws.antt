@@ -13,7 +13,8 @@ use Rattle.convoy_scenario.specs.Scenario.{GoesTo}
 use Rattle.convoy_sim.proofs.Membership.{IsIn}
 use Rattle.convoy_sim.proofs.MomentsOrder.{before_by_tick, coming_before_commit, not_less_by_time, before_total, same_from_not_less}
 use Rattle.convoy_sim.proofs.Runs.{comings_rise, commit_rises, greatest_is_local, local_not_over, local_of_coming}
-use Rattle.convoy_sim.proofs.ScenarioMoments.{arrive_settle, coming_in, commit_in, coming_is, moments_run, moments_once, multicast_at, goes_from_in}
+use Rattle.convoy_sim.proofs.Addressed.{goes_from_in}
+use Rattle.convoy_sim.proofs.ScenarioMoments.{arrive_settle, coming_in, commit_in, coming_is, moments_run, moments_once, multicast_at}
 
 -- all arrivals of a message stand before each of its commits
 pub comings_before_commit : (plan : Scenario) (delays : List ℕ) (m g : ℕ) (d : Moment) → IsIn d (moments_of plan delays)

@@ -21,7 +21,8 @@ use Rattle.convoy_sim.proofs.MomentsOrder.{before_total, not_less_by_time}
 use Rattle.convoy_sim.proofs.MomentsInOrder.{cut, from_on}
 use Rattle.convoy_sim.proofs.ClocksGrow.{length_read}
 use Rattle.convoy_sim.proofs.Runs.{greatest_at_commit, past_clock}
-use Rattle.convoy_sim.proofs.ScenarioMoments.{number_of_goes, moment_cases, coming_in, coming_is, moments_run}
+use Rattle.convoy_sim.proofs.Addressed.{number_of_goes}
+use Rattle.convoy_sim.proofs.ScenarioMoments.{moment_cases, coming_in, coming_is, moments_run}
 use Rattle.convoy_sim.proofs.StampLaws.{comings_before_commit, rises_past, local_names}
 use Rattle.convoy_sim.proofs.Cuts.{IsCut, known, known_more, cut_next, local_at_coming, greatest_more}
 use Rattle.convoy_sim.proofs.Agendas.{append_nothing}

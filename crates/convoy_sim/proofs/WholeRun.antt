@@ -16,7 +16,8 @@ use Rattle.convoy_sim.specs.StampTables.{StampTable}
 use Rattle.convoy_sim.specs.Progress.{TellsAll}
 use Rattle.convoy_sim.proofs.Membership.{IsIn, filter_keeps, in_of_filter}
 use Rattle.convoy_sim.proofs.MomentsOrder.{before_by_tick}
-use Rattle.convoy_sim.proofs.ScenarioMoments.{number_of_goes, moment_cases, coming_in, coming_is}
+use Rattle.convoy_sim.proofs.Addressed.{number_of_goes}
+use Rattle.convoy_sim.proofs.ScenarioMoments.{moment_cases, coming_in, coming_is}
 use Rattle.convoy_sim.proofs.Cuts.{known}
 use Rattle.convoy_sim.proofs.Destinations.{group_below, comes_soon, settles_soon}
 use Rattle.convoy_sim.proofs.StampsTold.{IsEnough, stamps_before, true_before, told_enough, some_time}

@@ -13,6 +13,7 @@ pub mod Run
 pub mod Record
 pub mod Greatest
 pub mod Laws
+pub mod RaiseLaws
 pub mod RunLaws
 -- Words of the program's own parts: no promise above this crate rests on them.
 pub mod Places

@@ -27,6 +27,7 @@ ghost use Rattle.convoy_sim.specs.Laws.{
   StampsRisePastCommit,
   TargetLatencyWithinFourDelays,
 };
+ghost use Rattle.convoy_sim.specs.RaiseLaws.{LastRaise, StampsHaveSteps};
 ghost use Rattle.convoy_sim.specs.RunLaws.{RunsKeepTheLaws};
 
 use convoy_packets::laws::unsent_takes_no_time;
@@ -173,6 +174,22 @@ pub fn final_stamps_differ()
 #[tactic(auto, using(crate::proofs::StampLaws::finals_ordered))]
 pub fn final_stamps_are_ordered()
     ensures { FinalStampsAreOrdered }
+{}
+
+/// Before a message arrives at a group, the clock there was raised last to some time by a commit, or
+/// never. Each time between that one and the time of the message's local stamp there was given to a
+/// message that arrived since.
+#[tactic(auto, using(crate::proofs::RaiseLaws::last_raise))]
+pub fn last_raise()
+    ensures { LastRaise }
+{}
+
+/// The time of a local stamp is 1, or one more than that of another message that arrives there no
+/// later, or one more than that of a local stamp, at any of its groups, of another message that is
+/// committed there before.
+#[tactic(auto, using(crate::proofs::StampSteps::have_steps))]
+pub fn stamps_have_steps()
+    ensures { StampsHaveSteps }
 {}
 
 /// Every run of a scenario under an assignment keeps the laws of the protocol, as far as its answers

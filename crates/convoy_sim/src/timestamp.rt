@@ -22,7 +22,7 @@ impl Timestamp {
     }
 
     /// The greater of the two stamps.
-    pub(crate) fn later(self, other: Timestamp) -> Timestamp
+    pub fn later(self, other: Timestamp) -> Timestamp
         ensures { result ≡ later self other }
     {
         if self.is_less(other) { other } else { self }

@@ -3,7 +3,7 @@ use Rattle.std.specs.List.{range_with_len}
 use Rattle.convoy_scenario.specs.Scenario.{Scenario}
 use Rattle.convoy_sim.specs.Times.{settle}
 use Rattle.convoy_sim.specs.StampTables.{is_ahead}
-use Rattle.convoy_sim.proofs.ScenarioMoments.{number_of_goes}
+use Rattle.convoy_sim.proofs.Addressed.{number_of_goes}
 use Rattle.convoy_sim.proofs.Destinations.{group_known, group_below}
 use Rattle.convoy_sim.proofs.Delivered.{ahead_more, ahead_not_more, ahead_end, delivered_from}
 use Rattle.convoy_sim.proofs.delivery.delivery_tick.Goals as goal

@@ -1,0 +1,80 @@
+-- A bound over some of the rivals: those may be left out that are not ahead of the target.
+use Rattle.std.proofs.Common.{◌≡◌, ℕ, ◌-◌, ◌≤◌, Bool, true, not, nat_le, inl, inr, List, ◌∷◌, map, subst, arith}
+use Rattle.std.specs.List.{filter}
+use Rattle.std.proofs.lemmas.Bool.{le-leb, not_from_false}
+use Rattle.convoy_scenario.specs.Scenario.{Scenario, GoesTo}
+use Rattle.convoy_scenario.specs.WellFormed.{IsScenario}
+use Rattle.convoy_packets.specs.Assignment.{Schedule}
+use Rattle.convoy_sim.specs.Times.{greatest, arrive, settle}
+use Rattle.convoy_sim.specs.Stamps.{is_less, local_stamp, final_stamp}
+use Rattle.convoy_sim.specs.Delivery.{addressed_to, latency_at, latency_of}
+use Rattle.convoy_sim.specs.Laws.{ahead_of, DeliveryLaw, EarlierArrivesBeforeCommit}
+use Rattle.convoy_sim.proofs.Membership.{IsIn, in-filter, in_of_filter, in_greatest, greatest_most, greatest_mono}
+use Rattle.convoy_sim.proofs.Addressed.{in-addressed, goes_of_addressed}
+use Rattle.convoy_intervals.specs.Bounds.{Tables, Encloses, tables_of, rivals, plain_bound_over, plain_bound}
+use Rattle.convoy_stamps.specs.StampBounds.{bound_by, is_surely_behind, stamp_bound}
+use Rattle.convoy_stamps.specs.Laws.{KeepsThoseAhead, StampBoundAtMostPlain}
+
+-- what is ahead of a message at a group goes there with a lesser stamp
+in_of_ahead : (scenario : Scenario) (delays : Schedule) (n m g : ℕ) → IsIn n (ahead_of scenario delays m g)
+    → GoesTo scenario n g × (is_less (local_stamp scenario delays n g) (final_stamp scenario delays m) ≡ true)
+in_of_ahead scenario delays n m g i =
+    let r = in_of_filter (λ k. is_less (local_stamp scenario delays k g) (final_stamp scenario delays m)) n (addressed_to scenario g) i in
+    (goes_of_addressed scenario n g r.0, r.1)
+
+module _ (delivery : DeliveryLaw) (earlier : EarlierArrivesBeforeCommit) (scenario : Scenario) (delays : Schedule) (tables : Tables) (leaves_out : ℕ → Bool) (well : IsScenario scenario) (enclosed : Encloses scenario delays tables) (keeps : KeepsThoseAhead scenario delays leaves_out) where
+  -- the target and the rivals that are not left out
+  kept : List ℕ
+  kept = scenario.target_message ∷ filter (λ n. not (leaves_out n)) (rivals scenario tables)
+
+  kept_ahead : (n : ℕ) → IsIn n (ahead_of scenario delays scenario.target_message scenario.target_group) → IsIn n kept
+  unfolding kept
+  kept_ahead n i =
+      let t : ℕ = scenario.target_message in
+      let g : ℕ = scenario.target_group in
+      let r = in_of_ahead scenario delays n t g i in
+      let low : tables.least_arrival n g ≤ arrive scenario delays n g = enclosed.arrival_low n g r.0 in
+      let come : arrive scenario delays n g ≤ settle scenario delays t g = earlier scenario delays well n t g r.0 well.addressed r.1 in
+      let last : settle scenario delays t g ≤ tables.greatest_settling t g = enclosed.settling_high t g well.addressed in
+      inr (in-filter (λ k. not (leaves_out k)) n (rivals scenario tables)
+      (in-filter (λ k. nat_le (tables.least_arrival k g) (tables.greatest_settling t g)) n (addressed_to scenario g)
+      (in-addressed scenario n g r.0) (le-leb (tables.least_arrival n g) (tables.greatest_settling t g) (omega arith)))
+      (not_from_false (leaves_out n) (keeps n r.0 r.1)))
+
+  committed_by : (n : ℕ) → IsIn n (scenario.target_message ∷ ahead_of scenario delays scenario.target_message scenario.target_group)
+      → settle scenario delays n scenario.target_group ≤ greatest (map (λ k. tables.greatest_settling k scenario.target_group) kept)
+  unfolding kept
+  committed_by n i =
+      let t : ℕ = scenario.target_message in
+      let g : ℕ = scenario.target_group in
+      let goes : GoesTo scenario n g = elim i [
+        | inl e ↦ subst (λ k. GoesTo scenario k g) e well.addressed
+        | inr j ↦ (in_of_ahead scenario delays n t g j).0
+      ] in
+      let there : IsIn n kept = elim i [ inl e ↦ inl e | inr j ↦ kept_ahead n j ] in
+      let high : settle scenario delays n g ≤ tables.greatest_settling n g = enclosed.settling_high n g goes in
+      let most : tables.greatest_settling n g ≤ greatest (map (λ k. tables.greatest_settling k g) kept) =
+      in_greatest (λ k. tables.greatest_settling k g) n kept there in
+      omega arith
+
+  pub bound_holds : latency_of scenario delays ≤ bound_by scenario tables leaves_out
+  unfolding latency_of latency_at kept
+  bound_holds =
+      let t : ℕ = scenario.target_message in
+      let g : ℕ = scenario.target_group in
+      let all = greatest_most (λ n. settle scenario delays n g) (greatest (map (λ k. tables.greatest_settling k g) kept))
+      (t ∷ ahead_of scenario delays t g) committed_by in
+      omega (arith, delivery scenario delays well t g well.addressed)
+
+-- a bound over fewer rivals is no greater than that over all
+bound_by_le : (scenario : Scenario) (tables : Tables) (leaves_out : ℕ → Bool) → bound_by scenario tables leaves_out ≤ plain_bound_over scenario tables
+bound_by_le scenario tables leaves_out =
+    let t : ℕ = scenario.target_message in
+    let fewer = greatest_mono (λ n. tables.greatest_settling n scenario.target_group)
+    (t ∷ filter (λ n. not (leaves_out n)) (rivals scenario tables)) (t ∷ rivals scenario tables)
+    (λ n i. elim i [ inl e ↦ inl e | inr j ↦ inr (in_of_filter (λ k. not (leaves_out k)) n (rivals scenario tables) j).0 ]) in
+    omega arith
+
+pub at_most_plain : StampBoundAtMostPlain
+unfolding stamp_bound plain_bound
+at_most_plain scenario ranges = bound_by_le scenario (tables_of scenario ranges) (is_surely_behind scenario (tables_of scenario ranges))

@@ -1,0 +1,11 @@
+pub mod Rows
+pub mod Counting
+pub mod Closed
+pub mod Pairs
+pub mod Loops
+pub mod SpanTables
+pub mod StampReach
+pub mod BoundBy
+pub mod StampBoundLaw
+pub mod ReachRounds
+pub mod LastCommits
