@@ -1,4 +1,6 @@
 pub mod Acceptance
+pub mod BatchRuns
+pub mod Blocks
 pub mod CaseTexts
 pub mod CheckTexts
 pub mod CommandTexts

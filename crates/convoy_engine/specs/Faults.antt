@@ -1,5 +1,5 @@
 -- The number and the text of each fault, and its line.
-use Rattle.std.specs.Prelude.{ℕ, List, [], ◌∷◌, ◌++◌, codes, decimal}
+use Rattle.std.specs.Prelude.{ℕ, ◌≤◌, List, [], ◌∷◌, ◌++◌, length, codes, decimal}
 use Rattle.convoy_packets.specs.declared.fault.ListFault.{ListFault}
 use Rattle.convoy_packets.specs.declared.fault.ListFault.TheVariants as lists
 use Rattle.convoy_scenario.specs.Shape.{key_word}
@@ -10,7 +10,7 @@ use Rattle.convoy_scenario.specs.declared.fault.ScenarioFault.TheVariants as sce
 use Rattle.convoy_engine.specs.declared.fault.Ending.{Ending}
 use Rattle.convoy_engine.specs.declared.fault.Ending.TheVariants as endings
 use Rattle.convoy_engine.specs.declared.fault.Fault.{Fault}
-use Rattle.convoy_engine.specs.declared.fault.Fault.TheVariants.{NotToml, Shape, OverLimit, BadName, DoubleName, UnknownGroup, NoDestination, DoubleDestination, UnknownTarget, TargetNotAddressed, LinkToItself, ScheduleLength, DelayOutOfRange, Memory, Read, Write, TooLong, TooManyReads}
+use Rattle.convoy_engine.specs.declared.fault.Fault.TheVariants.{NotToml, Shape, OverLimit, BadName, DoubleName, UnknownGroup, NoDestination, DoubleDestination, UnknownTarget, TargetNotAddressed, LinkToItself, ScheduleLength, DelayOutOfRange, Memory, Read, Write, TooLong, TooManyJobs, TooManyReads}
 
 -- a limit's word
 abbrev pub limit_word : Limit → List ℕ
@@ -39,12 +39,18 @@ row_of Memory = (11, codes "out of memory")
 row_of Read = (40, codes "read failed")
 row_of Write = (41, codes "write failed")
 row_of TooLong = (42, codes "job too long")
+row_of TooManyJobs = (43, codes "too many jobs")
 row_of TooManyReads = (44, codes "too many reads")
 
 -- what ends a fault's text
 abbrev pub ending_text : Ending → List ℕ
 ending_text (endings.Word word) = word.now
 ending_text (endings.Number value) = decimal value
+
+-- the word at the end is a short one
+abbrev pub IsShortEnding : Ending → Type 0
+IsShortEnding (endings.Word word) = length word.now ≤ 64
+IsShortEnding (endings.Number value) = Unit {0}
 
 -- the line that tells a fault
 unfoldable pub fault_line_of : Fault → List ℕ

@@ -5,6 +5,7 @@ pub use Rattle.convoy_scenario.specs.Lines as ScenarioLines
 pub use Rattle.convoy_scenario.specs.Reading
 pub use Rattle.convoy_scenario.specs.Shape
 pub use Rattle.convoy_scenario.specs.Memory
+pub use Rattle.convoy_jobs.specs.Jobs
 pub use Rattle.convoy_packets.specs.Assignment
 pub use Rattle.convoy_packets.specs.Given
 pub use Rattle.convoy_packets.specs.Table
@@ -35,7 +36,10 @@ pub mod Devices
 pub mod Reads
 pub mod Writes
 pub mod Runs
+pub mod Batches
 pub mod Laws
+-- how a batch goes on from job to job
+pub mod BatchSteps
 -- words of single devices: those in memory, and the standard library's streams
 pub mod InMemory
 pub mod Streams

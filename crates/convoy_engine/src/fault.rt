@@ -1,5 +1,5 @@
-ghost use Rattle.std.specs.Prelude.{◌≡◌, ◌++◌, OnOk, OnErr, IfOk, string_bytes};
-ghost use Rattle.convoy_engine.specs.Faults.{limit_word, ending_text, row_of, fault_line_of};
+ghost use Rattle.std.specs.Prelude.{◌≡◌, ◌≤◌, ◌++◌, length, OnOk, OnErr, IfOk, string_bytes};
+ghost use Rattle.convoy_engine.specs.Faults.{IsShortEnding, limit_word, ending_text, row_of, fault_line_of};
 
 use convoy_packets::ListFault;
 use convoy_scenario::{Key, Limit, ScenarioFault};
@@ -52,6 +52,9 @@ pub enum Fault {
     /// more than `LONGEST_CERTIFICATE`.
     #[error("the input is too long")]
     TooLong,
+    /// The input of a batch has more than `MOST_JOBS` jobs.
+    #[error("there are too many jobs")]
+    TooManyJobs,
     /// As many reads as the caller allows were made, and the end of the input was not seen.
     #[error("the input did not end within the reads that are allowed")]
     TooManyReads,
@@ -140,6 +143,7 @@ fn line_of(alloc: Global, fault: &Fault) -> Result<String, AllocError>
 pub(crate) fn row(fault: &Fault) -> (u8, &'static str, Ending)
     ensures number { result.0 ≡ (row_of fault.now).0 }
     ensures text { result.1.now ++ ending_text result.2 ≡ (row_of fault.now).1 }
+    ensures short { (length result.1.now ≤ 64) × IsShortEnding result.2 }
 {
     match fault {
         Fault::NotToml => (1, "not TOML", NOTHING),
@@ -159,6 +163,7 @@ pub(crate) fn row(fault: &Fault) -> (u8, &'static str, Ending)
         Fault::Read => (40, "read failed", NOTHING),
         Fault::Write => (41, "write failed", NOTHING),
         Fault::TooLong => (42, "job too long", NOTHING),
+        Fault::TooManyJobs => (43, "too many jobs", NOTHING),
         Fault::TooManyReads => (44, "too many reads", NOTHING),
     }
 }

@@ -2,6 +2,7 @@
 #![tactic(auto)]
 
 pub use analyse::run_analyse;
+pub use batch::{MOST_JOBS, run_batch};
 pub use checking::run_check;
 pub use command::{Command, run_command};
 pub use device::{DeviceFailed, Sink, Source};
@@ -20,6 +21,8 @@ pub use timeline::run_timeline;
 pub use writing::write_all;
 
 mod analyse;
+mod batch;
+mod block;
 mod case;
 mod checking;
 mod command;

@@ -14,7 +14,7 @@ pub const LONGEST_JOB: usize = 65_536;
 pub const LONGEST_CERTIFICATE: usize = LONGEST_TEXT;
 
 /// How many bytes are read at most in one call.
-const BUFFER_LENGTH: usize = 65_536;
+pub(crate) const BUFFER_LENGTH: usize = 65_536;
 
 /// Reads a source to its end, in at most `most_reads` reads. The faults are `Read`; `TooLong` where it
 /// has more than `longest` bytes; `TooManyReads`; and `Memory`.
@@ -45,7 +45,7 @@ pub(crate) fn read_to_end<S: Source>(
 }
 
 /// One read: the front of the buffer that it filled.
-fn read_piece<'a, S: Source>(source: &mut S, buffer: &'a mut [u8]) -> Result<&'a [u8], DeviceFailed>
+pub(crate) fn read_piece<'a, S: Source>(source: &mut S, buffer: &'a mut [u8]) -> Result<&'a [u8], DeviceFailed>
     requires { 0 < length buffer.old }
     ensures { MatchResult result (λ piece. S.reads source.old (Moved piece.now) source.new)
         (λ _. S.reads source.old Failed source.new) }
