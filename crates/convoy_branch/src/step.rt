@@ -102,17 +102,12 @@ fn try_greatest(
         ≡ (if nat_le (latency_of scenario.now delays) seen
         then None else Some (attained_by scenario.now delays))) }
 {
-    if tried {
+    if tried || branch.greatest_latency(scenario) <= seen {
         return Ok(None);
     }
     members_are_assignments();
     let delays = branch.space().greatest(alloc)?;
-    let record = Record::of(scenario, table, delays);
-    if record.latency() > seen {
-        Ok(Some(record))
-    } else {
-        Ok(None)
-    }
+    Ok(Some(Record::of(scenario, table, delays)))
 }
 
 /// The greatest latency known, in ticks: that of the record found, or else the one seen before.

@@ -9,6 +9,7 @@ pub use tracked::Tracked;
 
 mod bounds;
 mod delay_box;
+mod greatest_ticks;
 pub mod laws;
 mod spans;
 #[cfg(test)]

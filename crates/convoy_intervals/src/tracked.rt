@@ -2,19 +2,20 @@ ghost use Rattle.std.specs.Prelude.{◌≡◌, ℕ, List, ◌<◌, ◌≤◌, �
 ghost use Rattle.convoy_packets.specs.Table.{table_of};
 ghost use Rattle.convoy_sim.specs.Delivery.{latency_of};
 ghost use Rattle.convoy_intervals.specs.Boxes.{CanSplit, IsBox, IsIn, IsPoint};
-ghost use Rattle.convoy_intervals.specs.Boxes.{lower_half, range_at, root_of, upper_half};
+ghost use Rattle.convoy_intervals.specs.Boxes.{greatest_of, lower_half, range_at, root_of, upper_half};
 ghost use Rattle.convoy_intervals.specs.Bounds.{plain_bound};
 ghost use Rattle.convoy_intervals.specs.Spans.{span_of, AreSpans};
 ghost use Rattle.convoy_intervals.specs.Tracked.{tracked_of};
 
 use super::bounds::bound_over;
 use super::delay_box::DelayBox;
+use super::greatest_ticks::GreatestTicks;
 use super::laws::{plain_bound_holds, spans_are_carried};
 use super::spans::{Span, follow_packet, list_spans, place};
 use convoy_packets::PacketTable;
 use convoy_packets::laws::{packets_are_those_sent, packets_stand_once};
 use convoy_scenario::Scenario;
-use convoy_sim::Tag;
+use convoy_sim::{Tag, latency_by};
 use std::alloc::{AllocError, Global};
 use std::marker::Model;
 
@@ -109,6 +110,17 @@ impl Tracked {
         self.spans[place(scenario, message, group)]
     }
 
+    /// The latency of the scenario in ticks where each packet takes the greatest time of its range.
+    pub fn greatest_latency(&self, scenario: &Scenario) -> u32
+        requires { self.now.scenario ≡ scenario.now }
+        ensures { result ≡ latency_of self.now.scenario (greatest_of self.now.space) }
+    {
+        latency_by(&GreatestTicks {
+            scenario,
+            tracked: self,
+        })
+    }
+
     /// A copy of the box, with all that is kept of it.
     pub fn copy(&self) -> Result<Tracked, AllocError>
         ensures { IfOk result (λ t. t ≡ self.now) }
@@ -135,8 +147,10 @@ impl Tracked {
         requires packets { table.now ≡ table_of scenario.now }
         requires can_split { CanSplit self.space packet at }
         ensures { MatchResult result
-            (λ halves. halves ≡ (tracked_of self.scenario (lower_half self.space packet at),
-                tracked_of self.scenario (upper_half self.space packet at)))
+            (λ halves. halves ≡ (
+              tracked_of self.scenario (lower_half self.space packet at),
+              tracked_of self.scenario (upper_half self.space packet at),
+            ))
             (λ refused. refused.0 ≡ self) }
     {
         let (least, most) = self.space.range(packet);
