@@ -26,6 +26,7 @@ base_with : ℕ → ℕ → Scenario
 base_with delay at = record {
   delay = delay;
   groups = codes "a" ∷ codes "b" ∷ [];
+  links = [];
   multicasts = message (codes "x") Client (1 ∷ []) 0 ∷ message (codes "t") Client (0 ∷ 1 ∷ []) 0
       ∷ message (codes "y") (Group 0) (0 ∷ 1 ∷ []) at ∷ [];
   target_message = 1;
@@ -37,6 +38,7 @@ swapped : Scenario
 swapped = record {
   delay = 3;
   groups = codes "b" ∷ codes "a" ∷ [];
+  links = [];
   multicasts = message (codes "x") Client (0 ∷ []) 0 ∷ message (codes "t") Client (0 ∷ 1 ∷ []) 0
       ∷ message (codes "y") (Group 1) (0 ∷ 1 ∷ []) 6 ∷ [];
   target_message = 1;

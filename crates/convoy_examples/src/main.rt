@@ -13,11 +13,12 @@ use std::alloc::Global;
 use std::fs;
 
 /// The scenarios in `examples/`, but for the one that takes a million nodes.
-const EXAMPLES: [&str; 6] = [
+const EXAMPLES: [&str; 7] = [
     "base.toml",
     "one-tick-earlier.toml",
     "swapped-groups.toml",
     "three-regions.toml",
+    "linked-regions.toml",
     "three-shards.toml",
     "largest.toml",
 ];

@@ -1,11 +1,12 @@
 -- The members of a box: what they are, and what both halves say of them.
 use Rattle.std.specs.Prelude.{◌≡◌, ℕ, ◌≤◌, List, [], ◌∷◌}
 use Rattle.std.specs.List.{AllZip}
-use Rattle.std.proofs.Common.{refl, ap, arith}
+use Rattle.std.proofs.Common.{refl, ap, arith, get_or}
 use Rattle.std.proofs.lemmas.List.Elements.{All-nil, All-cons, All-head, All-tail, All-map}
 use Rattle.convoy_scenario.specs.Scenario.{Scenario}
 use Rattle.convoy_scenario.specs.WellFormed.{IsScenario}
 use Rattle.convoy_packets.specs.Packets.{packets_of}
+use Rattle.convoy_packets.proofs.Ranges.{range_within}
 use Rattle.convoy_packets.specs.Assignment.{range_of, ranges_of, AreWithin}
 use Rattle.convoy_packets.specs.Table.{IsTable, PacketTable, table_of, least_of}
 use Rattle.convoy_intervals.specs.Boxes.{AreRanges, IsBox, IsInside, IsIn, IsPoint, root_of, greatest_of}
@@ -74,7 +75,7 @@ pub AreRanges-root : (plan : Scenario) → IsScenario plan → AreRanges (root_o
 unfolding ranges_of
 AreRanges-root plan lawful =
     let P : ℕ × ℕ → Type 0 = λ range. range.0 ≤ range.1 in
-    All-map P (range_of plan) (packets_of plan) (λ k d below. lawful.delay_low)
+    All-map P (range_of plan) (packets_of plan) (λ k d below. (range_within plan (get_or (packets_of plan) k d) lawful).ordered)
 
 pub IsBox-root : (plan : Scenario) → IsScenario plan → IsBox plan (root_of plan)
 IsBox-root plan lawful = AllZip-itself (ranges_of plan) (AreRanges-root plan lawful)

@@ -18,6 +18,7 @@ base_with_y_at : ℕ → Scenario
 base_with_y_at at = record {
   delay = 3;
   groups = codes "a" ∷ codes "b" ∷ [];
+  links = [];
   multicasts = message (codes "x") Client (1 ∷ []) 0 ∷ message (codes "t") Client (0 ∷ 1 ∷ []) 0
       ∷ message (codes "y") (Group 0) (0 ∷ 1 ∷ []) at ∷ [];
   target_message = 1;
@@ -29,6 +30,7 @@ swapped : Scenario
 swapped = record {
   delay = 3;
   groups = codes "b" ∷ codes "a" ∷ [];
+  links = [];
   multicasts = message (codes "x") Client (0 ∷ []) 0 ∷ message (codes "t") Client (0 ∷ 1 ∷ []) 0
       ∷ message (codes "y") (Group 1) (0 ∷ 1 ∷ []) 6 ∷ [];
   target_message = 1;

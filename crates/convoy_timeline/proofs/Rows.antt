@@ -21,6 +21,7 @@ base : Scenario
 base = record {
   delay = 3;
   groups = codes "a" ∷ codes "b" ∷ [];
+  links = [];
   multicasts = message (codes "x") Client (1 ∷ []) 0 ∷ message (codes "t") Client (0 ∷ 1 ∷ []) 0
       ∷ message (codes "y") (Group 0) (0 ∷ 1 ∷ []) 6 ∷ [];
   target_message = 1;
@@ -42,6 +43,7 @@ held_back : Scenario
 held_back = record {
   delay = 1;
   groups = codes "a" ∷ codes "b" ∷ [];
+  links = [];
   multicasts = message (codes "x") Client (1 ∷ []) 0 ∷ message (codes "y") (Group 0) (0 ∷ 1 ∷ []) 2
       ∷ message (codes "t") Client (0 ∷ 1 ∷ []) 0 ∷ [];
   target_message = 2;

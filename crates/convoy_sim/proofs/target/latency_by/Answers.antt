@@ -10,7 +10,7 @@ use Rattle.convoy_sim.specs.Agenda.{before}
 use Rattle.convoy_sim.specs.StampTables.{no_stamps, with_moments}
 use Rattle.convoy_sim.specs.Deliveries.{TellsAhead}
 use Rattle.convoy_sim.proofs.Destinations.{group_known}
-use Rattle.convoy_sim.proofs.ScenarioMoments.{number_of_goes}
+use Rattle.convoy_sim.proofs.Addressed.{number_of_goes}
 use Rattle.convoy_sim.proofs.StampsTold.{told_enough, enough_by_commit, all_within}
 use Rattle.convoy_sim.proofs.TargetOf.{IsTarget, target_well, target_goes, target_issued, target_latency}
 use Rattle.convoy_sim.proofs.target.latency_by.Given as given
