@@ -50,6 +50,6 @@ module _ (plan : Scenario) (well : IsScenario plan) where
   pub arrival_fits : ArrivesWithinOneDelay → (ranges : List (ℕ × ℕ)) → IsBox plan ranges → (m g : ℕ) → m < length plan.multicasts → ((arrival_span plan ranges m g).0 ≤ 1065535) × ((arrival_span plan ranges m g).1 ≤ 1065535)
   arrival_fits soon ranges box m g known =
       let all = AreRanges-box (ranges_of plan) ranges box in
-      let low = soon plan (least_of ranges) (AreWithin-outer (ranges_of plan) ranges (least_of ranges) box (IsIn-least ranges all)) m g in
-      let high = soon plan (greatest_of ranges) (AreWithin-outer (ranges_of plan) ranges (greatest_of ranges) box (IsIn-greatest ranges all)) m g in
+      let low = soon plan (least_of ranges) well (AreWithin-outer (ranges_of plan) ranges (least_of ranges) box (IsIn-least ranges all)) m g in
+      let high = soon plan (greatest_of ranges) well (AreWithin-outer (ranges_of plan) ranges (greatest_of ranges) box (IsIn-greatest ranges all)) m g in
       (omega (arith, low, issued_by m known, well.delay_high), omega (arith, high, issued_by m known, well.delay_high))
