@@ -20,7 +20,7 @@ mod tests;
 #[derive(Clone, Copy, Debug, PartialEq, Eq)]
 pub enum ReplayFault {
     /// An event is not lawful in the state that those before it lead to: the place of the first one,
-    /// from 0.
+    /// from 0. Its number is 35 (docs/FORMATS.md).
     Unlawful(usize),
     /// Memory ran out, which says nothing of the events.
     Memory,

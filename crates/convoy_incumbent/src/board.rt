@@ -9,7 +9,7 @@ ghost use Rattle.convoy_incumbent.specs.Boards.{NoneAbove};
 ghost use Rattle.convoy_incumbent.specs.Faults.{GiveBack, GivesBack};
 
 use super::fault::{BoardFault, CloseFault, NoteFault, ShareTooSmall};
-use super::noted::{Noted, better_of};
+use super::noted::{Noted, PLACES, better_of};
 use super::rule::{Halve, KeepsGreatest, Look, Publish, Store, View, Weigh};
 use atomic_table::{Seat, Table};
 use convoy_sim::Record;
@@ -19,9 +19,6 @@ use std::sync::Wait;
 
 /// The share of the one hand of a new board, and of all hands of a board together.
 const WHOLE_SHARE: u64 = 4_294_967_296;
-
-/// The number of places that a word can name: a word is a latency times this, and a place.
-const PLACES: u64 = 4_294_967_296;
 
 /// The greatest latency that was published for a scenario, with its record. Threads share a board by
 /// `&`, each with a hand of its own; `look`, `publish`, `split` and `join` take no memory, wait for no

@@ -10,8 +10,8 @@ use boxcar::Pushed;
 use convoy_sim::Record;
 use std::marker::Model;
 
-/// The number of places that a word can name.
-const PLACES: u64 = 4_294_967_296;
+/// The number of places that a word can name: a word is a latency times this, and a place.
+pub(crate) const PLACES: u64 = 4_294_967_296;
 
 impl Pair {
     /// The word that the pair is.

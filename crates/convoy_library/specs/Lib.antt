@@ -30,3 +30,9 @@ pub use Rattle.convoy_checker.specs.declared.refused.Refused
 -- what a search answers
 pub use Rattle.convoy_branch.specs.Fronts
 pub use Rattle.convoy_branch.specs.Outcomes
+-- the search of many workers as a machine
+pub use Rattle.convoy_branch.specs.Machine
+pub use Rattle.convoy_branch.specs.Replays
+-- what threads share: ledgers of tickets, and boards of records
+pub use Rattle.convoy_ledger.specs.Tickets
+pub use Rattle.convoy_incumbent.specs.Boards

@@ -4,7 +4,9 @@
 pub use convoy_branch as branch;
 pub use convoy_certificate as certificate;
 pub use convoy_checker as checker;
+pub use convoy_incumbent as incumbent;
 pub use convoy_intervals as intervals;
+pub use convoy_ledger as ledger;
 pub use convoy_packets as packets;
 pub use convoy_scenario as scenario;
 pub use convoy_sim as sim;

@@ -15,6 +15,8 @@ pub enum Fault {
     Text(TextFault),
     /// The certificate is not valid.
     Invalid(Refused),
+    /// A board holds 4,294,967,296 records, and takes no further one.
+    BoardFull,
     /// Memory ran out, which says nothing of the input.
     Memory,
 }

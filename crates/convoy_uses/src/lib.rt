@@ -6,14 +6,18 @@ pub use building::exchange;
 pub use checking::{Vouched, check_certificate};
 pub use fault::Fault;
 pub use greatest::{Answer, greatest_latency};
+pub use records::best_of_three;
 pub use schedule::latency_under;
+pub use tickets::draw_together;
 pub use timeout::{Judgement, judge_timeout};
 
 mod building;
 mod checking;
 mod fault;
 mod greatest;
+mod records;
 mod schedule;
 #[cfg(test)]
 mod tests;
+mod tickets;
 mod timeout;
