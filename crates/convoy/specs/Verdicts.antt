@@ -5,6 +5,7 @@ use Rattle.convoy_engine.specs.declared.done.Done.{Done}
 use Rattle.convoy_engine.specs.declared.done.Done.TheVariants.{Fine, Open, Refused}
 use Rattle.convoy_engine.specs.declared.fault.Fault.{Fault}
 use Rattle.convoy_engine.specs.declared.fault.Fault.TheVariants as faults
+use Rattle.convoy_engine.specs.Batches.{IsBatchRun}
 use Rattle.convoy_engine.specs.Commands.{IsAlone, longest_for, says_for}
 use Rattle.convoy_engine.specs.Devices.{Answer, HasRun}
 use Rattle.convoy_engine.specs.Faults.{fault_line_of}
@@ -12,18 +13,20 @@ use Rattle.convoy_engine.specs.Runs.{IsRun}
 use Rattle.convoy_engine.specs.Writes.{WritesAll, FailsWithin}
 use Rattle.convoy.specs.declared.TheConstants.{MOST_READS}
 use Rattle.convoy.specs.declared.judge.Verdict.{Verdict}
-use Rattle.convoy.specs.declared.judge.Verdict.TheVariants.{Run, Text, Memory}
+use Rattle.convoy.specs.declared.judge.Verdict.TheVariants.{Run, Batch, Text, Memory}
 
 -- The program ends at once: with a text, which has the status of help or of a command line that is
 -- rejected, or for want of memory.
 abbrev pub EndsAtOnce : Verdict → Type 0
 EndsAtOnce (Run command) = ⊥
+EndsAtOnce (Batch options) = ⊥
 EndsAtOnce (Text text status) = (status ≡ 0) ⊎ (status ≡ 2)
 EndsAtOnce Memory = Unit {0}
 
--- a command that searches with one worker at most, or an end at once
+-- a command or a batch that searches with one worker at most, or an end at once
 abbrev pub IsVerdict : Verdict → Type 0
 IsVerdict (Run command) = IsAlone command
+IsVerdict (Batch options) = (options.workers ≡ 1) × (options.most_reads ≡ MOST_READS)
 IsVerdict (Text text status) = EndsAtOnce (Text text status)
 IsVerdict Memory = Unit {0}
 
@@ -41,6 +44,10 @@ Obeys may_read may_write (Run command) source new_source sink new_sink result =
     (ended : Result Done Fault)
     × IsRun (longest_for command) (says_for command) MOST_READS
     may_read may_write source new_source sink new_sink ended
+    × (result ≡ result_map_both status_of (λ fault. fault) ended)
+Obeys may_read may_write (Batch options) source new_source sink new_sink result =
+    (ended : Result Done Fault)
+    × IsBatchRun options.limit MOST_READS may_read may_write source new_source sink new_sink ended
     × (result ≡ result_map_both status_of (λ fault. fault) ended)
 Obeys may_read may_write (Text text status) source new_source sink new_sink result =
     (new_source ≡ source)

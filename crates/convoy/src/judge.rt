@@ -1,7 +1,6 @@
 //! The command line, judged before any input is read.
 
 ghost use Rattle.std.specs.Prelude.{◌≡◌, IfOk};
-ghost use Rattle.convoy_engine.specs.Commands.{IsAlone};
 ghost use Rattle.convoy.specs.Verdicts.{EndsAtOnce, IsVerdict};
 
 use super::MOST_READS;
@@ -18,6 +17,8 @@ use std::convert::AsStr;
 pub enum Verdict {
     /// It asks for a command.
     Run(Command),
+    /// It asks for a batch.
+    Batch(Options),
     /// It asks for help, or is rejected: a text is to be written, and the program ends with the status.
     Text { text: String, status: u8 },
     /// Memory ran out.
@@ -138,6 +139,17 @@ Where the search spends all its tickets first, it writes 'open LEAST MOST', the
 least and the most that the greatest latency may be, and the exit status is 3.
 LEAST is then most likely the greatest latency; MOST is safe to rely on.";
 
+const ABOUT_BATCH: &str = "Answers each of many scenarios as `latency` does";
+
+const LONG_ABOUT_BATCH: &str = "\
+Reads scenarios from standard input, at most 1000, with a line '---' between two
+of them, and writes a block for each: the line 'job K', with K from 1 on, and
+then what `latency` writes for that scenario alone, or the line of its fault.
+  convoy batch < scenarios
+
+A scenario that is too long, or for which memory runs out, gets that fault as its
+block. Blocks are written as the scenarios come.";
+
 const ABOUT_LIMIT: &str = "\
 How many tickets the search spends at most, one for each set of schedules that it
 looks at: from 1 to 4000000";
@@ -150,8 +162,8 @@ start from: from 0, for the schedule of the least delays, to 1000000";
 pub fn judge<S: AsStr>(alloc: Global, words: &[S]) -> Verdict
     ensures { IsVerdict result }
 {
-    match command_of(alloc, words) {
-        Ok(command) => Verdict::Run(command),
+    match verdict_of(alloc, words) {
+        Ok(verdict) => verdict,
         Err(error) => rejection(alloc, &error),
     }
 }
@@ -169,11 +181,13 @@ pub fn judge_bytes(alloc: Global) -> Verdict
     }
 }
 
-fn command_of<S: AsStr>(alloc: Global, words: &[S]) -> Result<Command, Error>
-    ensures { IfOk result IsAlone }
+/// The command that the words ask for, or a batch.
+fn verdict_of<S: AsStr>(alloc: Global, words: &[S]) -> Result<Verdict, Error>
+    ensures { IfOk result IsVerdict }
 {
     let matches = parser(alloc)?.try_get_matches_from(words)?;
-    Ok(match matches.subcommand() {
+    let command = match matches.subcommand() {
+        Some(("batch", given)) => return Ok(Verdict::Batch(options_of(given))),
         Some(("simulate", _)) => Command::Simulate,
         Some(("timeline", _)) => Command::Timeline,
         Some(("check", _)) => Command::Check,
@@ -181,13 +195,15 @@ fn command_of<S: AsStr>(alloc: Global, words: &[S]) -> Result<Command, Error>
         Some(("latency", given)) => Command::Latency(options_of(given)),
         // `first` is the command that is meant without a command word.
         _ => Command::First,
-    })
+    };
+    Ok(Verdict::Run(command))
 }
 
 /// The options of a search: the numbers that are given, or else the usual ones. `clap` rejects a word
 /// that is no such number, or out of range.
 fn options_of(given: &ArgMatches<'_>) -> Options
-    ensures { result.workers ≡ 1 }
+    ensures alone { result.workers ≡ 1 }
+    ensures reads { result.most_reads ≡ MOST_READS }
 {
     let limit = given.get_one("limit").unwrap_or(DEFAULT_LIMIT);
     let simulations = given.get_one("seek").unwrap_or(DEFAULT_SIMULATIONS);
@@ -222,7 +238,11 @@ fn with_searches<'a>(
 ) -> Result<clap::Command<'a>, AllocError> {
     let analyse = search_command(alloc, "analyse", ABOUT_ANALYSE, LONG_ABOUT_ANALYSE)?;
     let latency = search_command(alloc, "latency", ABOUT_LATENCY, LONG_ABOUT_LATENCY)?;
-    parser.subcommand(analyse)?.subcommand(latency)
+    let batch = search_command(alloc, "batch", ABOUT_BATCH, LONG_ABOUT_BATCH)?;
+    parser
+        .subcommand(analyse)?
+        .subcommand(latency)?
+        .subcommand(batch)
 }
 
 /// Adds the commands that run one schedule.

@@ -8,8 +8,8 @@ ghost use Rattle.convoy.specs.Verdicts.{IsVerdict, Obeys, Tells, status_of};
 mod judge;
 
 use convoy_engine::{
-    DeviceFailed, Done, Fault, Sink, Source, StreamSink, StreamSource, fault_line, run_command,
-    write_all,
+    DeviceFailed, Done, Fault, Sink, Source, StreamSink, StreamSource, fault_line, run_batch,
+    run_command, write_all,
 };
 use judge::{Verdict, judge, judge_bytes};
 use std::alloc::Global;
@@ -80,6 +80,10 @@ fn obey<S: Source, K: Sink>(
     match verdict {
         Verdict::Run(command) => {
             let done = run_command(alloc, *command, source, sink, MOST_READS)?;
+            Ok(status_of(done))
+        }
+        Verdict::Batch(options) => {
+            let done = run_batch(alloc, source, sink, options)?;
             Ok(status_of(done))
         }
         Verdict::Text { text, status } => match write_all(sink, text.as_bytes()) {

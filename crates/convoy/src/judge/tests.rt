@@ -5,7 +5,7 @@ use std::alloc::Global;
 /// The status with which a command line ends by itself; None where it runs a command.
 fn status_of(alloc: Global, words: &[&str]) -> Option<u8> {
     match judge(alloc, words) {
-        Verdict::Run(_) => None,
+        Verdict::Run(_) | Verdict::Batch(_) => None,
         Verdict::Text { text: _, status } => Some(status),
         Verdict::Memory => Some(u8::MAX),
     }
@@ -16,6 +16,7 @@ fn status_of(alloc: Global, words: &[&str]) -> Option<u8> {
 fn command_run(alloc: Global, words: &[&str]) -> Option<(&'static str, u64, u64)> {
     match &judge(alloc, words) {
         Verdict::Run(command) => Some(told(command)),
+        Verdict::Batch(options) => Some(("batch", options.limit(), options.simulations())),
         Verdict::Text { .. } | Verdict::Memory => None,
     }
 }
@@ -42,6 +43,7 @@ fn commands(rt: HostRuntime) {
         (["check"].as_slice(), "check", 0, 0),
         (["analyse"].as_slice(), "analyse", 1_000_000, 20_000),
         (["latency"].as_slice(), "latency", 1_000_000, 20_000),
+        (["batch", "--seek=0"].as_slice(), "batch", 1_000_000, 0),
         (
             ["analyse", "--limit", "1", "--seek", "0"].as_slice(),
             "analyse",
@@ -99,6 +101,7 @@ fn help(rt: HostRuntime) {
             "  check  ",
             "  analyse  ",
             "  latency  ",
+            "  batch  ",
             "standard input",
             "TOML",
             "convoy analyse < scenario.toml | convoy check",
