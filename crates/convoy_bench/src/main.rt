@@ -18,8 +18,9 @@ use convoy_scenario::{Scenario, read_toml};
 use std::alloc::Global;
 use std::env;
 use std::io::Read;
-use timing::{time_bound, time_certificate, time_mixed, time_search, time_seek, time_simulate};
-use timing::time_stamps;
+use timing::{
+    time_bound, time_certificate, time_mixed, time_search, time_seek, time_simulate, time_stamps,
+};
 
 /// How many turns are made where no number is given.
 const ONE_TURN: u32 = 1;
