@@ -2,6 +2,7 @@
 //! they answer goes to standard output, and how long each took to standard error.
 //!
 //! `convoy_bench [TURNS]` takes a scenario from standard input and makes each call that many times.
+//! `convoy_bench stamps [TURNS]` takes a scenario and makes that many calls of the bounds of the root.
 //! `convoy_bench mixed [TURNS]` takes a scenario, and runs that many times each of 32 mixed schedules.
 //! `convoy_bench search [LIMIT]` takes a scenario and searches it, with at most that many tickets.
 //! `convoy_bench seek [BUDGET]` takes a scenario and seeks in it, with at most that many simulations.
@@ -17,7 +18,9 @@ use convoy_scenario::{Scenario, read_toml};
 use std::alloc::Global;
 use std::env;
 use std::io::Read;
-use timing::{time_bound, time_certificate, time_mixed, time_search, time_seek, time_simulate};
+use timing::{
+    time_bound, time_certificate, time_mixed, time_search, time_seek, time_simulate, time_stamps,
+};
 
 /// How many turns are made where no number is given.
 const ONE_TURN: u32 = 1;
@@ -33,6 +36,8 @@ const MOST_SIMULATIONS: u32 = 20_000;
 enum Task {
     /// The calls on a scenario, so many times each.
     Scenario(u32),
+    /// The bounds of the root, so many times each.
+    Stamps(u32),
     /// Runs of mixed schedules, so many times each.
     Mixed(u32),
     /// A search with at most so many tickets.
@@ -49,6 +54,7 @@ fn main(rt: HostRuntime) -> Result<()> {
     rt.stdin().read_to_end(&mut text)?;
     match task {
         Task::Scenario(turns) => time_scenario(&rt, rt.alloc(), &text, turns),
+        Task::Stamps(turns) => time_bounds(&rt, rt.alloc(), &text, turns),
         Task::Mixed(turns) => time_mixtures(&rt, rt.alloc(), &text, turns),
         Task::Search(limit) => time_tree(&rt, rt.alloc(), &text, limit),
         Task::Seek(budget) => time_best(&rt, rt.alloc(), &text, budget),
@@ -65,19 +71,19 @@ fn asked_for(rt: &HostRuntime) -> Result<Task> {
     };
     match word.as_str() {
         "certificate" => Ok(Task::Certificate),
-        "mixed" => match words.next() {
-            Some(turns) => Ok(Task::Mixed(number_of(&turns)?)),
-            None => Ok(Task::Mixed(ONE_TURN)),
-        },
-        "search" => match words.next() {
-            Some(limit) => Ok(Task::Search(number_of(&limit)?)),
-            None => Ok(Task::Search(MOST_TICKETS)),
-        },
-        "seek" => match words.next() {
-            Some(budget) => Ok(Task::Seek(number_of(&budget)?)),
-            None => Ok(Task::Seek(MOST_SIMULATIONS)),
-        },
+        "stamps" => Ok(Task::Stamps(number_or(words.next(), ONE_TURN)?)),
+        "mixed" => Ok(Task::Mixed(number_or(words.next(), ONE_TURN)?)),
+        "search" => Ok(Task::Search(number_or(words.next(), MOST_TICKETS)?)),
+        "seek" => Ok(Task::Seek(number_or(words.next(), MOST_SIMULATIONS)?)),
         _ => Ok(Task::Scenario(number_of(&word)?)),
+    }
+}
+
+/// The number that a word is, or that other one where there is no word.
+fn number_or(word: Option<String>, other: u32) -> Result<u32> {
+    match word {
+        Some(word) => number_of(&word),
+        None => Ok(other),
     }
 }
 
@@ -103,6 +109,14 @@ fn time_scenario(rt: &HostRuntime, alloc: Global, text: &[u8], turns: u32) -> Re
     let least = Delays::least(alloc, &table)?;
     time_bound(rt, &scenario, &table, &root, turns)?;
     time_simulate(rt, alloc, &scenario, &table, &least, turns)
+}
+
+/// Times the bounds of the root.
+fn time_bounds(rt: &HostRuntime, alloc: Global, text: &[u8], turns: u32) -> Result<()> {
+    let scenario = read_scenario(alloc, text)?;
+    let table = PacketTable::of(alloc, &scenario)?;
+    let root = DelayBox::root(alloc, &table)?;
+    time_stamps(rt, alloc, &scenario, &table, &root, turns)
 }
 
 /// Times runs of mixed schedules.

@@ -12,6 +12,7 @@ use convoy_packets::{Delays, PacketTable};
 use convoy_scenario::Scenario;
 use convoy_seek::seek;
 use convoy_sim::{Record, latency, simulate};
+use convoy_stamps::stamp_bound;
 use std::alloc::Global;
 use std::time::{Duration, Instant};
 
@@ -33,6 +34,30 @@ pub fn time_bound(
     }
     tell(rt, "bound", turns, start.elapsed(rt)?)?;
     println!(rt; "bound {answer}")?;
+    Ok(())
+}
+
+/// Makes that many calls of `bound` and of `stamp_bound`, and tells what one of each answers and how
+/// long it takes.
+pub fn time_stamps(
+    rt: &HostRuntime,
+    alloc: Global,
+    scenario: &Scenario,
+    table: &PacketTable,
+    delay_box: &DelayBox,
+    turns: u32,
+) -> Result<()>
+    requires packets { table.now ≡ table_of scenario.now }
+    requires inside { IsBox scenario.now delay_box.now }
+{
+    time_bound(rt, scenario, table, delay_box, turns)?;
+    let start = Instant::now(rt)?;
+    let mut answer = 0;
+    for _ in 0..turns {
+        answer = stamp_bound(alloc, scenario, table, delay_box)?;
+    }
+    tell(rt, "stamp_bound", turns, start.elapsed(rt)?)?;
+    println!(rt; "stamp_bound {answer}")?;
     Ok(())
 }
 
