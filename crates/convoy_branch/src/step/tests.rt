@@ -1,16 +1,12 @@
 ghost use Rattle.std.specs.Prelude.{◌≡◌, ◌<◌, length, IfOk};
 ghost use Rattle.convoy_packets.specs.Table.{table_of};
-ghost use Rattle.convoy_intervals.specs.Boxes.{IsBox};
 
-use super::{Step, Turn, place_to_split, step_branch};
+use super::{Step, Turn, step_branch};
 use crate::scenarios::base;
-use crate::{Outcome, search_alone};
 use convoy_certificate::Node;
-use convoy_intervals::laws::members_are_assignments;
-use convoy_intervals::{DelayBox, Tracked, bound};
+use convoy_intervals::Tracked;
 use convoy_packets::PacketTable;
 use convoy_scenario::Scenario;
-use convoy_sim::latency;
 use std::alloc::{AllocError, Global};
 use std::test::Fail;
 
@@ -128,77 +124,5 @@ fn closes_a_point(rt: HostRuntime) -> Result<(), Fail> {
     assert_eq!(rt; point_step(alloc, &scenario, 2)?, (Some(6), Node::Point));
     assert_eq!(rt; point_step(alloc, &scenario, 6)?, (None, Node::Point));
     assert_eq!(rt; point_step(alloc, &scenario, 12)?, (None, Node::Bound));
-    Ok(())
-}
-
-/// The best latency and the nodes of a search of a plain box by the same rule: each bound from
-/// scratch, and each box's greatest delays tried.
-fn search_plain(
-    alloc: Global,
-    scenario: &Scenario,
-    table: &PacketTable,
-    branch: DelayBox,
-    seen: u32,
-    depth: u32,
-) -> Result<(u32, Vec<Node>), Fail>
-    requires packets { table.now ≡ table_of scenario.now }
-    requires inside { IsBox scenario.now branch }
-{
-    let bound = bound(scenario, table, &branch);
-    let best = if bound <= seen {
-        seen
-    } else {
-        seen.max(greatest_latency(alloc, scenario, table, &branch)?)
-    };
-    if bound <= best {
-        return Ok((best, Vec::from_slice(alloc, &[Node::Bound])?));
-    }
-    let Some((packet, at)) = place_to_split(table, &branch) else {
-        return Ok((best, Vec::from_slice(alloc, &[Node::Point])?));
-    };
-    if depth == 0 {
-        return Err("the tree is too deep".into());
-    }
-    let mut nodes = Vec::from_slice(alloc, &[Node::Split { packet, at }])?;
-    match branch.halves(usize::from(packet), at) {
-        Ok((lower, upper)) => {
-            let (best, last) = search_plain(alloc, scenario, table, upper, best, depth - 1)?;
-            let (best, first) = search_plain(alloc, scenario, table, lower, best, depth - 1)?;
-            nodes.extend_from_slice(&first)?;
-            nodes.extend_from_slice(&last)?;
-            Ok((best, nodes))
-        }
-        Err((_, error)) => Err(error.into()),
-    }
-}
-
-/// The latency of the greatest delays of a box.
-fn greatest_latency(
-    alloc: Global,
-    scenario: &Scenario,
-    table: &PacketTable,
-    branch: &DelayBox,
-) -> Result<u32, AllocError>
-    requires packets { table.now ≡ table_of scenario.now }
-    requires inside { IsBox scenario.now branch.now }
-{
-    members_are_assignments();
-    Ok(latency(scenario, table, &branch.greatest(alloc)?))
-}
-
-#[test]
-fn searches_as_over_plain_boxes(rt: HostRuntime) -> Result<(), Fail> {
-    let alloc = rt.alloc();
-    let scenario = base(alloc, 3, "\"b\", \"a\"", 6)?;
-    let table = PacketTable::of(alloc, &scenario)?;
-    let root = DelayBox::root(alloc, &table)?;
-    let (best, nodes) = search_plain(alloc, &scenario, &table, root, 2, 100)?;
-    match search_alone(alloc, &scenario, &table, 1_469)? {
-        Outcome::Proved { certificate, .. } => {
-            assert_eq!(rt; certificate.latency(), best);
-            assert_eq!(rt; certificate.nodes(), nodes.as_slice());
-        }
-        Outcome::Open { .. } => assert!(rt; false, "one ticket for each node is enough"),
-    }
     Ok(())
 }
