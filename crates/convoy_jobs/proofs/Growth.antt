@@ -90,6 +90,7 @@ ended_stay text [] = ([], ap ended_jobs (append-nil text) ∙ sym (append-nil (e
 ended_stay text (b ∷ more) =
     let first = grown_by (b == 10) (is_divider (progress_of text).line) b (progress_of text) in
     let others = ended_stay (text ++ b ∷ []) more in
-    let one : ended_jobs (text ++ b ∷ []) ≡ ended_jobs text ++ first.0 = ap (λ p. p.jobs) (progress_push text b) ∙ first.1 in
-    (first.0 ++ others.0,
-     ap ended_jobs (sym (append_assoc text (b ∷ []) more)) ∙ others.1 ∙ ap (λ jobs. jobs ++ others.0) one ∙ append_assoc (ended_jobs text) first.0 others.0)
+    let one : ended_jobs (text ++ b ∷ []) ≡ ended_jobs text ++ first.0 = ap (λ p. p.jobs) (progress_push text b) ∙ first.1 in (
+      first.0 ++ others.0,
+      ap ended_jobs (sym (append_assoc text (b ∷ []) more)) ∙ others.1 ∙ ap (λ jobs. jobs ++ others.0) one ∙ append_assoc (ended_jobs text) first.0 others.0,
+    )

@@ -184,8 +184,8 @@ ends longest splitter text byte e after =
     let when = ends_when (byte == 10) (byte == 45) splitter.line (sym e) in
     let divides = divider_line splitter.line p.line when.1 after.line in
     let now : progress_of (text ++ byte ∷ []) ≡ record { jobs = p.jobs ++ p.lines ∷ []; lines = []; line = [] } =
-        progress_push text byte ∙ ap (λ (n : Bool). progress_then n (is_divider p.line) byte p) when.0
-        ∙ ap (λ (t : Bool). progress_then true t byte p) divides in
+    progress_push text byte ∙ ap (λ (n : Bool). progress_then n (is_divider p.line) byte p) when.0
+    ∙ ap (λ (t : Bool). progress_then true t byte p) divides in
     record {
       job = p.lines;
       one_more = ap (λ q. q.jobs) now;
@@ -200,9 +200,9 @@ waits longest old new text byte e held after =
     let p = progress_of text in
     let found = waits_as byte (byte == 10) (byte == 45) old.line new.line (sym e) in
     let now : progress_of (text ++ byte ∷ []) ≡ record { jobs = p.jobs; lines = p.lines; line = p.line ++ byte ∷ [] } =
-        progress_push text byte ∙ ap (λ (n : Bool). progress_then n (is_divider p.line) byte p) found.goes in
+    progress_push text byte ∙ ap (λ (n : Bool). progress_then n (is_divider p.line) byte p) found.goes in
     let longer : p.line ++ byte ∷ [] ≡ dashes_of new.line =
-        ap (λ (b : ℕ). p.line ++ b ∷ []) (eqb-true byte 45 found.dash) ∙ ap (λ l. l ++ 45 ∷ []) (found.front p.line after.line) ∙ sym found.longer in
+    ap (λ (b : ℕ). p.line ++ b ∷ []) (eqb-true byte 45 found.dash) ∙ ap (λ l. l ++ 45 ∷ []) (found.front p.line after.line) ∙ sym found.longer in
     goes_on longest new text byte _ now refl (found.is _ longer)
     (held _ (subst (Holds longest old) (sym (found.same p.lines p.line (p.line ++ byte ∷ []))) after.held))
 

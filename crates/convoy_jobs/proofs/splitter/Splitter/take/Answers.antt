@@ -14,8 +14,8 @@ pub returns-in-Keeps : goal.returns-in-Keeps
 returns-in-Keeps c = λ longest text after.
     keeps longest c.args.self.now _ text _ c.in-Keeps.ensures
     (λ job held.
-       let dashes = c.keep.ensures.held longest job held in
-       let all = c.keep-in-Keeps.ensures.held longest _ dashes in
-       let kept = rw c.dashes.ensures at all in
-       record { most = kept.most; kept = kept.kept })
+    let dashes = c.keep.ensures.held longest job held in
+    let all = c.keep-in-Keeps.ensures.held longest _ dashes in
+    let kept = rw c.dashes.ensures at all in
+    record { most = kept.most; kept = kept.kept })
     after
