@@ -1,5 +1,6 @@
 //! Tests of the commands, from bytes to bytes.
 
+mod batches;
 mod devices;
 mod fixture;
 mod options;

@@ -13,9 +13,9 @@ use std::test::Fail;
 
 /// A source in memory that gives 64 bytes a read, and fails after some reads.
 #[derive(Drop)]
-struct FailingSource<'a> {
-    inner: SliceSource<'a>,
-    good: u64,
+pub(super) struct FailingSource<'a> {
+    pub(super) inner: SliceSource<'a>,
+    pub(super) good: u64,
 }
 
 impl<'a> Source for FailingSource<'a> {
@@ -32,9 +32,9 @@ impl<'a> Source for FailingSource<'a> {
 
 /// A sink in memory that takes a byte a write, and fails after some writes.
 #[derive(Drop)]
-struct FailingSink {
-    inner: VecSink,
-    good: usize,
+pub(super) struct FailingSink {
+    pub(super) inner: VecSink,
+    pub(super) good: usize,
 }
 
 impl Sink for FailingSink {

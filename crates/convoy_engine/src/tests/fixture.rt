@@ -47,7 +47,7 @@ pub(super) fn run<S: Source, K: Sink>(
 }
 
 /// Options of one worker; a limit out of range is brought into it.
-fn options(limit: u64, reads: u64) -> Options
+pub(super) fn options(limit: u64, reads: u64) -> Options
     ensures { result.workers ≡ 1 }
 {
     match Options::new(1, limit.clamp(1, MOST_TICKETS), reads) {
