@@ -1,3 +1,5 @@
+mod threads;
+
 use super::{
     Answer, Fault, Judgement, check_certificate, exchange, greatest_latency, judge_timeout,
     latency_under,

@@ -1,0 +1,162 @@
+//! Threads that share a board and a ledger.
+
+ghost use Rattle.std.specs.Prelude.{◌≡◌, IfOk};
+ghost use Rattle.convoy_library.specs.Table.{table_of};
+
+use crate::{best_of_three, draw_together};
+use convoy_library::incumbent::{Board, Hand};
+use convoy_library::ledger::{Clerk, Ledger};
+use convoy_library::packets::{Delays, PacketTable};
+use convoy_library::scenario::{Scenario, read_toml};
+use convoy_library::sim::Record;
+use std::alloc::Global;
+use std::process::Abort;
+use std::sync::Wait;
+use std::test::Fail;
+use std::thread::{Threads, join};
+
+/// A message from a client to a and to b. Its packets are those to a and to b, and the proposals from
+/// a to b and from b to a.
+const LONE_MESSAGE: &str = r#"
+delay = 5
+groups = ["a", "b"]
+multicast = [{ name = "m", to = ["a", "b"], at = 7 }]
+target = { message = "m", group = "a" }
+"#;
+
+const LATENCY_2: [i64; 4] = [1, 1, 1, 1];
+
+const LATENCY_5: [i64; 4] = [5, 1, 1, 1];
+
+const LATENCY_9: [i64; 4] = [1, 4, 1, 5];
+
+/// The record of a schedule.
+fn record_of(
+    alloc: Global,
+    scenario: &Scenario,
+    table: &PacketTable,
+    list: &[i64],
+) -> Result<Record, Fail>
+    requires { table.now ≡ table_of scenario.now }
+    ensures { IfOk result (λ found. found.scenario ≡ scenario.now) }
+{
+    let delays = Delays::from_list(alloc, table, list)?;
+    Ok(Record::of(scenario, table, delays))
+}
+
+#[test]
+fn all_tickets_are_drawn(rt: HostRuntime) -> Result<(), Fail> {
+    for most in [1, 2, 1000] {
+        assert_eq!(rt; draw_together(&rt, rt.alloc(), most)?, most);
+    }
+    Ok(())
+}
+
+#[test]
+fn best_of_records(rt: HostRuntime) -> Result<(), Fail> {
+    let alloc = rt.alloc();
+    let scenario = read_toml(alloc, LONE_MESSAGE.as_bytes())?.scenario;
+    let table = PacketTable::of(alloc, &scenario)?;
+    let opening = record_of(alloc, &scenario, &table, &LATENCY_2)?;
+    let first = record_of(alloc, &scenario, &table, &LATENCY_9)?;
+    let second = record_of(alloc, &scenario, &table, &LATENCY_5)?;
+    let Ok(best) = best_of_three(&rt, alloc, opening, first, second) else {
+        panic!(rt; "no best record");
+    };
+    assert_eq!(rt; best.latency(), 9);
+    Ok(())
+}
+
+/// Publishes a record, and then draws and looks 300 times.
+fn take_part<R: Abort + Wait>(
+    rt: &R,
+    board: &Board,
+    ledger: &Ledger,
+    mut hand: Hand,
+    mut clerk: Clerk,
+    found: Record,
+) -> (Hand, Clerk)
+    requires hand { hand.board ≡ board.now }
+    requires clerk { clerk.ledger ≡ ledger.now }
+    requires found { found.scenario ≡ board.now.scenario }
+    ensures hand { result.0.board ≡ board.now }
+    ensures clerk { result.1.ledger ≡ ledger.now }
+{
+    match board.note(rt, found) {
+        Ok(noted) => board.publish(&mut hand, noted),
+        Err(_) => panic!(rt; "a record was not noted"),
+    };
+    for _ in 0..300 {
+        ledger.draw(&mut clerk);
+        board.look(&mut hand);
+    }
+    (hand, clerk)
+}
+
+/// Two threads, with half of the hand and half of the clerk each, take part.
+fn both_take_part<R: Abort + Wait + Threads + Sync>(
+    rt: &R,
+    board: &Board,
+    ledger: &Ledger,
+    mut hand: Hand,
+    mut clerk: Clerk,
+    first: Record,
+    second: Record,
+) -> (Hand, Clerk)
+    requires hand { hand.board ≡ board.now }
+    requires clerk { clerk.ledger ≡ ledger.now }
+    requires first { first.scenario ≡ board.now.scenario }
+    requires second { second.scenario ≡ board.now.scenario }
+    ensures hand { result.0.board ≡ board.now }
+    ensures clerk { result.1.ledger ≡ ledger.now }
+{
+    let (Ok(other_hand), Ok(other_clerk)) = (board.split(&mut hand), ledger.split(&mut clerk))
+    else {
+        panic!(rt; "a hand or a clerk could not be split");
+    };
+    let (own, other) = join(
+        rt,
+        move || -> (Hand, Clerk)
+            requires { (hand.board ≡ board.now) × (clerk.ledger ≡ ledger.now)
+                × (first.scenario ≡ board.now.scenario) }
+            ensures { (result.0.board ≡ board.entry.now) × (result.1.ledger ≡ ledger.entry.now) }
+        { take_part(rt, board, ledger, hand, clerk, first) },
+        move || -> (Hand, Clerk)
+            requires { (other_hand.board ≡ board.now) × (other_clerk.ledger ≡ ledger.now)
+                × (second.scenario ≡ board.now.scenario) }
+            ensures { (result.0.board ≡ board.entry.now) × (result.1.ledger ≡ ledger.entry.now) }
+        { take_part(rt, board, ledger, other_hand, other_clerk, second) },
+    );
+    let (mut hand, mut clerk) = own;
+    board.join(&mut hand, other.0);
+    ledger.join(&mut clerk, other.1);
+    (hand, clerk)
+}
+
+/// A board that is opened with a record, and its hand.
+fn opened<R: Abort + Wait>(rt: &R, alloc: Global, first: Record) -> (Board, Hand)
+    ensures board { result.0.scenario ≡ first.scenario }
+    ensures hand { result.1.board ≡ result.0 }
+{
+    match Board::open(rt, alloc, first) {
+        Ok(opened) => opened,
+        Err(_) => panic!(rt; "no board was opened"),
+    }
+}
+
+#[test]
+fn one_board_and_one_ledger(rt: HostRuntime) -> Result<(), Fail> {
+    let alloc = rt.alloc();
+    let scenario = read_toml(alloc, LONE_MESSAGE.as_bytes())?.scenario;
+    let table = PacketTable::of(alloc, &scenario)?;
+    let (board, hand) = opened(&rt, alloc, record_of(alloc, &scenario, &table, &LATENCY_2)?);
+    let (ledger, clerk) = Ledger::open(alloc, 1000)?;
+    let first = record_of(alloc, &scenario, &table, &LATENCY_5)?;
+    let second = record_of(alloc, &scenario, &table, &LATENCY_9)?;
+    let (hand, clerk) = both_take_part(&rt, &board, &ledger, hand, clerk, first, second);
+    let (Ok(best), Ok(drawn)) = (board.close(hand), ledger.close(clerk)) else {
+        panic!(rt; "not closed with the whole share");
+    };
+    assert_eq!(rt; (best.latency(), drawn), (9, 600));
+    Ok(())
+}
