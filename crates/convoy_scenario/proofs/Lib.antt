@@ -1,5 +1,6 @@
 mod Rows
 pub mod KeyLemmas
+pub mod FewLinks
 pub mod LinkLemmas
 pub mod LinkPlaces
 pub mod Links

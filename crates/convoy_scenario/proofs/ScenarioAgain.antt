@@ -1,5 +1,5 @@
 -- The lines of a scenario are read again.
-use Rattle.std.proofs.Common.{◌≡◌, ℕ, zero, suc, ◌+◌, ◌<◌, ◌≤◌, ◌==◌, ◌&&◌, ◌||◌, not, true, false, leb, le-leb, List, [], ◌∷◌, ◌++◌, length, get_or, map, filter, All, Option, Some, None, Result, Ok, refl, ap, sym, ◌∙◌, arith, inl, inr, codes, decimal, append_assoc}
+use Rattle.std.proofs.Common.{◌≡◌, ℕ, zero, suc, ◌+◌, ◌<◌, ◌≤◌, ◌==◌, ◌&&◌, ◌||◌, not, true, false, leb, le-leb, List, [], ◌∷◌, ◌++◌, length, get_or, map, filter, All, Option, Some, None, Result, Ok, refl, ap, sym, ◌∙◌, arith, inl, inr, codes, decimal}
 use Rattle.std.specs.List.{list_all}
 use Rattle.std.specs.Str.{bytes_eq}
 use Rattle.std.proofs.lemmas.Bool.{and_parts, and_from, or_cases, or_from, or_right, eqb-true, ne_eqb, leb-true, not-true, false≢true}
@@ -7,7 +7,7 @@ use Rattle.std.proofs.lemmas.List.Elements.{All-head, All-tail, All-cons, All-ge
 use Rattle.std.proofs.lemmas.Slice.Eq.{slice_eq-Decides, bytes_eq-Decides}
 use Rattle.std.proofs.lemmas.Str.{IsUtf8-from_ascii, is_utf8-from_IsUtf8}
 use Rattle.std.specs.Str.{IsAscii}
-use Rattle.convoy_scenario.specs.declared.limits.TheConstants.{GREATEST_DELAY, MOST_MULTICASTS}
+use Rattle.convoy_scenario.specs.declared.limits.TheConstants.{GREATEST_DELAY, MOST_LINKS, MOST_MULTICASTS}
 use Rattle.convoy_scenario.specs.declared.line_fault.Expected.{Expected}
 use Rattle.convoy_scenario.specs.declared.line_fault.Expected.TheVariants.{Delay, Groups, Link, Multicast, Target}
 use Rattle.convoy_scenario.specs.declared.line_fault.LineFault.{LineFault}
@@ -20,16 +20,17 @@ use Rattle.convoy_scenario.specs.Scenario.{Scenario, Message, message_at, group_
 use Rattle.convoy_scenario.specs.WellFormed.{is_letter, is_digit, is_name_byte, is_name, is_group_name, client_word, IsSender, IsLink, IsMulticast, IsScenario}
 use Rattle.convoy_scenario.specs.Checks.{is_among}
 use Rattle.convoy_scenario.specs.Laws.{CanSay}
-use Rattle.convoy_scenario.specs.Numbering.{link_of, links_of_draft, scenario_of_draft}
+use Rattle.convoy_scenario.specs.Numbering.{scenario_of_draft}
 use Rattle.convoy_scenario.specs.Lines.{sender_word, delay_line, groups_line, link_line, multicast_line, target_line, scenario_lines}
 use Rattle.convoy_lines.specs.Labels.{greatest_number, begins_with, number_in}
 use Rattle.convoy_scenario.specs.LineForms.{name_of, named_sender, greatest_delay_number, groups_in, link_in, multicast_in, target_in}
 use Rattle.convoy_lines.specs.Words.{Lacks, words_of}
 use Rattle.convoy_lines.specs.Results.{◌>>=◌}
 use Rattle.convoy_lines.specs.Places.{Place, upcoming}
-use Rattle.convoy_scenario.specs.LineReading.{form_at, is_link_due, links_in, links_at, first_misplaced_link, is_multicast_due, messages_in, messages_at, draft_of, told, is_ordered, first_unordered, where_ordered, scenario_at}
+use Rattle.convoy_scenario.specs.LineReading.{form_at, is_link_due, links_in, links_at, first_misplaced_link, is_multicast_due, messages_in, messages_at, told, is_ordered, first_unordered, where_ordered, scenario_at}
 use Rattle.convoy_scenario.specs.Naming.{draft_for, draft_link, draft_message, sender_name}
 use Rattle.convoy_scenario.proofs.DraftAgain.{links_again, made_again, none_whole}
+use Rattle.convoy_scenario.proofs.FewLinks.{few_links}
 use Rattle.convoy_scenario.proofs.LinkLemmas.{ticks_again, none_misplaced}
 use Rattle.convoy_scenario.proofs.NumberedAgain.{numbers_again}
 use Rattle.convoy_scenario.proofs.ScenarioTakes.{named, count_lines, lines_before, after_delay, after_groups, after_links, after_messages, after_target}
@@ -191,37 +192,39 @@ module _ (laws : LineLaws) where
   none_due plan [] t more rest number version s are some = absurd (omega arith)
   none_due plan (m ∷ ms) t more rest number version s are some = no_link plan m s (All-head (IsMulticast (length plan.groups)) m ms are) version
 
-  over : (version : Version) (number : ℕ) (rest : List ℕ) (lines : List (List ℕ)) → is_link_due version (upcoming (record { ended = lines; rest = rest; number = number })) ≡ false
-      → links_in version number rest lines ≡ Ok ([], record { ended = lines; rest = rest; number = number })
+  over : (version : Version) (count number : ℕ) (rest : List ℕ) (lines : List (List ℕ)) → is_link_due version (upcoming (record { ended = lines; rest = rest; number = number })) ≡ false
+      → links_in version count number rest lines ≡ Ok ([], record { ended = lines; rest = rest; number = number })
   unfolding links_in
-  over version number rest [] other = rw other refl
-  over version number rest (line ∷ lines) other = rw other refl
+  over version count number rest [] other = rw other refl
+  over version count number rest (line ∷ lines) other = rw other refl
 
   link_begins : (plan : Scenario) (l : plans.Link) → IsScenario plan → IsLink (length plan.groups) plan.delay l → is_link_due Two (link_line plan l) ≡ true
   link_begins plan l s is =
       ap (begins_with (codes "link")) (words_again laws (codes "link") (sender_word plan l.sender ∷ group_name_at plan l.to ∷ decimal l.least ∷ decimal l.most ∷ []) link_word (link_words plan l s is))
 
-  lines_of_links : (plan : Scenario) (ls : List plans.Link) (lines : List (List ℕ)) (rest : List ℕ) (number : ℕ) → IsScenario plan → All (IsLink (length plan.groups) plan.delay) ls
-      → ((n : ℕ) → is_link_due Two (upcoming (record { ended = lines; rest = rest; number = n })) ≡ false)
-      → links_in Two number rest (map (link_line plan) ls ++ lines) ≡ Ok (map (draft_link plan) ls, record { ended = lines; rest = rest; number = number + length ls })
+  lines_of_links : (plan : Scenario) (ls : List plans.Link) (lines : List (List ℕ)) (rest : List ℕ) (count number : ℕ) → IsScenario plan → All (IsLink (length plan.groups) plan.delay) ls
+      → ((n : ℕ) → is_link_due Two (upcoming (record { ended = lines; rest = rest; number = n })) ≡ false) → count + length ls ≤ MOST_LINKS
+      → links_in Two count number rest (map (link_line plan) ls ++ lines) ≡ Ok (map (draft_link plan) ls, record { ended = lines; rest = rest; number = number + length ls })
   unfolding links_in
-  lines_of_links plan [] lines rest number s are other =
+  lines_of_links plan [] lines rest count number s are other few =
       let e : number + 0 ≡ number = omega arith in
-      rw e (over Two number rest lines (other number))
-  lines_of_links plan (l ∷ ls) lines rest number s are other =
+      rw e (over Two count number rest lines (other number))
+  lines_of_links plan (l ∷ ls) lines rest count number s are other few =
       let is = All-head (IsLink (length plan.groups) plan.delay) l ls are in
       let e : number + suc (length ls) ≡ (number + 1) + length ls = omega arith in
-      rw (link_begins plan l s is, link_line_again plan l s is, lines_of_links plan ls lines rest (number + 1) s (All-tail (IsLink (length plan.groups) plan.delay) l ls are) other, e) refl
+      let below : (count == MOST_LINKS) ≡ false = ne_eqb count MOST_LINKS (λ e. omega arith) in
+      rw (link_begins plan l s is, link_line_again plan l s is, below, lines_of_links plan ls lines rest (count + 1) (number + 1) s (All-tail (IsLink (length plan.groups) plan.delay) l ls are) other (omega arith), e) refl
 
   pub links_read : (version : Version) (plan : Scenario) (t : List ℕ) (more : List (List ℕ)) (rest : List ℕ) (number : ℕ) → IsScenario plan → CanSay version plan
-      → links_in version number rest (map (link_line plan) plan.links ++ (map (multicast_line plan) plan.multicasts ++ t ∷ more))
+      → links_in version 0 number rest (map (link_line plan) plan.links ++ (map (multicast_line plan) plan.multicasts ++ t ∷ more))
       ≡ Ok (map (draft_link plan) plan.links, record { ended = map (multicast_line plan) plan.multicasts ++ t ∷ more; rest = rest; number = number + length plan.links })
   links_read One plan t more rest number s none =
       let lines = map (multicast_line plan) plan.multicasts ++ t ∷ more in
       let e : number + 0 ≡ number = omega arith in
-      rw (none, e) (over One number rest lines refl)
+      rw (none, e) (over One 0 number rest lines refl)
   links_read Two plan t more rest number s any =
-      lines_of_links plan plan.links (map (multicast_line plan) plan.multicasts ++ t ∷ more) rest number s s.links (λ n. none_due plan plan.multicasts t more rest n Two s s.messages s.multicasts_low)
+      lines_of_links plan plan.links (map (multicast_line plan) plan.multicasts ++ t ∷ more) rest 0 number s s.links (λ n. none_due plan plan.multicasts t more rest n Two s s.messages s.multicasts_low)
+      (omega (arith, few_links plan s))
 
   -- no link is out of order
   none_astray : (plan : Scenario) (number : ℕ) → IsScenario plan → first_misplaced_link number (draft_for plan) ≡ None
@@ -273,7 +276,7 @@ module _ (laws : LineLaws) where
       (plan.delay, p1) (Ok (plan, p5)) (form_again Delay (number_in (codes "delay")) number rest (delay_line plan) (groups_line plan ∷ linked) plan.delay (delay_again plan s))
       (then_ok (form_at Groups groups_in p1) (after_groups version plan.delay)
       (plan.groups, p2) (Ok (plan, p5)) (form_again Groups groups_in (number + 1) rest (groups_line plan) linked plan.groups (groups_again plan s))
-      (then_ok (links_at version p2) (after_links plan.delay p2.number plan.groups)
+      (then_ok (links_at version 0 p2) (after_links plan.delay p2.number plan.groups)
       (ls, p3) (Ok (plan, p5)) (links_read version plan (target_line plan) more rest (number + 1 + 1) s said)
       (then_ok (messages_at 0 p3) (after_messages plan.delay p2.number plan.groups ls p3.number)
       (ms, p4) (Ok (plan, p5)) (messages_again plan plan.multicasts (target_line plan) more rest 0 p3.number s s.messages (not_due plan s within) (omega (arith, s.multicasts_high)) (omega (arith, s.multicasts_low)))

@@ -1,5 +1,5 @@
 -- A scenario that is read from lines: the lines are those of the scenario.
-use Rattle.std.proofs.Common.{◌≡◌, ℕ, ℤ, pos, negsuc, int_le, ◌&&◌, ◌≤◌, ◌+◌, ◌<◌, ◌==◌, if◌then◌else◌, Bool, true, false, cond, leb, List, [], ◌∷◌, ◌++◌, length, get_or, map, filter, Option, Some, None, ok_or, Result, Ok, Err, refl, ap, sym, subst, ◌∙◌, arith, inl, inr, codes, decimal, add-zero, add-one, append_assoc}
+use Rattle.std.proofs.Common.{◌≡◌, ℕ, ℤ, pos, negsuc, int_le, ◌&&◌, ◌+◌, ◌<◌, ◌==◌, if◌then◌else◌, Bool, true, false, cond, leb, List, [], ◌∷◌, ◌++◌, length, get_or, map, filter, Option, Some, None, ok_or, Result, Ok, Err, refl, ap, sym, subst, ◌∙◌, arith, inl, inr, codes, decimal, add-zero, add-one, append_assoc}
 use Rattle.std.specs.List.{list_all, AllByRecursion, AllZip, range_with_len}
 use Rattle.std.specs.Result.{result_and}
 use Rattle.std.specs.Str.{bytes_eq}
@@ -7,7 +7,7 @@ use Rattle.std.proofs.lemmas.Bool.{and_parts, and_from, cases_Bool, false≢true
 use Rattle.std.proofs.lemmas.List.{get_or-map, length-append, length-map}
 use Rattle.std.proofs.lemmas.Slice.Eq.{slice_eq-Decides, bytes_eq-Decides}
 use Rattle.convoy_scenario.specs.declared.fault.ScenarioFault.{ScenarioFault}
-use Rattle.convoy_scenario.specs.declared.limits.TheConstants.{GREATEST_AT, GREATEST_DELAY, MOST_MULTICASTS}
+use Rattle.convoy_scenario.specs.declared.limits.TheConstants.{GREATEST_AT, GREATEST_DELAY, MOST_LINKS, MOST_MULTICASTS}
 use Rattle.convoy_scenario.specs.declared.line_fault.Expected.{Expected}
 use Rattle.convoy_scenario.specs.declared.line_fault.Expected.TheVariants.{Delay, Groups, Link, Multicast, Target}
 use Rattle.convoy_scenario.specs.declared.line_fault.LineFault.{LineFault}
@@ -15,7 +15,7 @@ use Rattle.convoy_scenario.specs.declared.line_fault.LineFault.TheVariants as fa
 use Rattle.convoy_scenario.specs.declared.version.Version.{Version}
 use Rattle.convoy_scenario.specs.declared.version.Version.TheVariants.{One, Two}
 use Rattle.convoy_scenario.specs.declared.fault.ScenarioFault.TheVariants.{OverLimit}
-use Rattle.convoy_scenario.specs.declared.fault.Limit.TheVariants.{Multicasts}
+use Rattle.convoy_scenario.specs.declared.fault.Limit.TheVariants as limit
 use Rattle.convoy_scenario.specs.Draft.{Draft, DraftLink, DraftMessage}
 use Rattle.convoy_scenario.specs.Scenario.{Scenario, Message, message_at, no_message}
 use Rattle.convoy_scenario.specs.WellFormed.{is_name, is_group_name, client_word, IsScenario}
@@ -33,7 +33,7 @@ use Rattle.convoy_scenario.specs.LineReading.{form_at, is_link_due, links_in, li
 use Rattle.convoy_scenario.proofs.FormLaws.{Says, SaysLink, link_takes, message_takes, name_takes, names_take, groups_take, target_takes}
 use Rattle.convoy_scenario.proofs.LineLaws.{LineLaws, same_bytes, delay_word, number_line_takes}
 use Rattle.convoy_scenario.proofs.LinkLemmas.{placed, stay}
-use Rattle.convoy_scenario.proofs.NumberedLemmas.{ranged, scenario_formed}
+use Rattle.convoy_scenario.proofs.NumberedLemmas.{scenario_formed}
 use Rattle.convoy_scenario.proofs.PlaceLemmas.{place_within, place_passes, name_at_place}
 
 -- ---- the destinations
@@ -230,19 +230,19 @@ unless : {A : Type 0} (b : Bool) (fault : LineFault) (r : Result A LineFault) (x
 unless true fault r x e = absurd cc
 unless false fault r x e = e
 
-pub links_take : (laws : LineLaws) (version : Version) (number : ℕ) (rest : List ℕ) (ended : List (List ℕ)) (x : List DraftLink × Place) → links_in version number rest ended ≡ Ok x → TookLines SaysLink number rest ended x
+pub links_take : (laws : LineLaws) (version : Version) (count number : ℕ) (rest : List ℕ) (ended : List (List ℕ)) (x : List DraftLink × Place) → links_in version count number rest ended ≡ Ok x → TookLines SaysLink number rest ended x
 unfolding links_in
-links_take laws version number rest [] x e =
+links_take laws version count number rest [] x e =
     let same = stop (is_link_due version rest) (faults.Line number Link) ([], record { ended = []; rest = rest; number = number }) x e in
     subst (TookLines SaysLink number rest []) same (record { lines = []; before = refl; after = refl; past = omega arith; say = tt })
-links_take laws version number rest (line ∷ lines) x e =
+links_take laws version count number rest (line ∷ lines) x e =
     elim (cases_Bool (is_link_due version line)) [
       | inl due ↦
-          let read : (ok_or (link_in line) (faults.Line number Link) >>= λ link. links_in version (number + 1) rest lines >>= λ more. Ok (link ∷ more.0, more.1)) ≡ Ok x = rw due at e in
-          let a = bind_ok (ok_or (link_in line) (faults.Line number Link)) (λ link. links_in version (number + 1) rest lines >>= λ more. Ok (link ∷ more.0, more.1)) x read in
-          let b = bind_ok (links_in version (number + 1) rest lines) (λ more. Ok (a.0 ∷ more.0, more.1)) x a.2 in
+          let read : (ok_or (link_in line) (faults.Line number Link) >>= λ link. (if count == MOST_LINKS then Err (faults.Scenario (OverLimit limit.Link)) else links_in version (count + 1) (number + 1) rest lines) >>= λ more. Ok (link ∷ more.0, more.1)) ≡ Ok x = rw due at e in
+          let a = bind_ok (ok_or (link_in line) (faults.Line number Link)) (λ link. (if count == MOST_LINKS then Err (faults.Scenario (OverLimit limit.Link)) else links_in version (count + 1) (number + 1) rest lines) >>= λ more. Ok (link ∷ more.0, more.1)) x read in
+          let b = bind_ok (if count == MOST_LINKS then Err (faults.Scenario (OverLimit limit.Link)) else links_in version (count + 1) (number + 1) rest lines) (λ more. Ok (a.0 ∷ more.0, more.1)) x a.2 in
           let same : (a.0 ∷ b.0.0, b.0.1) ≡ x = same_ok (a.0 ∷ b.0.0, b.0.1) x b.2 in
-          let more = links_take laws version (number + 1) rest lines b.0 b.1 in
+          let more = links_take laws version (count + 1) (number + 1) rest lines b.0 (unless (count == MOST_LINKS) (faults.Scenario (OverLimit limit.Link)) _ b.0 b.1) in
           let says = link_takes laws line a.0 (ok_or_takes (link_in line) (faults.Line number Link) a.0 a.1) in
           subst (TookLines SaysLink number rest (line ∷ lines)) same (record { lines = line ∷ more.lines; before = ap (λ t. line ∷ t) more.before; after = more.after; past = omega (arith, more.past); say = (says, more.say) })
       | inr other ↦
@@ -251,14 +251,14 @@ links_take laws version number rest (line ∷ lines) x e =
     ]
 
 -- version 1 has no lines `link`
-no_links : (number : ℕ) (rest : List ℕ) (ended : List (List ℕ)) (x : List DraftLink × Place) → links_in One number rest ended ≡ Ok x → x.0 ≡ []
+no_links : (count number : ℕ) (rest : List ℕ) (ended : List (List ℕ)) (x : List DraftLink × Place) → links_in One count number rest ended ≡ Ok x → x.0 ≡ []
 unfolding links_in
-no_links number rest [] x e = ap (λ (y : List DraftLink × Place). y.0) (sym (same_ok ([], record { ended = []; rest = rest; number = number }) x e))
-no_links number rest (line ∷ lines) x e = ap (λ (y : List DraftLink × Place). y.0) (sym (same_ok ([], record { ended = line ∷ lines; rest = rest; number = number }) x e))
+no_links count number rest [] x e = ap (λ (y : List DraftLink × Place). y.0) (sym (same_ok ([], record { ended = []; rest = rest; number = number }) x e))
+no_links count number rest (line ∷ lines) x e = ap (λ (y : List DraftLink × Place). y.0) (sym (same_ok ([], record { ended = line ∷ lines; rest = rest; number = number }) x e))
 
-can_say : (version : Version) (draft : Draft) (number : ℕ) (rest : List ℕ) (ended : List (List ℕ)) (x : List DraftLink × Place) → x.0 ≡ draft.links → links_in version number rest ended ≡ Ok x → CanSay version (scenario_of draft)
-can_say One draft number rest ended x are e = ap (λ (ls : List DraftLink). in_order (delay_of_draft draft) (map (link_of draft.groups) ls)) (sym are ∙ no_links number rest ended x e)
-can_say Two draft number rest ended x are e = tt
+can_say : (version : Version) (draft : Draft) (count number : ℕ) (rest : List ℕ) (ended : List (List ℕ)) (x : List DraftLink × Place) → x.0 ≡ draft.links → links_in version count number rest ended ≡ Ok x → CanSay version (scenario_of draft)
+can_say One draft count number rest ended x are e = ap (λ (ls : List DraftLink). in_order (delay_of_draft draft) (map (link_of draft.groups) ls)) (sym are ∙ no_links count number rest ended x e)
+can_say Two draft count number rest ended x are e = tt
 
 pub messages_take : (laws : LineLaws) (count number : ℕ) (rest : List ℕ) (ended : List (List ℕ)) (x : List DraftMessage × Place) → messages_in count number rest ended ≡ Ok x → TookLines Says number rest ended x
 unfolding messages_in
@@ -268,11 +268,11 @@ messages_take laws count number rest [] x e =
 messages_take laws count number rest (line ∷ lines) x e =
     elim (cases_Bool (is_multicast_due count line)) [
       | inl due ↦
-          let read : (ok_or (multicast_in line) (faults.Line number Multicast) >>= λ message. (if count == MOST_MULTICASTS then Err (faults.Scenario (OverLimit Multicasts)) else messages_in (count + 1) (number + 1) rest lines) >>= λ more. Ok (message ∷ more.0, more.1)) ≡ Ok x = rw due at e in
-          let a = bind_ok (ok_or (multicast_in line) (faults.Line number Multicast)) (λ message. (if count == MOST_MULTICASTS then Err (faults.Scenario (OverLimit Multicasts)) else messages_in (count + 1) (number + 1) rest lines) >>= λ more. Ok (message ∷ more.0, more.1)) x read in
-          let b = bind_ok (if count == MOST_MULTICASTS then Err (faults.Scenario (OverLimit Multicasts)) else messages_in (count + 1) (number + 1) rest lines) (λ more. Ok (a.0 ∷ more.0, more.1)) x a.2 in
+          let read : (ok_or (multicast_in line) (faults.Line number Multicast) >>= λ message. (if count == MOST_MULTICASTS then Err (faults.Scenario (OverLimit limit.Multicasts)) else messages_in (count + 1) (number + 1) rest lines) >>= λ more. Ok (message ∷ more.0, more.1)) ≡ Ok x = rw due at e in
+          let a = bind_ok (ok_or (multicast_in line) (faults.Line number Multicast)) (λ message. (if count == MOST_MULTICASTS then Err (faults.Scenario (OverLimit limit.Multicasts)) else messages_in (count + 1) (number + 1) rest lines) >>= λ more. Ok (message ∷ more.0, more.1)) x read in
+          let b = bind_ok (if count == MOST_MULTICASTS then Err (faults.Scenario (OverLimit limit.Multicasts)) else messages_in (count + 1) (number + 1) rest lines) (λ more. Ok (a.0 ∷ more.0, more.1)) x a.2 in
           let same : (a.0 ∷ b.0.0, b.0.1) ≡ x = same_ok (a.0 ∷ b.0.0, b.0.1) x b.2 in
-          let more = messages_take laws (count + 1) (number + 1) rest lines b.0 (unless (count == MOST_MULTICASTS) (faults.Scenario (OverLimit Multicasts)) _ b.0 b.1) in
+          let more = messages_take laws (count + 1) (number + 1) rest lines b.0 (unless (count == MOST_MULTICASTS) (faults.Scenario (OverLimit limit.Multicasts)) _ b.0 b.1) in
           let says = message_takes laws line a.0 (ok_or_takes (multicast_in line) (faults.Line number Multicast) a.0 a.1) in
           subst (TookLines Says number rest (line ∷ lines)) same (record { lines = line ∷ more.lines; before = ap (λ t. line ∷ t) more.before; after = more.after; past = omega (arith, more.past); say = (says, more.say) })
       | inr other ↦
@@ -405,7 +405,7 @@ abbrev pub after_links : ℕ → ℕ → List (List ℕ) → List DraftLink × P
 after_links delay first groups links = messages_at 0 links.1 >>= after_messages delay first groups links.0 links.1.number
 
 abbrev pub after_groups : Version → ℕ → List (List ℕ) × Place → Result (Scenario × Place) LineFault
-after_groups version delay groups = links_at version groups.1 >>= after_links delay groups.1.number groups.0
+after_groups version delay groups = links_at version 0 groups.1 >>= after_links delay groups.1.number groups.0
 
 abbrev pub after_delay : Version → ℕ × Place → Result (Scenario × Place) LineFault
 after_delay version delay = form_at Groups groups_in delay.1 >>= after_groups version delay.0
@@ -415,7 +415,7 @@ unfolding scenario_at
 scenario_takes laws version p x e =
     let a = bind_ok (form_at Delay (number_in (codes "delay")) p) (after_delay version) x e in
     let b = bind_ok (form_at Groups groups_in a.0.1) (after_groups version a.0.0) x a.2 in
-    let k = bind_ok (links_at version b.0.1) (after_links a.0.0 b.0.1.number b.0.0) x b.2 in
+    let k = bind_ok (links_at version 0 b.0.1) (after_links a.0.0 b.0.1.number b.0.0) x b.2 in
     let c = bind_ok (messages_at 0 k.0.1) (after_messages a.0.0 b.0.1.number b.0.0 k.0.0 k.0.1.number) x k.2 in
     let d = bind_ok (form_at Target target_in c.0.1) (after_target a.0.0 b.0.1.number b.0.0 k.0.0 k.0.1.number c.0.0) x c.2 in
     let draft = draft_of a.0.0 b.0.0 k.0.0 c.0.0 d.0.0 in
@@ -435,7 +435,7 @@ scenario_takes laws version p x e =
     let fine = each draft c.0.0 names.1.0 refs.0 all.1.1.1.0 (all_ordered b.0.0 k.0.1.number c.0.0 order.0) in
     let t-delay = took Delay (number_in (codes "delay")) p a.0 a.1 in
     let t-groups = took Groups groups_in a.0.1 b.0 b.1 in
-    let t-links = links_take laws version b.0.1.number b.0.1.rest b.0.1.ended k.0 k.1 in
+    let t-links = links_take laws version 0 b.0.1.number b.0.1.rest b.0.1.ended k.0 k.1 in
     let t-messages = messages_take laws 0 k.0.1.number k.0.1.rest k.0.1.ended c.0 c.1 in
     let t-target = took Target target_in c.0.1 d.0 d.1 in
     let delay = number_line_takes laws (codes "delay") t-delay.line a.0.0 delay_word t-delay.has in
@@ -457,4 +457,4 @@ scenario_takes laws version p x e =
     let past : p.number + length (scenario_lines (scenario_of draft)) ≡ d.0.1.number =
     omega (arith, count_lines (scenario_of draft), messages, linked, t-delay.number, t-groups.number, t-links.past, t-messages.past, t-target.number) in
     subst (λ (y : Scenario × Place). IsScenario y.0 × CanSay version y.0 × IsBetween y.0 p y.1) same
-    (scenario_formed draft sure.0, can_say version draft b.0.1.number b.0.1.rest b.0.1.ended k.0 refl k.1, record { ended = stood ∙ whole; rest = t-delay.rest ∙ t-groups.rest ∙ t-links.after ∙ t-messages.after ∙ t-target.rest; number = past })
+    (scenario_formed draft sure.0, can_say version draft 0 b.0.1.number b.0.1.rest b.0.1.ended k.0 refl k.1, record { ended = stood ∙ whole; rest = t-delay.rest ∙ t-groups.rest ∙ t-links.after ∙ t-messages.after ∙ t-target.rest; number = past })

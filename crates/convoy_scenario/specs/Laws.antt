@@ -1,5 +1,6 @@
 -- What is proved of drafts, of scenario texts and of the lines of scenarios. Each is the one clause of the function of its name in the crate's module `laws`.
-use Rattle.std.specs.Prelude.{◌≡◌, ℕ, ◌+◌, ◌<◌, ◌≤◌, ◌^◌, ◌↔◌, List, [], ◌∷◌, ◌++◌, length, decimal, Some, Ok, All}
+use Rattle.std.specs.Prelude.{◌≡◌, ℕ, ◌+◌, ◌≤◌, ◌↔◌, List, [], ◌++◌, length, Ok, All}
+use Rattle.convoy_scenario.specs.declared.limits.TheConstants.{MOST_LINKS}
 use Rattle.convoy_scenario.specs.declared.version.Version.{Version}
 use Rattle.convoy_scenario.specs.declared.version.Version.TheVariants.{One, Two}
 use Rattle.convoy_lines.specs.Laws.{IsLine}
@@ -28,6 +29,10 @@ TextsGiveScenarios = (text : List ℕ) (scenario : Scenario) → scenario_of_tex
 -- the lines of a well-formed scenario are lines
 abbrev pub ScenarioLinesAreLines : Type 0
 ScenarioLinesAreLines = (scenario : Scenario) → IsScenario scenario → All IsLine (scenario_lines scenario)
+
+-- a well-formed scenario has no more links than there are pairs of a sender and a group
+abbrev pub LinksAreFew : Type 0
+LinksAreFew = (scenario : Scenario) → IsScenario scenario → length scenario.links ≤ MOST_LINKS
 
 -- the lines of a scenario stand between two places
 pub record IsBetween (scenario : Scenario) (place past : Place) : Type 0 where

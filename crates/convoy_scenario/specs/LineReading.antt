@@ -1,13 +1,13 @@
 -- What reading the lines of a scenario answers: the scenario, or the first fault in the order of the lines.
-use Rattle.std.specs.Prelude.{ℕ, pos, ◌+◌, ◌==◌, Bool, false, ◌&&◌, ◌||◌, not, if◌then◌else◌, List, [], ◌∷◌, length, filter, codes, Option, Some, None, ok_or, Result, Ok, Err}
+use Rattle.std.specs.Prelude.{ℕ, pos, ◌+◌, ◌==◌, Bool, false, ◌&&◌, ◌||◌, not, if◌then◌else◌, List, [], ◌∷◌, filter, codes, Option, Some, None, ok_or, Result, Ok, Err}
 use Rattle.std.specs.Cmp.Lexicographic.{pointwise}
 use Rattle.std.specs.Str.{bytes_eq}
 use Rattle.convoy_lines.specs.Places.{Place, line_at, past_line}
 use Rattle.convoy_lines.specs.Results.{◌>>=◌}
 use Rattle.convoy_scenario.specs.declared.fault.ScenarioFault.{ScenarioFault}
 use Rattle.convoy_scenario.specs.declared.fault.ScenarioFault.TheVariants.{OverLimit}
-use Rattle.convoy_scenario.specs.declared.fault.Limit.TheVariants.{Multicasts}
-use Rattle.convoy_scenario.specs.declared.limits.TheConstants.{MOST_MULTICASTS}
+use Rattle.convoy_scenario.specs.declared.fault.Limit.TheVariants as limit
+use Rattle.convoy_scenario.specs.declared.limits.TheConstants.{MOST_LINKS, MOST_MULTICASTS}
 use Rattle.convoy_scenario.specs.declared.line_fault.Expected.{Expected}
 use Rattle.convoy_scenario.specs.declared.line_fault.Expected.TheVariants.{Delay, Groups, Link, Multicast, Target}
 use Rattle.convoy_scenario.specs.declared.line_fault.LineFault.{LineFault}
@@ -35,20 +35,20 @@ abbrev pub is_link_due : Version → List ℕ → Bool
 is_link_due One line = false
 is_link_due Two line = begins_with (codes "link") (words_of line)
 
--- The links of the lines `link` that come next: each line that begins with that word has to be one.
-unfoldable pub links_in : Version → ℕ → List ℕ → List (List ℕ) → Result (List DraftLink × Place) LineFault
-links_in version number rest [] =
+-- The links of the lines `link` that come next, after so many: each line that begins with that word has to be one.
+unfoldable pub links_in : Version → ℕ → ℕ → List ℕ → List (List ℕ) → Result (List DraftLink × Place) LineFault
+links_in version count number rest [] =
     if is_link_due version rest then Err (faults.Line number Link)
     else Ok ([], record { ended = []; rest = rest; number = number })
-links_in version number rest (line ∷ lines) =
+links_in version count number rest (line ∷ lines) =
     if is_link_due version line then (do
       link ← ok_or (link_in line) (faults.Line number Link)
-      more ← links_in version (number + 1) rest lines
+      more ← if count == MOST_LINKS then Err (faults.Scenario (OverLimit limit.Link)) else links_in version (count + 1) (number + 1) rest lines
       Ok (link ∷ more.0, more.1))
     else Ok ([], record { ended = line ∷ lines; rest = rest; number = number })
 
-abbrev pub links_at : Version → Place → Result (List DraftLink × Place) LineFault
-links_at version place = links_in version place.number place.rest place.ended
+abbrev pub links_at : Version → ℕ → Place → Result (List DraftLink × Place) LineFault
+links_at version count place = links_in version count place.number place.rest place.ended
 
 -- a line `multicast` is due: it is the first of them, or what comes next begins with that word
 abbrev pub is_multicast_due : ℕ → List ℕ → Bool
@@ -62,7 +62,7 @@ messages_in count number rest [] =
 messages_in count number rest (line ∷ lines) =
     if is_multicast_due count line then (do
       message ← ok_or (multicast_in line) (faults.Line number Multicast)
-      more ← if count == MOST_MULTICASTS then Err (faults.Scenario (OverLimit Multicasts)) else messages_in (count + 1) (number + 1) rest lines
+      more ← if count == MOST_MULTICASTS then Err (faults.Scenario (OverLimit limit.Multicasts)) else messages_in (count + 1) (number + 1) rest lines
       Ok (message ∷ more.0, more.1))
     else Ok ([], record { ended = line ∷ lines; rest = rest; number = number })
 
@@ -109,7 +109,7 @@ unfoldable pub scenario_at : Version → Place → Result (Scenario × Place) Li
 scenario_at version place = do
   delay ← form_at Delay (number_in (codes "delay")) place
   groups ← form_at Groups groups_in delay.1
-  links ← links_at version groups.1
+  links ← links_at version 0 groups.1
   messages ← messages_at 0 links.1
   target ← form_at Target target_in messages.1
   scenario ← told (scenario_of_draft (draft_of delay.0 groups.0 links.0 messages.0 target.0))

@@ -32,7 +32,8 @@ pub enum Limit {
     Multicasts,
     /// A message is issued at a tick from 0 to `GREATEST_AT`.
     At,
-    /// The least delay of a link is 1 or more, and its greatest not less and at most D.
+    /// There are at most `MOST_LINKS` lines `link`; the least delay of a link is 1 or more, and its
+    /// greatest not less and at most D.
     Link,
 }
 

@@ -2,7 +2,7 @@
 //! the one clause of a function that does nothing; a caller that needs the law calls the function.
 
 ghost use Rattle.convoy_scenario.specs.Laws.{DraftsGiveScenarios, ScenariosHaveDrafts, TextsGiveScenarios};
-ghost use Rattle.convoy_scenario.specs.Laws.{ScenarioLinesAreLines, ScenariosAreTheirLines};
+ghost use Rattle.convoy_scenario.specs.Laws.{LinksAreFew, ScenarioLinesAreLines, ScenariosAreTheirLines};
 
 use convoy_lines::laws::{
     decimals_are_words, labelled_lines, number_lines, numbers_are_decimals, words_make_lines,
@@ -22,6 +22,11 @@ pub fn scenarios_have_drafts()
 /// What a text is read as is a well-formed scenario.
 pub fn texts_give_scenarios()
     ensures { TextsGiveScenarios }
+{}
+
+/// A well-formed scenario has at most `MOST_LINKS` links.
+pub fn links_are_few()
+    ensures { LinksAreFew }
 {}
 
 /// The lines of a well-formed scenario are lines: none has a byte 10 in it.

@@ -3,7 +3,9 @@
 
 pub use fault::{Key, Limit, ScenarioFault};
 pub use input::Input;
-pub use limits::{GREATEST_AT, GREATEST_DELAY, LONGEST_NAME, MOST_GROUPS, MOST_MULTICASTS};
+pub use limits::{
+    GREATEST_AT, GREATEST_DELAY, LONGEST_NAME, MOST_GROUPS, MOST_LINKS, MOST_MULTICASTS,
+};
 pub use line_fault::{Expected, LineFault};
 pub use lines::write_lines;
 pub use parts::{LinkParts, MessageParts, ScenarioParts};

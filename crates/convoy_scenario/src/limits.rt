@@ -7,6 +7,9 @@ pub const MOST_GROUPS: usize = 8;
 /// How many multicasts a scenario has at most.
 pub const MOST_MULTICASTS: usize = 16;
 
+/// How many links a scenario has at most: one from each sender, the client among them, to each group.
+pub const MOST_LINKS: usize = (MOST_GROUPS + 1) * MOST_GROUPS;
+
 /// The last tick at which a message may be issued.
 pub const GREATEST_AT: u32 = 1_000_000;
 

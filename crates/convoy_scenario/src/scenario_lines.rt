@@ -11,7 +11,7 @@ ghost use Rattle.convoy_scenario.specs.Numbering.{link_of, scenario_of_draft};
 use super::checks::is_among;
 use super::draft::{DraftLink, DraftMulticast, DraftScenario};
 use super::fault::{Limit, ScenarioFault};
-use super::limits::MOST_MULTICASTS;
+use super::limits::{MOST_LINKS, MOST_MULTICASTS};
 use super::line_fault::{Expected, LineFault};
 use super::line_forms::{groups_in, link_in, multicast_in, target_in};
 use super::name::Name;
@@ -25,9 +25,10 @@ use std::alloc::Global;
 /// "Certificate text").
 ///
 /// A fault is the first in the order of the lines: a line that is absent, not ended or not of its
-/// form; then, at the line `target`, a scenario that is none; then a line `link` that is out of order
-/// or has the range 1 to D; then a line whose destinations are not in the order of the groups. The reader then stands where it stood, as it does where memory
-/// runs out.
+/// form, or a line `link` past `MOST_LINKS` or a line `multicast` past `MOST_MULTICASTS`; then, at the
+/// line `target`, a scenario that is none; then a line `link` that is out of order or has the range 1
+/// to D; then a line whose destinations are not in the order of the groups. The reader then stands
+/// where it stood, as it does where memory runs out.
 pub fn read_lines(
     alloc: Global,
     version: Version,
@@ -122,12 +123,15 @@ fn read_links(
     version: Version,
     reader: &mut LineReader,
 ) -> Result<Vec<DraftLink>, LineFault>
-    ensures { IsUnlessMemory LineFault.Memory (links_at version reader.old)
+    ensures { IsUnlessMemory LineFault.Memory (links_at version 0 reader.old)
         (result_map_both (λ links. (links.items, reader.new)) (λ fault. fault) result) }
 {
     let mut links = Vec::new(alloc);
     while is_link_due(version, reader) {
         let link = read_link(alloc, reader)?;
+        if links.len() == MOST_LINKS {
+            return Err(LineFault::Scenario(ScenarioFault::OverLimit(Limit::Link)));
+        }
         links.push(link)?;
     }
     Ok(links)
