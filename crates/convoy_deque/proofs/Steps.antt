@@ -10,9 +10,9 @@ use Rattle.convoy_scenario.specs.Scenario.{Scenario}
 use Rattle.convoy_intervals.specs.Boxes.{Box}
 use Rattle.convoy_deque.specs.declared.rule.View.{View}
 use Rattle.convoy_deque.specs.declared.task.Task.{Task}
-use Rattle.convoy_deque.specs.Tasks.{whole_share, times, once_below, AreAllTaken, IsOf, IsPut}
+use Rattle.convoy_deque.specs.Tasks.{whole_share, tasks_at, once_below, AreAllTaken, IsOf, IsPut}
 use Rattle.convoy_deque.specs.Rule.{opener, nobody, kept_share, given_share, joined, after_put, after_take, IsRight, IsKept, Holds, HasPut, HasTaken, IsEmptied}
-use Rattle.convoy_deque.proofs.Totals.{sum_set, sum_push, sum_of_one, two_le_sum, times-append, once_more, none_below, get_last, put_more, none_put, All-parts}
+use Rattle.convoy_deque.proofs.Totals.{sum_set, sum_push, sum_of_one, two_le_sum, tasks_at-append, once_more, none_below, get_last, put_more, none_put, All-parts}
 
 abbrev Each : Scenario → ℕ → List Box → List View → Type 0
 Each scenario owner_seat put views = (seat : ℕ) (view : View) → get_elem? views seat ≡ some view → IsRight scenario owner_seat put seat view
@@ -64,7 +64,7 @@ put_in port v t tasks views scenario owner_seat put kept at owns is same others 
       owner_seat,
       put',
       record {
-        once = λ x. let s = sum_set (λ u. times x u.taken) views port v w at in let p = kept.once x in let l = times-append x tasks (t ∷ []) in let m = once_more x t in let a = ap (once_below x) n in let b = ap (once_below x) (length-append put (t.branch.space ∷ []) ∙ ap (λ k. k + 1) (sym n)) in omega arith;
+        once = λ x. let s = sum_set (λ u. tasks_at x u.taken) views port v w at in let p = kept.once x in let l = tasks_at-append x tasks (t ∷ []) in let m = once_more x t in let a = ap (once_below x) n in let b = ap (once_below x) (length-append put (t.branch.space ∷ []) ∙ ap (λ k. k + 1) (sym n)) in omega arith;
         right = All-push (IsPut put') tasks t (put_more put t.branch.space tasks kept.right) (get_last put t.branch.space t.number n);
         of_scenario = All-push (IsOf t.branch.scenario) tasks t same refl;
         shares = let s = sum_set (λ u. u.share) views port v w at in let p = kept.shares in omega arith;
@@ -94,7 +94,7 @@ opens port v t owns whole empty is tasks views held at =
     )
 
 -- a task leaves the deque, at whichever end
-taken : (port : ℕ) (v : View) (t : Task) (tasks all : List Task) (views : List View) → 0 < v.share → ((x : ℕ) → times x all ≡ times x (t ∷ []) + times x tasks) → ((P : Task → Type 0) → All P all → P t × All P tasks) → Holds all views → get_elem? views port ≡ some v → Holds tasks (set views port (after_take v t)) × IsOf v.scenario t × (v.owns ≡ true → IsPut v.put t)
+taken : (port : ℕ) (v : View) (t : Task) (tasks all : List Task) (views : List View) → 0 < v.share → ((x : ℕ) → tasks_at x all ≡ tasks_at x (t ∷ []) + tasks_at x tasks) → ((P : Task → Type 0) → All P all → P t × All P tasks) → Holds all views → get_elem? views port ≡ some v → Holds tasks (set views port (after_take v t)) × IsOf v.scenario t × (v.owns ≡ true → IsPut v.put t)
 taken port v t tasks all views some_share count both held at =
     let kept = held.3 in
     let f = kept.each port v at in
@@ -106,7 +106,7 @@ taken port v t tasks all views some_share count both held at =
         held.1,
         held.2,
         record {
-          once = λ x. let s = sum_set (λ u. times x u.taken) views port v w at in let p = kept.once x in let l = times-append x v.taken (t ∷ []) in let m = count x in omega arith;
+          once = λ x. let s = sum_set (λ u. tasks_at x u.taken) views port v w at in let p = kept.once x in let l = tasks_at-append x v.taken (t ∷ []) in let m = count x in omega arith;
           right = right.1;
           of_scenario = named.1;
           shares = let s = sum_set (λ u. u.share) views port v w at in let p = kept.shares in omega arith;
@@ -122,13 +122,13 @@ takes port v some_share [] tasks views least few held at = absurd (omega arith)
 takes port v some_share (t ∷ u ∷ us) tasks views least few held at = absurd (omega arith)
 takes port v some_share (t ∷ []) tasks views least few held at =
     let all = t ∷ tasks in
-    let told = taken port v t tasks all views some_share (λ x. times-append x (t ∷ []) tasks) (λ P a. let parts = All-parts P (t ∷ []) tasks a in (All-head P t [] parts.0, parts.1)) held at in
+    let told = taken port v t tasks all views some_share (λ x. tasks_at-append x (t ∷ []) tasks) (λ P a. let parts = All-parts P (t ∷ []) tasks a in (All-head P t [] parts.0, parts.1)) held at in
     (after_take v t, told.0, (refl, told.1, told.2))
 
 pub pops : (port : ℕ) (v : View) → 0 < v.share → Pops Holds port v (HasTaken v)
 pops port v some_share t tasks views held at =
     let all = tasks ++ t ∷ [] in
-    let told = taken port v t tasks all views some_share (λ x. let a = times-append x tasks (t ∷ []) in omega arith) (λ P a. let parts = All-parts P tasks (t ∷ []) a in (All-head P t [] parts.1, parts.0)) held at in
+    let told = taken port v t tasks all views some_share (λ x. let a = tasks_at-append x tasks (t ∷ []) in omega arith) (λ P a. let parts = All-parts P tasks (t ∷ []) a in (All-head P t [] parts.1, parts.0)) held at in
     (after_take v t, told.0, (refl, told.1, told.2))
 
 pub forks : (port : ℕ) (v : View) → 1 < v.share → Forks Holds port v (kept_share v) (given_share v)
@@ -142,7 +142,7 @@ forks port v big tasks views held at =
       held.1,
       held.2,
       record {
-        once = λ x. let s = sum_set (λ u. times x u.taken) views port v left at in let t = sum_push (λ u. times x u.taken) vs right in let p = kept.once x in omega arith;
+        once = λ x. let s = sum_set (λ u. tasks_at x u.taken) views port v left at in let t = sum_push (λ u. tasks_at x u.taken) vs right in let p = kept.once x in omega arith;
         right = kept.right;
         of_scenario = kept.of_scenario;
         shares = let s = sum_set (λ u. u.share) views port v left at in let t = sum_push (λ u. u.share) vs right in let p = kept.shares in omega arith;
@@ -165,7 +165,7 @@ merges port v other u some_share guest tasks views held at apart there =
       held.1,
       held.2,
       record {
-        once = λ x. let s = sum_set (λ y. times x y.taken) views port v both at in let t = sum_set (λ y. times x y.taken) vs other u nobody there in let p = kept.once x in let l = times-append x v.taken u.taken in omega arith;
+        once = λ x. let s = sum_set (λ y. tasks_at x y.taken) views port v both at in let t = sum_set (λ y. tasks_at x y.taken) vs other u nobody there in let p = kept.once x in let l = tasks_at-append x v.taken u.taken in omega arith;
         right = kept.right;
         of_scenario = kept.of_scenario;
         shares = let s = sum_set (λ y. y.share) views port v both at in let t = sum_set (λ y. y.share) vs other u nobody there in let p = kept.shares in omega arith;
@@ -180,5 +180,5 @@ finds port v views held at owns whole =
     let kept = held.3 in
     let f = kept.each port v at in
     let put = (f.owner owns).1 in
-    let one = λ (x : ℕ). sum_of_one (λ u. times x u.taken) (λ u. u.share) views port v refl refl at (kept.shares ∙ sym whole) (λ k u e z. ap (times x) ((kept.each k u e).empty z)) in
+    let one = λ (x : ℕ). sum_of_one (λ u. tasks_at x u.taken) (λ u. u.share) views port v refl refl at (kept.shares ∙ sym whole) (λ k u e z. ap (tasks_at x) ((kept.each k u e).empty z)) in
     subst (λ (l : List Box). AreAllTaken l v.taken) (sym put) record { once = λ x. let a = one x in let b = kept.once x in omega arith; right = f.right }

@@ -11,7 +11,7 @@ use Rattle.atomic_table.proofs.Lists.{set_else}
 use Rattle.convoy_intervals.specs.Boxes.{Box}
 use Rattle.convoy_deque.specs.declared.rule.View.{View}
 use Rattle.convoy_deque.specs.declared.task.Task.{Task}
-use Rattle.convoy_deque.specs.Tasks.{times, once_below, IsPut}
+use Rattle.convoy_deque.specs.Tasks.{tasks_at, once_below, IsPut}
 use Rattle.convoy_deque.specs.Rule.{nobody}
 
 -- what stands at a place of a list, read in two ways
@@ -56,10 +56,10 @@ sum_of_one f g views k v f0 g0 e whole empty =
     let one = sum_set f views k v nobody e in
     omega arith
 
-pub times-append : (x : ℕ) (xs ys : List Task) → times x (xs ++ ys) ≡ times x xs + times x ys
-times-append x xs ys = sum_by-append _ xs ys
+pub tasks_at-append : (x : ℕ) (xs ys : List Task) → tasks_at x (xs ++ ys) ≡ tasks_at x xs + tasks_at x ys
+tasks_at-append x xs ys = sum_by-append _ xs ys
 
-pub once_more : (x : ℕ) (task : Task) → once_below x (task.number + 1) ≡ once_below x task.number + times x (task ∷ [])
+pub once_more : (x : ℕ) (task : Task) → once_below x (task.number + 1) ≡ once_below x task.number + tasks_at x (task ∷ [])
 once_more x task = grind (arith, nat_tests)
 
 pub none_below : (x : ℕ) → 0 ≡ once_below x 0

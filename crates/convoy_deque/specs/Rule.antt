@@ -7,7 +7,7 @@ use Rattle.convoy_scenario.specs.Scenario.{Scenario}
 use Rattle.convoy_intervals.specs.Boxes.{Box}
 use Rattle.convoy_deque.specs.declared.rule.View.{View}
 use Rattle.convoy_deque.specs.declared.task.Task.{Task}
-use Rattle.convoy_deque.specs.Tasks.{whole_share, times, once_below, AreAllTaken, IsOf, IsPut}
+use Rattle.convoy_deque.specs.Tasks.{whole_share, tasks_at, once_below, AreAllTaken, IsOf, IsPut}
 
 -- no scenario, until the first branch is put
 abbrev pub no_scenario : Scenario
@@ -47,7 +47,7 @@ pub record IsRight (scenario : Scenario) (owner_seat : ℕ) (put : List Box) (se
 
 -- each branch that was put stands among the tasks of the deque or was taken by one of the views, once, and the shares of all views are the whole
 pub record IsKept (scenario : Scenario) (owner_seat : ℕ) (put : List Box) (tasks : List Task) (views : List View) : Type 0 where
-  pub once : (x : ℕ) → sum_by (λ view. times x view.taken) views + times x tasks ≡ once_below x (length put)
+  pub once : (x : ℕ) → sum_by (λ view. tasks_at x view.taken) views + tasks_at x tasks ≡ once_below x (length put)
   pub right : All (IsPut put) tasks
   pub of_scenario : All (IsOf scenario) tasks
   pub shares : sum_by (λ view. view.share) views ≡ whole_share

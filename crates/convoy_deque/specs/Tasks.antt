@@ -55,8 +55,8 @@ abbrev pub IsPut : List Box → Task → Type 0
 IsPut put task = slice_get put task.number ≡ Some task.branch.space
 
 -- how many of the tasks have that number
-abbrev pub times : ℕ → List Task → ℕ
-times x tasks = count_by (λ task. task.number == x) tasks
+abbrev pub tasks_at : ℕ → List Task → ℕ
+tasks_at x tasks = count_by (λ task. task.number == x) tasks
 
 -- once where the number is below n, and else never
 abbrev pub once_below : ℕ → ℕ → ℕ
@@ -64,5 +64,5 @@ once_below x n = if nat_lt x n then 1 else 0
 
 -- each branch that was put was taken, once
 pub record AreAllTaken (put : List Box) (taken : List Task) : Type 0 where
-  pub once : (x : ℕ) → times x taken ≡ once_below x (length put)
+  pub once : (x : ℕ) → tasks_at x taken ≡ once_below x (length put)
   pub right : All (IsPut put) taken

@@ -1,0 +1,9 @@
+pub mod Counts
+pub mod Places
+pub mod Slots
+pub mod Joins
+pub mod Turns
+pub mod UnderWay
+pub mod Placings
+pub mod Fillings
+pub mod Endings
