@@ -7,3 +7,4 @@ pub mod UnderWay
 pub mod Placings
 pub mod Fillings
 pub mod Endings
+pub mod Grown

@@ -20,7 +20,7 @@ use Rattle.convoy_share.specs.declared.piece.Piece.{Piece}
 use Rattle.convoy_share.specs.declared.piece.Piece.TheVariants.{Done, Todo, Pushed}
 use Rattle.convoy_share.specs.Pieces.{pushed_number, places_in, spent, IsPiece}
 use Rattle.convoy_share.specs.Subtrees.{Subtree, ArePieces, AreSubtrees, IsResult, IsUnderWay}
-use Rattle.convoy_share.specs.Turns.{pieces_of, IsTurned}
+use Rattle.convoy_share.specs.Turns.{parted, pieces_of, IsTurned}
 use Rattle.convoy_share.proofs.Counts.{All-parts, places-append, spent-append, once_more}
 use Rattle.convoy_share.proofs.Places.{AreTreesOf-filled, AreTreesOf-later, pieces_later}
 use Rattle.convoy_share.proofs.Turns.{places_in-turn, spent-turn}
@@ -80,14 +80,11 @@ IsUnderWay-turned scenario seen before put low boxes front rest branch tried tic
     }
 
 -- a box is parted and its lower half is put
-abbrev pub pieces_put : ℕ → ℕ → ℕ → Tracked → List Piece
-pieces_put packet at number upper = Done (Split packet at) ∷ Pushed number ∷ Todo upper true ∷ []
-
-pub IsUnderWay-put : (scenario : Scenario) (seen : ℕ) (before put : List Box) (low : ℕ) (boxes : List Box) (front rest : List Piece) (branch : Tracked) (tried : Bool) (tickets packet at : ℕ) (lower upper : Tracked) (number : ℕ) → IsTurned scenario seen branch.space (Halves packet at lower upper) → number ≡ length put → low ≤ length put → IsUnderWay scenario seen before put low boxes (front ++ Todo branch tried ∷ rest) tickets → IsUnderWay scenario seen before (put ++ lower.space ∷ []) low boxes (front ++ (pieces_put packet at number upper ++ rest)) (tickets + 1)
+pub IsUnderWay-put : (scenario : Scenario) (seen : ℕ) (before put : List Box) (low : ℕ) (boxes : List Box) (front rest : List Piece) (branch : Tracked) (tried : Bool) (tickets packet at : ℕ) (lower upper : Tracked) (number : ℕ) → IsTurned scenario seen branch.space (Halves packet at lower upper) → number ≡ length put → low ≤ length put → IsUnderWay scenario seen before put low boxes (front ++ Todo branch tried ∷ rest) tickets → IsUnderWay scenario seen before (put ++ lower.space ∷ []) low boxes (front ++ (parted packet at (Pushed number) upper ++ rest)) (tickets + 1)
 IsUnderWay-put scenario seen before put low boxes front rest branch tried tickets packet at lower upper number is same below way =
     let next = put ++ lower.space ∷ [] in
     let turn = Halves packet at lower upper in
-    let pieces = pieces_put packet at number upper in
+    let pieces = parted packet at (Pushed number) upper in
     let P = IsPiece scenario seen next in
     let Q : ℕ → Type 0 = λ n. low ≤ n in
     let whole = pieces_later scenario seen [] next (pieces_of turn) is.each in

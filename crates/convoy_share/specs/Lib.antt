@@ -10,3 +10,6 @@ pub mod Subtrees
 pub mod Filling
 pub mod Turns
 pub mod Laws
+-- What the program's own parts say: a tree under way, and what a worker has in hand.
+pub mod Growing
+pub mod Means

@@ -1,7 +1,14 @@
 //! Branch and bound by several workers, who share one board, one ledger and one deque.
 #![tactic(auto)]
 
+pub use fault::SearchFault;
+pub use gate::Gate;
 pub use piece::Piece;
 
+mod fault;
+mod gate;
+mod growing;
 pub mod laws;
+mod means;
 mod piece;
+mod worker;
