@@ -8,3 +8,5 @@ pub mod Placings
 pub mod Fillings
 pub mod Endings
 pub mod Grown
+pub mod Offered
+pub mod Worked

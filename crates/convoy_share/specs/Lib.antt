@@ -13,3 +13,5 @@ pub mod Laws
 -- What the program's own parts say: a tree under way, and what a worker has in hand.
 pub mod Growing
 pub mod Means
+pub mod Offers
+pub mod Workers

@@ -10,5 +10,8 @@ mod gate;
 mod growing;
 pub mod laws;
 mod means;
+mod owner;
 mod piece;
+mod thief;
+mod tree;
 mod worker;
