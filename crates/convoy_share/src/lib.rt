@@ -7,6 +7,7 @@ pub use piece::Piece;
 
 mod fault;
 mod gate;
+mod gathering;
 mod growing;
 pub mod laws;
 mod means;

@@ -8,13 +8,14 @@ ghost use Rattle.convoy_branch.specs.Steps.{IsTriedIf};
 ghost use Rattle.convoy_share.specs.Growing.{pieces_in};
 ghost use Rattle.convoy_share.specs.Means.{IsGrown, drawn};
 ghost use Rattle.convoy_share.specs.Offers.{IsOffered};
+ghost use Rattle.convoy_share.specs.Workers.{IsOwner};
 
 use super::fault::SearchFault;
 use super::gate::Gate;
 use super::growing::Growing;
 use super::means::{Means, TakenUp, take_up};
 use super::piece::Piece;
-use super::tree::Tree;
+use super::tree::{Tree, keep};
 use convoy_branch::Turn;
 use convoy_branch::laws::fronts_better;
 use convoy_deque::Owner;
@@ -106,4 +107,117 @@ fn advance_owner<R: Wait, G: Gate>(
         TakenUp::Left(branch) => growing.leave(branch, tried)?,
     }
     Ok(())
+}
+
+/// Searches a branch as far as there are tickets, and puts the lower half of each split. The pieces of
+/// its tree are answered from the last one back.
+fn search_own<R: Wait, G: Gate>(
+    rt: &R,
+    alloc: Global,
+    gate: &G,
+    scenario: &Scenario,
+    table: &PacketTable,
+    board: &Board,
+    ledger: &Ledger,
+    means: &mut Means,
+    owner: &mut Owner,
+    branch: Tracked,
+) -> Result<Vec<Piece>, SearchFault>
+    requires packets { table.now ≡ table_of scenario.now }
+    requires board { board.now.scenario ≡ scenario.now }
+    requires hand { means.old.hand.board ≡ board.now }
+    requires clerk { means.old.clerk.ledger ≡ ledger.now }
+    requires owner { owner.old.scenario ≡ scenario.now }
+    requires of_scenario { branch.scenario ≡ scenario.now }
+    ensures grown { (low : ℕ) → low ≤ length owner.old.put → IfOk result (λ pieces.
+        IsGrown scenario.now means.old means.new owner.old.put owner.new.put low
+        (branch.space ∷ []) (reverse pieces.items)) }
+    ensures owner { OnOk result (owner.new ≡ record owner.old { put = owner.new.put }) }
+{
+    let mut growing = Growing::of(alloc, branch)?;
+    while let Some((branch, tried)) = growing.next()? {
+        advance_owner(
+            rt,
+            alloc,
+            gate,
+            scenario,
+            table,
+            board,
+            ledger,
+            means,
+            owner,
+            &mut growing,
+            branch,
+            tried,
+        )?;
+    }
+    Ok(growing.written)
+}
+
+/// Takes a branch back, if there is one, and searches it. Answers whether there was one.
+fn work_once<R: Wait, G: Gate>(
+    rt: &R,
+    alloc: Global,
+    gate: &G,
+    scenario: &Scenario,
+    table: &PacketTable,
+    board: &Board,
+    ledger: &Ledger,
+    worker: &mut OwnerWorker,
+) -> Result<bool, SearchFault>
+    requires packets { table.now ≡ table_of scenario.now }
+    requires board { board.now.scenario ≡ scenario.now }
+    requires owner { IsOwner scenario.now board.now ledger.now worker.old.end.deque
+        worker.old.means.hand.share worker.old.means.clerk.share worker.old.end.share worker.old }
+    ensures { OnOk result (IsOwner scenario.now board.now ledger.now worker.old.end.deque
+        worker.old.means.hand.share worker.old.means.clerk.share worker.old.end.share worker.new) }
+{
+    fronts_better();
+    match worker.end.take() {
+        Some(task) => {
+            let number = task.number;
+            let pieces = search_own(
+                rt,
+                alloc,
+                gate,
+                scenario,
+                table,
+                board,
+                ledger,
+                &mut worker.means,
+                &mut worker.end,
+                task.branch,
+            )?;
+            keep(&mut worker.trees, Tree::of(number, pieces))?;
+            Ok(true)
+        }
+        None => Ok(false),
+    }
+}
+
+/// Takes branches back and searches them, until there is no ticket left or there is no branch.
+pub(crate) fn work<R: Wait, G: Gate>(
+    rt: &R,
+    alloc: Global,
+    gate: &G,
+    scenario: &Scenario,
+    table: &PacketTable,
+    board: &Board,
+    ledger: &Ledger,
+    mut worker: OwnerWorker,
+) -> Result<OwnerWorker, SearchFault>
+    requires packets { table.now ≡ table_of scenario.now }
+    requires board { board.now.scenario ≡ scenario.now }
+    requires owner { IsOwner scenario.now board.now ledger.now worker.end.deque
+        worker.means.hand.share worker.means.clerk.share worker.end.share worker }
+    ensures { IfOk result (λ w. IsOwner scenario.now board.now ledger.now worker.end.deque
+        worker.means.hand.share worker.means.clerk.share worker.end.share w) }
+{
+    for _ in rt.forever() {
+        let more = work_once(rt, alloc, gate, scenario, table, board, ledger, &mut worker)?;
+        if worker.means.clerk.done() || !more {
+            break;
+        }
+    }
+    Ok(worker)
 }
