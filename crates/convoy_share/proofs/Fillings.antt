@@ -105,3 +105,12 @@ IsFilling-better better scenario seen more tickets put done rest slots above fil
   once = filling.once;
   nodes = filling.nodes;
 }
+
+-- the same by what the program makes of its lists
+pub IsFilling-by : (scenario : Scenario) (seen tickets : ℕ) (put : List Box) (done done' rest rest' : List Piece) (slots slots' : List (List Piece)) → done' ≡ done → rest' ≡ rest → slots' ≡ slots → IsFilling scenario seen tickets put done rest slots → IsFilling scenario seen tickets put done' rest' slots'
+IsFilling-by scenario seen tickets put done done' rest rest' slots slots' d r s filling = rw (d, r, s) filling
+
+-- the next piece is popped from the end of the rest
+pub IsFilling-popped : (scenario : Scenario) (seen tickets : ℕ) (put : List Box) (done rest less : List Piece) (piece other : Piece) (slots : List (List Piece)) → rest ≡ less ++ piece ∷ [] → piece ≡ other → IsFilling scenario seen tickets put done (reverse rest) slots → IsFilling scenario seen tickets put done (other ∷ reverse less) slots
+IsFilling-popped scenario seen tickets put done rest less piece other slots popped is filling =
+    subst (λ (ps : List Piece). IsFilling scenario seen tickets put done ps slots) (ap (λ (ps : List Piece). reverse ps) popped ∙ reverse-append less (piece ∷ []) ∙ ap (λ (p : Piece). p ∷ reverse less) is) filling

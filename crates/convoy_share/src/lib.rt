@@ -6,6 +6,7 @@ pub use gate::Gate;
 pub use piece::Piece;
 
 mod fault;
+mod filling;
 mod gate;
 mod gathering;
 mod growing;
