@@ -2,6 +2,7 @@
 use Rattle.std.specs.Prelude.{◌≡◌, ℕ, ◌+◌, ◌≤◌, ◌<◌, max, List, [], ◌∷◌, ◌++◌, length, Some}
 use Rattle.std.proofs.Common.{arith, refl, ap, sym, subst, ◌∙◌, get_or, length-append}
 use Rattle.std.proofs.lemmas.List.{get_or_append_left}
+use Rattle.std.proofs.lemmas.List.Sums.{sum_by_push}
 use Rattle.std.proofs.lemmas.Option.{slice_get_within}
 use Rattle.convoy_scenario.specs.Scenario.{Scenario}
 use Rattle.convoy_intervals.specs.Boxes.{Box, root_of}
@@ -16,7 +17,7 @@ use Rattle.convoy_share.specs.declared.owner.OwnerWorker.{OwnerWorker}
 use Rattle.convoy_share.specs.declared.thief.ThiefWorker.{ThiefWorker}
 use Rattle.convoy_share.specs.Subtrees.{Subtree, IsResult}
 use Rattle.convoy_share.specs.Means.{IsGrown, drawn}
-use Rattle.convoy_share.specs.Workers.{IsOwner, IsThief}
+use Rattle.convoy_share.specs.Workers.{IsOwner, IsThief, HasJoined, hand_shares, clerk_shares}
 use Rattle.convoy_share.proofs.Joins.{IsResult-joined}
 use Rattle.convoy_share.proofs.UnderWay.{IsResult-more}
 
@@ -126,3 +127,16 @@ owner_joined better scenario board ledger deque hand clerk share hand_too clerk_
       root = ap (λ (bs : List Box). get_or bs 0 []) put ∙ mine.root;
       result = result_at scenario 1 _ new.means.hand.seen (drawn new.means) new.end.put new.end.taken new.trees.items (ap (λ (h : Holding). h.seen) hands) listed;
     }
+
+-- the owner by its shares
+owner_by : (scenario : Scenario) (board : BoardId) (ledger : LedgerId) (deque : DequeId) (hand hand' clerk clerk' share share' : ℕ) (worker : OwnerWorker) → hand ≡ hand' → clerk ≡ clerk' → share ≡ share' → IsOwner scenario board ledger deque hand clerk share worker → IsOwner scenario board ledger deque hand' clerk' share' worker
+owner_by scenario board ledger deque hand hand' clerk clerk' share share' worker h c s is = rw (sym h, sym c, sym s) is
+
+-- without a thief, and with one more
+pub joined_none : (scenario : Scenario) (board : BoardId) (ledger : LedgerId) (owner worker : OwnerWorker) (thieves : List ThiefWorker) → thieves ≡ [] → IsOwner scenario board ledger owner.end.deque owner.means.hand.share owner.means.clerk.share owner.end.share worker → HasJoined scenario board ledger owner thieves worker
+joined_none scenario board ledger owner worker thieves none is =
+    subst (λ (ts : List ThiefWorker). HasJoined scenario board ledger owner ts worker) (sym none) (owner_by scenario board ledger owner.end.deque _ (owner.means.hand.share + hand_shares []) _ (owner.means.clerk.share + clerk_shares []) _ (owner.end.share + 0) worker (omega arith) (omega arith) (omega arith) is)
+
+pub joined_more : (scenario : Scenario) (board : BoardId) (ledger : LedgerId) (owner worker : OwnerWorker) (all thieves : List ThiefWorker) (thief : ThiefWorker) → all ≡ thieves ++ thief ∷ [] → IsOwner scenario board ledger owner.end.deque (owner.means.hand.share + hand_shares thieves + thief.means.hand.share) (owner.means.clerk.share + clerk_shares thieves + thief.means.clerk.share) (owner.end.share + length thieves + 1) worker → HasJoined scenario board ledger owner all worker
+joined_more scenario board ledger owner worker all thieves thief same is =
+    subst (λ (ts : List ThiefWorker). HasJoined scenario board ledger owner ts worker) (sym same) (owner_by scenario board ledger owner.end.deque _ (owner.means.hand.share + hand_shares (thieves ++ thief ∷ [])) _ (owner.means.clerk.share + clerk_shares (thieves ++ thief ∷ [])) _ (owner.end.share + length (thieves ++ thief ∷ [])) worker (omega (arith, sum_by_push (λ (w : ThiefWorker). w.means.hand.share) thieves thief)) (omega (arith, sum_by_push (λ (w : ThiefWorker). w.means.clerk.share) thieves thief)) (omega (arith, length-append thieves (thief ∷ []))) is)
