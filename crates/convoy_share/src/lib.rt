@@ -14,6 +14,7 @@ pub mod laws;
 mod means;
 mod owner;
 mod piece;
+mod running;
 mod thief;
 mod tree;
 mod worker;
