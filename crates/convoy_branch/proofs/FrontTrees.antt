@@ -1,7 +1,7 @@
 -- Fronts as trees: what replaces a node of a front, and what a front says of its boxes.
-use Rattle.std.specs.Prelude.{ℕ, ◌≤◌, List, [], ◌∷◌, ◌++◌, map}
+use Rattle.std.specs.Prelude.{◌≡◌, ℕ, ◌≤◌, List, [], ◌∷◌, ◌++◌, length, map}
 use Rattle.std.specs.List.{All}
-use Rattle.std.proofs.Common.{arith, refl, ap, subst}
+use Rattle.std.proofs.Common.{arith, refl, sym, ap, subst}
 use Rattle.std.proofs.lemmas.List.Elements.{All-head, All-tail}
 use Rattle.convoy_scenario.specs.Scenario.{Scenario}
 use Rattle.convoy_certificate.specs.declared.node.Node.{Node}
@@ -9,10 +9,11 @@ use Rattle.convoy_certificate.specs.declared.node.Node.TheVariants.{Split, Bound
 use Rattle.convoy_intervals.specs.Bounds.{plain_bound}
 use Rattle.convoy_checker.specs.Leaves.{IsRight}
 use Rattle.convoy_checker.specs.Trees.{AreTrees, boxes_below}
-use Rattle.convoy_intervals.specs.Boxes.{Box}
+use Rattle.convoy_checker.specs.Validity.{IsTree}
+use Rattle.convoy_intervals.specs.Boxes.{Box, root_of}
 use Rattle.convoy_intervals.specs.Tracked.{Tracked}
 use Rattle.convoy_checker.proofs.TreeLaws.{AreTrees-filled, AreTrees-weaker}
-use Rattle.convoy_branch.specs.Fronts.{AreFronts, FrontNode, Spent, Left, front_below, IsSearched, IsSearchedSplit, IsOfFront, front_after, left_in}
+use Rattle.convoy_branch.specs.Fronts.{AreFronts, FrontNode, Spent, Left, front_below, IsSearched, IsSearchedSplit, IsOfFront, front_after, left_in, spent_in}
 use Rattle.convoy_branch.specs.Steps.{StaysOpen, IsTurn}
 use Rattle.convoy_branch.specs.declared.step.Turn.{Turn}
 use Rattle.convoy_branch.specs.declared.step.Turn.TheVariants.{Closed, Halves}
@@ -59,6 +60,16 @@ AreTrees-spent plan best (Split packet at ∷ nodes) (box ∷ boxes) tree =
 AreTrees-spent plan best (Bound ∷ nodes) (box ∷ boxes) tree = (tree.0, AreTrees-spent plan best nodes boxes tree.1)
 AreTrees-spent plan best (Point ∷ nodes) (box ∷ boxes) tree = (tree.0, AreTrees-spent plan best nodes boxes tree.1)
 AreTrees-spent plan best (Stamp ∷ nodes) (box ∷ boxes) tree = absurd tree.0
+
+-- where no box is left, the nodes are all that were spent
+all_spent : (nodes : List FrontNode) → length (left_in nodes) ≡ 0 → map Spent (spent_in nodes) ≡ nodes
+all_spent [] none = refl
+all_spent (Spent node ∷ nodes) none = ap (λ (ns : List FrontNode). Spent node ∷ ns) (all_spent nodes none)
+all_spent (Left branch ∷ nodes) none = absurd (omega (arith, none))
+
+pub IsTree-whole : (plan : Scenario) (best : ℕ) (nodes : List FrontNode) → left_in nodes ≡ [] → AreFronts plan best (root_of plan ∷ []) nodes → IsTree plan best (spent_in nodes)
+IsTree-whole plan best nodes none fronts =
+    AreTrees-spent plan best (spent_in nodes) (root_of plan ∷ []) (subst (λ (ns : List FrontNode). AreFronts plan best (root_of plan ∷ []) ns) (sym (all_spent nodes (ap length none))) fronts)
 
 -- a front as a tree in which a bound closes each box that is left
 abbrev pub node_of : FrontNode → Node

@@ -1,15 +1,21 @@
 -- A split of a box may stand in a certificate.
-use Rattle.std.specs.Prelude.{ℕ, ◌<◌, length}
+use Rattle.std.specs.Prelude.{ℕ, ◌<◌, [], length}
+use Rattle.std.specs.List.{All}
 use Rattle.std.proofs.Common.{arith, get_or}
-use Rattle.std.proofs.lemmas.List.Elements.{All-get_or, AllZip-get_or, length_all_zip}
+use Rattle.std.proofs.lemmas.List.Elements.{All-nil, All-cons, All-get_or, AllZip-get_or, length_all_zip}
 use Rattle.convoy_scenario.specs.Scenario.{Scenario}
 use Rattle.convoy_packets.specs.Assignment.{ranges_of}
 use Rattle.convoy_packets.specs.Table.{IsRange, IsTable, table_of}
 use Rattle.convoy_certificate.specs.Certificate.{IsNode}
-use Rattle.convoy_certificate.specs.declared.node.Node.TheVariants.{Split}
+use Rattle.convoy_certificate.specs.declared.node.Node.{Node}
+use Rattle.convoy_certificate.specs.declared.node.Node.TheVariants.{Split, Bound, Point}
 use Rattle.convoy_intervals.specs.Boxes.{IsBox, IsInside}
 use Rattle.convoy_intervals.specs.Boxes.{CanSplit}
 use Rattle.convoy_intervals.specs.Boxes.{Box}
+use Rattle.convoy_branch.specs.declared.step.Turn.{Turn}
+use Rattle.convoy_branch.specs.declared.step.Turn.TheVariants.{Closed, Halves}
+use Rattle.convoy_branch.specs.Fronts.{front_after, spent_in}
+use Rattle.convoy_branch.specs.Steps.{IsTurn}
 
 pub IsNode-split : (plan : Scenario) (box : Box) (packet at : ℕ) → IsTable (table_of plan) → IsBox plan box → CanSplit box packet at → IsNode (Split packet at)
 IsNode-split plan box packet at table inside part =
@@ -21,3 +27,15 @@ IsNode-split plan box packet at table inside part =
       omega (arith, range.low, within.0, part.low),
       omega (arith, range.high, within.2, part.high),
     )
+
+-- what a step makes of a box: a leaf, or a split that may stand in a certificate
+leaf_node : (plan : Scenario) (known : ℕ) (box : Box) (node : Node) → IsTurn plan box known (Closed node) → IsNode node
+leaf_node plan known box (Split packet at) turn = absurd turn
+leaf_node plan known box Bound turn = tt
+leaf_node plan known box Point turn = tt
+
+pub All-turn : (plan : Scenario) (known : ℕ) (box : Box) (turn : Turn) → IsTable (table_of plan) → IsBox plan box → IsTurn plan box known turn → All IsNode (spent_in (front_after turn))
+All-turn plan known box (Closed node) table inside is =
+    All-cons IsNode node [] (leaf_node plan known box node is) (All-nil IsNode)
+All-turn plan known box (Halves packet at lower upper) table inside is =
+    All-cons IsNode (Split packet at) [] (IsNode-split plan box packet at table inside is.1) (All-nil IsNode)

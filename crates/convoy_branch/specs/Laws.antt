@@ -1,11 +1,15 @@
 -- What is proved of fronts. Each is the one clause of the function of its name in the crate's module `laws`.
-use Rattle.std.specs.Prelude.{ℕ, ◌≤◌, List, [], ◌∷◌, ◌++◌}
+use Rattle.std.specs.Prelude.{◌≡◌, ℕ, ◌≤◌, List, [], ◌∷◌, ◌++◌}
+use Rattle.std.specs.List.{All}
 use Rattle.convoy_scenario.specs.Scenario.{Scenario}
 use Rattle.convoy_scenario.specs.WellFormed.{IsScenario}
+use Rattle.convoy_packets.specs.Table.{IsTable, table_of}
 use Rattle.convoy_sim.specs.Greatest.{IsUpper}
-use Rattle.convoy_intervals.specs.Boxes.{Box}
+use Rattle.convoy_certificate.specs.Certificate.{IsNode}
+use Rattle.convoy_intervals.specs.Boxes.{Box, IsBox, root_of}
+use Rattle.convoy_checker.specs.Validity.{IsTree}
 use Rattle.convoy_branch.specs.declared.step.Turn.{Turn}
-use Rattle.convoy_branch.specs.Fronts.{AreFronts, FrontNode, Left, IsFront, front_after}
+use Rattle.convoy_branch.specs.Fronts.{AreFronts, FrontNode, Left, IsFront, front_after, left_in, spent_in}
 use Rattle.convoy_branch.specs.Steps.{IsTurn}
 
 -- no assignment has a latency above the upper bound of a front
@@ -42,3 +46,20 @@ TurnsAreFronts =
     (scenario : Scenario) (best : ℕ) (branch : Box) (turn : Turn)
     → IsTurn scenario branch best turn
     → AreFronts scenario best (branch ∷ []) (front_after turn)
+
+-- the node of a step may stand in a certificate
+abbrev pub TurnsAreNodes : Type 0
+TurnsAreNodes =
+    (scenario : Scenario) (best : ℕ) (branch : Box) (turn : Turn)
+    → IsTable (table_of scenario)
+    → IsBox scenario branch
+    → IsTurn scenario branch best turn
+    → All IsNode (spent_in (front_after turn))
+
+-- with no box left a front is a tree that closes the root
+abbrev pub WholeFrontsAreTrees : Type 0
+WholeFrontsAreTrees =
+    (scenario : Scenario) (best : ℕ) (nodes : List FrontNode)
+    → left_in nodes ≡ []
+    → AreFronts scenario best (root_of scenario ∷ []) nodes
+    → IsTree scenario best (spent_in nodes)

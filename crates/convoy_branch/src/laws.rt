@@ -2,7 +2,7 @@
 //! the law calls the function.
 
 ghost use Rattle.convoy_branch.specs.Laws.{FrontsAppend, FrontsBetter, FrontsBound, FrontsFilled};
-ghost use Rattle.convoy_branch.specs.Laws.{TurnsAreFronts};
+ghost use Rattle.convoy_branch.specs.Laws.{TurnsAreFronts, TurnsAreNodes, WholeFrontsAreTrees};
 
 use convoy_checker::laws::trees_cover;
 
@@ -31,4 +31,14 @@ pub fn fronts_better()
 /// What becomes of a box in a step is a front over the box.
 pub fn turns_are_fronts()
     ensures { TurnsAreFronts }
+{}
+
+/// The node of a step may stand in a certificate.
+pub fn turns_are_nodes()
+    ensures { TurnsAreNodes }
+{}
+
+/// With no box left a front is a tree that closes the root.
+pub fn whole_fronts_are_trees()
+    ensures { WholeFrontsAreTrees }
 {}

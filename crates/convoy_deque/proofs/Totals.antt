@@ -1,0 +1,98 @@
+-- Sums over all views, and lists of tasks.
+use Rattle.std.proofs.Common.{◌≡◌, ℕ, zero, suc, ◌+◌, ◌<◌, ◌≤◌, List, [], ◌∷◌, ◌++◌, length, get_or, set, refl, sym, ◌∙◌, subst, arith, Some}
+use Rattle.std.specs.Prelude.{slice_get}
+use Rattle.std.specs.List.{All, sum_by}
+use Rattle.std.proofs.lemmas.Bool.Decides.{nat_tests}
+use Rattle.std.proofs.lemmas.List.Elements.{All-set, All-weaker}
+use Rattle.std.proofs.lemmas.List.Sums.{sum_by-set, sum_by_push, sum_by-append, get_or-le-sum_by, sum_by-le}
+use mathlib.Core.Option.{some, some-ne-none, some-injective}
+use lib.ListN.{get_elem?}
+use Rattle.atomic_table.proofs.Lists.{set_else}
+use Rattle.convoy_intervals.specs.Boxes.{Box}
+use Rattle.convoy_deque.specs.declared.rule.View.{View}
+use Rattle.convoy_deque.specs.declared.task.Task.{Task}
+use Rattle.convoy_deque.specs.Tasks.{tasks_at, once_below, IsPut}
+use Rattle.convoy_deque.specs.Rule.{nobody}
+
+-- what stands at a place of a list, read in two ways
+read : {A : Type 0} (l : List A) (k : ℕ) (a : A) → get_elem? l k ≡ some a → (k < length l) × ((d : A) → get_or l k d ≡ a)
+read [] k a e = absurd (some-ne-none a (sym e))
+read (x ∷ xs) zero a e = (omega arith, λ d. some-injective x a e)
+read (x ∷ xs) (suc k) a e = let r = read xs k a e in (omega (arith, r.0), r.1)
+
+stands : {A : Type 0} (l : List A) (k : ℕ) (d : A) → k < length l → get_elem? l k ≡ some (get_or l k d)
+stands [] k d lt = absurd (omega arith)
+stands (x ∷ xs) zero d lt = refl
+stands (x ∷ xs) (suc k) d lt = stands xs k d (omega arith)
+
+pub sum_set : (f : View → ℕ) (views : List View) (k : ℕ) (v w : View) → get_elem? views k ≡ some v → sum_by f (set views k w) + f v ≡ sum_by f views + f w
+sum_set f views k v w e = let r = read views k v e in subst (λ u. sum_by f (set views k w) + f u ≡ sum_by f views + f w) (r.1 v) (sum_by-set f views k w v r.0)
+
+pub sum_push : (f : View → ℕ) (views : List View) (w : View) → sum_by f (views ++ w ∷ []) ≡ sum_by f views + f w
+sum_push f views w = sum_by_push f views w
+
+part_le_sum : (f : View → ℕ) (views : List View) (k : ℕ) (v : View) → get_elem? views k ≡ some v → f v ≤ sum_by f views
+part_le_sum f views k v e = let r = read views k v e in subst (λ u. f u ≤ sum_by f views) (r.1 v) (get_or-le-sum_by f views k v r.0)
+
+-- two views have at most what all have together
+pub two_le_sum : (f : View → ℕ) (views : List View) (k j : ℕ) (v u : View) → f nobody ≡ 0 → get_elem? views k ≡ some v → get_elem? views j ≡ some u → (j ≡ k → ⊥) → f v + f u ≤ sum_by f views
+two_le_sum f views k j v u none here there apart =
+    let rest = set views k nobody in
+    let other = part_le_sum f rest j u (set_else views k j nobody apart ∙ there) in
+    omega (arith, other, none, sum_set f views k v nobody here)
+
+-- where one view has all of g, and f is 0 wherever g is, that view has all of f
+pub sum_of_one : (f g : View → ℕ) (views : List View) (k : ℕ) (v : View) → f nobody ≡ 0 → g nobody ≡ 0 → get_elem? views k ≡ some v → sum_by g views ≡ g v → ((j : ℕ) (u : View) → get_elem? views j ≡ some u → g u ≡ 0 → f u ≡ 0) → sum_by f views ≡ f v
+sum_of_one f g views k v f0 g0 e whole empty =
+    let rest = set views k nobody in
+    let each : All (λ u. g u ≡ 0 → f u ≡ 0) views = λ j d lt. empty j (get_or views j d) (stands views j d lt) in
+    let nothing : All (λ u. f u ≤ 0) rest = λ j d lt.
+    let part = get_or-le-sum_by g rest j d lt in
+    let others = sum_set g views k v nobody e in
+    let zero_there = All-set (λ u. g u ≡ 0 → f u ≡ 0) views k nobody (λ _. f0) each j d lt (omega arith) in
+    omega arith
+    in
+    let sum = sum_by-le f 0 rest nothing in
+    let one = sum_set f views k v nobody e in
+    omega arith
+
+pub tasks_at-append : (x : ℕ) (xs ys : List Task) → tasks_at x (xs ++ ys) ≡ tasks_at x xs + tasks_at x ys
+tasks_at-append x xs ys = sum_by-append _ xs ys
+
+pub once_more : (x : ℕ) (task : Task) → once_below x (task.number + 1) ≡ once_below x task.number + tasks_at x (task ∷ [])
+once_more x task = grind (arith, nat_tests)
+
+pub none_below : (x : ℕ) → 0 ≡ once_below x 0
+none_below x = grind (arith, nat_tests)
+
+-- of two lists of tasks, what holds of each
+pub All-parts : (P : Task → Type 0) (xs ys : List Task) → All P (xs ++ ys) → All P xs × All P ys
+All-parts P [] ys all = (λ k d lt. absurd (omega arith), all)
+All-parts P (x ∷ xs) ys all =
+    let rest = All-parts P xs ys (λ k d lt. all (suc k) d (omega arith)) in
+    (λ k d lt. first k d lt (all 0 d (omega arith)) rest.0, rest.1)
+  where
+    first : (k : ℕ) (d : Task) → k < length (x ∷ xs) → P x → All P xs → P (get_or (x ∷ xs) k d)
+    first zero d lt here others = here
+    first (suc k) d lt here others = others k d (omega arith)
+
+get_front : (put : List Box) (b : Box) (k : ℕ) (c : Box) → slice_get put k ≡ Some c → slice_get (put ++ b ∷ []) k ≡ Some c
+get_front [] b k c e = absurd (cc)
+get_front (p ∷ ps) b zero c e = e
+get_front (p ∷ ps) b (suc k) c e = get_front ps b k c e
+
+pub get_last : (put : List Box) (b : Box) (n : ℕ) → n ≡ length put → slice_get (put ++ b ∷ []) n ≡ Some b
+get_last [] b zero e = refl
+get_last [] b (suc n) e = absurd (omega arith)
+get_last (p ∷ ps) b zero e = absurd (omega arith)
+get_last (p ∷ ps) b (suc n) e = get_last ps b n (omega arith)
+
+-- what was put stays put where more is
+pub put_more : (put : List Box) (b : Box) (tasks : List Task) → All (IsPut put) tasks → All (IsPut (put ++ b ∷ [])) tasks
+put_more put b tasks all = All-weaker (IsPut put) (IsPut (put ++ b ∷ [])) (λ task. get_front put b task.number task.branch.space) tasks all
+
+-- where nothing was put, no task is right
+pub none_put : (put : List Box) (tasks : List Task) → put ≡ [] → All (IsPut put) tasks → tasks ≡ []
+none_put put [] empty all = refl
+none_put [] (task ∷ tasks) empty all = let here = all 0 task (omega arith) in absurd (cc)
+none_put (p ∷ ps) (task ∷ tasks) empty all = absurd (cc)

@@ -1,0 +1,5 @@
+pub use Rattle.convoy_scenario.specs.Scenario
+pub use Rattle.convoy_intervals.specs.Boxes
+pub use Rattle.convoy_intervals.specs.Tracked
+pub mod Tasks
+pub mod Rule

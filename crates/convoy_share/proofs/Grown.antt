@@ -1,0 +1,77 @@
+-- How far a worker's boxes are, after it took up one of them.
+use Rattle.std.specs.Prelude.{◌≡◌, ℕ, ◌+◌, ◌≤◌, List, [], ◌∷◌, ◌++◌, length, Bool, true, false}
+use Rattle.std.proofs.Common.{arith, refl, sym, subst, ◌∙◌}
+use Rattle.std.proofs.lemmas.List.Elements.{All-head}
+use Rattle.convoy_scenario.specs.Scenario.{Scenario}
+use Rattle.convoy_intervals.specs.Boxes.{Box}
+use Rattle.convoy_intervals.specs.Tracked.{Tracked}
+use Rattle.convoy_branch.specs.declared.step.Turn.{Turn}
+use Rattle.convoy_branch.specs.declared.step.Turn.TheVariants.{Halves}
+use Rattle.convoy_branch.specs.Laws.{FrontsBetter}
+use Rattle.convoy_share.specs.declared.means.Means.{Means}
+use Rattle.convoy_share.specs.declared.means.TakenUp.TheVariants.{Turned, Left}
+use Rattle.convoy_share.specs.declared.piece.Piece.{Piece}
+use Rattle.convoy_share.specs.declared.piece.Piece.TheVariants.{Todo, Pushed}
+use Rattle.convoy_share.specs.Pieces.{IsPiece}
+use Rattle.convoy_share.specs.Turns.{parted, pieces_of}
+use Rattle.convoy_share.specs.Means.{IsLater, IsTakenUp, IsGrown, drawn}
+use Rattle.convoy_share.proofs.Counts.{All-parts}
+use Rattle.convoy_share.proofs.UnderWay.{IsUnderWay-start, IsUnderWay-better, IsUnderWay-turned, IsUnderWay-put}
+
+IsLater-same : (means : Means) → IsLater means means
+IsLater-same means = record { board = refl; ledger = refl; hand = refl; clerk = refl; seen = omega arith }
+
+pub IsLater-then : (before between after : Means) → IsLater before between → IsLater between after → IsLater before after
+IsLater-then before between after first second = record {
+  board = second.board ∙ first.board;
+  ledger = second.ledger ∙ first.ledger;
+  hand = second.hand ∙ first.hand;
+  clerk = second.clerk ∙ first.clerk;
+  seen = omega (arith, first.seen, second.seen);
+}
+
+-- a branch that is left is one of the scenario, and was tried if it is told to be
+pub todo_right : (scenario : Scenario) (before after : Means) (first put : List Box) (low : ℕ) (boxes : List Box) (front rest : List Piece) (branch : Tracked) (tried : Bool) → IsGrown scenario before after first put low boxes (front ++ Todo branch tried ∷ rest) → IsPiece scenario after.hand.seen put (Todo branch tried)
+todo_right scenario before after first put low boxes front rest branch tried grown =
+    let P = IsPiece scenario after.hand.seen put in
+    All-head P (Todo branch tried) rest (All-parts P front (Todo branch tried ∷ rest) grown.way.trees.each).1
+
+pub IsGrown-start : (scenario : Scenario) (means : Means) (put : List Box) (low : ℕ) (branch : Tracked) → branch.scenario ≡ scenario → IsGrown scenario means means put put low (branch.space ∷ []) (Todo branch false ∷ [])
+IsGrown-start scenario means put low branch of_scenario = record {
+  later = IsLater-same means;
+  tickets = 0;
+  spent = omega arith;
+  way = IsUnderWay-start scenario means.hand.seen put low branch of_scenario;
+}
+
+pub IsGrown-turned : (better : FrontsBetter) (scenario : Scenario) (most : ℕ) (before between after : Means) (first put : List Box) (low : ℕ) (boxes : List Box) (front rest : List Piece) (branch : Tracked) (tried : Bool) (turn : Turn) → IsTakenUp scenario most branch between after (Turned turn) → IsGrown scenario before between first put low boxes (front ++ Todo branch tried ∷ rest) → IsGrown scenario before after first put low boxes (front ++ (pieces_of turn ++ rest))
+IsGrown-turned better scenario most before between after first put low boxes front rest branch tried turn taken grown =
+    let pieces = front ++ Todo branch tried ∷ rest in
+    let way = IsUnderWay-better better scenario between.hand.seen after.hand.seen first put low boxes pieces grown.tickets taken.later.seen grown.way in
+    record {
+      later = IsLater-then before between after grown.later taken.later;
+      tickets = grown.tickets + 1;
+      spent = omega (arith, taken.ticket.0, grown.spent);
+      way = IsUnderWay-turned scenario after.hand.seen first put low boxes front rest branch tried grown.tickets turn taken.ticket.2 way;
+    }
+
+pub IsGrown-put : (better : FrontsBetter) (scenario : Scenario) (most : ℕ) (before between after : Means) (first put : List Box) (low : ℕ) (boxes : List Box) (front rest : List Piece) (branch : Tracked) (tried : Bool) (packet at : ℕ) (lower upper : Tracked) (number : ℕ) → IsTakenUp scenario most branch between after (Turned (Halves packet at lower upper)) → number ≡ length put → low ≤ length put → IsGrown scenario before between first put low boxes (front ++ Todo branch tried ∷ rest) → IsGrown scenario before after first (put ++ lower.space ∷ []) low boxes (front ++ (parted packet at (Pushed number) upper ++ rest))
+IsGrown-put better scenario most before between after first put low boxes front rest branch tried packet at lower upper number taken same below grown =
+    let pieces = front ++ Todo branch tried ∷ rest in
+    let way = IsUnderWay-better better scenario between.hand.seen after.hand.seen first put low boxes pieces grown.tickets taken.later.seen grown.way in
+    record {
+      later = IsLater-then before between after grown.later taken.later;
+      tickets = grown.tickets + 1;
+      spent = omega (arith, taken.ticket.0, grown.spent);
+      way = IsUnderWay-put scenario after.hand.seen first put low boxes front rest branch tried grown.tickets packet at lower upper number taken.ticket.2 same below way;
+    }
+
+pub IsGrown-left : (better : FrontsBetter) (scenario : Scenario) (most : ℕ) (before between after : Means) (first put : List Box) (low : ℕ) (boxes : List Box) (front rest : List Piece) (branch left : Tracked) (tried : Bool) → IsTakenUp scenario most branch between after (Left left) → IsGrown scenario before between first put low boxes (front ++ Todo branch tried ∷ rest) → IsGrown scenario before after first put low boxes (front ++ Todo left tried ∷ rest)
+IsGrown-left better scenario most before between after first put low boxes front rest branch left tried taken grown =
+    let same = subst (λ (b : Tracked). IsGrown scenario before between first put low boxes (front ++ Todo b tried ∷ rest)) (sym taken.ticket.0) grown in
+    record {
+      later = IsLater-then before between after same.later taken.later;
+      tickets = same.tickets;
+      spent = omega (arith, taken.ticket.1, same.spent);
+      way = IsUnderWay-better better scenario between.hand.seen after.hand.seen first put low boxes (front ++ Todo left tried ∷ rest) same.tickets taken.later.seen same.way;
+    }

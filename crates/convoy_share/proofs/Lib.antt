@@ -1,0 +1,12 @@
+pub mod Counts
+pub mod Places
+pub mod Slots
+pub mod Joins
+pub mod Turns
+pub mod UnderWay
+pub mod Placings
+pub mod Fillings
+pub mod Endings
+pub mod Grown
+pub mod Offered
+pub mod Worked

@@ -1,0 +1,104 @@
+-- The trees of all tasks are put into slots by their numbers.
+use Rattle.std.specs.Prelude.{◌≡◌, ℕ, zero, suc, ◌+◌, ◌≤◌, ◌<◌, List, [], ◌∷◌, ◌++◌, length, replicate}
+use Rattle.std.specs.List.{All, sum_by}
+use Rattle.std.proofs.Common.{arith, refl, ap, sym, subst, ◌∙◌, inl, inr, get_or, set}
+use Rattle.std.proofs.lemmas.Bool.{cases_eq, cases_lt}
+use Rattle.std.proofs.lemmas.List.{get_or-set_same, get_or-set_other, get_or-replicate, get_or_past, length-set, length-replicate}
+use Rattle.std.proofs.lemmas.List.Elements.{All-nil, All-cons, All-head, All-tail}
+use Rattle.std.proofs.lemmas.List.Sums.{sum_by-cons, sum_by-set}
+use Rattle.convoy_ledger.specs.Tickets.{times, once_below}
+use Rattle.convoy_scenario.specs.Scenario.{Scenario}
+use Rattle.convoy_intervals.specs.Boxes.{Box, root_of}
+use Rattle.convoy_deque.specs.declared.task.Task.{Task}
+use Rattle.convoy_deque.specs.Tasks.{tasks_at, AreAllTaken, IsPut}
+use Rattle.convoy_share.specs.declared.piece.Piece.{Piece}
+use Rattle.convoy_share.specs.declared.piece.Piece.TheVariants.{Pushed}
+use Rattle.convoy_share.specs.Pieces.{places_in, spent, IsPiece}
+use Rattle.convoy_share.specs.Subtrees.{Subtree, IsSubtree, IsResult}
+use Rattle.convoy_share.specs.Filling.{slot_at, there, IsSlot, IsPlacing, IsFilling}
+use Rattle.convoy_share.proofs.Counts.{sum_none, own_number, other_number, tasks-cons, once_one, once_le, once_low}
+use Rattle.convoy_share.proofs.Slots.{IsSlot-set, put_is}
+
+-- a tree over a box is not empty
+subtree_there : (scenario : Scenario) (seen : ℕ) (put : List Box) (number : ℕ) (branch : Box) (pieces : List Piece) → IsSubtree scenario seen put number branch pieces → there pieces ≡ 1
+subtree_there scenario seen put number branch [] is = absurd is.tree
+subtree_there scenario seen put number branch (piece ∷ pieces) is = refl
+
+-- and may lie in the slot of its number
+subtree_slot : (scenario : Scenario) (seen : ℕ) (put : List Box) (number : ℕ) (pieces : List Piece) → IsSubtree scenario seen put number (get_or put number []) pieces → IsSlot scenario seen put number pieces
+subtree_slot scenario seen put number [] is = tt
+subtree_slot scenario seen put number (piece ∷ pieces) is = is
+
+none_there : (slot : List Piece) → there slot ≡ 0 → slot ≡ []
+none_there [] is = refl
+none_there (piece ∷ pieces) is = absurd (omega arith)
+
+-- the first of the tasks that are left finds its slot empty, and its number is below the count
+first_free : (scenario : Scenario) (seen : ℕ) (put : List Box) (all : List Subtree) (slots : List (List Piece)) (task : Task) (tasks : List Task) (subtrees : List Subtree) → IsPlacing scenario seen put all slots (task ∷ tasks) subtrees → (slot_at slots task.number ≡ []) × (task.number < length slots)
+first_free scenario seen put all slots task tasks subtrees placing =
+    let n = task.number in
+    let once = placing.once n in
+    let more = tasks-cons n task tasks in
+    let own = own_number n in (
+      none_there (slot_at slots n) (omega (arith, once, more, own, once_le n (length put))),
+      omega (arith, placing.size, once_low n (length put) (omega (arith, once, more, own))),
+    )
+
+-- what is added up over the slots and the trees that are left stays the same
+placed_sum : (f : List Piece → ℕ) (slots : List (List Piece)) (n : ℕ) (subtree : Subtree) (subtrees : List Subtree) → f [] ≡ 0 → slot_at slots n ≡ [] → n < length slots → sum_by f (set slots n subtree.pieces) + sum_by (λ (s : Subtree). f s.pieces) subtrees ≡ sum_by f slots + sum_by (λ (s : Subtree). f s.pieces) (subtree ∷ subtrees)
+placed_sum f slots n subtree subtrees none empty low =
+    omega (arith, sum_by-set f slots n subtree.pieces [] low, sum_by-cons (λ (s : Subtree). f s.pieces) subtree subtrees, ap f empty, none)
+
+-- it is put there
+pub IsPlacing-next : (scenario : Scenario) (seen : ℕ) (put : List Box) (all : List Subtree) (slots : List (List Piece)) (task : Task) (tasks : List Task) (subtree : Subtree) (subtrees : List Subtree) → IsPlacing scenario seen put all slots (task ∷ tasks) (subtree ∷ subtrees) → IsPlacing scenario seen put all (set slots task.number subtree.pieces) tasks subtrees
+IsPlacing-next scenario seen put all slots task tasks subtree subtrees placing =
+    let n = task.number in
+    let pieces = subtree.pieces in
+    let free = first_free scenario seen put all slots task tasks (subtree ∷ subtrees) placing in
+    let branch = put_is put task (All-head (IsPut put) task tasks placing.right) in
+    let sub : IsSubtree scenario seen put n (get_or put n []) pieces = subst (λ (b : Box). IsSubtree scenario seen put n b pieces) (sym branch) placing.trees.1 in
+    record {
+      each_slot = IsSlot-set scenario seen put slots n pieces (subtree_slot scenario seen put n pieces sub) placing.each_slot free.1;
+      size = length-set slots n pieces ∙ placing.size;
+      trees = placing.trees.2;
+      once = λ x. once x free.0 free.1 (subtree_there scenario seen put n (get_or put n []) pieces sub);
+      right = All-tail (IsPut put) task tasks placing.right;
+      sums = λ f none. omega (arith, placing.sums f none, placed_sum f slots n subtree subtrees none free.0 free.1);
+    } where
+      once : (x : ℕ) → slot_at slots task.number ≡ [] → task.number < length slots → there subtree.pieces ≡ 1 → there (slot_at (set slots task.number subtree.pieces) x) + tasks_at x tasks ≡ once_below x (length put)
+      once x empty low is_there =
+          let n = task.number in
+          let before = placing.once x in
+          elim (cases_eq n x) [
+            | inl same ↦ rw (sym same, get_or-set_same slots n subtree.pieces [] low) (omega (arith, placing.once n, tasks-cons n task tasks, own_number n, is_there, ap there empty))
+            | inr differ ↦ rw (get_or-set_other slots n x subtree.pieces [] (λ same. differ (sym same))) (omega (arith, before, tasks-cons x task tasks, other_number n x differ))
+          ]
+
+-- no tree has its slot yet
+empty_slot : (n x : ℕ) → slot_at (replicate n []) x ≡ []
+empty_slot n x = elim (cases_lt x n) [
+  | inl low ↦ get_or-replicate n x [] [] low
+  | inr past ↦ get_or_past (replicate n []) x [] (omega (arith, past, length-replicate {A = List Piece} n []))
+]
+
+pub IsPlacing-start : (scenario : Scenario) (seen tickets roots : ℕ) (put : List Box) (taken : List Task) (subtrees : List Subtree) → IsResult scenario seen tickets roots put taken subtrees → AreAllTaken put taken → IsPlacing scenario seen put subtrees (replicate (length put) []) taken subtrees
+IsPlacing-start scenario seen tickets roots put taken subtrees is all = record {
+  each_slot = λ x. rw (empty_slot (length put) x) tt;
+  size = length-replicate (length put) [];
+  trees = is.trees;
+  once = λ x. rw (empty_slot (length put) x) (omega (arith, all.once x));
+  right = all.right;
+  sums = λ f none. omega (arith, sum_none f (replicate (length put) []) (λ x. ap f (empty_slot (length put) x) ∙ none));
+}
+
+-- all have them: the root stands under the number 0
+pub IsFilling-start : (scenario : Scenario) (seen tickets : ℕ) (put : List Box) (taken : List Task) (subtrees : List Subtree) (slots : List (List Piece)) → get_or put 0 [] ≡ root_of scenario → 0 < length put → IsResult scenario seen tickets 1 put taken subtrees → IsPlacing scenario seen put subtrees slots [] [] → IsFilling scenario seen tickets put [] (Pushed 0 ∷ []) slots
+IsFilling-start scenario seen tickets put taken subtrees slots root some is placing = record {
+  tree = (root, tt);
+  settled = refl;
+  each_done = All-nil (IsPiece scenario seen put);
+  each_rest = All-cons (IsPiece scenario seen put) (Pushed 0) [] some (All-nil (IsPiece scenario seen put));
+  each_slot = placing.each_slot;
+  once = λ x. omega (arith, is.places x, once_one x, placing.once x, placing.sums (λ slot. times x (places_in slot)) refl);
+  nodes = omega (arith, is.nodes, placing.sums spent refl);
+}

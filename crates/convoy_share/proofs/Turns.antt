@@ -1,0 +1,61 @@
+-- What a turn makes of a box in a tree.
+use Rattle.std.specs.Prelude.{◌≡◌, ℕ, ◌≤◌, List, [], ◌∷◌, true, false}
+use Rattle.std.specs.List.{All}
+use Rattle.std.proofs.Common.{arith, refl, ap, sym, subst, ◌∙◌}
+use Rattle.std.proofs.lemmas.Bool.{false≢true}
+use Rattle.std.proofs.lemmas.List.Elements.{All-nil, All-cons, All-head}
+use Rattle.convoy_scenario.specs.Scenario.{Scenario}
+use Rattle.convoy_sim.specs.Delivery.{latency_of}
+use Rattle.convoy_packets.specs.Table.{IsTable, table_of}
+use Rattle.convoy_certificate.specs.Certificate.{IsNode}
+use Rattle.convoy_certificate.specs.declared.node.Node.TheVariants.{Split}
+use Rattle.convoy_intervals.specs.Boxes.{Box, IsBox, greatest_of}
+use Rattle.convoy_intervals.specs.Tracked.{Tracked}
+use Rattle.convoy_intervals.specs.Laws.{UpperKeepsGreatest}
+use Rattle.convoy_branch.specs.declared.step.Turn.{Turn}
+use Rattle.convoy_branch.specs.declared.step.Turn.TheVariants.{Closed, Halves}
+use Rattle.convoy_branch.specs.Steps.{IsTurn}
+use Rattle.convoy_branch.specs.Laws.{FrontsBetter, TurnsAreFronts, TurnsAreNodes}
+use Rattle.convoy_share.specs.declared.piece.Piece.{Piece}
+use Rattle.convoy_share.specs.declared.piece.Piece.TheVariants.{Done, Todo, Pushed}
+use Rattle.convoy_share.specs.Pieces.{AreTreesOf, places_in, spent, IsPiece}
+use Rattle.convoy_share.specs.Turns.{pieces_of, IsTurned}
+use Rattle.convoy_share.proofs.Places.{AreTreesOf-better, pieces_better}
+
+-- the pieces have no place, and one node
+pub places_in-turn : (turn : Turn) → places_in (pieces_of turn) ≡ []
+places_in-turn (Closed node) = refl
+places_in-turn (Halves packet at lower upper) = refl
+
+pub spent-turn : (turn : Turn) → spent (pieces_of turn) ≡ 1
+spent-turn (Closed node) = refl
+spent-turn (Halves packet at lower upper) = refl
+
+-- they are a tree over the box
+tree_of : (fronts : TurnsAreFronts) (scenario : Scenario) (known : ℕ) (branch : Box) (turn : Turn) → IsTurn scenario branch known turn → AreTreesOf scenario known [] (branch ∷ []) (pieces_of turn)
+tree_of fronts scenario known branch (Closed node) is = fronts scenario known branch (Closed node) is
+tree_of fronts scenario known branch (Halves packet at lower upper) is =
+    fronts scenario known branch (Halves packet at lower upper) is
+
+-- they may stand in a tree of the scenario
+pieces_right : (nodes : TurnsAreNodes) (keeps : UpperKeepsGreatest) (scenario : Scenario) (known : ℕ) (branch : Box) (turn : Turn) → IsTable (table_of scenario) → IsBox scenario branch → IsTurn scenario branch known turn → All (IsPiece scenario known []) (pieces_of turn)
+pieces_right nodes keeps scenario known branch (Closed node) table inside is =
+    let P = IsPiece scenario known [] in
+    All-cons P (Done node) [] (All-head IsNode node [] (nodes scenario known branch (Closed node) table inside is)) (All-nil P)
+pieces_right nodes keeps scenario known branch (Halves packet at lower upper) table inside is =
+    let P = IsPiece scenario known [] in
+    let split : IsNode (Split packet at) = All-head IsNode (Split packet at) [] (nodes scenario known branch (Halves packet at lower upper) table inside is) in
+    let same : greatest_of upper.space ≡ greatest_of branch = ap (λ (t : Tracked). greatest_of t.space) is.3 ∙ keeps branch packet at in
+    let tried : latency_of scenario (greatest_of upper.space) ≤ known = subst (λ (ds : List ℕ). latency_of scenario ds ≤ known) (sym same) is.0.tried in
+    All-cons P (Done (Split packet at)) (Todo lower false ∷ Todo upper true ∷ []) split (
+    All-cons P (Todo lower false) (Todo upper true ∷ []) (ap (λ (t : Tracked). t.scenario) is.2, λ told. absurd (false≢true told)) (
+    All-cons P (Todo upper true) [] (ap (λ (t : Tracked). t.scenario) is.3, λ told. tried) (All-nil P)
+    )
+    )
+
+-- a step's turn, for each latency from the one known on
+pub IsTurned-step : (better : FrontsBetter) (fronts : TurnsAreFronts) (nodes : TurnsAreNodes) (keeps : UpperKeepsGreatest) (scenario : Scenario) (known seen : ℕ) (branch : Box) (turn : Turn) → IsTable (table_of scenario) → IsBox scenario branch → known ≤ seen → IsTurn scenario branch known turn → IsTurned scenario seen branch turn
+IsTurned-step better fronts nodes keeps scenario known seen branch turn table inside above is = record {
+  tree = AreTreesOf-better better scenario known seen [] (branch ∷ []) (pieces_of turn) above (tree_of fronts scenario known branch turn is);
+  each = pieces_better scenario known seen [] (pieces_of turn) above (pieces_right nodes keeps scenario known branch turn table inside is);
+}

@@ -1,0 +1,9 @@
+use Rattle.std.proofs.Common.{sym, ap, ◌∙◌}
+use Rattle.convoy_ledger.specs.Tickets.{Account}
+use Rattle.convoy_share.proofs.Worked.{owner_joined}
+use Rattle.convoy_share.proofs.gathering.gather.Goals as goal
+
+pub returns : goal.returns
+returns c scenario deque hand clerk share hand_too clerk_too mine theirs =
+    let clerks = c.join-2.ensures in
+    owner_joined c.fronts_better.ensures scenario c.args.board.now c.args.ledger.now deque hand clerk share hand_too clerk_too c.args.owner.now _ c.args.thief mine theirs c.join.ensures (ap (λ (a : Account). a.ledger) clerks) (ap (λ (a : Account). a.share) clerks) (ap (λ (a : Account). a.tickets) clerks) c.join-3.ensures c.in_ok-append.ensures.items

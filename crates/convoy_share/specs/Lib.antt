@@ -1,0 +1,17 @@
+pub use Rattle.convoy_scenario.specs.Scenario
+pub use Rattle.convoy_certificate.specs.Certificate
+pub use Rattle.convoy_intervals.specs.Boxes
+pub use Rattle.convoy_intervals.specs.Tracked
+pub use Rattle.convoy_branch.specs.Fronts
+pub use Rattle.convoy_deque.specs.Tasks
+-- What workers promise: the pieces of a tree, the trees of one worker, how all trees become one, and the laws of all that.
+pub mod Pieces
+pub mod Subtrees
+pub mod Filling
+pub mod Turns
+pub mod Laws
+-- What the program's own parts say: a tree under way, and what a worker has in hand.
+pub mod Growing
+pub mod Means
+pub mod Offers
+pub mod Workers

@@ -1,0 +1,41 @@
+-- What a worker looks, publishes and draws with, from step to step.
+use Rattle.std.specs.Prelude.{◌≡◌, ℕ, ◌+◌, ◌≤◌, List, true, length}
+use Rattle.convoy_scenario.specs.Scenario.{Scenario}
+use Rattle.convoy_intervals.specs.Boxes.{Box}
+use Rattle.convoy_intervals.specs.Tracked.{Tracked}
+use Rattle.convoy_share.specs.declared.means.Means.{Means}
+use Rattle.convoy_share.specs.declared.means.TakenUp.{TakenUp}
+use Rattle.convoy_share.specs.declared.means.TakenUp.TheVariants.{Turned, Left}
+use Rattle.convoy_share.specs.declared.piece.Piece.{Piece}
+use Rattle.convoy_share.specs.Subtrees.{IsUnderWay}
+use Rattle.convoy_share.specs.Turns.{IsTurned}
+
+-- the same board and ledger, as much share, and nothing forgotten
+pub record IsLater (before after : Means) : Type 0 where
+  pub board : after.hand.board ≡ before.hand.board
+  pub ledger : after.clerk.ledger ≡ before.clerk.ledger
+  pub hand : after.hand.share ≡ before.hand.share
+  pub clerk : after.clerk.share ≡ before.clerk.share
+  pub seen : before.hand.seen ≤ after.hand.seen
+
+-- how many tickets were drawn
+abbrev pub drawn : Means → ℕ
+drawn means = length means.clerk.tickets
+
+-- what becomes of a branch that is taken up: a ticket is spent for its turn, or there was none and it is left
+abbrev pub IsSpentFor : Scenario → ℕ → Tracked → Means → Means → TakenUp → Type 0
+IsSpentFor scenario most branch before after (Turned turn) =
+    (drawn after ≡ drawn before + 1) × (drawn after ≤ most) × IsTurned scenario after.hand.seen branch.space turn
+IsSpentFor scenario most branch before after (Left left) =
+    (left ≡ branch) × (drawn after ≡ drawn before) × (after.clerk.done ≡ true)
+
+pub record IsTakenUp (scenario : Scenario) (most : ℕ) (branch : Tracked) (before after : Means) (taken : TakenUp) : Type 0 where
+  pub later : IsLater before after
+  pub ticket : IsSpentFor scenario most branch before after taken
+
+-- How far boxes were searched that the worker took up: for each node it drew a ticket in between.
+pub record IsGrown (scenario : Scenario) (before after : Means) (first put : List Box) (low : ℕ) (boxes : List Box) (pieces : List Piece) : Type 0 where
+  pub later : IsLater before after
+  pub tickets : ℕ
+  pub spent : drawn after ≡ drawn before + tickets
+  pub way : IsUnderWay scenario after.hand.seen first put low boxes pieces tickets

@@ -1,0 +1,112 @@
+//! How the trees of all workers become one.
+
+ghost use Rattle.std.specs.Prelude.{◌≡◌, ◌<◌, ◌+◌, ℕ, List, [], ◌∷◌, ◌++◌, length, reverse, slice_set};
+ghost use Rattle.std.specs.Prelude.{IfNone, IfOk, IfSome, OnOk};
+ghost use Rattle.std.specs.List.{sum_by};
+ghost use Rattle.convoy_scenario.specs.Scenario.{Scenario};
+ghost use Rattle.convoy_intervals.specs.Boxes.{Box};
+ghost use Rattle.convoy_share.specs.Filling.{IsFilling, slot_at};
+
+use super::piece::Piece;
+use convoy_intervals::Tracked;
+use std::alloc::AllocError;
+use std::marker::Model;
+
+/// The tree of one number, or nothing. Contracts see its pieces in order.
+#[derive(Drop)]
+pub(crate) struct Slot {
+    /// From the last one back.
+    pieces: Vec<Piece>,
+}
+
+impl Model for Slot {
+    ghost use Rattle.std.specs.Prelude.{List, reverse};
+    ghost use Rattle.convoy_share.specs.declared.piece.Piece.{Piece};
+
+    ghost Value = { List Piece };
+
+    ghost view = { λ s. reverse s.pieces.items };
+}
+
+impl Slot {
+    /// Puts the tree in front of the pieces, which stand from the last one back, and leaves nothing.
+    fn pour(&mut self, rest: &mut Vec<Piece>) -> Result<(), AllocError>
+        ensures rest { OnOk result (reverse rest.new.items ≡ self.old ++ reverse rest.old.items) }
+        ensures empty { OnOk result (self.new ≡ []) }
+    {
+        rest.append(&mut self.pieces)?;
+        Ok(())
+    }
+}
+
+/// The trees of all workers, as they become one.
+#[derive(Drop)]
+pub(crate) struct Filling {
+    /// The pieces that are settled, in order.
+    pub done: Vec<Piece>,
+    /// The pieces that come after them, from the last one back.
+    pub rest: Vec<Piece>,
+    /// The trees that are not in their places yet, by number.
+    pub slots: Vec<Slot>,
+}
+
+impl Filling {
+    /// Brings the tree of a number into its place, which was next.
+    fn fill(&mut self, number: u64) -> Result<(), AllocError>
+        requires { number < length self.old.slots.items }
+        ensures done { OnOk result (self.new.done.items ≡ self.old.done.items) }
+        ensures rest { OnOk result (reverse self.new.rest.items
+            ≡ slot_at self.old.slots.items number ++ reverse self.old.rest.items) }
+        ensures slots { OnOk result (self.new.slots.items
+            ≡ slice_set self.old.slots.items number []) }
+    {
+        self.slots[number as usize].pour(&mut self.rest)?;
+        Ok(())
+    }
+
+    /// The same, in the words of a filling, which it stays. No piece is lost or added.
+    fn fill_place(&mut self, number: u64) -> Result<(), AllocError>
+        requires { (scenario : Scenario) × (seen : ℕ) × (tickets : ℕ) × (put : List Box)
+            × IsFilling scenario seen tickets put self.old.done.items
+            (Piece.Pushed number ∷ reverse self.old.rest.items) self.old.slots.items }
+        ensures filling { (scenario : Scenario) (seen tickets : ℕ) (put : List Box)
+            → IsFilling scenario seen tickets put self.old.done.items
+            (Piece.Pushed number ∷ reverse self.old.rest.items) self.old.slots.items
+            → OnOk result (IsFilling scenario seen tickets put self.new.done.items
+            (reverse self.new.rest.items) self.new.slots.items) }
+        ensures pieces { OnOk result
+            (length self.new.rest.items + sum_by length self.new.slots.items
+            ≡ length self.old.rest.items + sum_by length self.old.slots.items) }
+    {
+        self.fill(number)?;
+        Ok(())
+    }
+
+    /// Settles what is next, until a branch is left: that branch, and whether it was tried. None where
+    /// nothing is left.
+    pub fn next_left(&mut self) -> Result<Option<(Tracked, bool)>, AllocError>
+        requires { (scenario : Scenario) × (seen : ℕ) × (tickets : ℕ) × (put : List Box)
+            × IsFilling scenario seen tickets put self.old.done.items
+            (reverse self.old.rest.items) self.old.slots.items }
+        ensures some { (scenario : Scenario) (seen tickets : ℕ) (put : List Box)
+            → IsFilling scenario seen tickets put self.old.done.items
+            (reverse self.old.rest.items) self.old.slots.items
+            → IfOk result (λ next. IfSome next (λ left.
+            IsFilling scenario seen tickets put self.new.done.items
+            (Piece.Todo left.0 left.1 ∷ reverse self.new.rest.items) self.new.slots.items)) }
+        ensures none { (scenario : Scenario) (seen tickets : ℕ) (put : List Box)
+            → IsFilling scenario seen tickets put self.old.done.items
+            (reverse self.old.rest.items) self.old.slots.items
+            → IfOk result (λ next. IfNone next
+            (IsFilling scenario seen tickets put self.new.done.items [] self.new.slots.items)) }
+    {
+        while let Some(piece) = self.rest.pop() {
+            match piece {
+                Piece::Todo { branch, tried } => return Ok(Some((branch, tried))),
+                Piece::Pushed(number) => self.fill_place(number)?,
+                Piece::Done(node) => self.done.push(Piece::Done(node))?,
+            }
+        }
+        Ok(None)
+    }
+}

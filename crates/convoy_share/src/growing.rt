@@ -1,0 +1,114 @@
+//! A tree that one worker is searching.
+
+ghost use Rattle.std.specs.Prelude.{◌≡◌, ◌≤◌, ◌<◌, ◌+◌, [], ◌∷◌, ◌++◌, false, length, reverse};
+ghost use Rattle.std.specs.Prelude.{IfNone, IfOk, IfSome, OnOk};
+ghost use Rattle.convoy_share.specs.Growing.{pieces_in};
+ghost use Rattle.convoy_share.specs.Turns.{parted, pieces_of};
+
+use super::piece::Piece;
+use convoy_branch::Turn;
+use convoy_certificate::Node;
+use convoy_intervals::Tracked;
+use std::alloc::{AllocError, Global};
+
+/// A tree that is being searched: its pieces are the work, and then what is written.
+#[derive(Drop)]
+pub(crate) struct Growing {
+    /// The pieces that are still to be looked at. What is looked at first stands last.
+    pub work: Vec<Piece>,
+    /// The pieces that come after them in the tree, from the last one back.
+    pub written: Vec<Piece>,
+}
+
+impl Growing {
+    /// A branch that nobody has looked at.
+    pub fn of(alloc: Global, branch: Tracked) -> Result<Growing, AllocError>
+        ensures { IfOk result (λ growing.
+            (growing.work.items ≡ Piece.Todo branch false ∷ []) × (growing.written.items ≡ [])) }
+    {
+        let mut work = Vec::new(alloc);
+        work.push(Piece::Todo {
+            branch,
+            tried: false,
+        })?;
+        Ok(Growing {
+            work,
+            written: Vec::new(alloc),
+        })
+    }
+
+    /// The last branch that is left among the work, and whether it was tried. What stands behind it is
+    /// written.
+    pub fn next(&mut self) -> Result<Option<(Tracked, bool)>, AllocError>
+        ensures some { IfOk result (λ next. IfSome next (λ left. pieces_in self.old
+            ≡ self.new.work.items ++ Piece.Todo left.0 left.1 ∷ reverse self.new.written.items)) }
+        ensures fewer { IfOk result (λ next. IfSome next (λ left.
+            length self.new.work.items < length self.old.work.items)) }
+        ensures none { IfOk result (λ next. IfNone next
+            (pieces_in self.old ≡ reverse self.new.written.items)) }
+    {
+        while let Some(piece) = self.work.pop() {
+            match piece {
+                Piece::Todo { branch, tried } => return Ok(Some((branch, tried))),
+                piece => self.written.push(piece)?,
+            }
+        }
+        Ok(None)
+    }
+
+    /// The pieces of a turn come in the place of a branch.
+    pub fn follow(&mut self, turn: Turn) -> Result<(), AllocError>
+        ensures pieces { OnOk result (pieces_in self.new
+            ≡ self.old.work.items ++ (pieces_of turn ++ reverse self.old.written.items)) }
+        ensures few { OnOk result (length self.new.work.items ≤ length self.old.work.items + 3) }
+    {
+        match turn {
+            Turn::Closed(node) => self.work.push(Piece::Done(node))?,
+            Turn::Halves {
+                packet,
+                at,
+                lower,
+                upper,
+            } => {
+                let lower = Piece::Todo {
+                    branch: lower,
+                    tried: false,
+                };
+                self.part(packet, at, lower, upper)?;
+            }
+        }
+        Ok(())
+    }
+
+    /// A split comes in the place of a branch, with what became of the lower half, and the upper half,
+    /// which was tried.
+    pub fn part(
+        &mut self,
+        packet: u16,
+        at: u16,
+        lower: Piece,
+        upper: Tracked,
+    ) -> Result<(), AllocError>
+        ensures pieces { OnOk result (pieces_in self.new
+            ≡ self.old.work.items ++ (parted packet at lower upper ++ reverse self.old.written.items)) }
+        ensures few { OnOk result (length self.new.work.items ≤ length self.old.work.items + 3) }
+    {
+        self.work.push(Piece::Done(Node::Split { packet, at }))?;
+        self.work.push(lower)?;
+        self.work.push(Piece::Todo {
+            branch: upper,
+            tried: true,
+        })?;
+        Ok(())
+    }
+
+    /// The branch stays left.
+    pub fn leave(&mut self, branch: Tracked, tried: bool) -> Result<(), AllocError>
+        ensures pieces { OnOk result (pieces_in self.new
+            ≡ self.old.work.items ++ Piece.Todo branch tried ∷ reverse self.old.written.items) }
+        ensures few { OnOk result (self.new.work.items ≡ self.old.work.items) }
+    {
+        self.written.push(Piece::Todo { branch, tried })?;
+        Ok(())
+    }
+}

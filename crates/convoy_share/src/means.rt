@@ -1,0 +1,136 @@
+//! What a worker looks, publishes and draws with, and how it takes up a branch.
+
+ghost use Rattle.std.specs.Prelude.{◌≡◌, ◌≤◌, ◌+◌, true, length, IfOk, IfSome, OnOk};
+ghost use Rattle.std.specs.Bool.{OnFalse, OnTrue};
+ghost use Rattle.convoy_packets.specs.Table.{table_of};
+ghost use Rattle.convoy_branch.specs.Steps.{known_after, IsTriedIf};
+ghost use Rattle.convoy_share.specs.Means.{IsTakenUp};
+
+use super::fault::SearchFault;
+use super::gate::Gate;
+use convoy_branch::laws::{fronts_better, turns_are_fronts, turns_are_nodes};
+use convoy_branch::{Step, Turn, step_branch};
+use convoy_incumbent::{Board, Hand, NoteFault};
+use convoy_intervals::Tracked;
+use convoy_intervals::laws::upper_keeps_greatest;
+use convoy_ledger::{Clerk, Ledger};
+use convoy_packets::PacketTable;
+use convoy_scenario::Scenario;
+use convoy_sim::Record;
+use std::alloc::Global;
+use std::sync::Wait;
+
+/// What a worker looks and publishes with, and what it draws with, beside its number and how many
+/// branches it has taken up.
+#[derive(Drop)]
+pub(crate) struct Means {
+    pub hand: Hand,
+    pub clerk: Clerk,
+    pub worker: u32,
+    pub taken_up: u64,
+}
+
+/// What became of a branch that was taken up.
+#[derive(Drop)]
+pub(crate) enum TakenUp {
+    /// A ticket was spent for it.
+    Turned(Turn),
+    /// There was no ticket left.
+    Left(Tracked),
+}
+
+/// Takes up a branch: looks, draws a ticket, and does the step where there was one.
+pub(crate) fn take_up<R: Wait, G: Gate>(
+    rt: &R,
+    alloc: Global,
+    gate: &G,
+    scenario: &Scenario,
+    table: &PacketTable,
+    board: &Board,
+    ledger: &Ledger,
+    means: &mut Means,
+    branch: Tracked,
+    tried: bool,
+) -> Result<TakenUp, SearchFault>
+    requires packets { table.now ≡ table_of scenario.now }
+    requires board { board.now.scenario ≡ scenario.now }
+    requires hand { means.old.hand.board ≡ board.now }
+    requires clerk { means.old.clerk.ledger ≡ ledger.now }
+    requires of_scenario { branch.scenario ≡ scenario.now }
+    requires known { IsTriedIf scenario.now branch.space tried means.old.hand.seen }
+    ensures { IfOk result (λ taken.
+        IsTakenUp scenario.now ledger.now.most branch means.old means.new taken) }
+{
+    fronts_better();
+    turns_are_fronts();
+    turns_are_nodes();
+    upper_keeps_greatest();
+    let _count = table.len();
+    let _space = branch.space();
+    gate.before_branch(means.worker, means.taken_up);
+    means.taken_up = means.taken_up.saturating_add(1);
+    let seen = board.look(&mut means.hand);
+    if !has_drawn(ledger, &mut means.clerk) {
+        return Ok(TakenUp::Left(branch));
+    }
+    match step_branch(alloc, scenario, table, branch, tried, seen) {
+        Ok(Step { found, turn }) => {
+            publish_found(rt, board, &mut means.hand, found)?;
+            Ok(TakenUp::Turned(turn))
+        }
+        Err(_) => Err(SearchFault::Memory),
+    }
+}
+
+/// Draws a ticket, if there is one left.
+fn has_drawn(ledger: &Ledger, clerk: &mut Clerk) -> bool
+    requires { clerk.old.ledger ≡ ledger.now }
+    ensures same { (clerk.new.ledger ≡ ledger.now) × (clerk.new.share ≡ clerk.old.share) }
+    ensures some { OnTrue result ((length clerk.new.tickets ≡ length clerk.old.tickets + 1)
+        × (length clerk.new.tickets ≤ ledger.now.most)) }
+    ensures none { OnFalse result ((clerk.new.tickets ≡ clerk.old.tickets)
+        × (clerk.new.done ≡ true)) }
+{
+    ledger.draw(clerk).is_some()
+}
+
+/// Notes and publishes what was found, if there is a record.
+fn publish_found<R: Wait>(
+    rt: &R,
+    board: &Board,
+    hand: &mut Hand,
+    found: Option<Record>,
+) -> Result<(), SearchFault>
+    requires hand { hand.old.board ≡ board.now }
+    requires found { IfSome found (λ r. r.scenario ≡ board.now.scenario) }
+    ensures same { (hand.new.board ≡ board.now) × (hand.new.share ≡ hand.old.share) }
+    ensures seen { OnOk result (hand.old.seen ≤ hand.new.seen) }
+    ensures known { OnOk result (known_after hand.old.seen found ≤ hand.new.seen) }
+{
+    match found {
+        Some(found) => publish(rt, board, hand, found),
+        None => Ok(()),
+    }
+}
+
+/// Notes and publishes a record.
+fn publish<R: Wait>(
+    rt: &R,
+    board: &Board,
+    hand: &mut Hand,
+    found: Record,
+) -> Result<(), SearchFault>
+    requires hand { hand.old.board ≡ board.now }
+    requires found { found.scenario ≡ board.now.scenario }
+    ensures same { (hand.new.board ≡ board.now) × (hand.new.share ≡ hand.old.share) }
+    ensures seen { OnOk result ((hand.old.seen ≤ hand.new.seen)
+        × (found.latency ≤ hand.new.seen)) }
+{
+    let noted = match board.note(rt, found) {
+        Ok(noted) => noted,
+        Err(NoteFault::Memory(_)) => return Err(SearchFault::Memory),
+        Err(NoteFault::PlaceTooLarge(late)) => return Err(SearchFault::PlaceTooLarge(late)),
+    };
+    board.publish(hand, noted);
+    Ok(())
+}

@@ -1,0 +1,42 @@
+//! The tree over a branch that a worker took.
+
+ghost use Rattle.std.specs.Prelude.{◌≡◌, [], ◌∷◌, ◌++◌, reverse, OnOk};
+
+use super::piece::Piece;
+use std::alloc::AllocError;
+use std::marker::Model;
+
+/// The tree over a branch that was taken, as far as it was searched. Contracts see the number of the
+/// branch and the pieces in order.
+#[derive(Drop)]
+pub(crate) struct Tree {
+    number: u64,
+    /// From the last one back.
+    pieces: Vec<Piece>,
+}
+
+impl Model for Tree {
+    ghost use Rattle.std.specs.Prelude.{reverse};
+    ghost use Rattle.convoy_share.specs.Subtrees.{Subtree};
+
+    ghost Value = { Subtree };
+
+    ghost view = { λ t. record { number = t.number; pieces = reverse t.pieces.items } };
+}
+
+impl Tree {
+    /// A tree of pieces that stand from the last one back.
+    pub fn of(number: u64, pieces: Vec<Piece>) -> Tree
+        ensures { result ≡ record { number = number; pieces = reverse pieces.items } }
+    {
+        Tree { number, pieces }
+    }
+}
+
+/// Keeps a tree.
+pub(crate) fn keep(trees: &mut Vec<Tree>, tree: Tree) -> Result<(), AllocError>
+    ensures { OnOk result (trees.new.items ≡ trees.old.items ++ tree ∷ []) }
+{
+    trees.push(tree)?;
+    Ok(())
+}
