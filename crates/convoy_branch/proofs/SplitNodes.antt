@@ -8,7 +8,7 @@ use Rattle.convoy_packets.specs.Assignment.{ranges_of}
 use Rattle.convoy_packets.specs.Table.{IsRange, IsTable, table_of}
 use Rattle.convoy_certificate.specs.Certificate.{IsNode}
 use Rattle.convoy_certificate.specs.declared.node.Node.{Node}
-use Rattle.convoy_certificate.specs.declared.node.Node.TheVariants.{Split, Bound, Point}
+use Rattle.convoy_certificate.specs.declared.node.Node.TheVariants.{Split, Bound, Point, Stamp}
 use Rattle.convoy_intervals.specs.Boxes.{IsBox, IsInside}
 use Rattle.convoy_intervals.specs.Boxes.{CanSplit}
 use Rattle.convoy_intervals.specs.Boxes.{Box}
@@ -33,6 +33,7 @@ leaf_node : (plan : Scenario) (known : ℕ) (box : Box) (node : Node) → IsTurn
 leaf_node plan known box (Split packet at) turn = absurd turn
 leaf_node plan known box Bound turn = tt
 leaf_node plan known box Point turn = tt
+leaf_node plan known box Stamp turn = absurd turn
 
 pub All-turn : (plan : Scenario) (known : ℕ) (box : Box) (turn : Turn) → IsTable (table_of plan) → IsBox plan box → IsTurn plan box known turn → All IsNode (spent_in (front_after turn))
 All-turn plan known box (Closed node) table inside is =
