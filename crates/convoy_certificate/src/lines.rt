@@ -82,7 +82,7 @@ fn stamp_in(version: Version) -> Option<Node>
     ensures lawful { IfSome result IsNode }
 {
     match version {
-        Version::One => Some(Node::Stamp),
+        Version::One => None,
         Version::Two => Some(Node::Stamp),
     }
 }

@@ -21,6 +21,9 @@ use super::version::Version;
 use convoy_lines::{LineReader, number_in};
 use std::alloc::Global;
 
+#[cfg(test)]
+mod tests;
+
 /// Reads the lines of a scenario, from `delay` to `target`, as a version has them (docs/FORMATS.md,
 /// "Certificate text").
 ///

@@ -1,0 +1,30 @@
+use super::read_lines;
+use crate::fault::{Limit, ScenarioFault};
+use crate::line_fault::{Expected, LineFault};
+use crate::version::Version;
+use convoy_lines::LineReader;
+use std::alloc::Global;
+use std::test::Fail;
+
+/// The fault of the lines of a scenario with a line `link` so many times; None where there is none.
+fn fault_of(alloc: Global, version: Version, count: usize) -> Result<Option<LineFault>, Fail> {
+    let links = "link a b 1 2\n".repeat(alloc, count)?;
+    let text = format!(in alloc;
+        "delay 3\ngroups a b\n{links}multicast x client 0 b\ntarget x b\n"
+    )?;
+    let mut reader = LineReader::over(text.as_bytes());
+    Ok(read_lines(alloc, version, &mut reader).err())
+}
+
+#[test]
+fn counts_of_links(rt: HostRuntime) -> Result<(), Fail> {
+    let double = Some(LineFault::Scenario(ScenarioFault::DoubleName));
+    let over = Some(LineFault::Scenario(ScenarioFault::OverLimit(Limit::Link)));
+    for (count, fault) in [(0, None), (1, None), (2, double), (72, double), (73, over)] {
+        let found = fault_of(rt.alloc(), Version::Two, count)?;
+        assert_eq!(rt; found, fault, "{count} links");
+    }
+    let found = fault_of(rt.alloc(), Version::One, 1)?;
+    assert_eq!(rt; found, Some(LineFault::Line(3, Expected::Multicast)));
+    Ok(())
+}
