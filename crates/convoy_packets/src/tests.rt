@@ -82,6 +82,7 @@ fn takes_ranges_of_links(rt: HostRuntime) -> Result<(), Fail> {
         "[[link]]\nfrom = \"b\"\nto = \"a\"\nleast = 1\nmost = 1\n[[link]]\nto = \"b\"\nleast = 2\nmost = 3\n";
     let text = format!(in rt.alloc(); "{BASE}{links}")?;
     let table = PacketTable::of(rt.alloc(), &scenario(&text, rt.alloc())?)?;
+    assert_eq!(rt; table.len(), 8);
     let by_client = (2, 3);
     let back = (1, 1);
     let other = (1, 3);
