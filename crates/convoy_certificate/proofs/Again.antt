@@ -1,7 +1,8 @@
 -- The text of a certificate is read again.
-use Rattle.std.proofs.Common.{◌≡◌, ℕ, suc, ◌+◌, ◌≤◌, ◌==◌, true, false, cond, List, [], ◌∷◌, ◌++◌, length, map, All, Option, Some, None, option_map, option_and_then, Result, Ok, Err, refl, ap, sym, ◌∙◌, arith, inl, inr, codes, decimal}
-use Rattle.std.specs.List.{AllByRecursion}
-use Rattle.std.proofs.lemmas.Bool.{ne_eqb, cond-true}
+use Rattle.std.proofs.Common.{◌≡◌, ℕ, suc, ◌+◌, ◌≤◌, ◌==◌, Bool, true, false, ◌&&◌, ◌||◌, not, cond, List, [], ◌∷◌, ◌++◌, length, map, All, Option, Some, None, option_map, option_and_then, Result, Ok, Err, refl, ap, sym, ◌∙◌, arith, inl, inr, codes, decimal}
+use Rattle.std.specs.List.{AllByRecursion, list_any}
+use Rattle.std.proofs.lemmas.Bool.{and_parts, cases_Bool, eqb-true, ne_eqb, cond-true}
+use Rattle.std.proofs.lemmas.List.{nil_from_length}
 use Rattle.std.proofs.lemmas.List.Elements.{All-head, All-tail}
 use Rattle.convoy_scenario.specs.declared.line_fault.Expected.{Expected}
 use Rattle.convoy_scenario.specs.declared.line_fault.Expected.TheVariants as expected
@@ -9,7 +10,7 @@ use Rattle.convoy_scenario.specs.declared.limits.TheConstants.{GREATEST_DELAY}
 use Rattle.convoy_scenario.specs.declared.version.Version.{Version}
 use Rattle.convoy_scenario.specs.declared.version.Version.TheVariants.{One, Two}
 use Rattle.convoy_scenario.specs.Laws.{CanSay}
-use Rattle.convoy_scenario.specs.Scenario.{Link, Scenario}
+use Rattle.convoy_scenario.specs.Scenario.{Scenario}
 use Rattle.convoy_scenario.specs.WellFormed.{IsScenario}
 use Rattle.convoy_lines.specs.Labels.{number_in}
 use Rattle.convoy_lines.specs.Laws.{IsWord, IsLine}
@@ -22,7 +23,7 @@ use Rattle.convoy_packets.specs.Packets.{packets_of}
 use Rattle.convoy_packets.specs.declared.packet.Packet.{Packet}
 use Rattle.convoy_certificate.specs.declared.certificate.TheConstants.{MOST_NODES}
 use Rattle.convoy_certificate.specs.declared.node.Node.{Node}
-use Rattle.convoy_certificate.specs.declared.node.Node.TheVariants.{Split, Bound, Point}
+use Rattle.convoy_certificate.specs.declared.node.Node.TheVariants.{Split, Bound, Point, Stamp}
 use Rattle.convoy_certificate.specs.declared.text_fault.TextFault.{TextFault}
 use Rattle.convoy_certificate.specs.declared.text_fault.TextFault.TheVariants as faults
 use Rattle.convoy_certificate.specs.Certificate.{Certificate, IsNode, IsCertificate}
@@ -31,7 +32,7 @@ use Rattle.convoy_lines.specs.Results.{◌>>=◌}
 use Rattle.convoy_certificate.specs.Reading.{in_text, is_same_version, whole, is_assignment, nodes_in, nodes_at, certificate_of, IsTextOf}
 use Rattle.convoy_certificate.specs.Laws.{TextsAreRead}
 use Rattle.convoy_scenario.specs.Memory.{IsUnlessMemory}
-use Rattle.convoy_certificate.specs.Text.{version_of, version_line, latency_line, schedule_line, node_line, end_line, certificate_lines, certificate_text}
+use Rattle.convoy_certificate.specs.Text.{is_stamp, version_of, version_line, latency_line, schedule_line, node_line, end_line, certificate_lines, certificate_text}
 use Rattle.convoy_certificate.proofs.Assigned.{passes}
 use Rattle.convoy_certificate.proofs.LineLaws.{WrittenGrounds, AreWords, AreLines, lines_append, decimal_word, number_again, line_made, label_again, number_line_again, lines_again, scenario_lines_are}
 use Rattle.convoy_certificate.proofs.NodeLaws.{split_word, split_again}
@@ -85,10 +86,31 @@ tail_of c = latency_line c.latency ∷ schedule_line c.delays ∷ (map node_line
 
 -- the version in which a certificate is written can say its scenario
 can_say : (c : Certificate) → CanSay (version_of c) c.scenario
-can_say c = with_links c.scenario.links where
-  with_links : (links : List Link) → CanSay (version_of (record c { scenario = record c.scenario { links = links } })) (record c.scenario { links = links })
-  with_links [] = refl
-  with_links (l ∷ ls) = tt
+can_say c =
+    elim (cases_Bool (length c.scenario.links == 0 && not (list_any is_stamp c.nodes))) [
+      | inl one ↦ rw one (nil_from_length c.scenario.links (eqb-true _ _ (and_parts (length c.scenario.links == 0) (not (list_any is_stamp c.nodes)) one).0))
+      | inr two ↦ rw two tt
+    ]
+
+-- the version has a line for each of the nodes
+abbrev Lists : Version → List Node → Type 0
+Lists version nodes = version ≡ One → list_any is_stamp nodes ≡ false
+
+not_true : (b : Bool) → not b ≡ true → b ≡ false
+not_true false e = refl
+not_true true e = absurd cc
+
+neither : (a b : Bool) → (a || b) ≡ false → (a ≡ false) × (b ≡ false)
+neither false b e = (refl, e)
+neither true b e = absurd cc
+
+-- that in which a certificate is written has one for each of its nodes
+lists_own : (c : Certificate) → Lists (version_of c) c.nodes
+lists_own c is_one =
+    elim (cases_Bool (length c.scenario.links == 0 && not (list_any is_stamp c.nodes))) [
+      | inl one ↦ not_true (list_any is_stamp c.nodes) (and_parts (length c.scenario.links == 0) (not (list_any is_stamp c.nodes)) one).1
+      | inr two ↦ let other : Two ≡ One = rw two at is_one in absurd cc
+    ]
 
 version_again : (version : Version) → version_in (version_line version) ≡ Some version
 version_again One = refl
@@ -120,19 +142,21 @@ module _ (grounds : WrittenGrounds) where
 
   -- ---- nodes
 
-  node_again : (node : Node) → IsNode node → node_or_end (node_line node) ≡ Some (Some node)
-  node_again (Split packet at) is = ap (option_map (λ node. Some node)) (split_again grounds packet at is.0 is.1 is.2)
-  node_again Bound is = refl
-  node_again Point is = refl
+  node_again : (version : Version) (node : Node) → IsNode node → (version ≡ One → is_stamp node ≡ false) → node_or_end version (node_line node) ≡ Some (Some node)
+  node_again version (Split packet at) is listed = ap (option_map (λ node. Some node)) (split_again grounds version packet at is.0 is.1 is.2)
+  node_again version Bound is listed = refl
+  node_again version Point is listed = refl
+  node_again Two Stamp is listed = refl
+  node_again One Stamp is listed = let other : true ≡ false = listed refl in absurd cc
 
-  nodes_again : (nodes : List Node) (count number : ℕ) (rest : List ℕ) (more : List (List ℕ)) → All IsNode nodes → count + length nodes ≤ MOST_NODES
-      → nodes_in count number rest (map node_line nodes ++ end_line ∷ more) ≡ Ok (nodes, record { ended = more; rest = rest; number = number + length nodes + 1 })
+  nodes_again : (version : Version) (nodes : List Node) (count number : ℕ) (rest : List ℕ) (more : List (List ℕ)) → All IsNode nodes → Lists version nodes → count + length nodes ≤ MOST_NODES
+      → nodes_in version count number rest (map node_line nodes ++ end_line ∷ more) ≡ Ok (nodes, record { ended = more; rest = rest; number = number + length nodes + 1 })
   unfolding nodes_in
-  nodes_again [] count number rest more are few = let e : number + 0 + 1 ≡ number + 1 = omega arith in rw e refl
-  nodes_again (node ∷ nodes) count number rest more are few =
+  nodes_again version [] count number rest more are listed few = let e : number + 0 + 1 ≡ number + 1 = omega arith in rw e refl
+  nodes_again version (node ∷ nodes) count number rest more are listed few =
       let below : (count == MOST_NODES) ≡ false = ne_eqb count MOST_NODES (λ e. omega arith) in
       let e : number + suc (length nodes) + 1 ≡ (number + 1) + length nodes + 1 = omega arith in
-      rw (node_again node (All-head IsNode node nodes are), below, nodes_again nodes (count + 1) (number + 1) rest more (All-tail IsNode node nodes are) (omega arith), e) refl
+      rw (node_again version node (All-head IsNode node nodes are) (λ one. (neither _ _ (listed one)).0), below, nodes_again version nodes (count + 1) (number + 1) rest more (All-tail IsNode node nodes are) (λ one. (neither _ _ (listed one)).1) (omega arith), e) refl
 
   -- ---- no line has a byte 10 in it
 
@@ -143,6 +167,7 @@ module _ (grounds : WrittenGrounds) where
     one (Split packet at) is = line_made grounds (codes "s") (decimal packet ∷ decimal at ∷ []) (split_word, (decimal_word grounds packet (omega (arith, is.0)), (decimal_word grounds at (omega (arith, is.2)), tt)))
     one Bound is = refl
     one Point is = refl
+    one Stamp is = refl
 
   lines_are : (c : Certificate) → IsCertificate c → AreLines (certificate_lines c)
   lines_are c is =
@@ -183,47 +208,47 @@ module _ (grounds : WrittenGrounds) where
       let start : place_before (certificate_text c) 1 ≡ p0 =
       ap (λ (l : Lines). record { ended = l.ended; rest = l.rest; number = 1 }) (lines_again grounds (certificate_lines c) (lines_are c is)) in
       let from : Place → Result Certificate TextFault = λ p. in_text (form_at expected.Convoy version_in p) >>= λ version. in_text (scenario_at version.0 version.1) >>= λ scenario. in_text (form_at expected.Latency (number_in (codes "latency")) scenario.1) >>= λ latency.
-      in_text (form_at expected.Schedule schedule_in latency.1) >>= λ delays. cond (is_assignment scenario.0 delays.0) (nodes_at 0 delays.1) (Err faults.Schedule) >>= λ nodes.
+      in_text (form_at expected.Schedule schedule_in latency.1) >>= λ delays. cond (is_assignment scenario.0 delays.0) (nodes_at version.0 0 delays.1) (Err faults.Schedule) >>= λ nodes.
       whole version.0 (record { scenario = scenario.0; latency = latency.0; delays = delays.0; nodes = nodes.0 }) nodes.1 in
       let read : from p0 ≡ Ok c =
       then_ok (in_text (form_at expected.Convoy version_in p0)) (λ version. in_text (scenario_at version.0 version.1) >>= λ scenario. in_text (form_at expected.Latency (number_in (codes "latency")) scenario.1) >>= λ latency.
-      in_text (form_at expected.Schedule schedule_in latency.1) >>= λ delays. cond (is_assignment scenario.0 delays.0) (nodes_at 0 delays.1) (Err faults.Schedule) >>= λ nodes.
+      in_text (form_at expected.Schedule schedule_in latency.1) >>= λ delays. cond (is_assignment scenario.0 delays.0) (nodes_at version.0 0 delays.1) (Err faults.Schedule) >>= λ nodes.
       whole version.0 (record { scenario = scenario.0; latency = latency.0; delays = delays.0; nodes = nodes.0 }) nodes.1)
       (v, p1) (Ok c) (form_again expected.Convoy version_in 1 [] (version_line v) (scenario_lines c.scenario ++ tail) v (version_again v))
       (then_ok (in_text (scenario_at v p1)) (λ scenario. in_text (form_at expected.Latency (number_in (codes "latency")) scenario.1) >>= λ latency.
-      in_text (form_at expected.Schedule schedule_in latency.1) >>= λ delays. cond (is_assignment scenario.0 delays.0) (nodes_at 0 delays.1) (Err faults.Schedule) >>= λ nodes.
+      in_text (form_at expected.Schedule schedule_in latency.1) >>= λ delays. cond (is_assignment scenario.0 delays.0) (nodes_at v 0 delays.1) (Err faults.Schedule) >>= λ nodes.
       whole v (record { scenario = scenario.0; latency = latency.0; delays = delays.0; nodes = nodes.0 }) nodes.1)
       (c.scenario, p2) (Ok c) (ap in_text scenario)
       (then_ok (in_text (form_at expected.Latency (number_in (codes "latency")) p2)) (λ latency.
-      in_text (form_at expected.Schedule schedule_in latency.1) >>= λ delays. cond (is_assignment c.scenario delays.0) (nodes_at 0 delays.1) (Err faults.Schedule) >>= λ nodes.
+      in_text (form_at expected.Schedule schedule_in latency.1) >>= λ delays. cond (is_assignment c.scenario delays.0) (nodes_at v 0 delays.1) (Err faults.Schedule) >>= λ nodes.
       whole v (record { scenario = c.scenario; latency = latency.0; delays = delays.0; nodes = nodes.0 }) nodes.1)
       (c.latency, p3) (Ok c) (form_again expected.Latency (number_in (codes "latency")) n [] (latency_line c.latency) (schedule_line c.delays ∷ nodes) c.latency (number_line_again grounds (codes "latency") c.latency latency_word (omega (arith, is.latency))))
-      (then_ok (in_text (form_at expected.Schedule schedule_in p3)) (λ delays. cond (is_assignment c.scenario delays.0) (nodes_at 0 delays.1) (Err faults.Schedule) >>= λ nodes.
+      (then_ok (in_text (form_at expected.Schedule schedule_in p3)) (λ delays. cond (is_assignment c.scenario delays.0) (nodes_at v 0 delays.1) (Err faults.Schedule) >>= λ nodes.
       whole v (record { scenario = c.scenario; latency = c.latency; delays = delays.0; nodes = nodes.0 }) nodes.1)
       (c.delays, p4) (Ok c) (form_again expected.Schedule schedule_in (n + 1) [] (schedule_line c.delays) nodes c.delays (schedule_again c.delays small))
-      (then_ok (cond (is_assignment c.scenario c.delays) (nodes_at 0 p4) (Err faults.Schedule)) (λ nodes.
+      (then_ok (cond (is_assignment c.scenario c.delays) (nodes_at v 0 p4) (Err faults.Schedule)) (λ nodes.
       whole v (record { scenario = c.scenario; latency = c.latency; delays = c.delays; nodes = nodes.0 }) nodes.1)
-      (c.nodes, p5) (Ok c) (cond-true (is_assignment c.scenario c.delays) (nodes_at 0 p4) (Err faults.Schedule) (assigned c.scenario c.delays is.assigned) ∙ nodes_again c.nodes 0 (n + 1 + 1) [] [] is.nodes (omega (arith, few)))
+      (c.nodes, p5) (Ok c) (cond-true (is_assignment c.scenario c.delays) (nodes_at v 0 p4) (Err faults.Schedule) (assigned c.scenario c.delays is.assigned) ∙ nodes_again v c.nodes 0 (n + 1 + 1) [] [] is.nodes (lists_own c) (omega (arith, few)))
       (whole_again c p5 refl))))) in
       ap from start ∙ read
 
   -- ---- two certificates with one text
 
-  nodes_unique : (xs ys : List Node) → All IsNode xs → All IsNode ys → map node_line xs ++ end_line ∷ [] ≡ map node_line ys ++ end_line ∷ [] → xs ≡ ys
-  nodes_unique [] [] p q e = refl
-  nodes_unique [] (y ∷ ys) p q e =
+  nodes_unique : (version : Version) (xs ys : List Node) → All IsNode xs → All IsNode ys → Lists version xs → Lists version ys → map node_line xs ++ end_line ∷ [] ≡ map node_line ys ++ end_line ∷ [] → xs ≡ ys
+  nodes_unique version [] [] p q l m e = refl
+  nodes_unique version [] (y ∷ ys) p q l m e =
       let h = parts end_line (node_line y) [] (map node_line ys ++ end_line ∷ []) e in
-      let f : Some None ≡ Some (Some y) = ap node_or_end h.0 ∙ node_again y (All-head IsNode y ys q) in
+      let f : Some None ≡ Some (Some y) = ap (node_or_end version) h.0 ∙ node_again version y (All-head IsNode y ys q) (λ one. (neither _ _ (m one)).0) in
       let g : None ≡ Some y = same_some None (Some y) f in absurd cc
-  nodes_unique (x ∷ xs) [] p q e =
+  nodes_unique version (x ∷ xs) [] p q l m e =
       let h = parts (node_line x) end_line (map node_line xs ++ end_line ∷ []) [] e in
-      let f : Some (Some x) ≡ Some None = sym (node_again x (All-head IsNode x xs p)) ∙ ap node_or_end h.0 in
+      let f : Some (Some x) ≡ Some None = sym (node_again version x (All-head IsNode x xs p) (λ one. (neither _ _ (l one)).0)) ∙ ap (node_or_end version) h.0 in
       let g : Some x ≡ None = same_some (Some x) None f in absurd cc
-  nodes_unique (x ∷ xs) (y ∷ ys) p q e =
+  nodes_unique version (x ∷ xs) (y ∷ ys) p q l m e =
       let h = parts (node_line x) (node_line y) (map node_line xs ++ end_line ∷ []) (map node_line ys ++ end_line ∷ []) e in
-      let f : Some (Some x) ≡ Some (Some y) = sym (node_again x (All-head IsNode x xs p)) ∙ ap node_or_end h.0 ∙ node_again y (All-head IsNode y ys q) in
+      let f : Some (Some x) ≡ Some (Some y) = sym (node_again version x (All-head IsNode x xs p) (λ one. (neither _ _ (l one)).0)) ∙ ap (node_or_end version) h.0 ∙ node_again version y (All-head IsNode y ys q) (λ one. (neither _ _ (m one)).0) in
       let one : x ≡ y = same_some x y (same_some (Some x) (Some y) f) in
-      ap (λ n. n ∷ xs) one ∙ ap (λ ns. y ∷ ns) (nodes_unique xs ys (All-tail IsNode x xs p) (All-tail IsNode y ys q) h.1)
+      ap (λ n. n ∷ xs) one ∙ ap (λ ns. y ∷ ns) (nodes_unique version xs ys (All-tail IsNode x xs p) (All-tail IsNode y ys q) (λ one. (neither _ _ (l one)).1) (λ one. (neither _ _ (m one)).1) h.1)
 
   -- two certificates with one text are equal
   pub is_unique : (b c : Certificate) → IsCertificate b → IsCertificate c → certificate_text b ≡ certificate_text c → b ≡ c
@@ -245,7 +270,7 @@ module _ (grounds : WrittenGrounds) where
       (sym (number_line_again grounds (codes "latency") b.latency latency_word (omega (arith, p.latency))) ∙ ap (number_in (codes "latency")) first.0 ∙ number_line_again grounds (codes "latency") c.latency latency_word (omega (arith, q.latency))) in
       let delays : b.delays ≡ c.delays = same_some b.delays c.delays
       (sym (schedule_again b.delays (small_assigned b.scenario b.delays p.scenario p.assigned)) ∙ ap schedule_in second.0 ∙ schedule_again c.delays (small_assigned c.scenario c.delays q.scenario q.assigned)) in
-      let nodes : b.nodes ≡ c.nodes = nodes_unique b.nodes c.nodes p.nodes q.nodes second.1 in
+      let nodes : b.nodes ≡ c.nodes = nodes_unique (version_of b) b.nodes c.nodes p.nodes q.nodes (lists_own b) (λ one. lists_own c (sym version ∙ one)) second.1 in
       made scenario latency delays nodes where
         made : b.scenario ≡ c.scenario → b.latency ≡ c.latency → b.delays ≡ c.delays → b.nodes ≡ c.nodes → b ≡ c
         made s l d n =

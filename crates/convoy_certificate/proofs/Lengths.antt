@@ -21,7 +21,7 @@ use Rattle.convoy_scenario.specs.WellFormed.{is_letter, is_name_byte, is_name, c
 use Rattle.convoy_packets.specs.Laws.{PacketsAreFew, DelaysAreOneEach}
 use Rattle.convoy_certificate.specs.declared.certificate.TheConstants.{LONGEST_TEXT, MOST_NODES}
 use Rattle.convoy_certificate.specs.declared.node.Node.{Node}
-use Rattle.convoy_certificate.specs.declared.node.Node.TheVariants.{Split, Bound, Point}
+use Rattle.convoy_certificate.specs.declared.node.Node.TheVariants.{Split, Bound, Point, Stamp}
 use Rattle.convoy_certificate.specs.Certificate.{Certificate, IsNode, IsCertificate}
 use Rattle.convoy_certificate.specs.Text.{version_of, version_line, latency_line, schedule_line, node_line, end_line, certificate_text}
 use Rattle.convoy_certificate.proofs.Again.{Small, small_assigned}
@@ -81,6 +81,7 @@ node_length (Split packet at) is =
     omega arith
 node_length Bound is = omega arith
 node_length Point is = omega arith
+node_length Stamp is = omega arith
 
 nodes_length : (nodes : List Node) → AllByRecursion IsNode nodes → length (text_of (map node_line nodes)) ≤ length nodes * 10
 nodes_length [] are = omega arith

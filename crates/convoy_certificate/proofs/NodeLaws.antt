@@ -5,13 +5,15 @@ use Rattle.std.proofs.lemmas.Bool.{and_parts, cases_Bool, eqb-true}
 use Rattle.std.proofs.lemmas.List.{append-nil, nil_from_length}
 use Rattle.std.proofs.lemmas.Option.{cond_some, same_Some}
 use Rattle.convoy_scenario.specs.declared.limits.TheConstants.{GREATEST_DELAY}
+use Rattle.convoy_scenario.specs.declared.version.Version.{Version}
+use Rattle.convoy_scenario.specs.declared.version.Version.TheVariants.{One, Two}
 use Rattle.convoy_lines.specs.Options.{◌>>=◌}
 use Rattle.convoy_lines.specs.Words.{words_of, next_word, number_of}
 use Rattle.convoy_lines.specs.Texts.{line_of}
 use Rattle.convoy_certificate.specs.declared.node.Node.{Node}
-use Rattle.convoy_certificate.specs.declared.node.Node.TheVariants.{Split, Bound, Point}
+use Rattle.convoy_certificate.specs.declared.node.Node.TheVariants.{Split, Bound, Point, Stamp}
 use Rattle.convoy_certificate.specs.declared.node.TheConstants.{GREATEST_PACKET}
-use Rattle.convoy_certificate.specs.Forms.{split_in, leaf_in, node_in}
+use Rattle.convoy_certificate.specs.Forms.{split_in, stamp_in, leaf_in, node_in}
 use Rattle.convoy_certificate.specs.Text.{node_line}
 use Rattle.convoy_certificate.proofs.LineLaws.{ReadGrounds, WrittenGrounds, bind_some, next_takes, same_bytes, decimal_word, number_again, words_again}
 use Rattle.convoy_lines.specs.Laws.{IsWord}
@@ -24,16 +26,31 @@ pub map_takes : {A B : Type 0} (f : A → B) (o : Option A) (y : B) → option_m
 map_takes f None y e = absurd cc
 map_takes f (Some x) y e = (x, refl, same_Some (f x) y e)
 
-leaf_takes : (word : List ℕ) (node : Node) → leaf_in word ≡ Some node → word ≡ node_line node
-leaf_takes word node e =
+stamp_takes : (version : Version) (node : Node) → stamp_in version ≡ Some node → Stamp ≡ node
+stamp_takes One node e = absurd cc
+stamp_takes Two node e = same_Some Stamp node e
+
+leaf_takes : (version : Version) (word : List ℕ) (node : Node) → leaf_in version word ≡ Some node → word ≡ node_line node
+leaf_takes version word node e =
     elim (cases_Bool (bytes_eq word (codes "b"))) [
       | inl bound ↦
           let read : Some Bound ≡ Some node = rw bound at e in
           same_bytes word (codes "b") bound ∙ ap node_line (same_Some Bound node read)
       | inr other ↦
-          let read : cond (bytes_eq word (codes "p")) (Some Point) None ≡ Some node = rw other at e in
-          let g = cond_some (bytes_eq word (codes "p")) Point node read in
-          same_bytes word (codes "p") g.0 ∙ ap node_line g.1
+          let read : cond (bytes_eq word (codes "p")) (Some Point) (cond (bytes_eq word (codes "t")) (stamp_in version) None) ≡ Some node = rw other at e in
+          elim (cases_Bool (bytes_eq word (codes "p"))) [
+            | inl point ↦
+                let one : Some Point ≡ Some node = rw point at read in
+                same_bytes word (codes "p") point ∙ ap node_line (same_Some Point node one)
+            | inr neither ↦
+                let last : cond (bytes_eq word (codes "t")) (stamp_in version) None ≡ Some node = rw neither at read in
+                elim (cases_Bool (bytes_eq word (codes "t"))) [
+                  | inl stamp ↦
+                      let one : stamp_in version ≡ Some node = rw stamp at last in
+                      same_bytes word (codes "t") stamp ∙ ap node_line (stamp_takes version node one)
+                  | inr none ↦ let no_node : None ≡ Some node = rw none at last in absurd cc
+                ]
+          ]
     ]
 
 module _ (grounds : ReadGrounds) where
@@ -53,40 +70,40 @@ module _ (grounds : ReadGrounds) where
       next_takes words a.0 a.1 ∙ ap (λ ws. a.0.0 ∷ ws) (next_takes a.0.1 c.0 c.1 ∙ ap (λ ws. c.0.0 ∷ ws) last) ∙ ap (λ w. w ∷ c.0.0 ∷ []) packet.0 ∙ ap (λ w. decimal b.0 ∷ w ∷ []) at.0 in
       ap (line_of (codes "s")) read ∙ ap node_line g.1
 
-  pub node_takes : (line : List ℕ) (node : Node) → node_in line ≡ Some node → line ≡ node_line node
-  node_takes line node e =
-      let a = bind_some (next_word (words_of line)) (λ first. cond (bytes_eq first.0 (codes "s")) (split_in first.1) (cond (length first.1 == 0) (leaf_in first.0) None)) node e in
+  pub node_takes : (version : Version) (line : List ℕ) (node : Node) → node_in version line ≡ Some node → line ≡ node_line node
+  node_takes version line node e =
+      let a = bind_some (next_word (words_of line)) (λ first. cond (bytes_eq first.0 (codes "s")) (split_in first.1) (cond (length first.1 == 0) (leaf_in version first.0) None)) node e in
       let whole : line ≡ line_of a.0.0 a.0.1 = (grounds.words line a.0.0 a.0.1).0 (next_takes (words_of line) a.0 a.1) in
       elim (cases_Bool (bytes_eq a.0.0 (codes "s"))) [
         | inl split ↦
             let read : split_in a.0.1 ≡ Some node = rw split at a.2 in
             whole ∙ ap (λ w. line_of w a.0.1) (same_bytes a.0.0 (codes "s") split) ∙ split_takes a.0.1 node read
         | inr other ↦
-            let read : cond (length a.0.1 == 0) (leaf_in a.0.0) None ≡ Some node = rw other at a.2 in
+            let read : cond (length a.0.1 == 0) (leaf_in version a.0.0) None ≡ Some node = rw other at a.2 in
             elim (cases_Bool (length a.0.1 == 0)) [
               | inl alone ↦
-                  let leaf : leaf_in a.0.0 ≡ Some node = rw alone at read in
+                  let leaf : leaf_in version a.0.0 ≡ Some node = rw alone at read in
                   let last : a.0.1 ≡ [] = nil_from_length a.0.1 (eqb-true _ _ alone) in
-                  whole ∙ ap (line_of a.0.0) last ∙ append-nil a.0.0 ∙ leaf_takes a.0.0 node leaf
+                  whole ∙ ap (line_of a.0.0) last ∙ append-nil a.0.0 ∙ leaf_takes version a.0.0 node leaf
               | inr more ↦ let none : None ≡ Some node = rw more at read in absurd cc
             ]
       ]
 
 -- the node that the words of a line are
-abbrev node_of_words : List (List ℕ) → Option Node
-node_of_words words = do
+abbrev node_of_words : Version → List (List ℕ) → Option Node
+node_of_words version words = do
   first ← next_word words
-  if bytes_eq first.0 (codes "s") then split_in first.1 else if length first.1 == 0 then leaf_in first.0 else None
+  if bytes_eq first.0 (codes "s") then split_in first.1 else if length first.1 == 0 then leaf_in version first.0 else None
 
 -- the word of a line `s`
 pub split_word : IsWord (codes "s")
 split_word = record { some = omega arith; spaceless = refl; endless = refl }
 
 -- a line `s` is read again
-pub split_again : WrittenGrounds → (packet at : ℕ) → packet ≤ GREATEST_PACKET → 1 ≤ at → at ≤ GREATEST_DELAY → node_in (node_line (Split packet at)) ≡ Some (Split packet at)
-split_again grounds packet at known low high =
+pub split_again : WrittenGrounds → (version : Version) (packet at : ℕ) → packet ≤ GREATEST_PACKET → 1 ≤ at → at ≤ GREATEST_DELAY → node_in version (node_line (Split packet at)) ≡ Some (Split packet at)
+split_again grounds version packet at known low high =
     let words : words_of (node_line (Split packet at)) ≡ codes "s" ∷ decimal packet ∷ decimal at ∷ [] =
     words_again grounds (codes "s") (decimal packet ∷ decimal at ∷ []) (split_word, (decimal_word grounds packet (omega arith), (decimal_word grounds at (omega arith), tt))) in
-    let read : node_of_words (codes "s" ∷ decimal packet ∷ decimal at ∷ []) ≡ Some (Split packet at) =
+    let read : node_of_words version (codes "s" ∷ decimal packet ∷ decimal at ∷ []) ≡ Some (Split packet at) =
     rw (number_again grounds GREATEST_PACKET packet (omega arith) known, number_again grounds GREATEST_DELAY at (omega arith) high, le-leb 1 at low) refl in
-    ap node_of_words words ∙ read
+    ap (node_of_words version) words ∙ read

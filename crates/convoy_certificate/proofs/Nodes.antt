@@ -3,6 +3,7 @@ use Rattle.std.proofs.Common.{◌≡◌, ℕ, ◌+◌, ◌==◌, if◌then◌els
 use Rattle.std.proofs.lemmas.List.{append-nil}
 use Rattle.convoy_scenario.specs.declared.line_fault.Expected.TheVariants as expected
 use Rattle.convoy_lines.specs.Places.{Place}
+use Rattle.convoy_scenario.specs.declared.version.Version.{Version}
 use Rattle.convoy_scenario.specs.LineReading.{form_at}
 use Rattle.convoy_certificate.specs.declared.certificate.TheConstants.{MOST_NODES}
 use Rattle.convoy_certificate.specs.declared.node.Node.{Node}
@@ -12,22 +13,6 @@ use Rattle.convoy_certificate.specs.Forms.{node_or_end}
 use Rattle.convoy_lines.specs.Results.{◌>>=◌}
 use Rattle.convoy_certificate.specs.Reading.{in_text, from_node, nodes_in, nodes_at}
 
-abbrev pub node_at : Place → Result (Option Node × Place) TextFault
-node_at p = in_text (form_at expected.Node node_or_end p)
-
-abbrev pub after_node : ℕ → Option Node × Place → Result (List Node × Place) TextFault
-after_node count next = from_node next.0 next.1 (if count == MOST_NODES then Err faults.TreeCount else nodes_at (count + 1) next.1)
-
-unfolds : (count number : ℕ) (rest : List ℕ) (ended : List (List ℕ)) → nodes_in count number rest ended ≡ (node_at (record { ended = ended; rest = rest; number = number }) >>= after_node count)
-unfolding nodes_in
-unfolds count number rest [] = refl
-unfolds count number rest (line ∷ lines) =
-    elim (node_or_end line) as (λ n. (ok_or n (faults.Line number expected.Node) >>= λ next. from_node next (record { ended = lines; rest = rest; number = number + 1 }) (if count == MOST_NODES then Err faults.TreeCount else nodes_in (count + 1) (number + 1) rest lines))
-    ≡ (in_text (form_at expected.Node (λ _. n) (record { ended = line ∷ lines; rest = rest; number = number })) >>= after_node count)) [ None ↦ refl | Some next ↦ refl ]
-
-one_more : (count : ℕ) (p : Place) → nodes_at count p ≡ (node_at p >>= after_node count)
-one_more count p = unfolds count p.number p.rest p.ended
-
 -- what is read so far, and what is to come
 abbrev pub with_front : List Node → Result (List Node × Place) TextFault → Result (List Node × Place) TextFault
 with_front front read = read >>= λ more. Ok (front ++ more.0, more.1)
@@ -35,28 +20,6 @@ with_front front read = read >>= λ more. Ok (front ++ more.0, more.1)
 regroup : (front : List Node) (node : Node) (read : Result (List Node × Place) TextFault) → with_front front (read >>= λ more. Ok (node ∷ more.0, more.1)) ≡ with_front (front ++ node ∷ []) read
 regroup front node (Ok x) = ap (λ (ns : List Node). Ok (ns, x.1)) (sym (append_assoc front (node ∷ []) x.0))
 regroup front node (Err e) = refl
-
-step : (front : List Node) (count : ℕ) (p : Place) (total : Result (List Node × Place) TextFault) (next : Result (Option Node × Place) TextFault) → next ≡ node_at p
-    → with_front front (nodes_at count p) ≡ total → with_front front (next >>= after_node count) ≡ total
-step front count p total next e so_far = ap (λ r. with_front front (r >>= after_node count)) e ∙ sym (ap (with_front front) (one_more count p)) ∙ so_far
-
-pub faulty : (front : List Node) (count : ℕ) (p : Place) (total : Result (List Node × Place) TextFault) (fault : TextFault) → Err fault ≡ node_at p → with_front front (nodes_at count p) ≡ total → Err fault ≡ total
-faulty front count p total fault e so_far = step front count p total (Err fault) e so_far
-
-pub too_many : (front : List Node) (count : ℕ) (p : Place) (total : Result (List Node × Place) TextFault) (node : Node) (q : Place) → Ok (Some node, q) ≡ node_at p → (count == MOST_NODES) ≡ true
-    → with_front front (nodes_at count p) ≡ total → Err faults.TreeCount ≡ total
-too_many front count p total node q e many so_far =
-    let limit : with_front front (after_node count (Some node, q)) ≡ Err faults.TreeCount = rw many refl in
-    sym limit ∙ step front count p total (Ok (Some node, q)) e so_far
-
-pub goes_on : (front : List Node) (count : ℕ) (p : Place) (total : Result (List Node × Place) TextFault) (node : Node) (q : Place) → Ok (Some node, q) ≡ node_at p → (count == MOST_NODES) ≡ false
-    → with_front front (nodes_at count p) ≡ total → with_front (front ++ node ∷ []) (nodes_at (count + 1) q) ≡ total
-goes_on front count p total node q e few so_far =
-    let within : after_node count (Some node, q) ≡ (nodes_at (count + 1) q >>= λ more. Ok (node ∷ more.0, more.1)) = rw few refl in
-    sym (ap (with_front front) within ∙ regroup front node (nodes_at (count + 1) q)) ∙ step front count p total (Ok (Some node, q)) e so_far
-
-pub done : (front : List Node) (count : ℕ) (p : Place) (total : Result (List Node × Place) TextFault) (q : Place) → Ok (None, q) ≡ node_at p → with_front front (nodes_at count p) ≡ total → Ok (front, q) ≡ total
-done front count p total q e so_far = ap (λ (ns : List Node). Ok (ns, q)) (sym (append-nil front)) ∙ step front count p total (Ok (None, q)) e so_far
 
 abbrev place_in : Result (Option Node × Place) TextFault → Place → Place
 place_in (Ok x) p = x.1
@@ -67,12 +30,51 @@ pub no_node : (next : Option Node) → ((node : Node) → next ≡ Some node →
 no_node None other = refl
 no_node (Some node) other = absurd (other node refl)
 
--- a node that was read leaves fewer lines
-pub falls : (p q : Place) (next : Option Node) → Ok (next, q) ≡ node_at p → length q.ended < length p.ended
-falls p q next e = shorter p.number p.rest p.ended e where
-  shorter : (number : ℕ) (rest : List ℕ) (ended : List (List ℕ)) → Ok (next, q) ≡ node_at (record { ended = ended; rest = rest; number = number }) → length q.ended < length ended
-  shorter number rest [] e = absurd cc
-  shorter number rest (line ∷ lines) e = by_form (node_or_end line) e where
-    by_form : (n : Option (Option Node)) → Ok (next, q) ≡ in_text (form_at expected.Node (λ _. n) (record { ended = line ∷ lines; rest = rest; number = number })) → length q.ended < length (line ∷ lines)
-    by_form None e = absurd cc
-    by_form (Some found) e = let same : q ≡ record { ended = lines; rest = rest; number = number + 1 } = ap (λ r. place_in r q) e in rw same (omega arith)
+module _ (version : Version) where
+  abbrev pub node_at : Place → Result (Option Node × Place) TextFault
+  node_at p = in_text (form_at expected.Node (node_or_end version) p)
+
+  abbrev pub after_node : ℕ → Option Node × Place → Result (List Node × Place) TextFault
+  after_node count next = from_node next.0 next.1 (if count == MOST_NODES then Err faults.TreeCount else nodes_at version (count + 1) next.1)
+
+  unfolds : (count number : ℕ) (rest : List ℕ) (ended : List (List ℕ)) → nodes_in version count number rest ended ≡ (node_at (record { ended = ended; rest = rest; number = number }) >>= after_node count)
+  unfolding nodes_in
+  unfolds count number rest [] = refl
+  unfolds count number rest (line ∷ lines) =
+      elim (node_or_end version line) as (λ n. (ok_or n (faults.Line number expected.Node) >>= λ next. from_node next (record { ended = lines; rest = rest; number = number + 1 }) (if count == MOST_NODES then Err faults.TreeCount else nodes_in version (count + 1) (number + 1) rest lines))
+      ≡ (in_text (form_at expected.Node (λ _. n) (record { ended = line ∷ lines; rest = rest; number = number })) >>= after_node count)) [ None ↦ refl | Some next ↦ refl ]
+
+  one_more : (count : ℕ) (p : Place) → nodes_at version count p ≡ (node_at p >>= after_node count)
+  one_more count p = unfolds count p.number p.rest p.ended
+
+  step : (front : List Node) (count : ℕ) (p : Place) (total : Result (List Node × Place) TextFault) (next : Result (Option Node × Place) TextFault) → next ≡ node_at p
+      → with_front front (nodes_at version count p) ≡ total → with_front front (next >>= after_node count) ≡ total
+  step front count p total next e so_far = ap (λ r. with_front front (r >>= after_node count)) e ∙ sym (ap (with_front front) (one_more count p)) ∙ so_far
+
+  pub faulty : (front : List Node) (count : ℕ) (p : Place) (total : Result (List Node × Place) TextFault) (fault : TextFault) → Err fault ≡ node_at p → with_front front (nodes_at version count p) ≡ total → Err fault ≡ total
+  faulty front count p total fault e so_far = step front count p total (Err fault) e so_far
+
+  pub too_many : (front : List Node) (count : ℕ) (p : Place) (total : Result (List Node × Place) TextFault) (node : Node) (q : Place) → Ok (Some node, q) ≡ node_at p → (count == MOST_NODES) ≡ true
+      → with_front front (nodes_at version count p) ≡ total → Err faults.TreeCount ≡ total
+  too_many front count p total node q e many so_far =
+      let limit : with_front front (after_node count (Some node, q)) ≡ Err faults.TreeCount = rw many refl in
+      sym limit ∙ step front count p total (Ok (Some node, q)) e so_far
+
+  pub goes_on : (front : List Node) (count : ℕ) (p : Place) (total : Result (List Node × Place) TextFault) (node : Node) (q : Place) → Ok (Some node, q) ≡ node_at p → (count == MOST_NODES) ≡ false
+      → with_front front (nodes_at version count p) ≡ total → with_front (front ++ node ∷ []) (nodes_at version (count + 1) q) ≡ total
+  goes_on front count p total node q e few so_far =
+      let within : after_node count (Some node, q) ≡ (nodes_at version (count + 1) q >>= λ more. Ok (node ∷ more.0, more.1)) = rw few refl in
+      sym (ap (with_front front) within ∙ regroup front node (nodes_at version (count + 1) q)) ∙ step front count p total (Ok (Some node, q)) e so_far
+
+  pub done : (front : List Node) (count : ℕ) (p : Place) (total : Result (List Node × Place) TextFault) (q : Place) → Ok (None, q) ≡ node_at p → with_front front (nodes_at version count p) ≡ total → Ok (front, q) ≡ total
+  done front count p total q e so_far = ap (λ (ns : List Node). Ok (ns, q)) (sym (append-nil front)) ∙ step front count p total (Ok (None, q)) e so_far
+
+  -- a node that was read leaves fewer lines
+  pub falls : (p q : Place) (next : Option Node) → Ok (next, q) ≡ node_at p → length q.ended < length p.ended
+  falls p q next e = shorter p.number p.rest p.ended e where
+    shorter : (number : ℕ) (rest : List ℕ) (ended : List (List ℕ)) → Ok (next, q) ≡ node_at (record { ended = ended; rest = rest; number = number }) → length q.ended < length ended
+    shorter number rest [] e = absurd cc
+    shorter number rest (line ∷ lines) e = by_form (node_or_end version line) e where
+      by_form : (n : Option (Option Node)) → Ok (next, q) ≡ in_text (form_at expected.Node (λ _. n) (record { ended = line ∷ lines; rest = rest; number = number })) → length q.ended < length (line ∷ lines)
+      by_form None e = absurd cc
+      by_form (Some found) e = let same : q ≡ record { ended = lines; rest = rest; number = number + 1 } = ap (λ r. place_in r q) e in rw same (omega arith)

@@ -1,16 +1,18 @@
 -- Worked rows, computed from the definitions alone.
-use Rattle.std.proofs.Common.{◌≡◌, ℕ, List, [], ◌∷◌, ◌++◌, Err, refl, codes}
+use Rattle.std.proofs.Common.{◌≡◌, ℕ, List, [], ◌∷◌, ◌++◌, Some, None, Err, refl, codes}
 use Rattle.std.specs.Fmt.{digits}
 use Rattle.convoy_scenario.specs.declared.line_fault.Expected.TheVariants as expected
 use Rattle.convoy_scenario.specs.declared.sender.Sender.{Sender}
 use Rattle.convoy_scenario.specs.declared.sender.Sender.TheVariants.{Client, Group}
+use Rattle.convoy_scenario.specs.declared.version.Version.TheVariants.{One, Two}
 use Rattle.convoy_scenario.specs.LineReading.{links_in, messages_in, scenario_at}
 use Rattle.convoy_scenario.specs.Scenario.{Message}
 use Rattle.convoy_packets.specs.Assignment.{ranges_of}
 use Rattle.convoy_packets.specs.Packets.{packets_of}
-use Rattle.convoy_certificate.specs.declared.node.Node.TheVariants.{Bound}
+use Rattle.convoy_certificate.specs.declared.node.Node.TheVariants.{Bound, Stamp}
 use Rattle.convoy_certificate.specs.declared.text_fault.TextFault.TheVariants as faults
 use Rattle.convoy_certificate.specs.Certificate.{Certificate}
+use Rattle.convoy_certificate.specs.Forms.{node_or_end}
 use Rattle.convoy_certificate.specs.Reading.{nodes_in, certificate_of}
 use Rattle.convoy_certificate.specs.Text.{certificate_text}
 
@@ -74,6 +76,19 @@ text_of_linked : certificate_text linked
     ≡ codes "convoy 2\ndelay 3\ngroups a b\nlink client b 2 3\nlink b a 1 1\nmulticast x client 0 b\nmulticast t client 0 a b\nmulticast y a 6 a b\n" ++ foot ++ codes "b\nend\n"
 unfolding digits
 text_of_linked = refl
+
+-- the base with a stamp leaf
+text_of_stamped : certificate_text (record base { nodes = Stamp ∷ [] })
+    ≡ codes "convoy 2\ndelay 3\ngroups a b\nmulticast x client 0 b\nmulticast t client 0 a b\nmulticast y a 6 a b\n" ++ foot ++ codes "t\nend\n"
+unfolding digits
+text_of_stamped = refl
+
+-- version 1 has no lines `t`
+stamp_in_version_one : node_or_end One (codes "t") ≡ None
+stamp_in_version_one = refl
+
+stamp_in_version_two : node_or_end Two (codes "t") ≡ Some (Some Stamp)
+stamp_in_version_two = refl
 
 -- version 1 has no lines `link`
 link_in_version_one : certificate_of (codes "convoy 1\ndelay 3\ngroups a b\nlink b a 1 1\n") ≡ Err (faults.Line 4 expected.Multicast)

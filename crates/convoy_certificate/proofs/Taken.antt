@@ -137,35 +137,35 @@ module _ (grounds : ReadGrounds) where
 
   -- ---- nodes
 
-  next_node_takes : (line : List ℕ) (next : Option Node) → node_or_end line ≡ Some next → line ≡ line_for next
-  next_node_takes line next e =
+  next_node_takes : (version : Version) (line : List ℕ) (next : Option Node) → node_or_end version line ≡ Some next → line ≡ line_for next
+  next_node_takes version line next e =
       elim (cases_Bool (bytes_eq line end_line)) [
         | inl end ↦
             let read : Some None ≡ Some next = rw end at e in
             same_bytes line end_line end ∙ ap line_for (same_Some None next read)
         | inr other ↦
-            let read : option_map (λ node. Some node) (node_in line) ≡ Some next = rw other at e in
-            let a = map_takes (λ node. Some node) (node_in line) next read in
-            node_takes grounds line a.0 a.1 ∙ ap line_for a.2
+            let read : option_map (λ node. Some node) (node_in version line) ≡ Some next = rw other at e in
+            let a = map_takes (λ node. Some node) (node_in version line) next read in
+            node_takes grounds version line a.0 a.1 ∙ ap line_for a.2
       ]
 
-  nodes_take : (count number : ℕ) (rest : List ℕ) (ended : List (List ℕ)) (x : List Node × Place) → count ≤ MOST_NODES → nodes_in count number rest ended ≡ Ok x → TookNodes count rest ended x
+  nodes_take : (version : Version) (count number : ℕ) (rest : List ℕ) (ended : List (List ℕ)) (x : List Node × Place) → count ≤ MOST_NODES → nodes_in version count number rest ended ≡ Ok x → TookNodes count rest ended x
   unfolding nodes_in
-  nodes_take count number rest [] x few e = absurd cc
-  nodes_take count number rest (line ∷ lines) x few e =
+  nodes_take version count number rest [] x few e = absurd cc
+  nodes_take version count number rest (line ∷ lines) x few e =
       let past : Place = record { ended = lines; rest = rest; number = number + 1 } in
-      let more : Result (List Node × Place) TextFault = if count == MOST_NODES then Err faults.TreeCount else nodes_in (count + 1) (number + 1) rest lines in
-      let a = bind_ok (ok_or (node_or_end line) (faults.Line number expected.Node)) (λ next. from_node next past more) x e in
-      let text = next_node_takes line a.0 (ok_or_takes (node_or_end line) (faults.Line number expected.Node) a.0 a.1) in
-      by_next a.0 text a.2 (λ y less within. nodes_take (count + 1) (number + 1) rest lines y less within) where
+      let more : Result (List Node × Place) TextFault = if count == MOST_NODES then Err faults.TreeCount else nodes_in version (count + 1) (number + 1) rest lines in
+      let a = bind_ok (ok_or (node_or_end version line) (faults.Line number expected.Node)) (λ next. from_node next past more) x e in
+      let text = next_node_takes version line a.0 (ok_or_takes (node_or_end version line) (faults.Line number expected.Node) a.0 a.1) in
+      by_next a.0 text a.2 (λ y less within. nodes_take version (count + 1) (number + 1) rest lines y less within) where
         by_next : (next : Option Node) → line ≡ line_for next
-            → from_node next (record { ended = lines; rest = rest; number = number + 1 }) (if count == MOST_NODES then Err faults.TreeCount else nodes_in (count + 1) (number + 1) rest lines) ≡ Ok x
-            → ((y : List Node × Place) → count + 1 ≤ MOST_NODES → nodes_in (count + 1) (number + 1) rest lines ≡ Ok y → TookNodes (count + 1) rest lines y) → TookNodes count rest (line ∷ lines) x
+            → from_node next (record { ended = lines; rest = rest; number = number + 1 }) (if count == MOST_NODES then Err faults.TreeCount else nodes_in version (count + 1) (number + 1) rest lines) ≡ Ok x
+            → ((y : List Node × Place) → count + 1 ≤ MOST_NODES → nodes_in version (count + 1) (number + 1) rest lines ≡ Ok y → TookNodes (count + 1) rest lines y) → TookNodes count rest (line ∷ lines) x
         by_next None text e others =
             subst (TookNodes count rest (line ∷ lines)) (same_ok ([], record { ended = lines; rest = rest; number = number + 1 }) x e) (record { before = ap (λ l. l ∷ lines) text; after = refl; few = omega arith })
         by_next (Some node) text e others =
-            let b = bind_ok (if count == MOST_NODES then Err faults.TreeCount else nodes_in (count + 1) (number + 1) rest lines) (λ others. Ok (node ∷ others.0, others.1)) x e in
-            let within = unless (count == MOST_NODES) faults.TreeCount (nodes_in (count + 1) (number + 1) rest lines) b.0 b.1 in
+            let b = bind_ok (if count == MOST_NODES then Err faults.TreeCount else nodes_in version (count + 1) (number + 1) rest lines) (λ others. Ok (node ∷ others.0, others.1)) x e in
+            let within = unless (count == MOST_NODES) faults.TreeCount (nodes_in version (count + 1) (number + 1) rest lines) b.0 b.1 in
             let less : count + 1 ≤ MOST_NODES = omega (arith, eqb-false count MOST_NODES within.0) in
             let tail = others b.0 less within.1 in
             subst (TookNodes count rest (line ∷ lines)) (same_ok (node ∷ b.0.0, b.0.1) x b.2)
@@ -178,17 +178,17 @@ module _ (grounds : ReadGrounds) where
   certificate_takes text c e =
       let start = place_before text 1 in
       let a = bind_ok (in_text (form_at expected.Convoy version_in start)) (λ version. in_text (scenario_at version.0 version.1) >>= λ scenario. in_text (form_at expected.Latency (number_in (codes "latency")) scenario.1) >>= λ latency.
-      in_text (form_at expected.Schedule schedule_in latency.1) >>= λ delays. cond (is_assignment scenario.0 delays.0) (nodes_at 0 delays.1) (Err faults.Schedule) >>= λ nodes.
+      in_text (form_at expected.Schedule schedule_in latency.1) >>= λ delays. cond (is_assignment scenario.0 delays.0) (nodes_at version.0 0 delays.1) (Err faults.Schedule) >>= λ nodes.
       whole version.0 (record { scenario = scenario.0; latency = latency.0; delays = delays.0; nodes = nodes.0 }) nodes.1) c e in
       let b = bind_ok (in_text (scenario_at a.0.0 a.0.1)) (λ scenario. in_text (form_at expected.Latency (number_in (codes "latency")) scenario.1) >>= λ latency.
-      in_text (form_at expected.Schedule schedule_in latency.1) >>= λ delays. cond (is_assignment scenario.0 delays.0) (nodes_at 0 delays.1) (Err faults.Schedule) >>= λ nodes.
+      in_text (form_at expected.Schedule schedule_in latency.1) >>= λ delays. cond (is_assignment scenario.0 delays.0) (nodes_at a.0.0 0 delays.1) (Err faults.Schedule) >>= λ nodes.
       whole a.0.0 (record { scenario = scenario.0; latency = latency.0; delays = delays.0; nodes = nodes.0 }) nodes.1) c a.2 in
       let d = bind_ok (in_text (form_at expected.Latency (number_in (codes "latency")) b.0.1)) (λ latency.
-      in_text (form_at expected.Schedule schedule_in latency.1) >>= λ delays. cond (is_assignment b.0.0 delays.0) (nodes_at 0 delays.1) (Err faults.Schedule) >>= λ nodes.
+      in_text (form_at expected.Schedule schedule_in latency.1) >>= λ delays. cond (is_assignment b.0.0 delays.0) (nodes_at a.0.0 0 delays.1) (Err faults.Schedule) >>= λ nodes.
       whole a.0.0 (record { scenario = b.0.0; latency = latency.0; delays = delays.0; nodes = nodes.0 }) nodes.1) c b.2 in
-      let f = bind_ok (in_text (form_at expected.Schedule schedule_in d.0.1)) (λ delays. cond (is_assignment b.0.0 delays.0) (nodes_at 0 delays.1) (Err faults.Schedule) >>= λ nodes.
+      let f = bind_ok (in_text (form_at expected.Schedule schedule_in d.0.1)) (λ delays. cond (is_assignment b.0.0 delays.0) (nodes_at a.0.0 0 delays.1) (Err faults.Schedule) >>= λ nodes.
       whole a.0.0 (record { scenario = b.0.0; latency = d.0.0; delays = delays.0; nodes = nodes.0 }) nodes.1) c d.2 in
-      let g = bind_ok (cond (is_assignment b.0.0 f.0.0) (nodes_at 0 f.0.1) (Err faults.Schedule)) (λ nodes.
+      let g = bind_ok (cond (is_assignment b.0.0 f.0.0) (nodes_at a.0.0 0 f.0.1) (Err faults.Schedule)) (λ nodes.
       whole a.0.0 (record { scenario = b.0.0; latency = d.0.0; delays = f.0.0; nodes = nodes.0 }) nodes.1) c f.2 in
       let made : Certificate = record { scenario = b.0.0; latency = d.0.0; delays = f.0.0; nodes = g.0.0 } in
       let version = if_true (is_same_version a.0.0 (version_of made)) (faults.Line 1 expected.Convoy) (cond (is_at_end g.0.1) (Ok made) (Err faults.AfterEnd)) c g.2 in
@@ -199,7 +199,7 @@ module _ (grounds : ReadGrounds) where
       let t-scenario = ((grounds.scenarios a.0.0 b.0.0 a.0.1 b.0.1).0 (from_lines (scenario_at a.0.0 a.0.1) b.0 b.1)).2 in
       let t-latency = took expected.Latency (number_in (codes "latency")) b.0.1 d.0 d.1 in
       let t-schedule = took expected.Schedule schedule_in d.0.1 f.0 f.1 in
-      let t-nodes = nodes_take 0 f.0.1.number f.0.1.rest f.0.1.ended g.0 (omega arith) (if_true (is_assignment b.0.0 f.0.0) faults.Schedule (nodes_at 0 f.0.1) g.0 g.1).1 in
+      let t-nodes = nodes_take a.0.0 0 f.0.1.number f.0.1.rest f.0.1.ended g.0 (omega arith) (if_true (is_assignment b.0.0 f.0.0) faults.Schedule (nodes_at a.0.0 0 f.0.1) g.0 g.1).1 in
       let nodes : f.0.1.ended ≡ map node_line g.0.0 ++ end_line ∷ [] = t-nodes.before ∙ ap (λ ls. map node_line g.0.0 ++ end_line ∷ ls) over.0 in
       let schedule : d.0.1.ended ≡ schedule_line f.0.0 ∷ (map node_line g.0.0 ++ end_line ∷ []) =
       t-schedule.ended ∙ ap (λ l. l ∷ f.0.1.ended) (schedule_takes t-schedule.line f.0.0 t-schedule.has) ∙ ap (λ ls. schedule_line f.0.0 ∷ ls) nodes in

@@ -8,7 +8,7 @@ use Rattle.convoy_lines.specs.Options.{◌>>=◌}
 use Rattle.convoy_lines.specs.Labels.{words_after}
 use Rattle.convoy_lines.specs.Words.{words_of, next_word, number_of}
 use Rattle.convoy_certificate.specs.declared.node.Node.{Node}
-use Rattle.convoy_certificate.specs.declared.node.Node.TheVariants.{Split, Bound, Point}
+use Rattle.convoy_certificate.specs.declared.node.Node.TheVariants.{Split, Bound, Point, Stamp}
 use Rattle.convoy_certificate.specs.declared.node.TheConstants.{GREATEST_PACKET}
 use Rattle.convoy_certificate.specs.Text.{version_line, end_line}
 
@@ -39,16 +39,23 @@ split_in words = do
   at ← number_of GREATEST_DELAY second.0
   if nat_le 1 at && (length second.1 == 0) then Some (Split packet at) else None
 
--- the leaf that a line of one word is
-abbrev pub leaf_in : List ℕ → Option Node
-leaf_in word = if bytes_eq word (codes "b") then Some Bound else if bytes_eq word (codes "p") then Some Point else None
+-- version 1 has no stamp leaves
+abbrev pub stamp_in : Version → Option Node
+stamp_in One = None
+stamp_in Two = Some Stamp
 
--- the node of a line
-abbrev pub node_in : List ℕ → Option Node
-node_in line = do
+-- the leaf that a line of one word is
+abbrev pub leaf_in : Version → List ℕ → Option Node
+leaf_in version word =
+    if bytes_eq word (codes "b") then Some Bound else if bytes_eq word (codes "p") then Some Point else if bytes_eq word (codes "t") then stamp_in version else None
+
+-- the node of a line in that version
+abbrev pub node_in : Version → List ℕ → Option Node
+node_in version line = do
   first ← next_word (words_of line)
-  if bytes_eq first.0 (codes "s") then split_in first.1 else if length first.1 == 0 then leaf_in first.0 else None
+  if bytes_eq first.0 (codes "s") then split_in first.1 else if length first.1 == 0 then leaf_in version first.0 else None
 
 -- the node of a line, or none at the line `end`
-abbrev pub node_or_end : List ℕ → Option (Option Node)
-node_or_end line = if bytes_eq line end_line then Some None else option_map (λ node. Some node) (node_in line)
+abbrev pub node_or_end : Version → List ℕ → Option (Option Node)
+node_or_end version line =
+    if bytes_eq line end_line then Some None else option_map (λ node. Some node) (node_in version line)

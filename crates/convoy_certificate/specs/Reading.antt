@@ -44,15 +44,15 @@ from_node None past more = Ok ([], past)
 from_node (Some node) past more = more >>= λ others. Ok (node ∷ others.0, others.1)
 
 -- the nodes up to the line `end`, after so many
-unfoldable pub nodes_in : ℕ → ℕ → List ℕ → List (List ℕ) → Result (List Node × Place) TextFault
-nodes_in count number rest [] = Err (faults.Line number expected.Node)
-nodes_in count number rest (line ∷ lines) = do
-  next ← ok_or (node_or_end line) (faults.Line number expected.Node)
+unfoldable pub nodes_in : Version → ℕ → ℕ → List ℕ → List (List ℕ) → Result (List Node × Place) TextFault
+nodes_in version count number rest [] = Err (faults.Line number expected.Node)
+nodes_in version count number rest (line ∷ lines) = do
+  next ← ok_or (node_or_end version line) (faults.Line number expected.Node)
   from_node next (record { ended = lines; rest = rest; number = number + 1 })
-      (if count == MOST_NODES then Err faults.TreeCount else nodes_in (count + 1) (number + 1) rest lines)
+      (if count == MOST_NODES then Err faults.TreeCount else nodes_in version (count + 1) (number + 1) rest lines)
 
-abbrev pub nodes_at : ℕ → Place → Result (List Node × Place) TextFault
-nodes_at count place = nodes_in count place.number place.rest place.ended
+abbrev pub nodes_at : Version → ℕ → Place → Result (List Node × Place) TextFault
+nodes_at version count place = nodes_in version count place.number place.rest place.ended
 
 -- the two are one version
 abbrev pub is_same_version : Version → Version → Bool
@@ -74,7 +74,7 @@ certificate_of text = do
   scenario ← in_text (scenario_at version.0 version.1)
   latency ← in_text (form_at expected.Latency (number_in (codes "latency")) scenario.1)
   delays ← in_text (form_at expected.Schedule schedule_in latency.1)
-  nodes ← if is_assignment scenario.0 delays.0 then nodes_at 0 delays.1 else Err faults.Schedule
+  nodes ← if is_assignment scenario.0 delays.0 then nodes_at version.0 0 delays.1 else Err faults.Schedule
   whole version.0 (record { scenario = scenario.0; latency = latency.0; delays = delays.0; nodes = nodes.0 }) nodes.1
 
 -- the text is that of the certificate, which has no more nodes than may be read

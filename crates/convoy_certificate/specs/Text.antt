@@ -1,20 +1,22 @@
 -- The text of a certificate: the one text of each.
-use Rattle.std.specs.Prelude.{ℕ, List, [], ◌∷◌, ◌++◌, map, codes, decimal}
+use Rattle.std.specs.Prelude.{ℕ, ◌==◌, Bool, true, false, ◌&&◌, not, if◌then◌else◌, List, [], ◌∷◌, ◌++◌, length, map, codes, decimal}
+use Rattle.std.specs.List.{list_any}
 use Rattle.convoy_lines.specs.Texts.{line_of, number_line, text_of}
 use Rattle.convoy_scenario.specs.declared.version.Version.{Version}
 use Rattle.convoy_scenario.specs.declared.version.Version.TheVariants.{One, Two}
 use Rattle.convoy_scenario.specs.Lines.{scenario_lines}
-use Rattle.convoy_scenario.specs.Scenario.{Link}
 use Rattle.convoy_certificate.specs.declared.node.Node.{Node}
-use Rattle.convoy_certificate.specs.declared.node.Node.TheVariants.{Split, Bound, Point}
+use Rattle.convoy_certificate.specs.declared.node.Node.TheVariants.{Split, Bound, Point, Stamp}
 use Rattle.convoy_certificate.specs.Certificate.{Certificate}
 
--- the version in which a certificate is written: 2 where its scenario has a link, else 1
+abbrev pub is_stamp : Node → Bool
+is_stamp Stamp = true
+is_stamp node = false
+
+-- the version in which a certificate is written: 1 where its scenario has no link and its tree no stamp leaf, else 2
 abbrev pub version_of : Certificate → Version
-version_of certificate = with_links certificate.scenario.links where
-  with_links : List Link → Version
-  with_links [] = One
-  with_links (link ∷ links) = Two
+version_of certificate =
+    if length certificate.scenario.links == 0 && not (list_any is_stamp certificate.nodes) then One else Two
 
 -- the first line
 abbrev pub version_line : Version → List ℕ
@@ -32,6 +34,7 @@ abbrev pub node_line : Node → List ℕ
 node_line (Split packet at) = line_of (codes "s") (decimal packet ∷ decimal at ∷ [])
 node_line Bound = codes "b"
 node_line Point = codes "p"
+node_line Stamp = codes "t"
 
 abbrev pub end_line : List ℕ
 end_line = codes "end"

@@ -1,8 +1,8 @@
 ghost use Rattle.std.specs.Prelude.{◌≡◌};
-ghost use Rattle.std.specs.List.{All};
+ghost use Rattle.std.specs.List.{All, list_any};
 ghost use Rattle.convoy_packets.specs.Assignment.{IsAssignment};
 ghost use Rattle.convoy_certificate.specs.Certificate.{IsNode, IsCertificate};
-ghost use Rattle.convoy_certificate.specs.Text.{version_of};
+ghost use Rattle.convoy_certificate.specs.Text.{is_stamp, version_of};
 
 use super::node::Node;
 use convoy_packets::Delays;
@@ -76,12 +76,12 @@ impl Certificate {
         &self.scenario
     }
 
-    /// The version in which the certificate is written: `Two` where its scenario has a link, else `One`
-    /// (docs/FORMATS.md, "Certificate text").
+    /// The version in which the certificate is written: `Two` where its scenario has a link or its tree
+    /// a stamp leaf, else `One` (docs/FORMATS.md, "Certificate text").
     pub fn version(&self) -> Version
         ensures { result ≡ version_of self.now }
     {
-        if self.scenario.link_count() == 0 {
+        if self.scenario.link_count() == 0 && !has_stamp(self.nodes.as_slice()) {
             Version::One
         } else {
             Version::Two
@@ -125,5 +125,26 @@ impl Certificate {
             nodes,
         } = self;
         (scenario, latency, delays, nodes)
+    }
+}
+
+/// Whether one of the nodes is a stamp leaf.
+fn has_stamp(nodes: &[Node]) -> bool
+    ensures { result ≡ list_any is_stamp nodes.now }
+{
+    for node in nodes {
+        if is_stamp(*node) {
+            return true;
+        }
+    }
+    false
+}
+
+fn is_stamp(node: Node) -> bool
+    ensures { result ≡ is_stamp node }
+{
+    match node {
+        Node::Stamp => true,
+        Node::Split { .. } | Node::Bound | Node::Point => false,
     }
 }

@@ -3,7 +3,7 @@ ghost use Rattle.convoy_certificate.specs.Certificate.{IsNode};
 ghost use Rattle.std.specs.Result.{result_map_both};
 ghost use Rattle.convoy_scenario.specs.Memory.{IsUnlessMemory};
 ghost use Rattle.convoy_lines.specs.Labels.{words_after};
-ghost use Rattle.convoy_certificate.specs.Forms.{version_in, schedule_in, split_in, leaf_in, node_in, node_or_end};
+ghost use Rattle.convoy_certificate.specs.Forms.{version_in, schedule_in, split_in, stamp_in, leaf_in, node_in, node_or_end};
 
 use super::node::{GREATEST_PACKET, Node};
 use super::text_fault::TextFault;
@@ -24,19 +24,20 @@ pub fn version_in(line: &[u8]) -> Option<Version>
     }
 }
 
-/// The node of a line, or `Some(None)` at the line `end`; None where the line has neither form.
-pub fn node_or_end(line: &[u8]) -> Option<Option<Node>>
-    ensures value { result ≡ node_or_end line.now }
+/// The node of a line in that version, or `Some(None)` at the line `end`; None where the line has
+/// neither form.
+pub fn node_or_end(version: Version, line: &[u8]) -> Option<Option<Node>>
+    ensures value { result ≡ node_or_end version line.now }
     ensures lawful { IfSome result (λ node. IfSome node IsNode) }
 {
     if line == b"end".as_slice() {
         return Some(None);
     }
-    Some(Some(node_in(line)?))
+    Some(Some(node_in(version, line)?))
 }
 
-fn node_in(line: &[u8]) -> Option<Node>
-    ensures value { result ≡ node_in line.now }
+fn node_in(version: Version, line: &[u8]) -> Option<Node>
+    ensures value { result ≡ node_in version line.now }
     ensures lawful { IfSome result IsNode }
 {
     let mut words = Words::of(line);
@@ -44,7 +45,7 @@ fn node_in(line: &[u8]) -> Option<Node>
     if first == b"s".as_slice() {
         split_in(words)
     } else if words.are_over() {
-        leaf_in(first)
+        leaf_in(version, first)
     } else {
         None
     }
@@ -63,14 +64,26 @@ fn split_in(words: Words) -> Option<Node>
     })
 }
 
-fn leaf_in(word: &[u8]) -> Option<Node>
-    ensures value { result ≡ leaf_in word.now }
+fn leaf_in(version: Version, word: &[u8]) -> Option<Node>
+    ensures value { result ≡ leaf_in version word.now }
     ensures lawful { IfSome result IsNode }
 {
     match word {
         b"b" => Some(Node::Bound),
         b"p" => Some(Node::Point),
+        b"t" => stamp_in(version),
         _ => None,
+    }
+}
+
+/// The stamp leaf, which version 1 lacks.
+fn stamp_in(version: Version) -> Option<Node>
+    ensures value { result ≡ stamp_in version }
+    ensures lawful { IfSome result IsNode }
+{
+    match version {
+        Version::One => None,
+        Version::Two => Some(Node::Stamp),
     }
 }
 

@@ -7,10 +7,12 @@ pub const GREATEST_PACKET: u16 = 1_023;
 pub enum Node {
     /// The delays of a packet are split: at most `at`, and above it.
     Split { packet: u16, at: u16 },
-    /// A leaf: a bound shows that no delays of its box have a greater latency.
+    /// A leaf: the plain bound shows that no delays of its box have a greater latency.
     Bound,
     /// A leaf: its box has one delay for each packet, whose latency is not greater.
     Point,
+    /// A leaf: the stamp bound shows that no delays of its box have a greater latency.
+    Stamp,
 }
 
 const _: () = prove!(size_of::<Node>() <= 8);

@@ -53,7 +53,7 @@ fn read_all(alloc: Global, text: &[u8]) -> Result<Certificate, TextFault>
     if !are_within(table.ranges(), &delays) {
         return Err(TextFault::Schedule);
     }
-    let nodes = read_nodes(alloc, &mut reader)?;
+    let nodes = read_nodes(alloc, version, &mut reader)?;
     let certificate = Certificate::new(scenario, latency, Delays::from_vec(delays), nodes);
     if !is_same_version(version, certificate.version()) {
         return Err(TextFault::Line(1, Expected::Convoy));
@@ -131,13 +131,17 @@ fn are_within(ranges: &[(u16, u16)], delays: &[u16]) -> bool
 }
 
 /// The nodes up to the line `end`.
-fn read_nodes(alloc: Global, reader: &mut LineReader) -> Result<Vec<Node>, TextFault>
-    ensures value { IsUnlessMemory TextFault.Memory (nodes_at 0 reader.old)
+fn read_nodes(
+    alloc: Global,
+    version: Version,
+    reader: &mut LineReader,
+) -> Result<Vec<Node>, TextFault>
+    ensures value { IsUnlessMemory TextFault.Memory (nodes_at version 0 reader.old)
         (result_map_both (λ nodes. (nodes.items, reader.new)) (λ fault. fault) result) }
     ensures lawful { IfOk result (λ nodes. All IsNode nodes.items) }
 {
     let mut nodes = Vec::new(alloc);
-    while let Some(node) = read_node(reader)? {
+    while let Some(node) = read_node(version, reader)? {
         if nodes.len() == MOST_NODES {
             return Err(TextFault::TreeCount);
         }
@@ -147,12 +151,12 @@ fn read_nodes(alloc: Global, reader: &mut LineReader) -> Result<Vec<Node>, TextF
 }
 
 /// The node of the next line, or None at the line `end`.
-fn read_node(reader: &mut LineReader) -> Result<Option<Node>, TextFault>
+fn read_node(version: Version, reader: &mut LineReader) -> Result<Option<Node>, TextFault>
     ensures value { result_map_both (λ node. (node, reader.new)) (λ fault. fault) result
-        ≡ in_text (form_at Expected.Node node_or_end reader.old) }
+        ≡ in_text (form_at Expected.Node (node_or_end version) reader.old) }
     ensures lawful { IfOk result (λ node. IfSome node IsNode) }
 {
     let wrong = TextFault::Line(reader.number(), Expected::Node);
     let line = reader.line().ok_or(wrong)?;
-    node_or_end(line).ok_or(wrong)
+    node_or_end(version, line).ok_or(wrong)
 }

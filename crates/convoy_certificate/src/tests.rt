@@ -93,6 +93,18 @@ fn tree_of_splits(rt: HostRuntime) -> Result<(), Fail> {
 }
 
 #[test]
+fn stamp_leaf(rt: HostRuntime) -> Result<(), Fail> {
+    let alloc = rt.alloc();
+    let leaf = with(alloc, BASE, b"b\nend", b"t\nend")?;
+    let text = with(alloc, &leaf, b"convoy 1", b"convoy 2")?;
+    assert!(rt; is_kept(alloc, &text)?);
+    assert!(rt; is_refused(alloc, &leaf, TextFault::Line(10, Expected::Node)));
+    let none = with(alloc, &text, b"t\nend\n", b"p\nend\n\n")?;
+    assert!(rt; is_refused(alloc, &none, TextFault::Line(1, Expected::Convoy)));
+    Ok(())
+}
+
+#[test]
 fn faults_of_form(rt: HostRuntime) -> Result<(), Fail> {
     let without_end = with(rt.alloc(), BASE, b"end\n", b"")?;
     assert!(rt;

@@ -72,6 +72,7 @@ fn push_node(text: &mut Vec<u8>, node: Node) -> Result<(), AllocError>
         }
         Node::Bound => text.push(b'b')?,
         Node::Point => text.push(b'p')?,
+        Node::Stamp => text.push(b't')?,
     }
     Ok(text.push(b'\n')?)
 }

@@ -11,20 +11,20 @@ use Rattle.convoy_certificate.proofs.reading.read_nodes.Goals as goal
 pub returns-in_err-node-clause-value : goal.returns-in_err-node-clause-value
 returns-in_err-node-clause-value c =
     let p = err_from_is_err_and c.from_residual.result c.from_residual.ensures.1 in
-    rw (p.1, p.2) (inl (faulty c.loop-nodes.nodes.items _ c.loop-nodes.reader _ c.in_err-node.field-0.0 c.in_err-node.ensures.value c.loop-nodes.invariant.so_far))
+    rw (p.1, p.2) (inl (faulty c.args.version c.loop-nodes.nodes.items _ c.loop-nodes.reader _ c.in_err-node.field-0.0 c.in_err-node.ensures.value c.loop-nodes.invariant.so_far))
 
 pub returns-then-len-eq-MOST_NODES-clause-value : goal.returns-then-len-eq-MOST_NODES-clause-value
 returns-then-len-eq-MOST_NODES-clause-value c =
-    let read : Ok (Some c.in-Some.node, c.read_node.new.reader) ≡ node_at c.loop-nodes.reader = ap (λ n. Ok (n, c.read_node.new.reader)) (sym c.in-Some.is) ∙ c.in_ok-node.ensures.value in
-    inl (too_many c.loop-nodes.nodes.items _ c.loop-nodes.reader _ c.in-Some.node c.read_node.new.reader read (eq-eqb _ _ (sym c.len.ensures ∙ c.if-len-eq-MOST_NODES.true)) c.loop-nodes.invariant.so_far)
+    let read : Ok (Some c.in-Some.node, c.read_node.new.reader) ≡ node_at c.args.version c.loop-nodes.reader = ap (λ n. Ok (n, c.read_node.new.reader)) (sym c.in-Some.is) ∙ c.in_ok-node.ensures.value in
+    inl (too_many c.args.version c.loop-nodes.nodes.items _ c.loop-nodes.reader _ c.in-Some.node c.read_node.new.reader read (eq-eqb _ _ (sym c.len.ensures ∙ c.if-len-eq-MOST_NODES.true)) c.loop-nodes.invariant.so_far)
 
 pub loop-nodes-smaller : goal.loop-nodes-smaller
-loop-nodes-smaller c = falls c.loop-nodes.reader c.read_node.new.reader c.in_ok-node.field-0 c.in_ok-node.ensures.value
+loop-nodes-smaller c = falls c.args.version c.loop-nodes.reader c.read_node.new.reader c.in_ok-node.field-0 c.in_ok-node.ensures.value
 
 pub loop-nodes-preserved : goal.loop-nodes-preserved
 loop-nodes-preserved c =
-    let read : Ok (Some c.in-Some.node, c.read_node.new.reader) ≡ node_at c.loop-nodes.reader = ap (λ n. Ok (n, c.read_node.new.reader)) (sym c.in-Some.is) ∙ c.in_ok-node.ensures.value in
-    let next = goes_on c.loop-nodes.nodes.items _ c.loop-nodes.reader _ c.in-Some.node c.read_node.new.reader read (ne_eqb _ _ (λ e. c.if-len-eq-MOST_NODES.false (c.len.ensures ∙ e))) c.loop-nodes.invariant.so_far in
+    let read : Ok (Some c.in-Some.node, c.read_node.new.reader) ≡ node_at c.args.version c.loop-nodes.reader = ap (λ n. Ok (n, c.read_node.new.reader)) (sym c.in-Some.is) ∙ c.in_ok-node.ensures.value in
+    let next = goes_on c.args.version c.loop-nodes.nodes.items _ c.loop-nodes.reader _ c.in-Some.node c.read_node.new.reader read (ne_eqb _ _ (λ e. c.if-len-eq-MOST_NODES.false (c.len.ensures ∙ e))) c.loop-nodes.invariant.so_far in
     record {
       so_far = rw (c.in_ok-push.ensures.items, c.in_ok-push.ensures.len) next;
       lawful = rw c.in_ok-push.ensures.items (All-push IsNode c.loop-nodes.nodes.items c.in-Some.node c.loop-nodes.invariant.lawful (subst (λ (o : Option Node). IfSome o IsNode) c.in-Some.is c.in_ok-node.ensures.lawful));
@@ -32,5 +32,5 @@ loop-nodes-preserved c =
 
 pub returns-clause-value : goal.returns-clause-value
 returns-clause-value c =
-    let read : Ok (None, c.read_node.new.reader) ≡ node_at c.loop-nodes.reader = ap (λ n. Ok (n, c.read_node.new.reader)) (sym (no_node c.in_ok-node.field-0 c.in_default.not-Some)) ∙ c.in_ok-node.ensures.value in
-    inl (done c.loop-nodes.nodes.items _ c.loop-nodes.reader _ c.read_node.new.reader read c.loop-nodes.invariant.so_far)
+    let read : Ok (None, c.read_node.new.reader) ≡ node_at c.args.version c.loop-nodes.reader = ap (λ n. Ok (n, c.read_node.new.reader)) (sym (no_node c.in_ok-node.field-0 c.in_default.not-Some)) ∙ c.in_ok-node.ensures.value in
+    inl (done c.args.version c.loop-nodes.nodes.items _ c.loop-nodes.reader _ c.read_node.new.reader read c.loop-nodes.invariant.so_far)

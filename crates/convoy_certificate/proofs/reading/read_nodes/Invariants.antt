@@ -6,7 +6,7 @@ use Rattle.convoy_certificate.proofs.reading.read_nodes.Given as goal
 
 abbrev pub invariant-loop-nodes : goal.invariant-loop-nodes
 invariant-loop-nodes l = record {
-  so_far : with_front l.nodes.items (nodes_at (vec_len l.nodes) l.reader) ≡ nodes_at 0 l.fn.reader;
+  so_far : with_front l.nodes.items (nodes_at l.version (vec_len l.nodes) l.reader) ≡ nodes_at l.version 0 l.fn.reader;
   lawful : All IsNode l.nodes.items;
 }
 
