@@ -5,7 +5,7 @@ use Rattle.std.proofs.Common.{arith, refl, ap, subst}
 use Rattle.std.proofs.lemmas.List.Elements.{All-head, All-tail}
 use Rattle.convoy_scenario.specs.Scenario.{Scenario}
 use Rattle.convoy_certificate.specs.declared.node.Node.{Node}
-use Rattle.convoy_certificate.specs.declared.node.Node.TheVariants.{Split, Bound, Point}
+use Rattle.convoy_certificate.specs.declared.node.Node.TheVariants.{Split, Bound, Point, Stamp}
 use Rattle.convoy_intervals.specs.Bounds.{plain_bound}
 use Rattle.convoy_checker.specs.Leaves.{IsRight}
 use Rattle.convoy_checker.specs.Trees.{AreTrees, boxes_below}
@@ -23,6 +23,7 @@ IsSearched-better plan best better (Split packet at) box above right =
     record { part = right.part; open_box = right.open_box; tried = omega (arith, right.tried) }
 IsSearched-better plan best better Bound box above right = omega arith
 IsSearched-better plan best better Point box above right = (right.0, omega (arith, right.1))
+IsSearched-better plan best better Stamp box above right = absurd right
 
 pub IsOfFront-better : (plan : Scenario) (best better : ℕ) (node : FrontNode) (box : Box) → best ≤ better → IsOfFront plan best node box → IsOfFront plan better node box
 IsOfFront-better plan best better (Spent node) box above right = IsSearched-better plan best better node box above right
@@ -42,6 +43,7 @@ pub AreFronts-turned : (plan : Scenario) (best : ℕ) (branch : Box) (turn : Tur
 AreFronts-turned plan best branch (Closed (Split packet at)) turn = absurd turn
 AreFronts-turned plan best branch (Closed Bound) turn = (turn, tt)
 AreFronts-turned plan best branch (Closed Point) turn = ((turn.1, turn.0.tried), tt)
+AreFronts-turned plan best branch (Closed Stamp) turn = absurd turn
 AreFronts-turned plan best branch (Halves packet at lower upper) turn =
     let stays : StaysOpen plan branch best = turn.0 in
     let split : IsSearchedSplit plan best packet at branch = record { part = turn.1; open_box = omega (arith, stays.bound, stays.tried); tried = stays.tried } in
@@ -56,6 +58,7 @@ AreTrees-spent plan best (Split packet at ∷ nodes) (box ∷ boxes) tree =
     (tree.0.part, AreTrees-spent plan best nodes (boxes_below (Split packet at) box ++ boxes) tree.1)
 AreTrees-spent plan best (Bound ∷ nodes) (box ∷ boxes) tree = (tree.0, AreTrees-spent plan best nodes boxes tree.1)
 AreTrees-spent plan best (Point ∷ nodes) (box ∷ boxes) tree = (tree.0, AreTrees-spent plan best nodes boxes tree.1)
+AreTrees-spent plan best (Stamp ∷ nodes) (box ∷ boxes) tree = absurd tree.0
 
 -- a front as a tree in which a bound closes each box that is left
 abbrev pub node_of : FrontNode → Node
@@ -73,6 +76,7 @@ AreTrees-bounded plan best upper (Spent Bound ∷ nodes) (box ∷ boxes) above w
     (omega (arith, tree.0), AreTrees-bounded plan best upper nodes boxes above within tree.1)
 AreTrees-bounded plan best upper (Spent Point ∷ nodes) (box ∷ boxes) above within tree =
     ((tree.0.0, omega (arith, tree.0.1)), AreTrees-bounded plan best upper nodes boxes above within tree.1)
+AreTrees-bounded plan best upper (Spent Stamp ∷ nodes) (box ∷ boxes) above within tree = absurd tree.0
 AreTrees-bounded plan best upper (Left branch ∷ nodes) (box ∷ boxes) above within tree =
     let P : Box → Type 0 = λ b. plain_bound plan b ≤ upper in
     (subst P tree.0 (All-head P branch (left_in nodes) within), AreTrees-bounded plan best upper nodes boxes above (All-tail P branch (left_in nodes) within) tree.1)

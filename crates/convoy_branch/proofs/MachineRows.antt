@@ -27,6 +27,7 @@ base : Scenario
 base = record {
   delay = 3;
   groups = codes "a" ∷ codes "b" ∷ [];
+  links = [];
   multicasts = message (codes "x") Client (1 ∷ []) ∷ message (codes "t") Client (0 ∷ 1 ∷ [])
       ∷ record { name = codes "y"; sender = Group 0; destinations = 0 ∷ 1 ∷ []; at = 6 } ∷ [];
   target_message = 1;

@@ -11,7 +11,7 @@ use Rattle.convoy_sim.specs.Delivery.{latency_of}
 use Rattle.convoy_sim.specs.Record.{Record}
 use Rattle.convoy_certificate.specs.Certificate.{IsNode}
 use Rattle.convoy_certificate.specs.declared.node.Node.{Node}
-use Rattle.convoy_certificate.specs.declared.node.Node.TheVariants.{Split, Bound, Point}
+use Rattle.convoy_certificate.specs.declared.node.Node.TheVariants.{Split, Bound, Point, Stamp}
 use Rattle.convoy_intervals.specs.Boxes.{Box, IsBox, greatest_of, lower_half, root_of, upper_half}
 use Rattle.convoy_intervals.specs.Tracked.{Tracked}
 use Rattle.convoy_intervals.specs.Laws.{HalvesAreBoxes, UpperKeepsGreatest}
@@ -108,6 +108,7 @@ closed_node : (plan : Scenario) (known : ℕ) (box : Box) (node : Node) → IsTu
 closed_node plan known box (Split packet at) turn = absurd turn
 closed_node plan known box Bound turn = tt
 closed_node plan known box Point turn = tt
+closed_node plan known box Stamp turn = absurd turn
 
 nodes_turned : (plan : Scenario) (known : ℕ) (nodes : List Node) (box : Box) (turn : Turn) → IsTurn plan box known turn → All IsNode nodes → All IsNode (nodes_after nodes turn)
 nodes_turned plan known nodes box (Closed node) turn all =

@@ -8,7 +8,7 @@ use Rattle.convoy_packets.specs.Table.{least_of}
 use Rattle.convoy_sim.specs.Delivery.{latency_of}
 use Rattle.convoy_sim.specs.Times.{greatest}
 use Rattle.convoy_certificate.specs.declared.node.Node.{Node}
-use Rattle.convoy_certificate.specs.declared.node.Node.TheVariants.{Split, Bound, Point}
+use Rattle.convoy_certificate.specs.declared.node.Node.TheVariants.{Split, Bound, Point, Stamp}
 use Rattle.convoy_branch.specs.declared.step.Turn.{Turn}
 use Rattle.convoy_branch.specs.declared.step.Turn.TheVariants.{Closed, Halves}
 use Rattle.convoy_intervals.specs.Bounds.{plain_bound}
@@ -33,11 +33,12 @@ pub record IsSearchedSplit (scenario : Scenario) (best : ℕ) (packet at : ℕ) 
   pub open_box : latency_of scenario (greatest_of box) < plain_bound scenario box
   pub tried : latency_of scenario (greatest_of box) ≤ best
 
--- a node of a search is right over its box, where that is the best latency
+-- a node of a search is right over its box, where that is the best latency; a search has no stamp leaves
 abbrev pub IsSearched : Scenario → ℕ → Node → Box → Type 0
 IsSearched scenario best (Split packet at) box = IsSearchedSplit scenario best packet at box
 IsSearched scenario best Bound box = ClosesByBound scenario best box
 IsSearched scenario best Point box = ClosesByPoint scenario best box
+IsSearched scenario best Stamp box = ⊥
 
 -- a node of a front is right over its box: what is left names the box
 abbrev pub IsOfFront : Scenario → ℕ → FrontNode → Box → Type 0

@@ -40,6 +40,7 @@ abbrev pub IsTurn : Scenario → Box → ℕ → Turn → Type 0
 IsTurn scenario box known (Closed nodes.Bound) = ClosesByBound scenario known box
 IsTurn scenario box known (Closed nodes.Point) = StaysOpen scenario box known × IsPoint box
 IsTurn scenario box known (Closed (nodes.Split packet at)) = ⊥
+IsTurn scenario box known (Closed nodes.Stamp) = ⊥
 IsTurn scenario box known (Halves packet at lower upper) =
     StaysOpen scenario box known
     × CanSplit box packet at

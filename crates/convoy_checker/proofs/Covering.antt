@@ -10,8 +10,8 @@ use Rattle.convoy_intervals.specs.Boxes.{IsBox, IsIn, lower_half, upper_half}
 use Rattle.convoy_intervals.specs.Laws.{HalvesAreBoxes, HalvesPartition}
 use Rattle.convoy_intervals.specs.Boxes.{CanSplit}
 use Rattle.convoy_certificate.specs.declared.node.Node.{Node}
-use Rattle.convoy_certificate.specs.declared.node.Node.TheVariants.{Split, Bound, Point}
-use Rattle.convoy_checker.specs.Laws.{BoundLeavesCover, PointLeavesCover}
+use Rattle.convoy_certificate.specs.declared.node.Node.TheVariants.{Split, Bound, Point, Stamp}
+use Rattle.convoy_checker.specs.Laws.{BoundLeavesCover, PointLeavesCover, StampLeavesCover}
 use Rattle.convoy_checker.specs.Leaves.{IsRight}
 use Rattle.convoy_checker.specs.Trees.{AreTrees, boxes_below}
 use Rattle.convoy_intervals.specs.Boxes.{Box}
@@ -22,6 +22,7 @@ pub record Grounds : Type 0 where
   pub part : HalvesPartition
   pub bound : BoundLeavesCover
   pub point : PointLeavesCover
+  pub stamp : StampLeavesCover
 
 -- no member of the box has a greater latency
 pub record IsCovered (plan : Scenario) (latency : ℕ) (box : Box) : Type 0 where
@@ -36,6 +37,7 @@ module _ (grounds : Grounds) (plan : Scenario) (lawful : IsScenario plan) (laten
       All-cons (IsBox plan) (lower_half box packet at) (upper ∷ []) halves.0 (All-cons (IsBox plan) upper [] halves.1 (All-nil (IsBox plan)))
   below_are_boxes Bound box is_box right = All-nil (IsBox plan)
   below_are_boxes Point box is_box right = All-nil (IsBox plan)
+  below_are_boxes Stamp box is_box right = All-nil (IsBox plan)
 
   -- a box that is split is covered where both halves are
   split_covers : (packet at : ℕ) (box : Box) → CanSplit box packet at → IsCovered plan latency (lower_half box packet at) → IsCovered plan latency (upper_half box packet at) → IsCovered plan latency box
@@ -59,6 +61,8 @@ module _ (grounds : Grounds) (plan : Scenario) (lawful : IsScenario plan) (laten
       record { at = λ delays member. grounds.bound plan latency box delays lawful is_box right member }
   node_covers Point box is_box right below =
       record { at = λ delays member. grounds.point plan latency box delays lawful is_box right member }
+  node_covers Stamp box is_box right below =
+      record { at = λ delays member. grounds.stamp plan latency box delays lawful is_box right member }
 
   -- the two parts of what holds of each of a list of boxes
   parts : (boxes others : List Box) → All (IsCovered plan latency) (boxes ++ others) → All (IsCovered plan latency) boxes × All (IsCovered plan latency) others

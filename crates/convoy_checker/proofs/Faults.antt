@@ -9,10 +9,11 @@ use Rattle.convoy_scenario.specs.Scenario.{Scenario}
 use Rattle.convoy_sim.specs.Delivery.{latency_of}
 use Rattle.convoy_intervals.specs.Boxes.{IsPoint, range_at, greatest_of, root_of}
 use Rattle.convoy_intervals.specs.Bounds.{plain_bound}
+use Rattle.convoy_stamps.specs.StampBounds.{stamp_bound}
 use Rattle.convoy_intervals.specs.Boxes.{CanSplit}
 use Rattle.convoy_certificate.specs.Certificate.{Certificate}
 use Rattle.convoy_certificate.specs.declared.node.Node.{Node}
-use Rattle.convoy_certificate.specs.declared.node.Node.TheVariants.{Split, Bound, Point}
+use Rattle.convoy_certificate.specs.declared.node.Node.TheVariants.{Split, Bound, Point, Stamp}
 use Rattle.convoy_checker.specs.declared.refused.Refused.{Refused}
 use Rattle.convoy_checker.specs.declared.refused.Refused.TheVariants as refused
 use Rattle.convoy_checker.specs.Checks.{unless, can_split, is_point, node_fault, first_fault, checked_tree, checked}
@@ -57,6 +58,9 @@ node_none plan latency number Point box =
     let tried = latency_of plan (greatest_of box) in
     let low = nat_le tried latency in
     unless_none (refused.PointLeaf number) (is_point box && low) (IsPoint box × (tried ≤ latency)) (Decides-and (is_point box) low (Decides-is_point box) (Decides-le tried latency))
+node_none plan latency number Stamp box =
+    let bound = stamp_bound plan box in
+    unless_none (refused.StampLeaf number bound) (nat_le bound latency) (bound ≤ latency) (Decides-le bound latency)
 
 -- neither of two faults is there just where their first is not
 or_none : (first second : Option Refused) → (option_or first second ≡ None) ↔ (first ≡ None) × (second ≡ None)

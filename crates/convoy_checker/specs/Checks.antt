@@ -6,9 +6,10 @@ use Rattle.convoy_scenario.specs.Scenario.{Scenario}
 use Rattle.convoy_sim.specs.Delivery.{latency_of}
 use Rattle.convoy_intervals.specs.Boxes.{Box, root_of, range_at, greatest_of}
 use Rattle.convoy_intervals.specs.Bounds.{plain_bound}
+use Rattle.convoy_stamps.specs.StampBounds.{stamp_bound}
 use Rattle.convoy_certificate.specs.Certificate.{Certificate}
 use Rattle.convoy_certificate.specs.declared.node.Node.{Node}
-use Rattle.convoy_certificate.specs.declared.node.Node.TheVariants.{Split, Bound, Point}
+use Rattle.convoy_certificate.specs.declared.node.Node.TheVariants.{Split, Bound, Point, Stamp}
 use Rattle.convoy_checker.specs.declared.refused.Refused.{Refused}
 use Rattle.convoy_checker.specs.declared.refused.Refused.TheVariants as refused
 use Rattle.convoy_checker.specs.Trees.{boxes_below}
@@ -33,6 +34,8 @@ node_fault scenario latency number Bound box =
     let bound = plain_bound scenario box in unless (refused.BoundLeaf number bound) (nat_le bound latency)
 node_fault scenario latency number Point box =
     unless (refused.PointLeaf number) (is_point box && nat_le (latency_of scenario (greatest_of box)) latency)
+node_fault scenario latency number Stamp box =
+    let bound = stamp_bound scenario box in unless (refused.StampLeaf number bound) (nat_le bound latency)
 
 -- the first fault of the nodes from that number on, over the boxes that are open there
 abbrev pub first_fault : Scenario → ℕ → ℕ → List Box → List Node → Option Refused

@@ -3,9 +3,10 @@ use Rattle.std.specs.Prelude.{ℕ, ◌≤◌}
 use Rattle.convoy_scenario.specs.Scenario.{Scenario}
 use Rattle.convoy_sim.specs.Delivery.{latency_of}
 use Rattle.convoy_certificate.specs.declared.node.Node.{Node}
-use Rattle.convoy_certificate.specs.declared.node.Node.TheVariants.{Split, Bound, Point}
+use Rattle.convoy_certificate.specs.declared.node.Node.TheVariants.{Split, Bound, Point, Stamp}
 use Rattle.convoy_intervals.specs.Bounds.{plain_bound}
 use Rattle.convoy_intervals.specs.Boxes.{Box, CanSplit, IsPoint, greatest_of}
+use Rattle.convoy_stamps.specs.StampBounds.{stamp_bound}
 
 -- the plain bound of the box is at most the stated latency
 abbrev pub ClosesByBound : Scenario → ℕ → Box → Type 0
@@ -15,8 +16,13 @@ ClosesByBound scenario latency box = plain_bound scenario box ≤ latency
 abbrev pub ClosesByPoint : Scenario → ℕ → Box → Type 0
 ClosesByPoint scenario latency box = IsPoint box × (latency_of scenario (greatest_of box) ≤ latency)
 
+-- the stamp bound of the box is at most the stated latency
+abbrev pub ClosesByStamps : Scenario → ℕ → Box → Type 0
+ClosesByStamps scenario latency box = stamp_bound scenario box ≤ latency
+
 -- the node is right over the box: the box can be split so, or the leaf closes it
 abbrev pub IsRight : Scenario → ℕ → Node → Box → Type 0
 IsRight scenario latency (Split packet at) box = CanSplit box packet at
 IsRight scenario latency Bound box = ClosesByBound scenario latency box
 IsRight scenario latency Point box = ClosesByPoint scenario latency box
+IsRight scenario latency Stamp box = ClosesByStamps scenario latency box

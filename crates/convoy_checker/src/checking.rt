@@ -17,6 +17,7 @@ use convoy_intervals::laws::{halves_are_boxes, members_are_assignments};
 use convoy_intervals::{DelayBox, bound};
 use convoy_packets::PacketTable;
 use convoy_scenario::Scenario;
+use convoy_stamps::stamp_bound;
 use std::alloc::{AllocError, Global};
 
 /// Checks a certificate: that its schedule has the stated latency, and that its nodes are one tree
@@ -114,6 +115,10 @@ fn node_fault(
             is_within(alloc, scenario, table, latency, delay_box)?,
             Refused::PointLeaf(number),
         ),
+        Node::Stamp => {
+            let bound = stamp_bound(alloc, scenario, table, delay_box)?;
+            (bound <= latency, Refused::StampLeaf(number, bound))
+        }
     };
     Ok((!holds).then_some(fault))
 }

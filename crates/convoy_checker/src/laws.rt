@@ -1,13 +1,14 @@
 //! The laws of trees and certificates. Each is the one clause of a function that does nothing; a
 //! caller that needs the law calls the function.
 
-ghost use Rattle.convoy_checker.specs.Laws.{BoundLeavesCover, PointLeavesCover, TreesCover};
+ghost use Rattle.convoy_checker.specs.Laws.{BoundLeavesCover, PointLeavesCover, StampLeavesCover, TreesCover};
 ghost use Rattle.convoy_checker.specs.Laws.{SplitIsTwoTrees, ValidIsGreatest, CheckedIsValid};
 
 use convoy_intervals::laws::{
     greatest_is_member, halves_are_boxes, halves_partition, plain_bound_holds,
     point_has_one_member, root_holds_all, root_is_box,
 };
+use convoy_stamps::laws::stamp_bound_holds;
 
 /// Where a box is closed by its plain bound, no member of it has a greater latency than the stated
 /// one.
@@ -23,6 +24,14 @@ pub fn point_leaves_cover()
 {
     greatest_is_member();
     point_has_one_member();
+}
+
+/// Where a box is closed by its stamp bound, no member of it has a greater latency than the stated
+/// one.
+pub fn stamp_leaves_cover()
+    ensures { StampLeavesCover }
+{
+    stamp_bound_holds();
 }
 
 /// Nodes over one box that begin with a split are that split, a tree over the lower half and a tree
@@ -41,6 +50,7 @@ pub fn trees_cover()
     halves_partition();
     bound_leaves_cover();
     point_leaves_cover();
+    stamp_leaves_cover();
 }
 
 /// The latency of a valid certificate is the greatest of its scenario.

@@ -11,12 +11,15 @@ pub enum Refused {
     Split(usize),
     /// The nodes end before the tree is whole, or go on after it.
     TreeCount,
-    /// The bound of the box of that leaf is above the stated latency: the leaf's number, and the
+    /// The plain bound of the box of that leaf is above the stated latency: the leaf's number, and the
     /// bound in ticks.
     BoundLeaf(usize, u32),
     /// The box of the leaf of that number has more members than one, or one of a latency above the
     /// stated one.
     PointLeaf(usize),
+    /// The stamp bound of the box of that leaf is above the stated latency: the leaf's number, and the
+    /// bound in ticks.
+    StampLeaf(usize, u32),
     /// Memory ran out, which says nothing of the certificate.
     Memory,
 }

@@ -6,7 +6,8 @@ use std::alloc::Global;
 use std::test::Fail;
 
 /// The text of a certificate of the base scenario of docs/PROTOCOL.md, with its groups in that
-/// order, that greatest delay, and y issued at that tick. Each packet takes the greatest delay.
+/// order, that greatest delay, and y issued at that tick. Each packet takes the greatest delay. The
+/// version is 2 where a stamp leaf is among the nodes.
 fn base(
     alloc: Global,
     groups: &str,
@@ -15,8 +16,9 @@ fn base(
     latency: u32,
     nodes: &str,
 ) -> Result<String, Fail> {
+    let version = if nodes.contains("t") { 2 } else { 1 };
     let text = format!(in alloc;
-        "convoy 1
+        "convoy {version}
 delay {delay}
 groups {groups}
 multicast x client 0 b
@@ -71,6 +73,20 @@ fn swapped_groups_bound_leaf(rt: HostRuntime) -> Result<(), Fail> {
         answer(alloc, text.as_bytes())?,
         Err(Refused::BoundLeaf(0, 12))
     );
+    Ok(())
+}
+
+#[test]
+fn stamp_leaves(rt: HostRuntime) -> Result<(), Fail> {
+    let alloc = rt.alloc();
+    for (groups, latency, nodes, want) in [
+        ("a b", 12, "t\n", Ok(12)),
+        ("b a", 6, "t\n", Ok(6)),
+        ("b a", 6, "s 0 1\nt\nt\n", Ok(6)),
+    ] {
+        let text = base(alloc, groups, 3, 6, latency, nodes)?;
+        assert_eq!(rt; answer(alloc, text.as_bytes())?, want, "{groups} {nodes}");
+    }
     Ok(())
 }
 

@@ -46,6 +46,8 @@ row_of_check checks.TreeCount = (25, codes "tree count")
 row_of_check (checks.BoundLeaf node bound) =
     (26, codes "bound leaf " ++ (decimal node ++ (codes " bound " ++ decimal bound)))
 row_of_check (checks.PointLeaf node) = (27, codes "point leaf " ++ decimal node)
+row_of_check (checks.StampLeaf node bound) =
+    (29, codes "stamp leaf " ++ (decimal node ++ (codes " bound " ++ decimal bound)))
 row_of_check checks.Memory = (11, codes "out of memory")
 
 -- the number and the text of a refusal

@@ -73,6 +73,9 @@ fn line_of_check(alloc: Global, fault: Refused) -> Result<String, AllocError>
             format!(in alloc; "refused 26 bound leaf {node} bound {bound}\n")
         }
         Refused::PointLeaf(node) => format!(in alloc; "refused 27 point leaf {node}\n"),
+        Refused::StampLeaf(node, bound) => {
+            format!(in alloc; "refused 29 stamp leaf {node} bound {bound}\n")
+        }
         Refused::Memory => String::from_str(alloc, "refused 11 out of memory\n"),
     }
 }

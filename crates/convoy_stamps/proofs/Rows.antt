@@ -20,6 +20,7 @@ base : Scenario
 base = record {
   delay = 3;
   groups = codes "a" ∷ codes "b" ∷ [];
+  links = [];
   multicasts = message (codes "x") Client (1 ∷ []) 0 ∷ message (codes "t") Client (0 ∷ 1 ∷ []) 0
       ∷ message (codes "y") (Group 0) (0 ∷ 1 ∷ []) 6 ∷ [];
   target_message = 1;
@@ -31,6 +32,7 @@ swapped : Scenario
 swapped = record {
   delay = 3;
   groups = codes "b" ∷ codes "a" ∷ [];
+  links = [];
   multicasts = message (codes "x") Client (0 ∷ []) 0 ∷ message (codes "t") Client (0 ∷ 1 ∷ []) 0
       ∷ message (codes "y") (Group 1) (0 ∷ 1 ∷ []) 6 ∷ [];
   target_message = 1;
@@ -42,6 +44,7 @@ raised_twice : Scenario
 raised_twice = record {
   delay = 3;
   groups = codes "c" ∷ codes "a" ∷ codes "b" ∷ [];
+  links = [];
   multicasts = message (codes "u") Client (1 ∷ 2 ∷ []) 0 ∷ message (codes "v") Client (1 ∷ 2 ∷ []) 0
       ∷ message (codes "t") Client (0 ∷ 1 ∷ []) 5 ∷ message (codes "w1") (Group 0) (0 ∷ []) 9
       ∷ message (codes "w2") (Group 0) (0 ∷ []) 9 ∷ message (codes "n") (Group 0) (0 ∷ 2 ∷ []) 10 ∷ [];

@@ -4,7 +4,7 @@ use super::fixture::{Asked, changed, told};
 use super::texts::{
     BASE, CERTIFICATE_OF_BASE, CERTIFICATE_OF_LINKED, CERTIFICATE_OF_LONE, CERTIFICATE_OF_ONE_TICK,
     CERTIFICATE_OF_SWAPPED, FIRST_OF_BASE, LONE, LONE_TO_TWO, ONE_TICK, RAISED_TWICE, RIVALS,
-    TIMELINE_OF_BASE,
+    STAMPS_OF_BASE, STAMPS_OF_CLIMB, STAMPS_OF_SWAPPED, TIMELINE_OF_BASE,
 };
 use crate::{DEFAULT_LIMIT, Done};
 use std::alloc::{AllocError, Global};
@@ -569,6 +569,55 @@ const CHECKS: [Row; 14] = [
     },
 ];
 
+/// Rows of `check` for certificates with stamp leaves.
+const STAMPS: [Row; 5] = [
+    Row {
+        name: "accepted",
+        asked: Asked::Check,
+        text: STAMPS_OF_SWAPPED,
+        part: "",
+        other: "",
+        told: "accepted 6\n",
+        done: Some(Done::Fine),
+    },
+    Row {
+        name: "refused_texts",
+        asked: Asked::Check,
+        text: STAMPS_OF_SWAPPED,
+        part: "convoy 2",
+        other: "convoy 1",
+        told: "refused 20 line 10 expected node\n",
+        done: Some(Done::Refused),
+    },
+    Row {
+        name: "refused_certificates",
+        asked: Asked::Check,
+        text: STAMPS_OF_BASE,
+        part: "",
+        other: "",
+        told: "refused 29 stamp leaf 0 bound 12\n",
+        done: Some(Done::Refused),
+    },
+    Row {
+        name: "accepted",
+        asked: Asked::Check,
+        text: STAMPS_OF_CLIMB,
+        part: "",
+        other: "",
+        told: "accepted 11\n",
+        done: Some(Done::Fine),
+    },
+    Row {
+        name: "refused_certificates",
+        asked: Asked::Check,
+        text: STAMPS_OF_CLIMB,
+        part: "latency 11\nschedule 1 3 1 1 1 1 1 1 ",
+        other: "latency 6\nschedule 3 3 3 3 3 3 3 3 ",
+        told: "refused 29 stamp leaf 0 bound 11\n",
+        done: Some(Done::Refused),
+    },
+];
+
 /// Whether a run of the row's command tells what it is to tell, and ends so.
 fn holds(alloc: Global, row: &Row) -> Result<bool, AllocError> {
     let text = changed(alloc, row.text, row.part, row.other)?;
@@ -595,6 +644,14 @@ fn searches(rt: HostRuntime) -> Result<(), Fail> {
 #[test]
 fn links(rt: HostRuntime) -> Result<(), Fail> {
     for row in &LINKS {
+        assert!(rt; holds(rt.alloc(), row)?, "{} {}", row.name, row.told);
+    }
+    Ok(())
+}
+
+#[test]
+fn stamps(rt: HostRuntime) -> Result<(), Fail> {
+    for row in &STAMPS {
         assert!(rt; holds(rt.alloc(), row)?, "{} {}", row.name, row.told);
     }
     Ok(())
@@ -641,6 +698,7 @@ fn lengths_of_certificates(rt: HostRuntime) {
     assert_eq!(rt; CERTIFICATE_OF_BASE.len(), 149);
     assert_eq!(rt; CERTIFICATE_OF_LONE.len(), 80);
     assert_eq!(rt; CERTIFICATE_OF_LINKED.len(), 161);
+    assert_eq!(rt; STAMPS_OF_SWAPPED.len(), 148);
 }
 
 /// Nine lines stand above the nodes, and one below them. Of a search that ends early, which schedule

@@ -95,6 +95,54 @@ b
 end
 ";
 
+/// The same box, closed by its stamp bound.
+pub(super) const STAMPS_OF_SWAPPED: &str = "\
+convoy 2
+delay 3
+groups b a
+multicast x client 0 b
+multicast t client 0 b a
+multicast y a 6 b a
+target t a
+latency 6
+schedule 3 3 3 3 3 3 3 3
+t
+end
+";
+
+/// The stamp bound of the base is 12, as the plain bound is, and this schedule has the latency 5.
+pub(super) const STAMPS_OF_BASE: &str = "\
+convoy 2
+delay 3
+groups a b
+multicast x client 0 b
+multicast t client 0 a b
+multicast y a 6 a b
+target t a
+latency 5
+schedule 3 3 2 3 3 3 3 3
+t
+end
+";
+
+/// u and v may raise the clock of a twice before t arrives there.
+pub(super) const STAMPS_OF_CLIMB: &str = "\
+convoy 2
+delay 3
+groups c a b
+multicast u client 0 a b
+multicast v client 0 a b
+multicast t client 5 c a
+multicast w1 c 9 c
+multicast w2 c 9 c
+multicast n c 10 c b
+target t c
+latency 11
+schedule 1 3 1 1 1 1 1 1 3 3 3 3 3 3 3
+t
+end
+";
+
 /// A message from a client arrives at b alone while t is on its way.
 pub(super) const RIVALS: &str = "\
 delay = 3

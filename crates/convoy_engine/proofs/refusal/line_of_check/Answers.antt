@@ -23,6 +23,10 @@ pub returns-in-PointLeaf : goal.returns-in-PointLeaf
 unfolding refused_line digits
 returns-in-PointLeaf c = rw c.in-PointLeaf.is c.format-in-PointLeaf.ensures.ok
 
+pub returns-in-StampLeaf : goal.returns-in-StampLeaf
+unfolding refused_line digits
+returns-in-StampLeaf c = simp (c.in-StampLeaf.is, append_assoc) c.format-in-StampLeaf.ensures.ok
+
 pub returns-in-Memory : goal.returns-in-Memory
 unfolding refused_line digits
 returns-in-Memory c = rw c.in-Memory.is c.from_str-in-Memory.ensures.ok
