@@ -4,7 +4,7 @@ ghost use Rattle.convoy_packets.specs.Table.{table_of};
 ghost use Rattle.convoy_intervals.specs.Boxes.{IsBox};
 
 use anyhow::{Result, bail};
-use convoy_branch::{Outcome, search_alone};
+use convoy_branch::{Bounds, Outcome, search_alone};
 use convoy_certificate::{read, write};
 use convoy_checker::check;
 use convoy_intervals::{DelayBox, bound};
@@ -136,7 +136,7 @@ pub fn time_search(
     requires packets { table.now ≡ table_of scenario.now }
 {
     let start = Instant::now(rt)?;
-    let outcome = search_alone(alloc, scenario, table, u64::from(limit))?;
+    let outcome = search_alone(alloc, scenario, table, u64::from(limit), Bounds::Plain)?;
     let elapsed = start.elapsed(rt)?;
     match outcome {
         Outcome::Proved {

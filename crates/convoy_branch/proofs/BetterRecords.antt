@@ -3,9 +3,10 @@ use Rattle.std.specs.Prelude.{◌≡◌, ℕ, ◌≤◌, nat_le, Bool, true, fal
 use Rattle.std.proofs.Common.{arith, refl, subst, sym}
 use Rattle.std.proofs.lemmas.Bool.Decides.{nat_tests}
 use Rattle.convoy_scenario.specs.Scenario.{Scenario}
+use Rattle.convoy_branch.specs.declared.bounds.Bounds.{Bounds}
+use Rattle.convoy_branch.specs.SearchBounds.{bound_of}
 use Rattle.convoy_sim.specs.Delivery.{latency_of}
 use Rattle.convoy_sim.specs.Record.{Record, attained_by}
-use Rattle.convoy_intervals.specs.Bounds.{plain_bound}
 use Rattle.convoy_intervals.specs.Boxes.{greatest_of}
 use Rattle.convoy_intervals.specs.Boxes.{Box}
 use Rattle.convoy_branch.specs.Steps.{found_in, known_after}
@@ -25,6 +26,6 @@ IsNoWorse-tried plan best delays bound true scenario is =
 IsNoWorse-tried plan best delays bound false scenario is =
     record { scenario = refl; above = not_above bound (latency_of plan delays) best.latency is; known = refl }
 
-pub IsNoWorse-found : (plan : Scenario) (best : Record) (box : Box) (found : Option Record) → best.scenario ≡ plan → found ≡ found_in plan box best.latency → IsNoWorse plan best found
-IsNoWorse-found plan best box found scenario is =
-    subst (λ (f : Option Record). IsNoWorse plan best f) (sym is) (IsNoWorse-tried plan best (greatest_of box) (plain_bound plan box) (nat_le (plain_bound plan box) best.latency || nat_le (latency_of plan (greatest_of box)) best.latency) scenario refl)
+pub IsNoWorse-found : (bounds : Bounds) (plan : Scenario) (best : Record) (box : Box) (found : Option Record) → best.scenario ≡ plan → found ≡ found_in bounds plan box best.latency → IsNoWorse plan best found
+IsNoWorse-found bounds plan best box found scenario is =
+    subst (λ (f : Option Record). IsNoWorse plan best f) (sym is) (IsNoWorse-tried plan best (greatest_of box) (bound_of bounds plan box) (nat_le (bound_of bounds plan box) best.latency || nat_le (latency_of plan (greatest_of box)) best.latency) scenario refl)

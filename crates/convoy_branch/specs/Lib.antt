@@ -7,11 +7,14 @@ pub use Rattle.convoy_sim.specs.Record
 pub use Rattle.convoy_intervals.specs.Boxes
 pub use Rattle.convoy_intervals.specs.Bounds
 pub use Rattle.convoy_intervals.specs.Tracked
+pub use Rattle.convoy_stamps.specs.StampBounds
 pub use Rattle.convoy_certificate.specs.Certificate
+pub use Rattle.convoy_certificate.specs.Text
 pub use Rattle.convoy_checker.specs.Trees
 pub use Rattle.convoy_checker.specs.Leaves
 pub use Rattle.convoy_checker.specs.Validity
--- What a search promises: a step over a box, how far a search has come, what it answers, and the laws of fronts.
+-- What a search promises: the bounds by which it goes, a step over a box, how far a search has come, what it answers, and the laws of fronts.
+pub mod SearchBounds
 pub mod Steps
 pub mod Fronts
 pub mod Outcomes

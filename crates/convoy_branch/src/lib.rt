@@ -1,6 +1,7 @@
 //! Branch and bound: the step over one box, and the search of one worker.
 #![tactic(auto)]
 
+pub use bounds::Bounds;
 pub use event::Event;
 pub use machine::Core;
 pub use outcome::Outcome;
@@ -9,6 +10,7 @@ pub use replaying::{ReplayFault, replay};
 pub use search::{search_alone, search_from};
 pub use step::{Step, Turn, step_branch};
 
+mod bounds;
 mod event;
 pub mod laws;
 mod machine;

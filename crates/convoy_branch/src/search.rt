@@ -6,12 +6,14 @@ ghost use Rattle.convoy_packets.specs.Assignment.{ranges_of};
 ghost use Rattle.convoy_packets.specs.Table.{IsTable, least_of, table_of};
 ghost use Rattle.convoy_sim.specs.Delivery.{latency_of};
 ghost use Rattle.convoy_sim.specs.Times.{greatest};
-ghost use Rattle.convoy_intervals.specs.Bounds.{plain_bound};
+ghost use Rattle.convoy_branch.specs.declared.bounds.Bounds.{Bounds};
+ghost use Rattle.convoy_branch.specs.SearchBounds.{bound_of};
 ghost use Rattle.convoy_branch.specs.Fronts.{left_in};
 ghost use Rattle.convoy_branch.specs.Outcomes.{IsOutcome, best_of};
 ghost use Rattle.convoy_branch.specs.Searching.{IsSearching, IsWork, front_of};
 ghost use Rattle.convoy_branch.specs.Searching.{work_after, nodes_after};
 
+use super::bounds::Bounds;
 use super::laws::fronts_bound;
 use super::outcome::Outcome;
 use super::step::{Turn, step_branch};
@@ -29,7 +31,8 @@ mod tests;
 
 /// Searches for the greatest latency of a scenario with one worker, by branch and bound
 /// (docs/PROTOCOL.md). It starts from the record of the least delays, takes up the upper half of
-/// each split first, and spends a ticket for each box that it takes up, at most `limit` of them.
+/// each split first, and spends a ticket for each box that it takes up, at most `limit` of them. Boxes
+/// are closed by those bounds; by plain ones no node of the certificate is a stamp leaf.
 ///
 /// `Outcome::Open` is the answer only where a box is left when all tickets are spent.
 pub fn search_alone(
@@ -37,13 +40,14 @@ pub fn search_alone(
     scenario: &Scenario,
     table: &PacketTable,
     limit: u64,
+    bounds: Bounds,
 ) -> Result<Outcome, AllocError>
     requires packets { table.now ≡ table_of scenario.now }
-    ensures { IfOk result (λ outcome. IsOutcome scenario.now limit outcome) }
+    ensures { IfOk result (λ outcome. IsOutcome bounds scenario.now limit outcome) }
 {
     let delays = Delays::least(alloc, table)?;
     let opening = Record::of(scenario, table, delays);
-    search_from(alloc, scenario, table, opening, limit)
+    search_from(alloc, scenario, table, opening, limit, bounds)
 }
 
 /// The search of [`search_alone`] from an opening record of the scenario. Its latency is at least
@@ -54,11 +58,12 @@ pub fn search_from(
     table: &PacketTable,
     opening: Record,
     limit: u64,
+    bounds: Bounds,
 ) -> Result<Outcome, AllocError>
     requires packets { table.now ≡ table_of scenario.now }
     requires of_scenario { opening.scenario ≡ scenario.now }
     requires least { latency_of scenario.now (least_of (ranges_of scenario.now)) ≤ opening.latency }
-    ensures value { IfOk result (λ outcome. IsOutcome scenario.now limit outcome) }
+    ensures value { IfOk result (λ outcome. IsOutcome bounds scenario.now limit outcome) }
     ensures opened { IfOk result (λ outcome. opening.latency ≤ best_of outcome) }
 {
     let mut search = Search::start(alloc, scenario, table, opening)?;
@@ -66,14 +71,14 @@ pub fn search_from(
         match work {
             Work::Write(node) => search.nodes.push(node)?,
             Work::Branch { branch, tried } if search.tickets < limit => {
-                search.take_up(alloc, scenario, table, branch, tried)?;
+                search.take_up(alloc, scenario, table, branch, tried, bounds)?;
             }
             Work::Branch { branch, tried } => {
-                return search.into_open(alloc, scenario, branch, tried);
+                return search.into_open(alloc, scenario, table, branch, tried, bounds);
             }
         }
     }
-    search.into_proved(alloc, scenario)
+    search.into_proved(alloc, scenario, bounds)
 }
 
 /// What a search has still to do.
@@ -111,8 +116,8 @@ impl Search {
         requires of_scenario { opening.scenario ≡ scenario.now }
         requires least { latency_of scenario.now (least_of (ranges_of scenario.now))
             ≤ opening.latency }
-        ensures searching { IfOk result
-            (λ s. IsSearching scenario.now s.best s.work.items s.nodes.items 0) }
+        ensures searching { (bounds : Bounds) → IfOk result
+            (λ s. IsSearching bounds scenario.now s.best s.work.items s.nodes.items s.tickets) }
         ensures best { IfOk result (λ s. s.best ≡ opening) }
         ensures tickets { IfOk result (λ s. s.tickets ≡ 0) }
         ensures lawful { IfOk result (λ _. IsTable table.now) }
@@ -138,14 +143,15 @@ impl Search {
         table: &PacketTable,
         branch: Tracked,
         tried: bool,
+        bounds: Bounds,
     ) -> Result<(), AllocError>
         requires packets { table.now ≡ table_of scenario.now }
         requires lawful { IsTable table.now }
-        requires searching { IsSearching scenario.now self.old.best
+        requires searching { IsSearching bounds scenario.now self.old.best
             (self.old.work.items ++ Work.Branch branch tried ∷ []) self.old.nodes.items
             self.old.tickets }
         requires ticket { self.old.tickets < u64.MAX }
-        ensures searching { OnOk result (IsSearching scenario.now self.new.best
+        ensures searching { OnOk result (IsSearching bounds scenario.now self.new.best
             self.new.work.items self.new.nodes.items (self.old.tickets + 1)) }
         ensures best { OnOk result (self.old.best.latency ≤ self.new.best.latency) }
         ensures ticket { OnOk result (self.new.tickets ≡ self.old.tickets + 1) }
@@ -154,7 +160,7 @@ impl Search {
         halves_are_boxes();
         upper_keeps_greatest();
         let seen = self.best.latency();
-        let step = match step_branch(alloc, scenario, table, branch, tried, seen) {
+        let step = match step_branch(alloc, scenario, table, branch, tried, seen, bounds) {
             Ok(step) => step,
             Err((_, error)) => return Err(error),
         };
@@ -204,10 +210,15 @@ impl Search {
     }
 
     /// The outcome of a search with no work left.
-    fn into_proved(self, alloc: Global, scenario: &Scenario) -> Result<Outcome, AllocError>
-        requires { IsSearching scenario.now self.best [] self.nodes.items self.tickets }
+    fn into_proved(
+        self,
+        alloc: Global,
+        scenario: &Scenario,
+        bounds: Bounds,
+    ) -> Result<Outcome, AllocError>
+        requires { IsSearching bounds scenario.now self.best [] self.nodes.items self.tickets }
         ensures value { (limit : ℕ) → self.tickets ≤ limit
-            → IfOk result (λ outcome. IsOutcome scenario.now limit outcome) }
+            → IfOk result (λ outcome. IsOutcome bounds scenario.now limit outcome) }
         ensures best { IfOk result (λ outcome. best_of outcome ≡ self.best.latency) }
     {
         trees_cover();
@@ -228,18 +239,22 @@ impl Search {
         mut self,
         alloc: Global,
         scenario: &Scenario,
+        table: &PacketTable,
         branch: Tracked,
         tried: bool,
+        bounds: Bounds,
     ) -> Result<Outcome, AllocError>
-        requires { IsSearching scenario.now self.best
+        requires packets { table.now ≡ table_of scenario.now }
+        requires searching { IsSearching bounds scenario.now self.best
             (self.work.items ++ Work.Branch branch tried ∷ []) self.nodes.items self.tickets }
-        ensures value { IfOk result (λ outcome. IsOutcome scenario.now self.tickets outcome) }
+        ensures value { IfOk result (λ outcome. IsOutcome bounds scenario.now self.tickets outcome) }
         ensures best { IfOk result (λ outcome. best_of outcome ≡ self.best.latency) }
     {
         fronts_bound();
         is_scenario(scenario);
         self.work.push(Work::Branch { branch, tried })?;
-        let upper = greatest_bound(scenario, &self.work, self.best.latency());
+        let seen = self.best.latency();
+        let upper = greatest_bound(alloc, scenario, table, &self.work, seen, bounds)?;
         Ok(Outcome::Open {
             best: self.best,
             upper,
@@ -256,17 +271,27 @@ fn is_scenario(scenario: &Scenario)
     let _ = scenario.delay();
 }
 
-/// The greatest of a number of ticks and the bounds of the boxes that are left.
-fn greatest_bound(scenario: &Scenario, work: &[Work], seen: u32) -> u32
-    requires { All (IsWork scenario.now seen) work.now }
-    ensures { let boxes = left_in (map front_of work.now) in result
-        ≡ greatest (seen ∷ map (plain_bound scenario.now) boxes) }
+/// The greatest of a number of ticks and the bounds, by which the search goes, of the boxes that are
+/// left.
+fn greatest_bound(
+    alloc: Global,
+    scenario: &Scenario,
+    table: &PacketTable,
+    work: &[Work],
+    seen: u32,
+    bounds: Bounds,
+) -> Result<u32, AllocError>
+    requires packets { table.now ≡ table_of scenario.now }
+    requires left { All (IsWork scenario.now seen) work.now }
+    ensures { let boxes = left_in (map front_of work.now) in IfOk result (λ greatest_bound.
+        greatest_bound ≡ greatest (seen ∷ map (bound_of bounds scenario.now) boxes)) }
 {
     let mut greatest = seen;
     for piece in work {
         if let Work::Branch { branch, .. } = piece {
-            greatest = greatest.max(branch.bound());
+            let bound = bounds.bound_of(alloc, scenario, table, branch)?;
+            greatest = greatest.max(bound);
         }
     }
-    greatest
+    Ok(greatest)
 }

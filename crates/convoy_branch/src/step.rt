@@ -6,14 +6,17 @@ ghost use Rattle.convoy_sim.specs.Delivery.{latency_of};
 ghost use Rattle.convoy_sim.specs.Record.{attained_by};
 ghost use Rattle.convoy_intervals.specs.Boxes.{IsBox, IsPoint, greatest_of};
 ghost use Rattle.convoy_intervals.specs.Boxes.{CanSplit};
+ghost use Rattle.convoy_branch.specs.declared.bounds.Bounds.{Bounds};
 ghost use Rattle.convoy_branch.specs.Steps.{known_after, IsStep, IsTriedIf, IsTurn, StaysOpen};
 
+use super::bounds::Bounds;
 use convoy_certificate::Node;
 use convoy_intervals::laws::members_are_assignments;
 use convoy_intervals::{DelayBox, Tracked};
 use convoy_packets::PacketTable;
 use convoy_scenario::Scenario;
 use convoy_sim::Record;
+use convoy_stamps::laws::stamp_bound_at_most_plain;
 use std::alloc::{AllocError, Global};
 
 #[cfg(test)]
@@ -47,10 +50,11 @@ pub enum Turn {
 /// Takes up one box of a search, where the best record has the latency `seen`, in ticks. The caller
 /// says by `tried` that the schedule of the box's greatest delays is known to have no greater one.
 ///
-/// The box is closed where its bound is at most `seen`. Else the schedule of its greatest delays is
-/// simulated, unless it was tried, and a latency above `seen` is found; then the box is closed where
-/// its bound is at most that, or where it has one member, and else is split (docs/PROTOCOL.md). Where
-/// memory runs out the box comes back as it was.
+/// The box is closed where a bound of it is at most `seen`: the plain one, or else, where the search
+/// goes by stamp bounds, that one. Else the schedule of its greatest delays is simulated, unless it was
+/// tried, and a latency above `seen` is found; then the box is closed where a bound is at most that, or
+/// where it has one member, and else is split (docs/PROTOCOL.md). Where memory runs out the box comes
+/// back as it was.
 pub fn step_branch(
     alloc: Global,
     scenario: &Scenario,
@@ -58,18 +62,30 @@ pub fn step_branch(
     branch: Tracked,
     tried: bool,
     seen: u32,
+    bounds: Bounds,
 ) -> Result<Step, (Tracked, AllocError)>
     requires packets { table.now ≡ table_of scenario.now }
     requires of_scenario { branch.scenario ≡ scenario.now }
     requires known { IsTriedIf scenario.now branch.space tried seen }
-    ensures value { IfOk result (λ step. IsStep scenario.now branch.space seen step) }
+    ensures value { IfOk result (λ step. IsStep bounds scenario.now branch.space seen step) }
     ensures back { IfErr result (λ refused. refused.0 ≡ branch) }
 {
-    let bound = branch.bound();
-    if bound <= seen {
+    stamp_bound_at_most_plain();
+    let plain = branch.bound();
+    if plain <= seen {
         return Ok(Step {
             found: None,
             turn: Turn::Closed(Node::Bound),
+        });
+    }
+    let bound = match bounds.bound_of(alloc, scenario, table, &branch) {
+        Ok(bound) => bound,
+        Err(error) => return Err((branch, error)),
+    };
+    if bound <= seen {
+        return Ok(Step {
+            found: None,
+            turn: Turn::Closed(Node::Stamp),
         });
     }
     let found = match try_greatest(alloc, scenario, table, &branch, tried, seen) {
@@ -77,8 +93,10 @@ pub fn step_branch(
         Err(error) => return Err((branch, error)),
     };
     let known = known_after(seen, &found);
-    let turn = if bound <= known {
+    let turn = if plain <= known {
         Turn::Closed(Node::Bound)
+    } else if bound <= known {
+        Turn::Closed(Node::Stamp)
     } else {
         open_turn(scenario, table, branch)?
     };
@@ -120,7 +138,7 @@ fn known_after(seen: u32, found: &Option<Record>) -> u32
     }
 }
 
-/// What becomes of a box that its bound does not close: a leaf where it has one member, and else
+/// What becomes of a box that no bound closes: a leaf where it has one member, and else
 /// its halves. Where memory runs out the box comes back as it was.
 fn open_turn(
     scenario: &Scenario,
@@ -129,9 +147,8 @@ fn open_turn(
 ) -> Result<Turn, (Tracked, AllocError)>
     requires packets { table.now ≡ table_of scenario.now }
     requires of_scenario { branch.scenario ≡ scenario.now }
-    requires one_each { length branch.space ≡ length table.now.ranges }
-    ensures value { (known : ℕ) → StaysOpen scenario.now branch.space known
-        → IfOk result (λ turn. IsTurn scenario.now branch.space known turn) }
+    ensures value { (bounds : Bounds) (known : ℕ) → StaysOpen bounds scenario.now branch.space known
+        → IfOk result (λ turn. IsTurn bounds scenario.now branch.space known turn) }
     ensures back { IfErr result (λ refused. refused.0 ≡ branch) }
 {
     match place_to_split(table, branch.space()) {

@@ -4,7 +4,7 @@ use Rattle.convoy_branch.proofs.search.search_from.Given as goal
 
 abbrev pub invariant-loop-work : goal.invariant-loop-work
 invariant-loop-work l = record {
-  searching : IsSearching l.scenario l.search.best l.search.work.items l.search.nodes.items l.search.tickets;
+  searching : IsSearching l.bounds l.scenario l.search.best l.search.work.items l.search.nodes.items l.search.tickets;
   few : l.search.tickets ≤ l.limit;
   opened : l.fn.opening.latency ≤ l.search.best.latency;
 }
