@@ -16,8 +16,8 @@ says_for First = FirstSays
 says_for Simulate = SimulateSays
 says_for Timeline = TimelineSays
 says_for Check = CheckSays
-says_for (Analyse options) = AnalyseSays options.limit
-says_for (Latency options) = LatencySays options.limit
+says_for (Analyse options) = AnalyseSays options
+says_for (Latency options) = LatencySays options
 
 -- how many bytes its text has at most
 abbrev pub longest_for : Command → ℕ

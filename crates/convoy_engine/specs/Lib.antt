@@ -17,6 +17,7 @@ pub use Rattle.convoy_certificate.specs.Reading as CertificateReading
 pub use Rattle.convoy_certificate.specs.Text as CertificateText
 pub use Rattle.convoy_checker.specs.Checks as CertificateChecks
 pub use Rattle.convoy_checker.specs.Validity
+pub use Rattle.convoy_branch.specs.SearchBounds
 pub use Rattle.convoy_branch.specs.Fronts
 pub use Rattle.convoy_branch.specs.Outcomes
 -- what a reader has to believe: which answers each command may give, and what its run does at its devices

@@ -1,13 +1,15 @@
 -- How a search runs.
 use Rattle.std.specs.Prelude.{ℕ, ◌≤◌}
+use Rattle.convoy_branch.specs.declared.bounds.Bounds.{Bounds}
 use Rattle.convoy_engine.specs.declared.options.TheConstants.{MOST_WORKERS, MOST_TICKETS, MOST_SIMULATIONS}
 
--- how many workers there are, how many tickets they spend at most, how many schedules are simulated before at most, and how many reads of the input are made at most
+-- how many workers there are, how many tickets they spend at most, how many schedules are simulated before at most, how many reads of the input are made at most, and by which bounds of boxes the search goes
 pub record Settings : Type 0 where
   pub workers : ℕ
   pub limit : ℕ
   pub simulations : ℕ
   pub most_reads : ℕ
+  pub bounds : Bounds
 
 -- there is a worker and a ticket, and no more of them, and of simulations, than may be
 pub record AreSettings (settings : Settings) : Type 0 where

@@ -5,6 +5,7 @@ pub use analyse::run_analyse;
 pub use batch::{MOST_JOBS, run_batch};
 pub use checking::run_check;
 pub use command::{Command, run_command};
+pub use convoy_branch::Bounds;
 pub use device::{DeviceFailed, Sink, Source};
 pub use done::Done;
 pub use fault::{Fault, fault_line};

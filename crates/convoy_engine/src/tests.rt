@@ -4,4 +4,5 @@ mod devices;
 mod fixture;
 mod options;
 mod rows;
+mod stamps;
 mod texts;

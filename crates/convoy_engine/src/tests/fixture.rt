@@ -3,7 +3,7 @@
 ghost use Rattle.std.specs.Prelude.{◌≡◌};
 
 use crate::{
-    DEFAULT_SIMULATIONS, Done, Fault, MOST_TICKETS, Options, Sink, SliceSource, Source, VecSink,
+    Bounds, DEFAULT_SIMULATIONS, Done, Fault, MOST_TICKETS, Options, Sink, SliceSource, Source, VecSink,
     fault_line, run_analyse, run_check, run_first, run_latency, run_simulate, run_timeline,
 };
 use std::alloc::{AllocError, Global};
@@ -20,6 +20,8 @@ pub(super) enum Asked {
     Check,
     Analyse(u64),
     Latency(u64),
+    AnalyseByStamps(u64),
+    LatencyByStamps(u64),
 }
 
 /// How a run ended, and what it has written, with the line of its fault.
@@ -41,6 +43,14 @@ pub(super) fn run<S: Source, K: Sink>(
         Asked::Analyse(limit) => run_analyse(alloc, source, sink, &options(limit, reads)),
         Asked::Latency(limit) => {
             let options = options(limit, reads).seeking(DEFAULT_SIMULATIONS);
+            run_latency(alloc, source, sink, &options)
+        }
+        Asked::AnalyseByStamps(limit) => {
+            let options = options(limit, reads).going_by(Bounds::Stamp);
+            run_analyse(alloc, source, sink, &options)
+        }
+        Asked::LatencyByStamps(limit) => {
+            let options = options(limit, reads).going_by(Bounds::Stamp);
             run_latency(alloc, source, sink, &options)
         }
     }
