@@ -30,8 +30,8 @@ stops_in_piece stay settings may_write start new text piece i fault below stop =
     let front = (text ++ take i piece) ++ get_or piece i 0 ∷ [] in
     let more = stay front (drop (i + 1) piece) in
     let whole : text ++ piece ≡ front ++ drop (i + 1) piece =
-        ap (λ x. text ++ x) (sym (take-append-drop (i + 1) piece)) ∙ sym (append_assoc text (take (i + 1) piece) (drop (i + 1) piece))
-        ∙ ap (λ x. x ++ drop (i + 1) piece) (sym (byte_taken text piece i below)) in
+    ap (λ x. text ++ x) (sym (take-append-drop (i + 1) piece)) ∙ sym (append_assoc text (take (i + 1) piece) (drop (i + 1) piece))
+    ∙ ap (λ x. x ++ drop (i + 1) piece) (sym (byte_taken text piece i below)) in
     stops_among settings may_write start new (ended_jobs front) more.0 (ended_jobs (text ++ piece)) fault stop (ap ended_jobs whole ∙ more.1)
 
 -- no block yet

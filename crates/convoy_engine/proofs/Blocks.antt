@@ -128,22 +128,24 @@ pub one_fails : {K : Type 0} (settings : Settings) (number : ℕ) (may_write : K
     (fault ≡ Write) × HasRun may_write start new (FailsAnswering settings all)
 one_fails settings number may_write start mid new jobs all job more fault before next few one is =
     let done = before.says in
-    let same = as_many settings jobs done.replies done.allowed in
-    (one.run.says.0, record {
-      answers = before.answers ++ one.run.answers;
-      calls = runs_join may_write start mid new before.answers one.run.answers before.calls one.run.calls;
-      says = record {
-        first = jobs ++ job ∷ [];
-        others = more;
-        front = is;
-        few = omega (arith, few, length-append jobs (job ∷ []));
-        replies = done.replies ++ one.reply ∷ [];
-        allowed = replies_push settings jobs done.replies job one.reply done.allowed one.allowed;
-        written = subst (λ (text : List ℕ). FailsWithin text (before.answers ++ one.run.answers))
-            (sym (blocks_push 1 number done.replies one.reply (omega (arith, next, same))))
-            (fails_join (blocks_from 1 done.replies) (block_of number one.reply) before.answers one.run.answers done.written one.run.says.1);
-      };
-    })
+    let same = as_many settings jobs done.replies done.allowed in (
+      one.run.says.0,
+      record {
+        answers = before.answers ++ one.run.answers;
+        calls = runs_join may_write start mid new before.answers one.run.answers before.calls one.run.calls;
+        says = record {
+          first = jobs ++ job ∷ [];
+          others = more;
+          front = is;
+          few = omega (arith, few, length-append jobs (job ∷ []));
+          replies = done.replies ++ one.reply ∷ [];
+          allowed = replies_push settings jobs done.replies job one.reply done.allowed one.allowed;
+          written = subst (λ (text : List ℕ). FailsWithin text (before.answers ++ one.run.answers))
+              (sym (blocks_push 1 number done.replies one.reply (omega (arith, next, same))))
+              (fails_join (blocks_from 1 done.replies) (block_of number one.reply) before.answers one.run.answers done.written one.run.says.1);
+        };
+      },
+    )
 
 -- what a block tells is allowed for its job
 told_allowed : (settings : Settings) (job : List ℕ) (want reply : Reply) → JobSays settings job want →
@@ -260,13 +262,14 @@ stops_among settings may_write start new jobs more all other stop is = absurd st
 pub last_answered : {K : Type 0} (settings : Settings) (number : ℕ) (may_write : K → Answer → K → Type 0) (start mid new : K)
     (text : List ℕ) (jobs : List (List ℕ)) (job : List ℕ) (result : Result (Unit {0}) Fault) → IsReady settings may_write start mid jobs number →
     AnswersOne settings may_write mid new number job result → jobs_of text ≡ jobs ++ job ∷ [] → EndsBatch settings may_write start new text result
-last_answered settings number may_write start mid new text jobs job (Ok done) ready one is =
-    (omega (arith, ready.few, ap length is, length-append jobs (job ∷ [])),
-     subst (λ (all : List (List ℕ)). HasRun may_write start new (AnswersAll settings all)) (sym is)
-     (one_more settings number may_write start mid new jobs job done ready.wrote ready.next one))
+last_answered settings number may_write start mid new text jobs job (Ok done) ready one is = (
+  omega (arith, ready.few, ap length is, length-append jobs (job ∷ [])),
+  subst (λ (all : List (List ℕ)). HasRun may_write start new (AnswersAll settings all)) (sym is)
+      (one_more settings number may_write start mid new jobs job done ready.wrote ready.next one),
+)
 last_answered settings number may_write start mid new text jobs job (Err fault) ready one is =
     let failed = one_fails settings number may_write start mid new jobs (jobs_of text) job [] fault ready.wrote ready.next ready.few one
-        (append-nil (jobs ++ job ∷ []) ∙ sym is) in
+    (append-nil (jobs ++ job ∷ []) ∙ sym is) in
     subst (λ (f : Fault). EndsBatch settings may_write start new text (Err f)) (sym failed.0) failed.1
 
 -- the job before the last divider is answered, and no more
@@ -275,7 +278,8 @@ pub last_stops : {K : Type 0} (settings : Settings) (may_write : K → Answer �
     jobs_of text ≡ (jobs ++ job ∷ []) ++ [] ∷ [] → EndsBatch settings may_write start new text (Err fault)
 last_stops settings may_write start new text jobs job Write stop is =
     stops_among settings may_write start new (jobs ++ job ∷ []) ([] ∷ []) (jobs_of text) Write stop is
-last_stops settings may_write start new text jobs job TooManyJobs stop is =
-    (omega (arith, ap length is, length-append (jobs ++ job ∷ []) ([] ∷ []), ap length stop.says.front, length-append stop.says.first stop.says.others, stop.says.most),
-     stops_among settings may_write start new (jobs ++ job ∷ []) ([] ∷ []) (jobs_of text) TooManyJobs stop is)
+last_stops settings may_write start new text jobs job TooManyJobs stop is = (
+  omega (arith, ap length is, length-append (jobs ++ job ∷ []) ([] ∷ []), ap length stop.says.front, length-append stop.says.first stop.says.others, stop.says.most),
+  stops_among settings may_write start new (jobs ++ job ∷ []) ([] ∷ []) (jobs_of text) TooManyJobs stop is,
+)
 last_stops settings may_write start new text jobs job other stop is = absurd stop

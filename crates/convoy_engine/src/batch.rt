@@ -93,8 +93,8 @@ impl Batch {
         ensures { (start : K) (text : List ℕ) →
             IsUnderWay options.now K.writes start sink.old text self.old →
             MatchResult result
-                (λ _. IsUnderWay options.now K.writes start sink.new (text ++ piece.now) self.new)
-                (StopsAnswering options.now K.writes start sink.new (ended_jobs (text ++ piece.now))) }
+            (λ _. IsUnderWay options.now K.writes start sink.new (text ++ piece.now) self.new)
+            (StopsAnswering options.now K.writes start sink.new (ended_jobs (text ++ piece.now))) }
     {
         ended_jobs_stay();
         for byte in piece {
@@ -114,8 +114,8 @@ impl Batch {
         ensures { (start : K) (text : List ℕ) →
             IsUnderWay options.now K.writes start sink.old text self.old →
             MatchResult result
-                (λ _. IsUnderWay options.now K.writes start sink.new (text ++ byte ∷ []) self.new)
-                (StopsAnswering options.now K.writes start sink.new (ended_jobs (text ++ byte ∷ []))) }
+            (λ _. IsUnderWay options.now K.writes start sink.new (text ++ byte ∷ []) self.new)
+            (StopsAnswering options.now K.writes start sink.new (ended_jobs (text ++ byte ∷ []))) }
     {
         if self.splitter.take(byte) {
             self.end_job(alloc, sink, options)
@@ -153,9 +153,9 @@ impl Batch {
             IsReady options.now K.writes start sink.old jobs self.old.number →
             Holds LONGEST_JOB self.old.splitter job →
             MatchResult result
-                (λ _. IsReady options.now K.writes start sink.new (jobs ++ job ∷ []) self.new.number
-                    × IsFresh self.new.splitter)
-                (StopsAnswering options.now K.writes start sink.new (jobs ++ job ∷ [])) }
+            (λ _. IsReady options.now K.writes start sink.new (jobs ++ job ∷ []) self.new.number
+            × IsFresh self.new.splitter)
+            (StopsAnswering options.now K.writes start sink.new (jobs ++ job ∷ [])) }
     {
         self.answer(alloc, sink, options)?;
         if self.number >= MOST_JOBS {

@@ -45,7 +45,10 @@ pub(crate) fn read_to_end<S: Source>(
 }
 
 /// One read: the front of the buffer that it filled.
-pub(crate) fn read_piece<'a, S: Source>(source: &mut S, buffer: &'a mut [u8]) -> Result<&'a [u8], DeviceFailed>
+pub(crate) fn read_piece<'a, S: Source>(
+    source: &mut S,
+    buffer: &'a mut [u8],
+) -> Result<&'a [u8], DeviceFailed>
     requires { 0 < length buffer.old }
     ensures { MatchResult result (λ piece. S.reads source.old (Moved piece.now) source.new)
         (λ _. S.reads source.old Failed source.new) }

@@ -3,8 +3,9 @@
 ghost use Rattle.std.specs.Prelude.{◌≡◌};
 
 use crate::{
-    Bounds, DEFAULT_SIMULATIONS, Done, Fault, MOST_TICKETS, Options, Sink, SliceSource, Source, VecSink,
-    fault_line, run_analyse, run_check, run_first, run_latency, run_simulate, run_timeline,
+    Bounds, DEFAULT_SIMULATIONS, Done, Fault, MOST_TICKETS, Options, Sink, SliceSource, Source,
+    VecSink, fault_line, run_analyse, run_check, run_first, run_latency, run_simulate,
+    run_timeline,
 };
 use std::alloc::{AllocError, Global};
 

@@ -9,7 +9,11 @@ use std::test::Fail;
 /// What `latency` writes for a text in which a part is replaced, where its search goes by stamp bounds.
 fn latency_told(alloc: Global, text: &str, part: &str, other: &str) -> Result<Vec<u8>, AllocError> {
     let text = changed(alloc, text, part, other)?;
-    let (_, out) = told(alloc, Asked::LatencyByStamps(DEFAULT_LIMIT), text.as_bytes())?;
+    let (_, out) = told(
+        alloc,
+        Asked::LatencyByStamps(DEFAULT_LIMIT),
+        text.as_bytes(),
+    )?;
     Ok(out)
 }
 

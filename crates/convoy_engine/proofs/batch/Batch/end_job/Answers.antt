@@ -17,7 +17,8 @@ returns-then-self-ge-MOST_JOBS g c = λ start jobs job ready held.
 pub returns : goal.returns
 returns g c = λ start jobs job ready held.
     let same : Holds LONGEST_JOB c.answer.new.self.splitter job = rw c.answer.ensures.splitter held in
-    let fresh = c.start_next.ensures LONGEST_JOB job same in
-    (end_ready _ _ _ _ start _ _ jobs job _ ready (omega (arith, c.answer.ensures.number, c.if-self-ge-MOST_JOBS.false))
-        (omega (arith, c.answer.ensures.number)) (c.in_ok-answer.ensures.job job held),
-     record { empty = fresh.0; after = fresh.1 })
+    let fresh = c.start_next.ensures LONGEST_JOB job same in (
+      end_ready _ _ _ _ start _ _ jobs job _ ready (omega (arith, c.answer.ensures.number, c.if-self-ge-MOST_JOBS.false))
+          (omega (arith, c.answer.ensures.number)) (c.in_ok-answer.ensures.job job held),
+      record { empty = fresh.0; after = fresh.1 },
+    )
