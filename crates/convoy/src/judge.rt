@@ -8,7 +8,7 @@ use super::MOST_READS;
 use clap::error::ErrorKind;
 use clap::{Arg, ArgMatches, Error, value_parser};
 use convoy_engine::{
-    Command, DEFAULT_LIMIT, DEFAULT_SIMULATIONS, MOST_SIMULATIONS, MOST_TICKETS, Options,
+    Bounds, Command, DEFAULT_LIMIT, DEFAULT_SIMULATIONS, MOST_SIMULATIONS, MOST_TICKETS, Options,
 };
 use std::alloc::{AllocError, Global};
 use std::convert::AsStr;
@@ -146,6 +146,10 @@ const ABOUT_SEEK: &str = "\
 How many schedules are simulated at most to find a good one for the search to
 start from: from 0, for the schedule of the least delays, to 1000000";
 
+const ABOUT_BOUNDS: &str = "\
+By which bounds the search goes: with `stamp` it needs fewer tickets and more
+time for each, and `analyse` may write a certificate of the form `convoy 2`";
+
 /// What is to be done for these words, the program's own name not among them.
 pub fn judge<S: AsStr>(alloc: Global, words: &[S]) -> Verdict
     ensures { IsVerdict result }
@@ -184,16 +188,29 @@ fn command_of<S: AsStr>(alloc: Global, words: &[S]) -> Result<Command, Error>
     })
 }
 
-/// The options of a search: the numbers that are given, or else the usual ones. `clap` rejects a word
-/// that is no such number, or out of range.
+/// The options of a search: those that are given, or else the usual ones. `clap` rejects a word that
+/// is none of these, and a number out of range.
 fn options_of(given: &ArgMatches<'_>) -> Options
     ensures { result.workers ≡ 1 }
 {
     let limit = given.get_one("limit").unwrap_or(DEFAULT_LIMIT);
     let simulations = given.get_one("seek").unwrap_or(DEFAULT_SIMULATIONS);
     match Options::new(1, limit.clamp(1, MOST_TICKETS), MOST_READS) {
-        Some(options) => options.seeking(simulations.min(MOST_SIMULATIONS)),
+        Some(options) => {
+            options
+                .seeking(simulations.min(MOST_SIMULATIONS))
+                .going_by(bounds_of(given))
+        }
         None => unreachable!(),
+    }
+}
+
+/// The bounds by which the search goes.
+fn bounds_of(given: &ArgMatches<'_>) -> Bounds {
+    if given.get_str("bounds") == Some("stamp") {
+        Bounds::Stamp
+    } else {
+        Bounds::Plain
     }
 }
 
@@ -248,7 +265,8 @@ fn search_command<'a>(
 ) -> Result<clap::Command<'a>, AllocError> {
     command(alloc, name, about, long_about)
         .arg(limit_argument(alloc))?
-        .arg(seek_argument(alloc))
+        .arg(seek_argument(alloc))?
+        .arg(bounds_argument(alloc))
 }
 
 /// A command without options, with the two texts that help tells of it.
@@ -281,6 +299,16 @@ fn seek_argument<'a>(alloc: Global) -> Arg<'a> {
         .value_parser(value_parser!(u64).range(0..=1_000_000))
         .default_value("20000")
         .help(ABOUT_SEEK)
+}
+
+/// By which bounds a search goes.
+fn bounds_argument<'a>(alloc: Global) -> Arg<'a> {
+    Arg::new(alloc, "bounds")
+        .long("bounds")
+        .value_name("KIND")
+        .value_parser(["plain", "stamp"].as_slice())
+        .default_value("plain")
+        .help(ABOUT_BOUNDS)
 }
 
 /// What is to be done where no command was found: clap's own text is to be written.

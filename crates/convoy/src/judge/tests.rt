@@ -1,5 +1,5 @@
 use super::{Verdict, judge, judge_bytes};
-use convoy_engine::Command;
+use convoy_engine::{Bounds, Command};
 use std::alloc::Global;
 
 /// The status with which a command line ends by itself; None where it runs a command.
@@ -29,6 +29,16 @@ fn told(command: &Command) -> (&'static str, u64, u64) {
         Command::Check => ("check", 0, 0),
         Command::Analyse(options) => ("analyse", options.limit(), options.simulations()),
         Command::Latency(options) => ("latency", options.limit(), options.simulations()),
+    }
+}
+
+/// The bounds of the search that a command line asks for.
+fn bounds_run(alloc: Global, words: &[&str]) -> Option<Bounds> {
+    match &judge(alloc, words) {
+        Verdict::Run(Command::Analyse(options) | Command::Latency(options)) => {
+            Some(options.bounds())
+        }
+        _ => None,
     }
 }
 
@@ -75,6 +85,9 @@ fn command_lines(rt: HostRuntime) {
         (["latency", "--limit"].as_slice(), 2),
         (["latency", "--seek", "1000001"].as_slice(), 2),
         (["analyse", "--seek", "-1"].as_slice(), 2),
+        (["analyse", "--bounds", "lead"].as_slice(), 2),
+        (["latency", "--bounds", "Stamp"].as_slice(), 2),
+        (["check", "--bounds", "stamp"].as_slice(), 2),
         (["first", "--seek", "1"].as_slice(), 2),
         (["check", "--limit", "3"].as_slice(), 2),
         (["second"].as_slice(), 2),
@@ -84,6 +97,18 @@ fn command_lines(rt: HostRuntime) {
         (["help"].as_slice(), 2),
     ] {
         assert_eq!(rt; status_of(rt.alloc(), words), Some(status), "at {words:?}");
+    }
+}
+
+#[test]
+fn bounds(rt: HostRuntime) {
+    for (words, want) in [
+        (["latency"].as_slice(), Bounds::Plain),
+        (["latency", "--bounds", "plain"].as_slice(), Bounds::Plain),
+        (["latency", "--bounds", "stamp"].as_slice(), Bounds::Stamp),
+        (["analyse", "--bounds=stamp", "--seek", "0"].as_slice(), Bounds::Stamp),
+    ] {
+        assert_eq!(rt; bounds_run(rt.alloc(), words), Some(want), "at {words:?}");
     }
 }
 
