@@ -2,7 +2,7 @@
 use Rattle.std.proofs.Common.{◌≡◌, ℕ, pos, ◌+◌, ◌<◌, ◌≤◌, ◌==◌, ◌&&◌, not, Bool, true, false, leb, le-leb, List, [], ◌∷◌, length, get_or, map, All, Option, Some, None, Ok, eq-eqb, refl, ap, sym, subst, ◌∙◌, arith, inl, inr}
 use Rattle.std.specs.List.{list_all, list_any, AllByRecursion, IsDistinct}
 use Rattle.std.specs.Str.{bytes_eq}
-use Rattle.std.proofs.lemmas.Bool.{and_parts, and_from, or_cases, cases_order, eqb-true, ne_eqb, both_ways, false≢true, not-true, false_from_ne_true}
+use Rattle.std.proofs.lemmas.Bool.{and_parts, and_from, or_cases, cases_order, eqb-true, both_ways, false≢true, not-true, false_from_ne_true}
 use Rattle.std.proofs.lemmas.List.{length-map, get_or-map}
 use Rattle.std.proofs.lemmas.List.Elements.{All-head, All-tail, All-get_or}
 use Rattle.std.proofs.lemmas.Slice.Eq.{bytes_eq-Decides}
@@ -14,7 +14,7 @@ use Rattle.convoy_scenario.specs.Scenario.{Scenario, Link, Message, message_at, 
 use Rattle.convoy_scenario.specs.WellFormed.{is_name, is_group_name, sender_place, is_before, is_whole, follows, ascend_after, IsSender, IsLink, IsMulticast, IsScenario}
 use Rattle.convoy_scenario.specs.Checks.{Check, checks, judge, is_within, is_count, is_among, all_differ, is_known_sender, knows, is_message, messages_differ, is_named_alike, is_same_pair, links_differ, has_range, knows_link, leads_elsewhere, is_target_addressed}
 use Rattle.convoy_scenario.specs.Naming.{sender_name, draft_link, draft_message, draft_for}
-use Rattle.convoy_scenario.specs.Numbering.{message_place, ticks, sender_of, link_of, message_of, in_order, scenario_of, scenario_of_draft}
+use Rattle.convoy_scenario.specs.Numbering.{message_place, sender_of, link_of, message_of, scenario_of, scenario_of_draft}
 use Rattle.convoy_scenario.proofs.LineLaws.{itself, same_bytes}
 use Rattle.convoy_scenario.proofs.NumberedAgain.{any_at, apart, one_place, among_at, place_again, numbers_again, Rises, rises, above, among_named}
 use Rattle.convoy_scenario.proofs.LinkLemmas.{ticks_again, not_itself, before_all, stay}

@@ -1,15 +1,14 @@
 -- The forms of lines: what is read was written so, and what is written is read again.
-use Rattle.std.proofs.Common.{◌≡◌, ℕ, pos, ◌<◌, ◌≤◌, ◌==◌, ◌&&◌, not, true, cond, leb, List, [], ◌∷◌, length, map, Option, Some, None, refl, ap, sym, subst, ◌∙◌, arith, inl, inr, codes, decimal}
+use Rattle.std.proofs.Common.{◌≡◌, ℕ, pos, ◌<◌, ◌==◌, cond, leb, List, [], ◌∷◌, length, map, Option, Some, None, refl, ap, sym, subst, ◌∙◌, arith, inl, inr, codes, decimal}
 use Rattle.std.specs.List.{AllByRecursion}
-use Rattle.std.specs.Str.{bytes_eq, is_utf8}
-use Rattle.std.proofs.lemmas.Bool.{and_parts, and_from, cases_Bool, eqb-true, ne_eqb}
+use Rattle.std.specs.Str.{is_utf8}
+use Rattle.std.proofs.lemmas.Bool.{cases_Bool, eqb-true}
 use Rattle.std.proofs.lemmas.List.{nil_from_length}
 use Rattle.std.proofs.lemmas.Option.{cond_some, same_Some}
-use Rattle.std.proofs.lemmas.Slice.Eq.{bytes_eq-Decides}
 use Rattle.convoy_scenario.specs.Draft.{DraftLink, DraftMessage}
-use Rattle.convoy_lines.specs.Words.{words_of, next_word, number_of}
+use Rattle.convoy_lines.specs.Words.{next_word, number_of}
 use Rattle.convoy_lines.specs.Options.{◌>>=◌}
-use Rattle.convoy_lines.specs.Labels.{greatest_number, is_spaced, words_after, number_in}
+use Rattle.convoy_lines.specs.Labels.{greatest_number, words_after}
 use Rattle.convoy_scenario.specs.LineForms.{name_of, named_sender, greatest_delay_number, groups_in, link_in, multicast_in, target_in}
 use Rattle.convoy_lines.specs.Texts.{line_of}
 use Rattle.convoy_scenario.proofs.LineLaws.{LineLaws, bind_some, next_takes, number_takes, label_takes}

@@ -6,10 +6,12 @@ pub mod LinkPlaces
 pub mod Links
 pub mod NumberLemmas
 pub mod NumberedLemmas
+pub mod KeptNames
+pub mod KeptLines
+pub mod Messages
 pub mod GivenScenarios
 pub mod PlaceLemmas
 pub mod Texts
-pub mod Messages
 pub mod FormLaws
 pub mod LineLaws
 pub mod ScenarioTakes

@@ -1,5 +1,5 @@
 -- A draft that passes all the checks gives a scenario that is well formed.
-use Rattle.std.proofs.Common.{◌≡◌, ℕ, ℤ, int_le, leb, ◌==◌, ◌&&◌, ◌∙◌, ap, arith, subst, leb-true, ◌||◌, pos, negsuc, ◌<◌, ◌≤◌, Bool, true, false, not, cond, nat_le, List, [], ◌∷◌, length, get_or, map, Option, Some, None, Result, Ok, Err, refl, sym}
+use Rattle.std.proofs.Common.{◌≡◌, ℕ, ℤ, int_le, leb, ◌&&◌, ◌∙◌, ap, arith, subst, leb-true, ◌||◌, pos, negsuc, ◌<◌, ◌≤◌, Bool, true, false, not, cond, nat_le, List, [], ◌∷◌, length, get_or, map, Option, Some, None, Result, Ok, Err, refl, sym}
 use Rattle.std.specs.List.{list_all, list_any, find, AllByRecursion, IsDistinct}
 use Rattle.std.specs.Str.{bytes_eq}
 use Rattle.std.proofs.lemmas.Bool.{and_parts, eqb-true, false≢true, false_from_ne_true}
@@ -12,9 +12,9 @@ use Rattle.convoy_scenario.specs.declared.fault.ScenarioFault.{ScenarioFault}
 use Rattle.convoy_scenario.specs.declared.limits.TheConstants.{GREATEST_AT, GREATEST_DELAY, MOST_GROUPS, MOST_MULTICASTS}
 use Rattle.convoy_scenario.specs.Scenario.{Link, Message, message_at, no_message, is_same_sender}
 use Rattle.convoy_scenario.specs.WellFormed.{is_name, is_group_name, is_whole, IsSender, IsLink, IsMulticast, IsScenario}
-use Rattle.convoy_scenario.specs.declared.sender.Sender.TheVariants.{Client, Group}
+use Rattle.convoy_scenario.specs.declared.sender.Sender.TheVariants.{Group}
 use Rattle.convoy_scenario.specs.Draft.{Draft, DraftLink, DraftMessage}
-use Rattle.convoy_scenario.specs.Checks.{is_within, is_count, is_among, all_differ, is_message, messages_differ, is_known_sender, knows, is_named_alike, links_differ, has_range, knows_link, leads_elsewhere, is_target_addressed, checks, judge, Check}
+use Rattle.convoy_scenario.specs.Checks.{is_within, is_count, is_among, all_differ, is_message, messages_differ, is_known_sender, knows, is_named_alike, has_range, knows_link, leads_elsewhere, is_target_addressed, checks, judge, Check}
 use Rattle.convoy_scenario.specs.Numbering.{place, message_place, ticks, sender_of, numbers_of, link_of, message_of, in_order, delay_of_draft, links_of_draft, scenario_of}
 use Rattle.convoy_scenario.proofs.LinkLemmas.{ticks_again, in_order_all, in_order_ascends}
 use Rattle.convoy_scenario.proofs.NumberLemmas.{numbers_have, numbers_some, numbers_rise, numbers_below}
@@ -43,7 +43,7 @@ next_holds : (b : Bool) (fault : ScenarioFault) (rest : Result (Unit {0}) Scenar
 next_holds true fault rest h = (refl, h)
 next_holds false fault rest h = cc
 
-all_hold : (cs : List Check) → judge cs ≡ Ok tt → AllByRecursion (λ c. c.0 ≡ true) cs
+pub all_hold : (cs : List Check) → judge cs ≡ Ok tt → AllByRecursion (λ c. c.0 ≡ true) cs
 all_hold [] h = tt
 all_hold (c ∷ cs) h =
     let next = next_holds c.0 c.1 (judge cs) h in
@@ -89,7 +89,7 @@ apart p (x ∷ xs) h =
     let rest : not (list_any p xs) ≡ true = rw e at h in
     (e, apart p xs rest)
 
-groups_distinct : (names : List (List ℕ)) → all_differ names ≡ true → IsDistinct bytes_eq names
+pub groups_distinct : (names : List (List ℕ)) → all_differ names ≡ true → IsDistinct bytes_eq names
 unfolding IsDistinct
 groups_distinct [] h = tt
 groups_distinct (name ∷ names) h =

@@ -6,6 +6,7 @@ pub use Rattle.convoy_lines.specs.Texts
 pub use Rattle.convoy_lines.specs.Words
 pub mod Checks
 pub mod Draft
+pub mod Keeping
 pub mod Laws
 pub mod LineForms
 pub mod LineReading

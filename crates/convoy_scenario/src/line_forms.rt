@@ -1,23 +1,33 @@
-ghost use Rattle.std.specs.Prelude.{◌≡◌, ◌==◌, Ok, map, codes, length, option_map, ok_or, IfOk};
+ghost use Rattle.std.specs.Prelude.{◌≡◌, ◌==◌, Ok, [], ◌∷◌, map, codes, length, option_map, ok_or, IfOk};
 ghost use Rattle.std.specs.Result.{result_map_both};
+ghost use Rattle.convoy_scenario.specs.Checks.{is_among};
+ghost use Rattle.convoy_scenario.specs.Keeping.{kept_groups, kept_destinations, kept_groups_in, kept_multicast_in};
 ghost use Rattle.convoy_scenario.specs.Memory.{IsUnlessMemory};
-ghost use Rattle.convoy_scenario.specs.LineForms.{name_of, named_sender, groups_in, link_in, multicast_in, target_in};
+ghost use Rattle.convoy_scenario.specs.LineForms.{name_of, named_sender, link_in, target_in};
 
 use super::draft::{DraftLink, DraftMulticast};
+use super::limits::MOST_KEPT_NAMES;
 use super::line_fault::LineFault;
 use super::name::Name;
 use convoy_lines::{Words, number_of, words_after};
 use std::alloc::{AllocError, Global};
 
-/// A word as a name; one that is not UTF-8, which is no name, as the name of no bytes, which is none,
-/// either.
+/// A word as the text of a name; one that is not UTF-8, which is no name, as the text of no bytes,
+/// which is none, either.
+fn text_of(word: &[u8]) -> &str
+    ensures { result.now ≡ name_of word.now }
+{
+    match str::from_utf8(word) {
+        Ok(text) => text,
+        Err(_) => "",
+    }
+}
+
+/// A word as a name.
 fn name_of(alloc: Global, word: &[u8]) -> Result<Name, AllocError>
     ensures { IfOk result (λ name. name ≡ name_of word.now) }
 {
-    match str::from_utf8(word) {
-        Ok(text) => Name::new(alloc, text),
-        Err(_) => Name::new(alloc, ""),
-    }
+    Name::new(alloc, text_of(word))
 }
 
 /// The sender that a word names: None for a client.
@@ -30,25 +40,61 @@ fn named_sender(alloc: Global, word: &[u8]) -> Result<Option<Name>, AllocError>
     Ok(Some(name_of(alloc, word)?))
 }
 
-/// The words that are left, as names.
-fn names_of(alloc: Global, words: Words) -> Result<Vec<Name>, AllocError>
-    ensures { IfOk result (λ names. names.items ≡ map name_of words.entry) }
+/// The first of the words that are left, as names.
+fn first_names(alloc: Global, words: Words) -> Result<Vec<Name>, AllocError>
+    ensures { IfOk result (λ names. names.items ≡ kept_groups (map name_of words.entry)) }
 {
     let mut words = words;
     let mut names = Vec::new(alloc);
     while let Some(word) = words.next() {
+        if names.len() == MOST_KEPT_NAMES {
+            return Ok(names);
+        }
         names.push(name_of(alloc, word)?)?;
     }
     Ok(names)
 }
 
-/// The names of a line `groups`; `wrong` where the line has not its form.
+/// Whether a text is one of the names.
+fn is_named(text: &str, names: &[Name]) -> bool
+    ensures { result ≡ is_among text.now names.now }
+{
+    names.iter().any(|name| text == name.as_str())
+}
+
+/// One name.
+fn alone(alloc: Global, word: &[u8]) -> Result<Vec<Name>, AllocError>
+    ensures { IfOk result (λ names. names.items ≡ name_of word.now ∷ []) }
+{
+    let mut names = Vec::new(alloc);
+    names.push(name_of(alloc, word)?)?;
+    Ok(names)
+}
+
+/// Of the words that are left, as names, the first that is none of the groups, or else the first ones.
+fn destinations_of(alloc: Global, groups: &[Name], words: Words) -> Result<Vec<Name>, AllocError>
+    ensures { IfOk result (λ names. names.items ≡ kept_destinations groups.now (map name_of words.entry)) }
+{
+    let mut words = words;
+    let mut names = Vec::new(alloc);
+    while let Some(word) = words.next() {
+        if !is_named(text_of(word), groups) {
+            return alone(alloc, word);
+        }
+        if names.len() < MOST_KEPT_NAMES {
+            names.push(name_of(alloc, word)?)?;
+        }
+    }
+    Ok(names)
+}
+
+/// The names that are kept of a line `groups`; `wrong` where the line has not its form.
 pub fn groups_in(alloc: Global, line: &[u8], wrong: LineFault) -> Result<Vec<Name>, LineFault>
-    ensures { IsUnlessMemory LineFault.Memory (ok_or (groups_in line.now) wrong)
+    ensures { IsUnlessMemory LineFault.Memory (ok_or (kept_groups_in line.now) wrong)
         (result_map_both (λ groups. groups.items) (λ fault. fault) result) }
 {
     let words = words_after(line, b"groups").ok_or(wrong)?;
-    let groups = names_of(alloc, words)?;
+    let groups = first_names(alloc, words)?;
     if groups.is_empty() {
         return Err(wrong);
     }
@@ -77,13 +123,15 @@ pub fn link_in(alloc: Global, line: &[u8], wrong: LineFault) -> Result<DraftLink
     })
 }
 
-/// The message of a line `multicast`; `wrong` where the line has not its form.
+/// The message of a line `multicast`, with what is kept of its destinations; `wrong` where the line has
+/// not its form.
 pub fn multicast_in(
     alloc: Global,
+    groups: &[Name],
     line: &[u8],
     wrong: LineFault,
 ) -> Result<DraftMulticast, LineFault>
-    ensures { IsUnlessMemory LineFault.Memory (ok_or (multicast_in line.now) wrong) result }
+    ensures { IsUnlessMemory LineFault.Memory (ok_or (kept_multicast_in groups.now line.now) wrong) result }
 {
     let mut words = words_after(line, b"multicast").ok_or(wrong)?;
     let name = words.next().ok_or(wrong)?;
@@ -93,7 +141,7 @@ pub fn multicast_in(
     Ok(DraftMulticast {
         name: name_of(alloc, name)?,
         sender: named_sender(alloc, from)?,
-        to: names_of(alloc, words)?,
+        to: destinations_of(alloc, groups, words)?,
         at: i64::from(at),
     })
 }

@@ -3,8 +3,9 @@ ghost use Rattle.std.specs.Cmp.Lexicographic.{pointwise};
 ghost use Rattle.std.specs.Result.{result_map_both};
 ghost use Rattle.convoy_scenario.specs.Memory.{IsUnlessMemory};
 ghost use Rattle.convoy_lines.specs.Labels.{number_in};
-ghost use Rattle.convoy_scenario.specs.LineForms.{groups_in, link_in, multicast_in, target_in};
-ghost use Rattle.convoy_scenario.specs.LineReading.{form_at, is_link_due, links_at, first_misplaced, first_misplaced_link, messages_at, is_multicast_due, is_ordered, first_unordered, told, scenario_at};
+ghost use Rattle.convoy_scenario.specs.Keeping.{kept_groups_in, kept_multicast_in, kept_messages_at, kept_scenario_at};
+ghost use Rattle.convoy_scenario.specs.LineForms.{link_in, target_in};
+ghost use Rattle.convoy_scenario.specs.LineReading.{form_at, is_link_due, links_at, first_misplaced, first_misplaced_link, is_multicast_due, is_ordered, first_unordered, told, scenario_at};
 ghost use Rattle.convoy_lines.specs.Places.{upcoming};
 ghost use Rattle.convoy_scenario.specs.Numbering.{link_of, scenario_of_draft};
 
@@ -48,7 +49,6 @@ pub fn read_lines(
 }
 
 /// Reads the lines of a scenario. After a fault the reader stands somewhere among them.
-#[tactic(auto, unfolding(crate::specs::LineReading::scenario_at))]
 fn read_scenario(
     alloc: Global,
     version: Version,
@@ -57,12 +57,26 @@ fn read_scenario(
     ensures { IsUnlessMemory LineFault.Memory (scenario_at version reader.old)
         (result_map_both (λ scenario. (scenario, reader.new)) (λ fault. fault) result) }
 {
+    read_kept(alloc, version, reader)
+}
+
+/// Reads the lines of a scenario, and keeps of a line no more names than show its fault: a line may
+/// have millions of them.
+#[tactic(auto, unfolding(crate::specs::Keeping::kept_scenario_at))]
+fn read_kept(
+    alloc: Global,
+    version: Version,
+    reader: &mut LineReader,
+) -> Result<Scenario, LineFault>
+    ensures { IsUnlessMemory LineFault.Memory (kept_scenario_at version reader.old)
+        (result_map_both (λ scenario. (scenario, reader.new)) (λ fault. fault) result) }
+{
     let delay = read_delay(reader)?;
     let groups = read_groups(alloc, reader)?;
     let first_link = reader.number();
     let links = read_links(alloc, version, reader)?;
     let first = reader.number();
-    let multicasts = read_multicasts(alloc, reader)?;
+    let multicasts = read_multicasts(alloc, &groups, reader)?;
     let (target_message, target_group) = read_target(alloc, reader)?;
     let unordered = first_unordered(&groups, first, &multicasts);
     let draft = DraftScenario {
@@ -104,7 +118,7 @@ fn read_delay(reader: &mut LineReader) -> Result<u32, LineFault>
 }
 
 fn read_groups(alloc: Global, reader: &mut LineReader) -> Result<Vec<Name>, LineFault>
-    ensures { IsUnlessMemory LineFault.Memory (form_at Expected.Groups groups_in reader.old)
+    ensures { IsUnlessMemory LineFault.Memory (form_at Expected.Groups kept_groups_in reader.old)
         (result_map_both (λ groups. (groups.items, reader.new)) (λ fault. fault) result) }
 {
     let wrong = LineFault::Line(reader.number(), Expected::Groups);
@@ -150,22 +164,31 @@ fn is_link_due(version: Version, reader: &LineReader) -> bool
     }
 }
 
-fn read_multicast(alloc: Global, reader: &mut LineReader) -> Result<DraftMulticast, LineFault>
-    ensures { IsUnlessMemory LineFault.Memory (form_at Expected.Multicast multicast_in reader.old)
+fn read_multicast(
+    alloc: Global,
+    groups: &[Name],
+    reader: &mut LineReader,
+) -> Result<DraftMulticast, LineFault>
+    ensures { IsUnlessMemory LineFault.Memory
+        (form_at Expected.Multicast (kept_multicast_in groups.now) reader.old)
         (result_map_both (λ message. (message, reader.new)) (λ fault. fault) result) }
 {
     let wrong = LineFault::Line(reader.number(), Expected::Multicast);
     let line = reader.line().ok_or(wrong)?;
-    multicast_in(alloc, line, wrong)
+    multicast_in(alloc, groups, line, wrong)
 }
 
-fn read_multicasts(alloc: Global, reader: &mut LineReader) -> Result<Vec<DraftMulticast>, LineFault>
-    ensures { IsUnlessMemory LineFault.Memory (messages_at 0 reader.old)
+fn read_multicasts(
+    alloc: Global,
+    groups: &[Name],
+    reader: &mut LineReader,
+) -> Result<Vec<DraftMulticast>, LineFault>
+    ensures { IsUnlessMemory LineFault.Memory (kept_messages_at groups.now 0 reader.old)
         (result_map_both (λ messages. (messages.items, reader.new)) (λ fault. fault) result) }
 {
     let mut multicasts = Vec::new(alloc);
     while is_multicast_due(reader, multicasts.len()) {
-        let multicast = read_multicast(alloc, reader)?;
+        let multicast = read_multicast(alloc, groups, reader)?;
         if multicasts.len() == MOST_MULTICASTS {
             return Err(LineFault::Scenario(ScenarioFault::OverLimit(Limit::Multicasts)));
         }

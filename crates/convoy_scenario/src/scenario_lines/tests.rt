@@ -28,3 +28,44 @@ fn counts_of_links(rt: HostRuntime) -> Result<(), Fail> {
     assert_eq!(rt; found, Some(LineFault::Line(3, Expected::Multicast)));
     Ok(())
 }
+
+/// The fault of the lines of a scenario with these groups, and a message to these.
+fn fault_of_names(alloc: Global, groups: &str, to: &str) -> Result<Option<LineFault>, Fail> {
+    let text = format!(in alloc;
+        "delay 3\ngroups {groups}\nmulticast x client 0 {to}\ntarget x b\n"
+    )?;
+    let mut reader = LineReader::over(text.as_bytes());
+    Ok(read_lines(alloc, Version::One, &mut reader).err())
+}
+
+/// A line with more names than are kept of it tells the fault of the whole line.
+#[test]
+fn many_names(rt: HostRuntime) -> Result<(), Fail> {
+    for (groups, to, fault) in [
+        (
+            "b c d e f g h i j k l m",
+            "b",
+            ScenarioFault::OverLimit(Limit::Groups),
+        ),
+        (
+            "a b",
+            "b b b b b b b b b b b",
+            ScenarioFault::DoubleDestination,
+        ),
+        (
+            "a b",
+            "b b b b b b b b b b b z b",
+            ScenarioFault::UnknownGroup,
+        ),
+        (
+            "a b",
+            "a b b b b b b b b b b Z",
+            ScenarioFault::UnknownGroup,
+        ),
+        ("a B", "b b b b b b b b b b b z", ScenarioFault::BadName),
+    ] {
+        let found = fault_of_names(rt.alloc(), groups, to)?;
+        assert_eq!(rt; found, Some(LineFault::Scenario(fault)), "{to}");
+    }
+    Ok(())
+}

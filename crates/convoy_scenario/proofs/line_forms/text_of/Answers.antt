@@ -1,10 +1,9 @@
 use Rattle.std.proofs.Common.{◌≡◌, ℕ, List, [], ◌∙◌, sym, refl}
 use Rattle.std.specs.Str.{is_utf8, IsUtf8}
 use Rattle.std.proofs.lemmas.Bool.{false_from_ne_true}
-use Rattle.std.proofs.lemmas.Result.{IfOk-weaker}
 use Rattle.std.proofs.lemmas.Str.{IsUtf8-from_is_utf8, is_utf8-from_IsUtf8}
 use Rattle.convoy_scenario.specs.LineForms.{name_of}
-use Rattle.convoy_scenario.proofs.line_forms.name_of.Goals as goal
+use Rattle.convoy_scenario.proofs.line_forms.text_of.Goals as goal
 
 itself : (word : List ℕ) → IsUtf8 word → name_of word ≡ word
 itself word utf8 = rw (is_utf8-from_IsUtf8 word utf8) refl
@@ -15,9 +14,9 @@ none word other = rw (false_from_ne_true (is_utf8 word) (λ e. other (IsUtf8-fro
 pub returns-in-Ok : goal.returns-in-Ok
 returns-in-Ok c =
     let text = c.in-Ok.ensures.cases in
-    IfOk-weaker c.new.result (λ name. name ≡ c.in-Ok.text.now) (λ name. name ≡ name_of c.args.word.now) (λ name e. e ∙ text.0 ∙ sym (itself c.args.word.now text.1)) c.new.ensures
+    text.0 ∙ sym (itself c.args.word.now text.1)
 
 pub returns-in-Err : goal.returns-in-Err
 returns-in-Err c =
     let other = c.in-Err.ensures.cases in
-    IfOk-weaker c.new-in-Err.result (λ name. name ≡ []) (λ name. name ≡ name_of c.args.word.now) (λ name e. e ∙ sym (none c.args.word.now other.0)) c.new-in-Err.ensures
+    sym (none c.args.word.now other.0)
