@@ -34,7 +34,8 @@ get_or-map_end end none (r ∷ rs) zero = refl
 get_or-map_end end none (r ∷ rs) (suc i) = get_or-map_end end none rs i
 
 module _ (plan : Scenario) (table : PacketTable) (ranges : List (ℕ × ℕ)) (of_scenario : table ≡ table_of plan) (end : ℕ × ℕ → ℕ) (none : end (0, 0) ≡ 0) where
-  delay_at_end : (packet : Packet) → delay_of plan (map end ranges) packet ≡ end (option_map_or (range_at ranges) (place_of packet table.packets) (0, 0))
+  -- the delay of a packet with that end of each range, from the packet's range
+  pub delay_at_end : (packet : Packet) → delay_of plan (map end ranges) packet ≡ end (option_map_or (range_at ranges) (place_of packet table.packets) (0, 0))
   unfolding delay_of
   delay_at_end packet =
       at_place (place_of packet (packets_of plan)) ∙ ap (λ (t : PacketTable). end (option_map_or (range_at ranges) (place_of packet t.packets) (0, 0))) (sym of_scenario) where

@@ -1,6 +1,8 @@
 ghost use Rattle.std.specs.Prelude.{◌≡◌, ℕ, ◌+◌, ◌≤◌, ◌<◌, length, IfSome};
 ghost use Rattle.std.specs.Option.{option_map_or};
 ghost use Rattle.convoy_scenario.specs.Scenario.{message_at};
+ghost use Rattle.convoy_packets.specs.declared.packet.Packet.TheVariants.{Propose};
+ghost use Rattle.convoy_packets.specs.Assignment.{delay_of};
 ghost use Rattle.convoy_packets.specs.Table.{least_of, table_of};
 ghost use Rattle.convoy_sim.specs.Times.{arrive, settle, propose_arrive};
 ghost use Rattle.convoy_intervals.specs.Boxes.{range_at, greatest_of, IsBox};
@@ -83,6 +85,27 @@ pub(crate) fn proposals_after(
     let _scenario = scenario;
     let (least, most) = range_of(delay_box, table.propose(message, from, to));
     (arrival.0 + u32::from(least), arrival.1 + u32::from(most))
+}
+
+/// The least and the greatest delay of the stamp that the group `from` proposes for a message, on
+/// its way to the group `to`, over the members of a box, in ticks; 0 where there is no such packet.
+pub fn proposal_delays(
+    scenario: &Scenario,
+    table: &PacketTable,
+    delay_box: &DelayBox,
+    message: usize,
+    from: usize,
+    to: usize,
+) -> (u16, u16)
+    requires packets { table.now ≡ table_of scenario.now }
+    requires inside { IsBox scenario.now delay_box.now }
+    ensures least { result.0
+        ≡ delay_of scenario.now (least_of delay_box.now) (Propose message from to) }
+    ensures greatest { result.1
+        ≡ delay_of scenario.now (greatest_of delay_box.now) (Propose message from to) }
+{
+    let _scenario = scenario;
+    range_of(delay_box, table.propose(message, from, to))
 }
 
 /// The least and the greatest tick at which a message is committed at a group, over the members of

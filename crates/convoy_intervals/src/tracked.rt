@@ -53,7 +53,20 @@ impl Tracked {
         ensures { IfOk result
             (λ root. root ≡ tracked_of scenario.now (root_of scenario.now)) }
     {
-        let space = DelayBox::root(alloc, table)?;
+        Tracked::over(alloc, scenario, table, DelayBox::root(alloc, table)?)
+    }
+
+    /// A box of the scenario, with all that is kept of it computed from the box.
+    pub fn over(
+        alloc: Global,
+        scenario: &Scenario,
+        table: &PacketTable,
+        space: DelayBox,
+    ) -> Result<Tracked, AllocError>
+        requires packets { table.now ≡ table_of scenario.now }
+        requires inside { IsBox scenario.now space }
+        ensures { IfOk result (λ tracked. tracked ≡ tracked_of scenario.now space) }
+    {
         let spans = list_spans(alloc, scenario, table, &space)?;
         Ok(Tracked::of(scenario, space, spans))
     }
