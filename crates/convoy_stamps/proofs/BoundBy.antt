@@ -1,5 +1,5 @@
 -- A bound over some of the rivals: those may be left out that are not ahead of the target.
-use Rattle.std.proofs.Common.{◌≡◌, ℕ, ◌-◌, ◌≤◌, Bool, true, not, nat_le, inl, inr, List, ◌∷◌, map, subst, arith}
+use Rattle.std.proofs.Common.{◌≡◌, ℕ, ◌≤◌, Bool, true, not, nat_le, inl, inr, List, ◌∷◌, map, subst, arith}
 use Rattle.std.specs.List.{filter}
 use Rattle.std.proofs.lemmas.Bool.{le-leb, not_from_false}
 use Rattle.convoy_scenario.specs.Scenario.{Scenario, GoesTo}

@@ -3,7 +3,7 @@ pub mod Counting
 pub mod Closed
 pub mod Pairs
 pub mod Loops
-pub mod SpanTables
+pub mod KnownPairs
 pub mod StampReach
 pub mod BoundBy
 pub mod StampBoundLaw

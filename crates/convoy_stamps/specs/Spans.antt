@@ -1,18 +1,16 @@
--- What a box leaves open of each message at each group, in a table.
-use Rattle.std.specs.Prelude.{◌≡◌, ℕ, ◌*◌, ◌/◌, ◌%◌, ◌==◌, nat_lt, nat_le, Bool, ◌&&◌, not, List, ◌∷◌, length, map}
-use Rattle.std.specs.List.{filter, range_with_len}
-use Rattle.convoy_scenario.specs.declared.limits.TheConstants.{MOST_GROUPS}
+-- A scenario with a box, and what the program reads of it.
+use Rattle.std.specs.Prelude.{◌≡◌, ℕ, ◌==◌, nat_lt, nat_le, Bool, ◌&&◌, not, ◌∷◌, map}
+use Rattle.std.specs.List.{filter}
 use Rattle.convoy_scenario.specs.Scenario.{Scenario, message_at, is_addressed}
 use Rattle.convoy_scenario.specs.WellFormed.{IsScenario}
-use Rattle.convoy_packets.specs.Table.{least_of}
 use Rattle.convoy_sim.specs.declared.timestamp.Timestamp.{Timestamp}
-use Rattle.convoy_sim.specs.Times.{greatest, arrive, settle}
+use Rattle.convoy_sim.specs.Times.{greatest}
 use Rattle.convoy_sim.specs.Stamps.{is_less}
-use Rattle.convoy_intervals.specs.Boxes.{Box, greatest_of}
+use Rattle.convoy_intervals.specs.Boxes.{Box}
 use Rattle.convoy_intervals.specs.Bounds.{Tables, tables_of, rivals}
+use Rattle.convoy_intervals.specs.Tracked.{Tracked}
 use Rattle.convoy_stamps.specs.declared.pair.Pair.{Pair}
-use Rattle.convoy_stamps.specs.declared.spans.Span.{Span}
-use Rattle.convoy_stamps.specs.Reach.{leads_to, follows}
+use Rattle.convoy_stamps.specs.Reach.{may_precede, may_raise, leads_to, follows}
 use Rattle.convoy_stamps.specs.StampBounds.{lowest_stamp}
 
 -- a scenario with a box
@@ -20,27 +18,20 @@ pub record Boxed : Type 0 where
   pub scenario : Scenario
   pub ranges : Box
 
+-- the box that is tracked is one of the scenario, which is well formed
+pub record IsBoxed (scenario : Scenario) (tracked : Tracked) : Type 0 where
+  pub lawful : IsScenario scenario
+  pub of_scenario : tracked.scenario ≡ scenario
+
 abbrev pub tables_in : Boxed → Tables
 tables_in boxed = tables_of boxed.scenario boxed.ranges
 
--- what a box leaves open of message m at group g
-abbrev pub span_of : Scenario → Box → ℕ → ℕ → Span
-span_of scenario ranges m g = record {
-  addressed = is_addressed (message_at scenario m) g;
-  least_arrival = arrive scenario (least_of ranges) m g;
-  greatest_arrival = arrive scenario (greatest_of ranges) m g;
-  least_settling = settle scenario (least_of ranges) m g;
-  greatest_settling = settle scenario (greatest_of ranges) m g;
-}
+-- the next pair may precede a pair, or raise the clock before it
+abbrev pub target_may_precede : Boxed → Pair → Pair → Bool
+target_may_precede boxed = may_precede (tables_in boxed)
 
--- the entry of the table at a place
-abbrev pub span_at : Scenario → Box → ℕ → Span
-span_at scenario ranges place = span_of scenario ranges (place / MOST_GROUPS) (place % MOST_GROUPS)
-
--- of a well-formed scenario the table has an entry for each message at each of as many groups as there may be
-pub record AreSpans (scenario : Scenario) (ranges : Box) (spans : List Span) : Type 0 where
-  pub lawful : IsScenario scenario
-  pub entries : spans ≡ map (span_at scenario ranges) (range_with_len 0 (length scenario.multicasts * MOST_GROUPS))
+abbrev pub target_may_raise : Boxed → Pair → Pair → Bool
+target_may_raise boxed = may_raise boxed.scenario (tables_in boxed)
 
 -- a pair leads to the next one, in the reach of a local stamp of the target
 abbrev pub target_leads_to : Boxed → Pair → Pair → Bool

@@ -8,7 +8,7 @@ ghost use Rattle.convoy_stamps.specs.Spans.{tables_in, is_sure_before, may_hold_
 use super::laws::stamp_bound_holds;
 use super::reach::{pairs_of, reach_size};
 use super::spans::Spans;
-use convoy_intervals::DelayBox;
+use convoy_intervals::{DelayBox, Tracked};
 use convoy_packets::PacketTable;
 use convoy_scenario::Scenario;
 use convoy_sim::Timestamp;
@@ -31,8 +31,23 @@ pub fn stamp_bound(
     ensures holds { IfOk result (λ bound. (delays : List ℕ) → IsIn delay_box.now delays
         → latency_of scenario.now delays ≤ bound) }
 {
+    let tracked = Tracked::over(alloc, scenario, table, delay_box.copy()?)?;
+    stamp_bound_of(alloc, scenario, &tracked)
+}
+
+/// The same of a box that is tracked: what is kept of it is not computed again.
+pub fn stamp_bound_of(
+    alloc: Global,
+    scenario: &Scenario,
+    tracked: &Tracked,
+) -> Result<u32, AllocError>
+    requires { tracked.now.scenario ≡ scenario.now }
+    ensures value { IfOk result (λ bound. bound ≡ stamp_bound scenario.now tracked.now.space) }
+    ensures holds { IfOk result (λ bound. (delays : List ℕ) → IsIn tracked.now.space delays
+        → latency_of scenario.now delays ≤ bound) }
+{
     stamp_bound_holds();
-    let spans = Spans::of(alloc, scenario, table, delay_box)?;
+    let spans = Spans::of(scenario, tracked);
     let highest = highest_final(alloc, &spans)?;
     let issued = scenario.issue_tick(scenario.target_message());
     Ok(last_commit(&spans, highest).saturating_sub(issued))
@@ -65,10 +80,10 @@ fn last_commit(spans: &Spans, highest: Timestamp) -> u32
 {
     let scenario = spans.scenario();
     let target = spans.target_span(scenario.target_message());
-    let mut last = target.greatest_settling;
+    let mut last = target.settling.1;
     for message in 0..scenario.message_count() {
-        if may_hold_back(spans, target.greatest_settling, highest, message) {
-            last = last.max(spans.target_span(message).greatest_settling);
+        if may_hold_back(spans, target.settling.1, highest, message) {
+            last = last.max(spans.target_span(message).settling.1);
         }
     }
     last
@@ -80,9 +95,8 @@ fn may_hold_back(spans: &Spans, committed: u32, highest: Timestamp, message: usi
     requires { message < length spans.now.scenario.multicasts }
     ensures { result ≡ may_hold_back spans.now committed highest message }
 {
-    let span = spans.target_span(message);
-    span.addressed
-        && span.least_arrival <= committed
+    spans.goes_to_target(message)
+        && spans.target_span(message).arrival.0 <= committed
         && !highest.is_less(lowest_stamp(spans, message))
 }
 
@@ -111,8 +125,7 @@ fn is_sure_before(spans: &Spans, message: usize, other: usize) -> bool
     requires other { other < length spans.now.scenario.multicasts }
     ensures { result ≡ is_sure_before spans.now message other }
 {
-    let before = spans.target_span(other);
-    before.addressed
+    spans.goes_to_target(other)
         && other != message
-        && before.greatest_arrival < spans.target_span(message).least_arrival
+        && spans.target_span(other).arrival.1 < spans.target_span(message).arrival.0
 }

@@ -1,5 +1,5 @@
-use super::stamp_bound;
-use convoy_intervals::{DelayBox, bound};
+use super::{stamp_bound, stamp_bound_of};
+use convoy_intervals::{DelayBox, Tracked, bound};
 use convoy_packets::PacketTable;
 use convoy_scenario::{Scenario, read_toml};
 use std::alloc::{AllocError, Global};
@@ -80,22 +80,63 @@ group = \"c\"
     Ok(read_toml(alloc, text.as_bytes())?.scenario)
 }
 
-/// The plain bound and the stamp bound of the whole box.
-fn root_bounds(alloc: Global, scenario: &Scenario) -> Result<(u32, u32), AllocError> {
+/// Two messages may raise the clocks of a and b by turns, so that the stamp of t at a has a greater
+/// time than there are messages.
+fn raised_by_turns(alloc: Global) -> Result<Scenario, Fail> {
+    let text = "delay = 3
+groups = [\"a\", \"b\"]
+
+[[multicast]]
+name = \"t\"
+from = \"b\"
+to = [\"a\", \"b\"]
+at = 1
+
+[[multicast]]
+name = \"u\"
+from = \"b\"
+to = [\"a\", \"b\"]
+at = 1
+
+[[multicast]]
+name = \"v\"
+from = \"a\"
+to = [\"a\", \"b\"]
+at = 0
+
+[[multicast]]
+name = \"w\"
+from = \"b\"
+to = [\"a\", \"b\"]
+at = 4
+
+[target]
+message = \"t\"
+group = \"b\"
+";
+    Ok(read_toml(alloc, text.as_bytes())?.scenario)
+}
+
+/// The plain bound and the stamp bound of the whole box, the latter as of a box alone and as of a
+/// tracked one.
+fn root_bounds(alloc: Global, scenario: &Scenario) -> Result<(u32, u32, u32), AllocError> {
     let table = PacketTable::of(alloc, scenario)?;
     let root = DelayBox::root(alloc, &table)?;
-    let stamps = stamp_bound(alloc, scenario, &table, &root)?;
-    Ok((bound(scenario, &table, &root), stamps))
+    let alone = stamp_bound(alloc, scenario, &table, &root)?;
+    let tracked = stamp_bound_of(alloc, scenario, &Tracked::root(alloc, scenario, &table)?)?;
+    Ok((bound(scenario, &table, &root), alone, tracked))
 }
 
 #[test]
 fn bounds_of_roots(rt: HostRuntime) -> Result<(), Fail> {
     let alloc = rt.alloc();
     let in_order = base(alloc, "\"a\", \"b\"")?;
-    assert_eq!(rt; root_bounds(alloc, &in_order)?, (12, 12), "base");
+    assert_eq!(rt; root_bounds(alloc, &in_order)?, (12, 12, 12), "base");
     let swapped = base(alloc, "\"b\", \"a\"")?;
-    assert_eq!(rt; root_bounds(alloc, &swapped)?, (12, 6), "swapped groups");
+    assert_eq!(rt; root_bounds(alloc, &swapped)?, (12, 6, 6), "swapped groups");
     let raised = raised_twice(alloc)?;
-    assert_eq!(rt; root_bounds(alloc, &raised)?, (11, 11), "raised twice");
+    assert_eq!(rt; root_bounds(alloc, &raised)?, (11, 11, 11), "raised twice");
+    let turns = raised_by_turns(alloc)?;
+    assert_eq!(rt; root_bounds(alloc, &turns)?, (9, 9, 9), "raised by turns");
     Ok(())
 }

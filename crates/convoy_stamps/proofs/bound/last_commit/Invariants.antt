@@ -6,5 +6,5 @@ use Rattle.convoy_stamps.proofs.bound.last_commit.Given as goal
 abbrev pub invariant-loop-message : goal.invariant-loop-message
 invariant-loop-message l =
     l.last
-    ≡ fold max l.target.greatest_settling (map (λ n. (tables_in l.spans).greatest_settling n l.spans.scenario.target_group)
-    (filter (may_hold_back l.spans l.target.greatest_settling l.highest) (range_with_len 0 l.message)))
+    ≡ fold max l.target.settling.1 (map (λ n. (tables_in l.spans).greatest_settling n l.spans.scenario.target_group)
+    (filter (may_hold_back l.spans l.target.settling.1 l.highest) (range_with_len 0 l.message)))

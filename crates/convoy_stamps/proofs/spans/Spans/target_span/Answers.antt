@@ -1,6 +1,10 @@
-use Rattle.std.proofs.Common.{arith}
-use Rattle.convoy_stamps.proofs.SpanTables.{target_low}
+use Rattle.std.proofs.Common.{ap, arith}
+use Rattle.convoy_scenario.specs.Scenario.{Scenario}
+use Rattle.convoy_stamps.proofs.KnownPairs.{target_known}
 use Rattle.convoy_stamps.proofs.spans.Spans.target_span.Goals as goal
 
 pub span-requires-clause-group : goal.span-requires-clause-group
-span-requires-clause-group c = let low = target_low c.scenario.result.now c.target_group.ensures.lawful in omega arith
+span-requires-clause-group c =
+    let known = target_known c.args.self.now.scenario c.scenario.ensures.lawful in
+    let group = ap (λ (s : Scenario). s.target_group) c.scenario.ensures.value in
+    omega (arith, known, group, c.target_group.ensures.value)
