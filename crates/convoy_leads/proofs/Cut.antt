@@ -1,0 +1,7 @@
+-- Entries that are raised stay within a limit.
+use Rattle.std.proofs.Common.{◌≤◌, ℕ, List, All, max, set, arith}
+use Rattle.std.proofs.lemmas.List.Elements.{All-set}
+
+pub all_raised : (entries : List ℕ) (place least entry most : ℕ) → least ≤ most → entry ≤ most
+    → All (λ e. e ≤ most) entries → All (λ e. e ≤ most) (set entries place (max least entry))
+all_raised entries place least entry most low high all = All-set (λ e. e ≤ most) entries place (max least entry) (omega arith) all

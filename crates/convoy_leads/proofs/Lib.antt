@@ -1,0 +1,15 @@
+pub mod Rows
+pub mod Times
+pub mod Tops
+pub mod SureLaws
+pub mod LeadLaws
+pub mod LedLaw
+pub mod WindowLaws
+pub mod MemberDelays
+pub mod ClosingLaws
+pub mod PairLists
+pub mod LedTests
+pub mod Rivals
+pub mod Loops
+pub mod Cut
+pub mod Known

@@ -1,0 +1,144 @@
+-- Worked rows of leads, computed from the definitions alone.
+use Rattle.std.proofs.Common.{◌≡◌, ℕ, true, false, List, [], ◌∷◌, refl, codes}
+use Rattle.convoy_scenario.specs.declared.sender.Sender.{Sender}
+use Rattle.convoy_scenario.specs.declared.sender.Sender.TheVariants.{Client, Group}
+use Rattle.convoy_scenario.specs.Scenario.{Link, Message, Scenario}
+use Rattle.convoy_packets.specs.Packets.{packets_of}
+use Rattle.convoy_packets.specs.Assignment.{delay_of, ranges_of}
+use Rattle.convoy_sim.specs.Times.{arrive, settle}
+use Rattle.convoy_intervals.specs.Boxes.{root_of}
+use Rattle.convoy_intervals.specs.Bounds.{plain_bound}
+use Rattle.convoy_leads.specs.Windows.{tables_by, windows_of}
+use Rattle.convoy_leads.specs.SureLeads.{leads_of, sure_time}
+use Rattle.convoy_leads.specs.Leads.{is_led}
+use Rattle.convoy_leads.specs.Closing.{is_behind, closes_by_leads}
+
+message : List ℕ → Sender → List ℕ → ℕ → Message
+message name sender destinations at =
+    record { name = name; sender = sender; destinations = destinations; at = at }
+
+-- the base scenario, where y may hold t back
+base : Scenario
+base = record {
+  delay = 3;
+  groups = codes "a" ∷ codes "b" ∷ [];
+  links = [];
+  multicasts = message (codes "x") Client (1 ∷ []) 0 ∷ message (codes "t") Client (0 ∷ 1 ∷ []) 0
+      ∷ message (codes "y") (Group 0) (0 ∷ 1 ∷ []) 6 ∷ [];
+  target_message = 1;
+  target_group = 0;
+}
+
+base_closes : closes_by_leads base (root_of base) 12 ≡ true
+unfolding base message packets_of ranges_of delay_of arrive settle leads_of sure_time is_led closes_by_leads
+base_closes = refl
+
+base_stays_open : closes_by_leads base (root_of base) 11 ≡ false
+unfolding base message packets_of ranges_of delay_of arrive settle leads_of sure_time is_led closes_by_leads
+base_stays_open = refl
+
+-- the base with its groups in the order b, a
+swapped : Scenario
+swapped = record {
+  delay = 3;
+  groups = codes "b" ∷ codes "a" ∷ [];
+  links = [];
+  multicasts = message (codes "x") Client (0 ∷ []) 0 ∷ message (codes "t") Client (0 ∷ 1 ∷ []) 0
+      ∷ message (codes "y") (Group 1) (0 ∷ 1 ∷ []) 6 ∷ [];
+  target_message = 1;
+  target_group = 1;
+}
+
+swapped_closes : closes_by_leads swapped (root_of swapped) 6 ≡ true
+unfolding swapped message packets_of ranges_of delay_of arrive settle leads_of sure_time is_led closes_by_leads
+swapped_closes = refl
+
+swapped_stays_open : closes_by_leads swapped (root_of swapped) 5 ≡ false
+unfolding swapped message packets_of ranges_of delay_of arrive settle leads_of sure_time is_led closes_by_leads
+swapped_stays_open = refl
+
+-- groups c, a, b and messages u, v, t, w1, w2, n, with fifteen packets: u and v may raise the clock of a twice before t arrives there
+raised_twice : Scenario
+raised_twice = record {
+  delay = 3;
+  groups = codes "c" ∷ codes "a" ∷ codes "b" ∷ [];
+  links = [];
+  multicasts = message (codes "u") Client (1 ∷ 2 ∷ []) 0 ∷ message (codes "v") Client (1 ∷ 2 ∷ []) 0
+      ∷ message (codes "t") Client (0 ∷ 1 ∷ []) 5 ∷ message (codes "w1") (Group 0) (0 ∷ []) 9
+      ∷ message (codes "w2") (Group 0) (0 ∷ []) 9 ∷ message (codes "n") (Group 0) (0 ∷ 2 ∷ []) 10 ∷ [];
+  target_message = 2;
+  target_group = 0;
+}
+
+raised_twice_closes : closes_by_leads raised_twice (root_of raised_twice) 11 ≡ true
+unfolding raised_twice message packets_of ranges_of delay_of arrive settle leads_of sure_time is_led closes_by_leads
+raised_twice_closes = refl
+
+raised_twice_stays_open : closes_by_leads raised_twice (root_of raised_twice) 10 ≡ false
+unfolding raised_twice message packets_of ranges_of delay_of arrive settle leads_of sure_time is_led closes_by_leads
+raised_twice_stays_open = refl
+
+-- two messages that b sends to a and b. w is committed at b after t only if it arrives late at a: where it arrives early it may raise the clock there before t arrives, and where it arrives late it may not
+late : List Link → Scenario
+late links = record {
+  delay = 3;
+  groups = codes "a" ∷ codes "b" ∷ [];
+  links = links;
+  multicasts = message (codes "w") (Group 1) (0 ∷ 1 ∷ []) 2 ∷ message (codes "t") (Group 1) (0 ∷ 1 ∷ []) 1 ∷ [];
+  target_message = 1;
+  target_group = 1;
+}
+
+late_plain : plain_bound (late []) (root_of (late [])) ≡ 7
+unfolding late message packets_of ranges_of delay_of arrive settle plain_bound
+late_plain = refl
+
+-- in the windows of the whole box w is not shown to be behind, ..
+late_is_not_behind : is_behind (late []) (tables_by (windows_of (late []) (root_of (late [])))) 0 ≡ false
+unfolding late message packets_of ranges_of delay_of arrive settle leads_of sure_time is_led
+late_is_not_behind = refl
+
+-- .. but in those that are cut it is
+late_closes : closes_by_leads (late []) (root_of (late [])) 6 ≡ true
+unfolding late message packets_of ranges_of delay_of arrive settle leads_of sure_time is_led closes_by_leads
+late_closes = refl
+
+late_stays_open : closes_by_leads (late []) (root_of (late [])) 5 ≡ false
+unfolding late message packets_of ranges_of delay_of arrive settle leads_of sure_time is_led closes_by_leads
+late_stays_open = refl
+
+-- the link from b to a, where each packet takes 3 ticks, and w arrives at a late in any case
+slow : List Link
+slow = record { sender = Group 1; to = 0; least = 3; most = 3 } ∷ []
+
+slow_is_behind : is_behind (late slow) (tables_by (windows_of (late slow) (root_of (late slow)))) 0 ≡ true
+unfolding late slow message packets_of ranges_of delay_of arrive settle leads_of sure_time is_led
+slow_is_behind = refl
+
+slow_closes : closes_by_leads (late slow) (root_of (late slow)) 6 ≡ true
+unfolding late slow message packets_of ranges_of delay_of arrive settle leads_of sure_time is_led closes_by_leads
+slow_closes = refl
+
+slow_stays_open : closes_by_leads (late slow) (root_of (late slow)) 5 ≡ false
+unfolding late slow message packets_of ranges_of delay_of arrive settle leads_of sure_time is_led closes_by_leads
+slow_stays_open = refl
+
+-- six groups, and four messages of which the last goes to all of them
+six_groups : Scenario
+six_groups = record {
+  delay = 8;
+  groups = codes "a" ∷ codes "b" ∷ codes "c" ∷ codes "d" ∷ codes "e" ∷ codes "f" ∷ [];
+  links = [];
+  multicasts = message (codes "u") Client (4 ∷ 5 ∷ []) 0 ∷ message (codes "v") Client (1 ∷ []) 3
+      ∷ message (codes "t") (Group 3) (0 ∷ 2 ∷ 3 ∷ []) 4 ∷ message (codes "n") (Group 4) (0 ∷ 1 ∷ 2 ∷ 3 ∷ 4 ∷ 5 ∷ []) 5 ∷ [];
+  target_message = 2;
+  target_group = 3;
+}
+
+six_groups_closes : closes_by_leads six_groups (root_of six_groups) 16 ≡ true
+unfolding six_groups message packets_of ranges_of delay_of arrive settle leads_of sure_time is_led closes_by_leads
+six_groups_closes = refl
+
+six_groups_stays_open : closes_by_leads six_groups (root_of six_groups) 15 ≡ false
+unfolding six_groups message packets_of ranges_of delay_of arrive settle leads_of sure_time is_led closes_by_leads
+six_groups_stays_open = refl

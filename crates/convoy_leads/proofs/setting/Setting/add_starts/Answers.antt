@@ -1,0 +1,17 @@
+use Rattle.std.proofs.Common.{List, get_or, sym, ap, ◌∙◌}
+use Rattle.convoy_stamps.specs.declared.pair.Pair.{Pair}
+use Rattle.convoy_leads.specs.Windows.{tables_by}
+use Rattle.convoy_leads.specs.Leads.{Start, add_start}
+use Rattle.convoy_leads.proofs.Loops.{fold_more}
+use Rattle.convoy_leads.proofs.setting.Setting.add_starts.Goals as goal
+
+abbrev no_pair : Pair
+no_pair = record { message = 0; group = 0 }
+
+pub loop-pair-preserved : goal.loop-pair-preserved
+loop-pair-preserved c =
+    let add : List Start → Pair → List Start = add_start c.args.self.now.scenario.now (tables_by c.args.self.now.windows.now) c.args.self.now.sure.now c.args.barring c.args.tick in
+    let i = c.loop-pair.pair-index in
+    c.in_ok-add_start.ensures
+    ∙ ap (λ (l : List Start). add l (get_or c.args.pairs.now i no_pair)) c.loop-pair.invariant
+    ∙ sym (fold_more add c.args.starts.now.items c.args.pairs.now i no_pair c.loop-pair-test.true)

@@ -1,0 +1,14 @@
+use Rattle.std.proofs.Common.{ap, ◌∙◌}
+use Rattle.convoy_leads.specs.Windows.{tables_by}
+use Rattle.convoy_leads.specs.Leads.{starts_before}
+use Rattle.convoy_leads.specs.Tests.{is_less_by}
+use Rattle.convoy_leads.proofs.setting.Setting.is_led.Goals as goal
+
+pub returns : goal.returns
+returns c =
+    let scenario = c.args.self.now.scenario.now in
+    let tables = tables_by c.args.self.now.windows.now in
+    let sure = c.args.self.now.sure.now in
+    c.is_less_elsewhere.ensures
+    ∙ ap (is_less_by scenario tables.times sure)
+    (c.deref.ensures.value ∙ c.in_ok-write_starts.ensures ∙ ap (starts_before scenario tables sure c.args.barring) c.last_arrival.ensures)

@@ -1,0 +1,110 @@
+-- Windows: from when to when each message may arrive at each of its destinations and be committed there, and the least and the greatest delay of each of its stamps on their way, in lists.
+use Rattle.std.specs.Prelude.{ℕ, ◌+◌, ◌*◌, ◌/◌, ◌%◌, ◌≤◌, max, ◌&&◌, List, length, All, map, slice_index_or, slice_set, if◌then◌else◌}
+use Rattle.std.specs.List.{fold, range_with_len}
+use Rattle.convoy_scenario.specs.declared.limits.TheConstants.{MOST_GROUPS, GREATEST_AT}
+use Rattle.convoy_scenario.specs.Scenario.{Scenario, message_at, is_addressed, GoesTo}
+use Rattle.convoy_packets.specs.declared.packet.Packet.TheVariants.{Propose}
+use Rattle.convoy_packets.specs.Assignment.{Schedule, delay_of}
+use Rattle.convoy_packets.specs.Table.{least_of}
+use Rattle.convoy_sim.specs.Times.{Tick}
+use Rattle.convoy_sim.specs.Places.{place}
+use Rattle.convoy_intervals.specs.Boxes.{Box, greatest_of}
+use Rattle.convoy_intervals.specs.Bounds.{Tables, Encloses, tables_of}
+
+-- the tables of arrival and settling, and the least and the greatest delay of the proposal of a message from one group to another
+pub record LeadTables : Type 0 where
+  pub times : Tables
+  pub least_proposal : ℕ → ℕ → ℕ → ℕ
+  pub greatest_proposal : ℕ → ℕ → ℕ → ℕ
+
+-- the tables enclose arrival and settling under a schedule, and the delay of each proposal between destinations
+pub record EnclosesAll (scenario : Scenario) (delays : Schedule) (tables : LeadTables) : Type 0 where
+  pub times : Encloses scenario delays tables.times
+  pub proposals_low : (m h g : ℕ) → GoesTo scenario m h → GoesTo scenario m g → tables.least_proposal m h g ≤ delay_of scenario delays (Propose m h g)
+  pub proposals_high : (m h g : ℕ) → GoesTo scenario m h → GoesTo scenario m g → delay_of scenario delays (Propose m h g) ≤ tables.greatest_proposal m h g
+
+-- the same in lists: an entry for each message at each group, and for the proposals one for each message at each two groups
+pub record Windows : Type 0 where
+  pub least_arrivals : List ℕ
+  pub greatest_arrivals : List ℕ
+  pub least_settlings : List ℕ
+  pub greatest_settlings : List ℕ
+  pub least_proposals : List ℕ
+  pub greatest_proposals : List ℕ
+
+-- the entry for message m at group g
+abbrev pub entry_at : List ℕ → ℕ → ℕ → ℕ
+entry_at entries m g = slice_index_or entries (place m g) 0
+
+-- the windows as tables
+abbrev pub tables_by : Windows → LeadTables
+tables_by windows = record {
+  times = record {
+    least_arrival = entry_at windows.least_arrivals;
+    greatest_arrival = entry_at windows.greatest_arrivals;
+    least_settling = entry_at windows.least_settlings;
+    greatest_settling = entry_at windows.greatest_settlings;
+  };
+  least_proposal = λ m h g. entry_at windows.least_proposals (place m h) g;
+  greatest_proposal = λ m h g. entry_at windows.greatest_proposals (place m h) g;
+}
+
+-- the entry at a place: that number at the message's destinations, 0 elsewhere
+abbrev pub entry_of : Scenario → (ℕ → ℕ → ℕ) → ℕ → ℕ
+entry_of scenario what i =
+    if is_addressed (message_at scenario (i / MOST_GROUPS)) (i % MOST_GROUPS) then what (i / MOST_GROUPS) (i % MOST_GROUPS) else 0
+
+-- an entry for each message at each group
+abbrev pub entries_of : Scenario → (ℕ → ℕ → ℕ) → List ℕ
+entries_of scenario what = map (entry_of scenario what) (range_with_len 0 (length scenario.multicasts * MOST_GROUPS))
+
+-- the delay of the proposal of message m from group h to group g, 0 where one of them is no destination
+abbrev pub proposal_delay : Scenario → Schedule → ℕ → ℕ → ℕ → ℕ
+proposal_delay scenario delays m h g =
+    if is_addressed (message_at scenario m) h && is_addressed (message_at scenario m) g then delay_of scenario delays (Propose m h g) else 0
+
+-- the entry at a place in a table of proposals
+abbrev pub proposal_entry : Scenario → Schedule → ℕ → ℕ
+proposal_entry scenario delays i =
+    proposal_delay scenario delays (i / MOST_GROUPS / MOST_GROUPS) (i / MOST_GROUPS % MOST_GROUPS) (i % MOST_GROUPS)
+
+-- an entry for the proposal of each message from each group to each group
+abbrev pub proposals_of : Scenario → Schedule → List ℕ
+proposals_of scenario delays =
+    map (proposal_entry scenario delays) (range_with_len 0 (length scenario.multicasts * MOST_GROUPS * MOST_GROUPS))
+
+-- the windows of a box
+abbrev pub windows_of : Scenario → Box → Windows
+windows_of scenario ranges = record {
+  least_arrivals = entries_of scenario (tables_of scenario ranges).least_arrival;
+  greatest_arrivals = entries_of scenario (tables_of scenario ranges).greatest_arrival;
+  least_settlings = entries_of scenario (tables_of scenario ranges).least_settling;
+  greatest_settlings = entries_of scenario (tables_of scenario ranges).greatest_settling;
+  least_proposals = proposals_of scenario (least_of ranges);
+  greatest_proposals = proposals_of scenario (greatest_of ranges);
+}
+
+-- the least settlings, where message m arrives at group k at that tick or later: it is committed at group g no earlier than its stamp of group k may come from there
+abbrev pub with_settling : Windows → ℕ → ℕ → Tick → List ℕ → ℕ → List ℕ
+with_settling windows m k tick entries g =
+    slice_set entries (place m g) (max (tick + (tables_by windows).least_proposal m k g) (entry_at entries m g))
+
+-- the windows cut: message m arrives at group k, one of its destinations, at that tick or later
+abbrev pub with_arrival : Scenario → Windows → ℕ → ℕ → Tick → Windows
+with_arrival scenario windows m k tick = record {
+  least_arrivals = slice_set windows.least_arrivals (place m k) (max tick (entry_at windows.least_arrivals m k));
+  greatest_arrivals = windows.greatest_arrivals;
+  least_settlings = fold (with_settling windows m k tick) windows.least_settlings (message_at scenario m).destinations;
+  greatest_settlings = windows.greatest_settlings;
+  least_proposals = windows.least_proposals;
+  greatest_proposals = windows.greatest_proposals;
+}
+
+-- no arrival, settling or delay is later or longer than any of a scenario
+pub record AreWithinLimits (windows : Windows) : Type 0 where
+  pub least_arrivals : All (λ tick. tick ≤ GREATEST_AT + 65535) windows.least_arrivals
+  pub greatest_arrivals : All (λ tick. tick ≤ GREATEST_AT + 65535) windows.greatest_arrivals
+  pub least_settlings : All (λ tick. tick ≤ GREATEST_AT + 131070) windows.least_settlings
+  pub greatest_settlings : All (λ tick. tick ≤ GREATEST_AT + 131070) windows.greatest_settlings
+  pub least_proposals : All (λ delay. delay ≤ 65535) windows.least_proposals
+  pub greatest_proposals : All (λ delay. delay ≤ 65535) windows.greatest_proposals

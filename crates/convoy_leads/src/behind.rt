@@ -1,0 +1,374 @@
+ghost use Rattle.std.specs.Prelude.{◌≡◌, ◌+◌, ◌<◌, ◌≤◌, ◌||◌, ◌-◌, nat_lt, nat_le, true, false, length, IfOk};
+ghost use Rattle.std.specs.List.{list_all};
+ghost use Rattle.convoy_scenario.specs.declared.limits.TheConstants.{MOST_GROUPS, MOST_MULTICASTS};
+ghost use Rattle.convoy_scenario.specs.Scenario.{message_at};
+ghost use Rattle.convoy_intervals.specs.Bounds.{rivals};
+ghost use Rattle.convoy_leads.specs.SureLeads.{is_earlier, sure_of};
+ghost use Rattle.convoy_leads.specs.Windows.{tables_by, with_arrival};
+ghost use Rattle.convoy_leads.specs.Leads.{is_led};
+ghost use Rattle.convoy_leads.specs.Tests.{is_less_elsewhere};
+ghost use Rattle.convoy_leads.specs.Closing.{closes_over, is_behind, is_behind_after, is_behind_by};
+ghost use Rattle.convoy_leads.specs.Closing.{is_behind_late, is_behind_target};
+
+use super::case::Case;
+use super::messages::Messages;
+use super::pairs::{last_first, target_group};
+use super::stamps::destinations;
+use super::start::Start;
+use super::sure::Sure;
+use super::sure_arrivals::is_earlier;
+use super::windows::{LAST_ARRIVAL, Windows};
+use convoy_scenario::{MOST_GROUPS, MOST_MULTICASTS};
+use std::alloc::{AllocError, Global};
+
+/// Memory that tests use, one after the other.
+#[derive(Drop)]
+pub(crate) struct Memory {
+    pub(crate) alloc: Global,
+    pub(crate) starts: Vec<Start>,
+}
+
+impl Memory {
+    /// Memory for tests, of which none is taken yet.
+    pub(crate) fn new(alloc: Global) -> Memory {
+        Memory {
+            alloc,
+            starts: Vec::new(alloc),
+        }
+    }
+}
+
+impl<'a> Case<'a> {
+    /// What is sure of a message at the target's group.
+    fn sure_of(&self, alloc: Global, windows: &Windows, n: usize) -> Result<Sure, AllocError>
+        requires { n < length self.now.scenario.now.multicasts }
+        ensures { IfOk result (λ sure. sure ≡ sure_of self.now.scenario.now
+            (tables_by windows.now).times n) }
+    {
+        let sorted = last_first(alloc, windows, self.scenario, &self.pairs)?;
+        let scene = self.scene(windows);
+        scene.sure_of(alloc, &sorted, n)
+    }
+
+    /// Whether a message surely arrives at the target's group after the target.
+    fn arrives_behind(&self, windows: &Windows, n: usize) -> bool
+        requires { n < length self.now.scenario.now.multicasts }
+        ensures { result ≡ is_earlier
+            ((tables_by windows.now).times.greatest_arrival self.now.scenario.now.target_message
+            self.now.scenario.now.target_group) self.now.scenario.now.target_message
+            ((tables_by windows.now).times.least_arrival n self.now.scenario.now.target_group) n }
+    {
+        let target = self.scenario.target_message();
+        let group = target_group(self.scenario);
+        is_earlier(
+            windows.greatest_arrival(target, group),
+            target,
+            windows.least_arrival(n, group),
+            n,
+        )
+    }
+
+    /// Whether each stamp of the target at another group than its own is surely less than that of the
+    /// message of which this is sure, with no message barred or with each.
+    fn is_less_elsewhere(
+        &self,
+        windows: &Windows,
+        sure: &Sure,
+        barring: bool,
+        memory: &mut Memory,
+    ) -> Result<bool, AllocError>
+        ensures { IfOk result (λ less. less
+            ≡ is_less_elsewhere self.now.scenario.now (tables_by windows.now) sure.now barring) }
+    {
+        let setting = self.setting(windows, sure);
+        setting.is_led(barring, &self.pairs, &mut memory.starts)
+    }
+
+    /// The same at first with no message barred, and then with each.
+    fn is_less_either(
+        &self,
+        windows: &Windows,
+        sure: &Sure,
+        memory: &mut Memory,
+    ) -> Result<bool, AllocError>
+        ensures { IfOk result (λ less. less
+            ≡ (is_less_elsewhere self.now.scenario.now (tables_by windows.now) sure.now false
+            || is_less_elsewhere self.now.scenario.now (tables_by windows.now) sure.now true)) }
+    {
+        if self.is_less_elsewhere(windows, sure, false, memory)? {
+            return Ok(true);
+        }
+        self.is_less_elsewhere(windows, sure, true, memory)
+    }
+
+    /// Whether a message that surely arrives at the target's group after the target has a stamp there
+    /// that is surely greater than each stamp of the target elsewhere.
+    fn is_led_behind(
+        &self,
+        windows: &Windows,
+        n: usize,
+        memory: &mut Memory,
+    ) -> Result<bool, AllocError>
+        requires { n < length self.now.scenario.now.multicasts }
+        ensures { let tables = tables_by windows.now in
+            let sure = sure_of self.now.scenario.now tables.times n in
+            IfOk result (λ led. led
+            ≡ (is_less_elsewhere self.now.scenario.now tables sure false
+            || is_less_elsewhere self.now.scenario.now tables sure true)) }
+    {
+        let sure = self.sure_of(memory.alloc, windows, n)?;
+        self.is_less_either(windows, &sure, memory)
+    }
+
+    /// The same of any message.
+    fn is_led(&self, windows: &Windows, n: usize, memory: &mut Memory) -> Result<bool, AllocError>
+        requires { n < length self.now.scenario.now.multicasts }
+        ensures { IfOk result (λ led. led
+            ≡ (is_led self.now.scenario.now (tables_by windows.now) false n
+            || is_led self.now.scenario.now (tables_by windows.now) true n)) }
+    {
+        if !self.arrives_behind(windows, n) {
+            return Ok(false);
+        }
+        self.is_led_behind(windows, n, memory)
+    }
+
+    /// Whether a message surely arrives at the target's group after the target is committed there.
+    fn arrives_late(&self, windows: &Windows, n: usize) -> bool
+        requires { n < length self.now.scenario.now.multicasts }
+        ensures { result ≡ nat_lt
+            ((tables_by windows.now).times.greatest_settling self.now.scenario.now.target_message
+            self.now.scenario.now.target_group)
+            ((tables_by windows.now).times.least_arrival n self.now.scenario.now.target_group) }
+    {
+        let group = target_group(self.scenario);
+        let committed = windows.greatest_settling(self.scenario.target_message(), group);
+        committed < windows.least_arrival(n, group)
+    }
+
+    /// Whether a message surely arrives after the target is committed, or its stamp is surely greater
+    /// than the target's.
+    fn is_behind(
+        &self,
+        windows: &Windows,
+        n: usize,
+        memory: &mut Memory,
+    ) -> Result<bool, AllocError>
+        requires { n < length self.now.scenario.now.multicasts }
+        ensures { IfOk result
+            (λ behind. behind ≡ is_behind self.now.scenario.now (tables_by windows.now) n) }
+    {
+        if self.arrives_late(windows, n) {
+            return Ok(true);
+        }
+        self.is_led(windows, n, memory)
+    }
+
+    /// Whether message `m` cannot arrive at group `k` at that tick or later, or message `n` is behind
+    /// where it does.
+    fn is_behind_by(
+        &self,
+        windows: &Windows,
+        n: usize,
+        m: usize,
+        k: usize,
+        tick: u32,
+        memory: &mut Memory,
+    ) -> Result<bool, AllocError>
+        requires message { n < length self.now.scenario.now.multicasts }
+        requires other { m < length self.now.scenario.now.multicasts }
+        requires known { m < MOST_MULTICASTS }
+        requires group { k < MOST_GROUPS }
+        ensures { IfOk result
+            (λ behind. behind ≡ is_behind_by self.now.scenario.now windows.now n m k tick) }
+    {
+        if windows.greatest_arrival(m, k) < tick {
+            return Ok(true);
+        }
+        let cut = windows.with_arrival(memory.alloc, self.scenario, m, k, tick)?;
+        self.is_behind(&cut, n, memory)
+    }
+
+    /// Whether the target's stamp of group `f` does not keep the target back until message `n` arrives,
+    /// or `n` is behind where it does.
+    fn is_behind_target(
+        &self,
+        windows: &Windows,
+        n: usize,
+        f: usize,
+        memory: &mut Memory,
+    ) -> Result<bool, AllocError>
+        requires message { n < length self.now.scenario.now.multicasts }
+        requires group { f < MOST_GROUPS }
+        ensures { IfOk result
+            (λ behind. behind ≡ is_behind_target self.now.scenario.now windows.now n f) }
+    {
+        let target = self.scenario.target_message();
+        let group = target_group(self.scenario);
+        let arrival = windows.least_arrival(n, group);
+        let tick = arrival.saturating_sub(windows.greatest_proposal(target, f, group));
+        self.is_behind_by(windows, n, target, f, tick, memory)
+    }
+
+    /// Whether message `n` is behind by way of each group whose stamp may keep the target back until
+    /// `n` arrives.
+    fn is_behind_targets(
+        &self,
+        windows: &Windows,
+        n: usize,
+        memory: &mut Memory,
+    ) -> Result<bool, AllocError>
+        requires { n < length self.now.scenario.now.multicasts }
+        ensures { IfOk result
+            (λ behind. behind ≡ list_all (is_behind_target self.now.scenario.now windows.now n)
+            (message_at self.now.scenario.now self.now.scenario.now.target_message).destinations) }
+    {
+        for f in destinations(self.scenario, self.scenario.target_message()) {
+            if !self.is_behind_target(windows, n, *f, memory)? {
+                return Ok(false);
+            }
+        }
+        Ok(true)
+    }
+
+    /// Whether message `n` is behind where it arrives at group `k` at that tick or later: at once, or
+    /// by way of each group whose stamp may keep the target back until `n` arrives.
+    fn is_behind_after(
+        &self,
+        windows: &Windows,
+        n: usize,
+        k: usize,
+        tick: u32,
+        memory: &mut Memory,
+    ) -> Result<bool, AllocError>
+        requires message { n < length self.now.scenario.now.multicasts }
+        requires known { n < MOST_MULTICASTS }
+        requires group { k < MOST_GROUPS }
+        ensures { IfOk result
+            (λ behind. behind ≡ is_behind_after self.now.scenario.now windows.now n k tick) }
+    {
+        if windows.greatest_arrival(n, k) < tick {
+            return Ok(true);
+        }
+        let late = windows.with_arrival(memory.alloc, self.scenario, n, k, tick)?;
+        if self.is_behind(&late, n, memory)? {
+            return Ok(true);
+        }
+        self.is_behind_targets(&late, n, memory)
+    }
+
+    /// Whether message `n` is behind by way of each of its groups whose stamp may keep its commit at
+    /// the target's group back until that tick.
+    fn is_behind_ways(
+        &self,
+        windows: &Windows,
+        tick: u32,
+        n: usize,
+        memory: &mut Memory,
+    ) -> Result<bool, AllocError>
+        requires { n < length self.now.scenario.now.multicasts }
+        ensures { IfOk result
+            (λ behind. behind ≡ list_all (λ k. is_behind_after self.now.scenario.now windows.now n k
+            (tick - (tables_by windows.now).greatest_proposal n k self.now.scenario.now.target_group))
+            (message_at self.now.scenario.now n).destinations) }
+    {
+        let group = target_group(self.scenario);
+        for k in destinations(self.scenario, n) {
+            let from = tick.saturating_sub(windows.greatest_proposal(n, *k, group));
+            if !self.is_behind_after(windows, n, *k, from, memory)? {
+                return Ok(false);
+            }
+        }
+        Ok(true)
+    }
+
+    /// Whether message `n` cannot be committed at the target's group at that tick or later, or is
+    /// behind by way of each group whose stamp may keep it so long.
+    fn is_behind_late(
+        &self,
+        windows: &Windows,
+        tick: u64,
+        n: usize,
+        memory: &mut Memory,
+    ) -> Result<bool, AllocError>
+        requires message { n < length self.now.scenario.now.multicasts }
+        requires known { n < MOST_MULTICASTS }
+        ensures { IfOk result
+            (λ behind. behind ≡ is_behind_late self.now.scenario.now windows.now tick n) }
+    {
+        let last = windows.greatest_settling(n, target_group(self.scenario));
+        if u64::from(last) < tick {
+            return Ok(true);
+        }
+        self.is_behind_ways(windows, tick as u32, n, memory)
+    }
+}
+
+impl<'a> Case<'a> {
+    /// Whether a message may arrive at the target's group by that tick.
+    fn may_arrive_by(&self, windows: &Windows, committed: u32, n: usize) -> bool
+        requires { n < MOST_MULTICASTS }
+        ensures { result ≡ nat_le
+            ((tables_by windows.now).times.least_arrival n self.now.scenario.now.target_group) committed }
+    {
+        windows.least_arrival(n, target_group(self.scenario)) <= committed
+    }
+
+    /// The messages that may arrive at the target's group by when the target is committed there at the
+    /// latest.
+    fn rivals(&self, windows: &Windows) -> Messages
+        ensures { result ≡ rivals self.now.scenario.now (tables_by windows.now).times }
+    {
+        let group = target_group(self.scenario);
+        let committed = windows.greatest_settling(self.target(), group);
+        let mut rivals = Messages::new();
+        for n in self.audience(group) {
+            if self.may_arrive_by(windows, committed, *n) {
+                rivals.push(*n);
+            }
+        }
+        rivals
+    }
+
+    /// Whether each rival of the target is behind it, or not committed at its group at that tick or
+    /// later.
+    fn are_behind_late(
+        &self,
+        windows: &Windows,
+        tick: u64,
+        memory: &mut Memory,
+    ) -> Result<bool, AllocError>
+        ensures { IfOk result
+            (λ behind. behind ≡ list_all (is_behind_late self.now.scenario.now windows.now tick)
+            (rivals self.now.scenario.now (tables_by windows.now).times)) }
+    {
+        let rivals = self.rivals(windows);
+        for n in rivals.numbers() {
+            if !self.is_behind_late(windows, tick, *n, memory)? {
+                return Ok(false);
+            }
+        }
+        Ok(true)
+    }
+
+    /// Whether windows are closed for a latency: the target and each rival that is committed at its
+    /// group after that latency is behind it.
+    pub(crate) fn closes_over(
+        &self,
+        windows: &Windows,
+        latency: u32,
+        memory: &mut Memory,
+    ) -> Result<bool, AllocError>
+        ensures { IfOk result
+            (λ closed. closed ≡ closes_over self.now.scenario.now windows.now latency) }
+    {
+        let target = self.scenario.target_message();
+        let issued = self.scenario.issue_tick(target);
+        let tick = u64::from(issued) + u64::from(latency) + 1;
+        let committed = windows.greatest_settling(target, target_group(self.scenario));
+        if u64::from(committed) >= tick {
+            return Ok(false);
+        }
+        self.are_behind_late(windows, tick, memory)
+    }
+}

@@ -1,0 +1,93 @@
+ghost use Rattle.std.specs.Prelude.{◌≡◌, ◌*◌, ◌<◌, ◌≤◌, length, map, All, IfOk};
+ghost use Rattle.std.specs.List.{range_with_len};
+ghost use Rattle.convoy_scenario.specs.declared.limits.TheConstants.{MOST_GROUPS, MOST_MULTICASTS};
+ghost use Rattle.convoy_sim.specs.Delivery.{addressed_to};
+ghost use Rattle.convoy_stamps.specs.Reach.{pairs_of};
+
+use super::messages::{Messages, audiences};
+use super::pairs::list_pairs;
+use super::setting::Setting;
+use super::sure::Sure;
+use super::sure_leads::Scene;
+use super::windows::Windows;
+use convoy_scenario::{MOST_GROUPS, MOST_MULTICASTS, Scenario};
+use convoy_stamps::Pair;
+use std::alloc::{AllocError, Global};
+
+/// A scenario with what follows from it alone, whatever the box: the messages that go to each group,
+/// and the pairs.
+#[derive(Drop)]
+pub(crate) struct Case<'a> {
+    pub(crate) scenario: &'a Scenario,
+    pub(crate) audiences: Vec<Messages>,
+    pub(crate) pairs: Vec<Pair>,
+    ghost groups: { audiences.items
+        ≡ map (addressed_to scenario.now) (range_with_len 0 MOST_GROUPS) },
+    ghost stamps: { pairs.items ≡ pairs_of scenario.now },
+    ghost messages: { All (λ p. p.message < length scenario.now.multicasts) pairs.items },
+    ghost low: { All (λ p. p.group < MOST_GROUPS) pairs.items },
+    ghost known: { length scenario.now.multicasts ≤ MOST_MULTICASTS },
+    ghost few: { length pairs.items ≤ MOST_MULTICASTS * MOST_GROUPS },
+}
+
+impl<'a> Case<'a> {
+    /// The case of a scenario.
+    pub(crate) fn of(alloc: Global, scenario: &'a Scenario) -> Result<Case<'a>, AllocError>
+        ensures { IfOk result (λ case. case.scenario.now ≡ scenario.now) }
+    {
+        let _count = scenario.message_count();
+        let audiences = audiences(alloc, scenario)?;
+        let pairs = list_pairs(alloc, scenario)?;
+        Ok(Case {
+            scenario,
+            audiences,
+            pairs,
+        })
+    }
+
+    /// The target.
+    pub(crate) fn target(&self) -> usize
+        ensures value { result ≡ self.now.scenario.now.target_message }
+        ensures known { result < MOST_MULTICASTS }
+    {
+        self.scenario.target_message()
+    }
+
+    /// The messages that go to a group.
+    pub(crate) fn audience(&self, group: usize) -> &[usize]
+        requires { group < MOST_GROUPS }
+        ensures list { result.now ≡ addressed_to self.now.scenario.now group }
+        ensures known { All (λ z. z < MOST_MULTICASTS) result.now }
+        ensures few { length result.now ≤ MOST_MULTICASTS }
+    {
+        self.audiences[group].numbers()
+    }
+
+    /// The case with windows.
+    pub(crate) fn scene(&'a self, windows: &'a Windows) -> Scene<'a>
+        ensures scenario { result.scenario.now ≡ self.now.scenario.now }
+        ensures windows { result.windows.now ≡ windows.now }
+    {
+        Scene {
+            scenario: self.scenario,
+            audiences: &self.audiences,
+            windows,
+            stamps: self.pairs.len() as u32,
+        }
+    }
+
+    /// The case with windows and what is sure of a message.
+    pub(crate) fn setting(&'a self, windows: &'a Windows, sure: &'a Sure) -> Setting<'a>
+        ensures scenario { result.scenario.now ≡ self.now.scenario.now }
+        ensures windows { result.windows.now ≡ windows.now }
+        ensures sure { result.sure.now ≡ sure.now }
+    {
+        Setting {
+            scenario: self.scenario,
+            audiences: &self.audiences,
+            windows,
+            sure,
+            stamps: self.pairs.len() as u32,
+        }
+    }
+}

@@ -1,0 +1,98 @@
+ghost use Rattle.std.specs.Prelude.{◌≡◌, ◌<◌, ◌≤◌, ◌==◌, ◌||◌, length, All, IfOk};
+ghost use Rattle.convoy_scenario.specs.declared.limits.TheConstants.{MOST_GROUPS, MOST_MULTICASTS};
+ghost use Rattle.convoy_stamps.specs.Reach.{pairs_of};
+ghost use Rattle.convoy_leads.specs.Windows.{tables_by};
+ghost use Rattle.convoy_leads.specs.Leads.{is_surely_less, last_arrival};
+ghost use Rattle.convoy_leads.specs.Tests.{is_less_by, is_less_elsewhere};
+
+use super::setting::Setting;
+use super::stamps::{destinations, greater};
+use super::start::Start;
+use convoy_scenario::{MOST_GROUPS, MOST_MULTICASTS};
+use convoy_sim::Timestamp;
+use convoy_stamps::Pair;
+use std::alloc::AllocError;
+
+impl<'a> Setting<'a> {
+    /// The last tick at which the target can arrive at a group.
+    fn last_arrival(&self) -> u32
+        ensures { result ≡ last_arrival self.now.scenario.now
+            (tables_by self.now.windows.now).times }
+    {
+        let target = self.scenario.target_message();
+        let mut last = 0;
+        for group in destinations(self.scenario, target) {
+            last = greater(last, self.windows.greatest_arrival(target, *group));
+        }
+        last
+    }
+
+    /// Whether the stamp of the target at a group is surely less than that of the message of which
+    /// something is sure at the target's group.
+    fn is_surely_less(&self, starts: &[Start], group: usize) -> bool
+        requires { group < MOST_GROUPS }
+        ensures { result ≡ is_surely_less self.now.scenario.now
+            (tables_by self.now.windows.now).times self.now.sure.now starts.now group }
+    {
+        let target = self.target();
+        let by = self.windows.greatest_arrival(target, group);
+        let most = self.stamp_high(starts, target, target, group, by);
+        let highest = Timestamp {
+            time: u64::from(most),
+            group,
+        };
+        let lowest = Timestamp {
+            time: u64::from(self.sure.time()),
+            group: self.scenario.target_group(),
+        };
+        highest.is_less(lowest)
+    }
+
+    /// The target.
+    fn target(&self) -> usize
+        ensures value { result ≡ self.now.scenario.now.target_message }
+        ensures known { result < MOST_MULTICASTS }
+    {
+        self.scenario.target_message()
+    }
+
+    /// Whether a group is the target's, or the stamp of the target there is surely less.
+    fn is_no_danger(&self, starts: &[Start], group: usize) -> bool
+        requires { group < MOST_GROUPS }
+        ensures { result ≡ ((group == self.now.scenario.now.target_group)
+            || is_surely_less self.now.scenario.now
+            (tables_by self.now.windows.now).times self.now.sure.now starts.now group) }
+    {
+        group == self.scenario.target_group() || self.is_surely_less(starts, group)
+    }
+
+    /// Whether each stamp of the target at another group than its own is surely less.
+    fn is_less_elsewhere(&self, starts: &[Start]) -> bool
+        ensures { result ≡ is_less_by self.now.scenario.now
+            (tables_by self.now.windows.now).times self.now.sure.now starts.now }
+    {
+        for group in destinations(self.scenario, self.scenario.target_message()) {
+            if !self.is_no_danger(starts, *group) {
+                return false;
+            }
+        }
+        true
+    }
+
+    /// The same, with the starts that are to be had, with no message barred or with each.
+    pub(crate) fn is_led(
+        &self,
+        barring: bool,
+        pairs: &[Pair],
+        starts: &mut Vec<Start>,
+    ) -> Result<bool, AllocError>
+        requires pairs { pairs.now ≡ pairs_of self.now.scenario.now }
+        requires messages { All (λ p. p.message < length self.now.scenario.now.multicasts) pairs.now }
+        requires groups { All (λ p. p.group < MOST_GROUPS) pairs.now }
+        ensures { IfOk result (λ led. led ≡ is_less_elsewhere self.now.scenario.now
+            (tables_by self.now.windows.now) self.now.sure.now barring) }
+    {
+        self.write_starts(barring, pairs, self.last_arrival(), starts)?;
+        Ok(self.is_less_elsewhere(starts))
+    }
+}

@@ -1,0 +1,98 @@
+ghost use Rattle.std.specs.Prelude.{◌≡◌, ℕ, ◌*◌, ◌<◌, ◌≤◌, ◌==◌, length, map, All, not};
+ghost use Rattle.std.specs.List.{filter, range_with_len};
+ghost use Rattle.convoy_scenario.specs.declared.limits.TheConstants.{MOST_GROUPS, MOST_MULTICASTS};
+ghost use Rattle.convoy_sim.specs.Delivery.{addressed_to};
+ghost use Rattle.convoy_leads.specs.SureLeads.{pair_count, sure_after, sure_later};
+ghost use Rattle.convoy_leads.specs.Windows.{tables_by};
+ghost use Rattle.convoy_leads.specs.Leads.{arrivals_since, may_arrive};
+
+use super::messages::Messages;
+use super::sure::Sure;
+use super::sure_arrivals::{is_earlier, those_after, those_later};
+use super::windows::Windows;
+use convoy_scenario::{MOST_GROUPS, MOST_MULTICASTS, Scenario};
+
+/// What the most of stamps is told from: a scenario, with the messages that go to each group and how
+/// many local stamps there are; the windows of a box; and what is sure of one message.
+#[derive(Drop)]
+pub(crate) struct Setting<'a> {
+    pub(crate) scenario: &'a Scenario,
+    pub(crate) audiences: &'a [Messages],
+    pub(crate) windows: &'a Windows,
+    pub(crate) sure: &'a Sure,
+    pub(crate) stamps: u32,
+    ghost groups: { audiences.now ≡ map (addressed_to scenario.now) (range_with_len 0 MOST_GROUPS) },
+    ghost count: { stamps ≡ pair_count scenario.now },
+    ghost few: { stamps ≤ MOST_MULTICASTS * MOST_GROUPS },
+}
+
+impl<'a> Setting<'a> {
+    /// The messages that go to a group.
+    fn addressed_to(&self, group: usize) -> &[usize]
+        requires { group < MOST_GROUPS }
+        ensures list { result.now ≡ addressed_to self.now.scenario.now group }
+        ensures known { All (λ z. z < MOST_MULTICASTS) result.now }
+        ensures few { length result.now ≤ MOST_MULTICASTS }
+    {
+        self.audiences[group].numbers()
+    }
+
+    /// Whether message `z` may arrive at a group at the tick `since` or later, and before message
+    /// `q`, which arrives there by that tick.
+    fn may_arrive(&self, tick: u32, q: usize, group: usize, since: u32, z: usize) -> bool
+        requires message { z < MOST_MULTICASTS }
+        requires group { group < MOST_GROUPS }
+        ensures { result ≡ may_arrive (tables_by self.now.windows.now).times tick q group since z }
+    {
+        z != q
+            && is_earlier(since.max(self.windows.least_arrival(z, group)), z, tick, q)
+            && since <= self.windows.greatest_arrival(z, group)
+    }
+
+    /// The messages that may do so.
+    pub(crate) fn arrivals_since(&self, tick: u32, q: usize, group: usize, since: u32) -> Messages
+        requires group { group < MOST_GROUPS }
+        ensures { result ≡ arrivals_since self.now.scenario.now
+            (tables_by self.now.windows.now).times tick q group since }
+    {
+        let mut arrivals = Messages::new();
+        for z in self.addressed_to(group) {
+            if self.may_arrive(tick, q, group, since, *z) {
+                arrivals.push(*z);
+            }
+        }
+        arrivals
+    }
+
+    /// The messages that surely arrive at a group after message `q`, which arrives there by that
+    /// tick.
+    pub(crate) fn sure_after(&self, tick: u32, q: usize, group: usize) -> Messages
+        requires group { group < MOST_GROUPS }
+        ensures { result ≡ sure_after self.now.scenario.now
+            (tables_by self.now.windows.now).times tick q group }
+    {
+        those_after(self.windows, self.addressed_to(group), tick, q, group)
+    }
+
+    /// The messages that surely arrive at a group after that tick.
+    pub(crate) fn sure_later(&self, tick: u32, group: usize) -> Messages
+        requires group { group < MOST_GROUPS }
+        ensures { result ≡ sure_later self.now.scenario.now
+            (tables_by self.now.windows.now).times tick group }
+    {
+        those_later(self.windows, self.addressed_to(group), tick, group)
+    }
+}
+
+/// Those of the messages that are not `other`.
+pub(crate) fn without(messages: &Messages, other: usize) -> Messages
+    ensures { result ≡ filter (λ z. not (z == other)) messages.now }
+{
+    let mut rest = Messages::new();
+    for z in messages.numbers() {
+        if *z != other {
+            rest.push(*z);
+        }
+    }
+    rest
+}
