@@ -12,8 +12,6 @@ use Rattle.std.proofs.lemmas.List.Elements.{recursion_from_All}
 use Rattle.convoy_scenario.specs.declared.limits.TheConstants.{LONGEST_NAME, MOST_GROUPS}
 use Rattle.convoy_scenario.specs.declared.sender.Sender.{Sender}
 use Rattle.convoy_scenario.specs.declared.sender.Sender.TheVariants.{Client, Group}
-use Rattle.convoy_scenario.specs.declared.version.Version.{Version}
-use Rattle.convoy_scenario.specs.declared.version.Version.TheVariants.{One, Two}
 use Rattle.convoy_lines.specs.Texts.{spaced, line_of, ended, text_of}
 use Rattle.convoy_scenario.specs.Lines.{sender_word, delay_line, groups_line, link_line, multicast_line, target_line, scenario_lines}
 use Rattle.convoy_scenario.specs.Scenario.{Link, Message, Scenario, message_at, group_name_at, no_message}
@@ -21,7 +19,9 @@ use Rattle.convoy_scenario.specs.WellFormed.{is_letter, is_name_byte, is_name, c
 use Rattle.convoy_packets.specs.Laws.{PacketsAreFew, DelaysAreOneEach}
 use Rattle.convoy_certificate.specs.declared.certificate.TheConstants.{LONGEST_TEXT, MOST_NODES}
 use Rattle.convoy_certificate.specs.declared.node.Node.{Node}
-use Rattle.convoy_certificate.specs.declared.node.Node.TheVariants.{Split, Bound, Point, Stamp}
+use Rattle.convoy_certificate.specs.declared.node.Node.TheVariants.{Split, Bound, Point, Stamp, Lead}
+use Rattle.convoy_certificate.specs.declared.version.Version.{Version}
+use Rattle.convoy_certificate.specs.declared.version.Version.TheVariants.{One, Two, Three}
 use Rattle.convoy_certificate.specs.Certificate.{Certificate, IsNode, IsCertificate}
 use Rattle.convoy_certificate.specs.Text.{version_of, version_line, latency_line, schedule_line, node_line, end_line, certificate_text}
 use Rattle.convoy_certificate.proofs.Again.{Small, small_assigned}
@@ -70,7 +70,7 @@ texts_append xs ys = ap length (flat_map-append ended xs ys) ∙ length-append (
 
 -- ---- the nodes
 
-node_length : (node : Node) → IsNode node → length (node_line node) ≤ 9
+node_length : (node : Node) → IsNode node → length (node_line node) ≤ 12
 node_length (Split packet at) is =
     let packet_within = is.0 in
     let at_within = is.2 in
@@ -82,8 +82,12 @@ node_length (Split packet at) is =
 node_length Bound is = omega arith
 node_length Point is = omega arith
 node_length Stamp is = omega arith
+node_length (Lead latency) is =
+    let ten : length (decimal latency) ≤ 10 = length-decimal-le 10 latency (omega arith) (omega (arith, is)) (omega (arith, is)) in
+    let last = length-append (spaced (decimal latency)) [] in
+    omega arith
 
-nodes_length : (nodes : List Node) → AllByRecursion IsNode nodes → length (text_of (map node_line nodes)) ≤ length nodes * 10
+nodes_length : (nodes : List Node) → AllByRecursion IsNode nodes → length (text_of (map node_line nodes)) ≤ length nodes * 13
 nodes_length [] are = omega arith
 nodes_length (node ∷ nodes) are =
     let sum = length-append (ended (node_line node)) (text_of (map node_line nodes)) in
@@ -252,6 +256,7 @@ schedule_length few one_each c is =
 version_length : (version : Version) → length (ended (version_line version)) ≡ 9
 version_length One = refl
 version_length Two = refl
+version_length Three = refl
 
 -- the text of a certificate is within the limit
 pub certificate_length : PacketsAreFew → DelaysAreOneEach → (c : Certificate) → IsCertificate c → length c.nodes ≤ MOST_NODES → length (certificate_text c) ≤ LONGEST_TEXT

@@ -1,20 +1,24 @@
 -- The node lines: what is read was written so, and what is written is read again.
-use Rattle.std.proofs.Common.{◌≡◌, ℕ, ◌≤◌, ◌==◌, ◌&&◌, if◌then◌else◌, cond, leb, le-leb, List, [], ◌∷◌, length, Option, Some, None, option_map, option_and_then, refl, ap, ◌∙◌, arith, inl, inr, codes, decimal}
+use Rattle.std.proofs.Common.{◌≡◌, ℕ, ◌+◌, ◌≤◌, ◌==◌, Bool, true, false, ◌&&◌, ◌||◌, if◌then◌else◌, cond, leb, le-leb, List, [], ◌∷◌, length, Option, Some, None, option_map, option_and_then, refl, ap, ◌∙◌, arith, inl, inr, codes, decimal}
+use Rattle.std.specs.List.{count_by}
 use Rattle.std.specs.Str.{bytes_eq}
 use Rattle.std.proofs.lemmas.Bool.{and_parts, cases_Bool, eqb-true}
 use Rattle.std.proofs.lemmas.List.{append-nil, nil_from_length}
+use Rattle.std.proofs.lemmas.List.Sums.{sum_by-cons}
 use Rattle.std.proofs.lemmas.Option.{cond_some, same_Some}
 use Rattle.convoy_scenario.specs.declared.limits.TheConstants.{GREATEST_DELAY}
-use Rattle.convoy_scenario.specs.declared.version.Version.{Version}
-use Rattle.convoy_scenario.specs.declared.version.Version.TheVariants.{One, Two}
+use Rattle.convoy_lines.specs.Labels.{greatest_number}
 use Rattle.convoy_lines.specs.Options.{◌>>=◌}
 use Rattle.convoy_lines.specs.Words.{words_of, next_word, number_of}
 use Rattle.convoy_lines.specs.Texts.{line_of}
 use Rattle.convoy_certificate.specs.declared.node.Node.{Node}
-use Rattle.convoy_certificate.specs.declared.node.Node.TheVariants.{Split, Bound, Point, Stamp}
+use Rattle.convoy_certificate.specs.declared.node.Node.TheVariants.{Split, Bound, Point, Stamp, Lead}
 use Rattle.convoy_certificate.specs.declared.node.TheConstants.{GREATEST_PACKET}
-use Rattle.convoy_certificate.specs.Forms.{split_in, stamp_in, leaf_in, node_in}
-use Rattle.convoy_certificate.specs.Text.{node_line}
+use Rattle.convoy_certificate.specs.declared.version.Version.{Version}
+use Rattle.convoy_certificate.specs.declared.version.Version.TheVariants.{One, Two, Three}
+use Rattle.convoy_certificate.specs.Forms.{split_in, latency_in, lead_in, stamp_in, leaf_in, node_in}
+use Rattle.convoy_certificate.specs.Reading.{leads_with}
+use Rattle.convoy_certificate.specs.Text.{is_lead, node_line}
 use Rattle.convoy_certificate.proofs.LineLaws.{ReadGrounds, WrittenGrounds, bind_some, next_takes, same_bytes, decimal_word, number_again, words_again}
 use Rattle.convoy_lines.specs.Laws.{IsWord}
 
@@ -26,9 +30,21 @@ pub map_takes : {A B : Type 0} (f : A → B) (o : Option A) (y : B) → option_m
 map_takes f None y e = absurd cc
 map_takes f (Some x) y e = (x, refl, same_Some (f x) y e)
 
+pub neither : (a b : Bool) → (a || b) ≡ false → (a ≡ false) × (b ≡ false)
+neither false b e = (refl, e)
+neither true b e = absurd cc
+
+-- how many lead leaves there are with a node before others
+pub leads_more : (leads : ℕ) (node : Node) (nodes : List Node) → leads + count_by is_lead (node ∷ nodes) ≡ leads_with leads node + count_by is_lead nodes
+leads_more leads node nodes = weighed (is_lead node) (count_by is_lead nodes) (count_by is_lead (node ∷ nodes)) (sum_by-cons (λ n. cond (is_lead n) 1 0) node nodes) where
+  weighed : (led : Bool) (rest sum : ℕ) → sum ≡ cond led 1 0 + rest → leads + sum ≡ cond led (leads + 1) leads + rest
+  weighed true rest sum e = omega (arith, e)
+  weighed false rest sum e = omega (arith, e)
+
 stamp_takes : (version : Version) (node : Node) → stamp_in version ≡ Some node → Stamp ≡ node
 stamp_takes One node e = absurd cc
 stamp_takes Two node e = same_Some Stamp node e
+stamp_takes Three node e = same_Some Stamp node e
 
 leaf_takes : (version : Version) (word : List ℕ) (node : Node) → leaf_in version word ≡ Some node → word ≡ node_line node
 leaf_takes version word node e =
@@ -70,22 +86,44 @@ module _ (grounds : ReadGrounds) where
       next_takes words a.0 a.1 ∙ ap (λ ws. a.0.0 ∷ ws) (next_takes a.0.1 c.0 c.1 ∙ ap (λ ws. c.0.0 ∷ ws) last) ∙ ap (λ w. w ∷ c.0.0 ∷ []) packet.0 ∙ ap (λ w. decimal b.0 ∷ w ∷ []) at.0 in
       ap (line_of (codes "s")) read ∙ ap node_line g.1
 
+  latency_takes : (words : List (List ℕ)) (node : Node) → latency_in words ≡ Some node → line_of (codes "c") words ≡ node_line node
+  latency_takes words node e =
+      let a = bind_some (next_word words) (λ only. number_of greatest_number only.0 >>= λ latency. cond (length only.1 == 0) (Some (Lead latency)) None) node e in
+      let b = bind_some (number_of greatest_number a.0.0) (λ latency. cond (length a.0.1 == 0) (Some (Lead latency)) None) node a.2 in
+      let g = cond_some (length a.0.1 == 0) (Lead b.0) node b.2 in
+      let last : a.0.1 ≡ [] = nil_from_length a.0.1 (eqb-true _ _ g.0) in
+      let latency = (grounds.numbers greatest_number a.0.0 b.0 (omega arith)).0 b.1 in
+      let read : words ≡ decimal b.0 ∷ [] = next_takes words a.0 a.1 ∙ ap (λ ws. a.0.0 ∷ ws) last ∙ ap (λ w. w ∷ []) latency.0 in
+      ap (line_of (codes "c")) read ∙ ap node_line g.1
+
+  lead_takes : (version : Version) (words : List (List ℕ)) (node : Node) → lead_in version words ≡ Some node → line_of (codes "c") words ≡ node_line node
+  lead_takes One words node e = absurd cc
+  lead_takes Two words node e = absurd cc
+  lead_takes Three words node e = latency_takes words node e
+
   pub node_takes : (version : Version) (line : List ℕ) (node : Node) → node_in version line ≡ Some node → line ≡ node_line node
   node_takes version line node e =
-      let a = bind_some (next_word (words_of line)) (λ first. cond (bytes_eq first.0 (codes "s")) (split_in first.1) (cond (length first.1 == 0) (leaf_in version first.0) None)) node e in
+      let a = bind_some (next_word (words_of line)) (λ first. cond (bytes_eq first.0 (codes "s")) (split_in first.1) (cond (bytes_eq first.0 (codes "c")) (lead_in version first.1) (cond (length first.1 == 0) (leaf_in version first.0) None))) node e in
       let whole : line ≡ line_of a.0.0 a.0.1 = (grounds.words line a.0.0 a.0.1).0 (next_takes (words_of line) a.0 a.1) in
       elim (cases_Bool (bytes_eq a.0.0 (codes "s"))) [
         | inl split ↦
             let read : split_in a.0.1 ≡ Some node = rw split at a.2 in
             whole ∙ ap (λ w. line_of w a.0.1) (same_bytes a.0.0 (codes "s") split) ∙ split_takes a.0.1 node read
         | inr other ↦
-            let read : cond (length a.0.1 == 0) (leaf_in version a.0.0) None ≡ Some node = rw other at a.2 in
-            elim (cases_Bool (length a.0.1 == 0)) [
-              | inl alone ↦
-                  let leaf : leaf_in version a.0.0 ≡ Some node = rw alone at read in
-                  let last : a.0.1 ≡ [] = nil_from_length a.0.1 (eqb-true _ _ alone) in
-                  whole ∙ ap (line_of a.0.0) last ∙ append-nil a.0.0 ∙ leaf_takes version a.0.0 node leaf
-              | inr more ↦ let none : None ≡ Some node = rw more at read in absurd cc
+            let read : cond (bytes_eq a.0.0 (codes "c")) (lead_in version a.0.1) (cond (length a.0.1 == 0) (leaf_in version a.0.0) None) ≡ Some node = rw other at a.2 in
+            elim (cases_Bool (bytes_eq a.0.0 (codes "c"))) [
+              | inl lead ↦
+                  let leaf : lead_in version a.0.1 ≡ Some node = rw lead at read in
+                  whole ∙ ap (λ w. line_of w a.0.1) (same_bytes a.0.0 (codes "c") lead) ∙ lead_takes version a.0.1 node leaf
+              | inr neither ↦
+                  let short : cond (length a.0.1 == 0) (leaf_in version a.0.0) None ≡ Some node = rw neither at read in
+                  elim (cases_Bool (length a.0.1 == 0)) [
+                    | inl alone ↦
+                        let leaf : leaf_in version a.0.0 ≡ Some node = rw alone at short in
+                        let last : a.0.1 ≡ [] = nil_from_length a.0.1 (eqb-true _ _ alone) in
+                        whole ∙ ap (line_of a.0.0) last ∙ append-nil a.0.0 ∙ leaf_takes version a.0.0 node leaf
+                    | inr more ↦ let none : None ≡ Some node = rw more at short in absurd cc
+                  ]
             ]
       ]
 
@@ -93,7 +131,8 @@ module _ (grounds : ReadGrounds) where
 abbrev node_of_words : Version → List (List ℕ) → Option Node
 node_of_words version words = do
   first ← next_word words
-  if bytes_eq first.0 (codes "s") then split_in first.1 else if length first.1 == 0 then leaf_in version first.0 else None
+  if bytes_eq first.0 (codes "s") then split_in first.1 else if bytes_eq first.0 (codes "c") then lead_in version first.1
+      else if length first.1 == 0 then leaf_in version first.0 else None
 
 -- the word of a line `s`
 pub split_word : IsWord (codes "s")
@@ -107,3 +146,15 @@ split_again grounds version packet at known low high =
     let read : node_of_words version (codes "s" ∷ decimal packet ∷ decimal at ∷ []) ≡ Some (Split packet at) =
     rw (number_again grounds GREATEST_PACKET packet (omega arith) known, number_again grounds GREATEST_DELAY at (omega arith) high, le-leb 1 at low) refl in
     ap (node_of_words version) words ∙ read
+
+-- the word of a line `c`
+pub lead_word : IsWord (codes "c")
+lead_word = record { some = omega arith; spaceless = refl; endless = refl }
+
+-- a line `c` of version 3 is read again
+pub lead_again : WrittenGrounds → (latency : ℕ) → latency ≤ greatest_number → node_in Three (node_line (Lead latency)) ≡ Some (Lead latency)
+lead_again grounds latency high =
+    let words : words_of (node_line (Lead latency)) ≡ codes "c" ∷ decimal latency ∷ [] =
+    words_again grounds (codes "c") (decimal latency ∷ []) (lead_word, (decimal_word grounds latency (omega arith), tt)) in
+    let read : node_of_words Three (codes "c" ∷ decimal latency ∷ []) ≡ Some (Lead latency) = rw (number_again grounds greatest_number latency (omega arith) high) refl in
+    ap (node_of_words Three) words ∙ read

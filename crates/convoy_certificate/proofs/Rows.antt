@@ -4,13 +4,13 @@ use Rattle.std.specs.Fmt.{digits}
 use Rattle.convoy_scenario.specs.declared.line_fault.Expected.TheVariants as expected
 use Rattle.convoy_scenario.specs.declared.sender.Sender.{Sender}
 use Rattle.convoy_scenario.specs.declared.sender.Sender.TheVariants.{Client, Group}
-use Rattle.convoy_scenario.specs.declared.version.Version.TheVariants.{One, Two}
 use Rattle.convoy_scenario.specs.LineReading.{links_in, messages_in, scenario_at}
 use Rattle.convoy_scenario.specs.Scenario.{Message}
 use Rattle.convoy_packets.specs.Assignment.{ranges_of}
 use Rattle.convoy_packets.specs.Packets.{packets_of}
-use Rattle.convoy_certificate.specs.declared.node.Node.TheVariants.{Bound, Stamp}
+use Rattle.convoy_certificate.specs.declared.node.Node.TheVariants.{Bound, Stamp, Lead}
 use Rattle.convoy_certificate.specs.declared.text_fault.TextFault.TheVariants as faults
+use Rattle.convoy_certificate.specs.declared.version.Version.TheVariants.{One, Two, Three}
 use Rattle.convoy_certificate.specs.Certificate.{Certificate}
 use Rattle.convoy_certificate.specs.Forms.{node_or_end}
 use Rattle.convoy_certificate.specs.Reading.{nodes_in, certificate_of}
@@ -89,6 +89,37 @@ stamp_in_version_one = refl
 
 stamp_in_version_two : node_or_end Two (codes "t") ≡ Some (Some Stamp)
 stamp_in_version_two = refl
+
+-- the base with a lead leaf
+text_of_led : certificate_text (record base { nodes = Lead 12 ∷ [] })
+    ≡ codes "convoy 3\ndelay 3\ngroups a b\nmulticast x client 0 b\nmulticast t client 0 a b\nmulticast y a 6 a b\n" ++ foot ++ codes "c 12\nend\n"
+unfolding digits
+text_of_led = refl
+
+-- versions 1 and 2 have no lines `c`
+lead_in_version_one : node_or_end One (codes "c 12") ≡ None
+lead_in_version_one = refl
+
+lead_in_version_two : node_or_end Two (codes "c 12") ≡ None
+lead_in_version_two = refl
+
+lead_in_version_three : node_or_end Three (codes "c 12") ≡ Some (Some (Lead 12))
+lead_in_version_three = refl
+
+lead_of_32_bits : node_or_end Three (codes "c 4294967295") ≡ Some (Some (Lead 4_294_967_295))
+lead_of_32_bits = refl
+
+lead_of_33_bits : node_or_end Three (codes "c 4294967296") ≡ None
+lead_of_33_bits = refl
+
+-- where there are as many lead leaves as may be read, the next one is told, and other nodes are read
+a_lead_too_many : nodes_in Three 100_000 100_000 9 [] (codes "c 9" ∷ []) ≡ Err faults.TreeCount
+unfolding nodes_in
+a_lead_too_many = refl
+
+a_stamp_after_leads : nodes_in Three 100_000 100_000 9 [] (codes "t" ∷ []) ≡ Err (faults.Line 10 expected.Node)
+unfolding nodes_in
+a_stamp_after_leads = refl
 
 -- version 1 has no lines `link`
 link_in_version_one : certificate_of (codes "convoy 1\ndelay 3\ngroups a b\nlink b a 1 1\n") ≡ Err (faults.Line 4 expected.Multicast)

@@ -1,9 +1,10 @@
 -- A certificate that is read from a text: the text is its text.
-use Rattle.std.proofs.Common.{◌≡◌, ℕ, ◌+◌, ◌≤◌, ◌==◌, if◌then◌else◌, Bool, true, false, cond, List, [], ◌∷◌, ◌++◌, length, map, Option, Some, None, option_map, ok_or, Result, Ok, Err, refl, ap, ap₂, sym, subst, ◌∙◌, arith, inl, inr, codes, decimal}
+use Rattle.std.proofs.Common.{◌≡◌, ℕ, ◌+◌, ◌≤◌, ◌==◌, nat_lt, if◌then◌else◌, Bool, true, false, cond, List, [], ◌∷◌, ◌++◌, length, map, Option, Some, None, option_map, ok_or, Result, Ok, Err, refl, ap, ap₂, sym, subst, ◌∙◌, arith, inl, inr, codes, decimal}
+use Rattle.std.specs.List.{count_by}
 use Rattle.std.specs.Prelude.{IfOk}
 use Rattle.std.specs.Str.{bytes_eq}
 use Rattle.convoy_scenario.specs.Memory.{IsUnlessMemory}
-use Rattle.std.proofs.lemmas.Bool.{and_parts, cases_Bool, eqb-true, eqb-false, false≢true}
+use Rattle.std.proofs.lemmas.Bool.{and_parts, cases_Bool, eqb-true, eqb-false, false≢true, ltb-false}
 use Rattle.std.proofs.lemmas.List.{nil_from_length}
 use Rattle.std.proofs.lemmas.Option.{cond_some, same_Some}
 use Rattle.convoy_scenario.specs.declared.line_fault.Expected.TheVariants as expected
@@ -11,25 +12,25 @@ use Rattle.convoy_scenario.specs.declared.line_fault.LineFault.{LineFault}
 use Rattle.convoy_lines.specs.Labels.{words_after, number_in}
 use Rattle.convoy_lines.specs.Words.{number_of}
 use Rattle.convoy_lines.specs.Places.{Lines, lines_in, Place, place_before, is_at_end}
-use Rattle.convoy_scenario.specs.declared.version.Version.{Version}
-use Rattle.convoy_scenario.specs.declared.version.Version.TheVariants.{One, Two}
 use Rattle.convoy_scenario.specs.LineReading.{form_at, scenario_at}
 use Rattle.convoy_lines.specs.Texts.{line_of}
 use Rattle.convoy_scenario.specs.Lines.{scenario_lines}
 use Rattle.convoy_scenario.specs.declared.line_fault.Expected.{Expected}
 use Rattle.convoy_lines.specs.Laws.{IsWord}
 use Rattle.convoy_certificate.proofs.LineLaws.{ReadGrounds, same_bytes}
-use Rattle.convoy_certificate.proofs.NodeLaws.{and_then_takes, map_takes, node_takes}
-use Rattle.convoy_certificate.specs.declared.certificate.TheConstants.{MOST_NODES}
+use Rattle.convoy_certificate.proofs.NodeLaws.{neither, leads_more, and_then_takes, map_takes, node_takes}
+use Rattle.convoy_certificate.specs.declared.certificate.TheConstants.{MOST_LEADS, MOST_NODES}
 use Rattle.convoy_certificate.specs.declared.node.Node.{Node}
 use Rattle.convoy_certificate.specs.declared.text_fault.TextFault.{TextFault}
+use Rattle.convoy_certificate.specs.declared.version.Version.{Version}
+use Rattle.convoy_certificate.specs.declared.version.Version.TheVariants.{One, Two, Three}
 use Rattle.convoy_certificate.specs.declared.text_fault.TextFault.TheVariants as faults
 use Rattle.convoy_certificate.specs.Certificate.{Certificate}
 use Rattle.convoy_certificate.specs.Forms.{version_in, delays_in, schedule_in, node_in, node_or_end, greatest_number_of_delay}
 use Rattle.convoy_lines.specs.Results.{◌>>=◌}
-use Rattle.convoy_certificate.specs.Reading.{in_text, is_same_version, whole, is_assignment, from_node, nodes_in, nodes_at, certificate_of, IsTextOf}
+use Rattle.convoy_certificate.specs.Reading.{in_text, is_same_version, whole, is_assignment, leads_with, are_too_many, from_node, nodes_in, nodes_at, certificate_of, AreReadable, IsTextOf}
 use Rattle.convoy_certificate.specs.Laws.{TextsAreKept}
-use Rattle.convoy_certificate.specs.Text.{version_of, version_line, latency_line, schedule_line, node_line, end_line, certificate_lines, certificate_text}
+use Rattle.convoy_certificate.specs.Text.{is_lead, lines_version, version_of, version_line, latency_line, schedule_line, node_line, end_line, certificate_lines, certificate_text}
 
 bind_ok : {A B : Type 0} (r : Result A TextFault) (f : A → Result B TextFault) (y : B) → (r >>= f) ≡ Ok y → (x : A) × (r ≡ Ok x) × (f x ≡ Ok y)
 bind_ok (Ok x) f y e = (x, refl, e)
@@ -82,26 +83,39 @@ version_takes line version e =
           let read : Some One ≡ Some version = rw one at e in
           same_bytes line (version_line One) one ∙ ap version_line (same_Some One version read)
       | inr other ↦
-          let read : cond (bytes_eq line (version_line Two)) (Some Two) None ≡ Some version = rw other at e in
-          let two = cond_some (bytes_eq line (version_line Two)) Two version read in
-          same_bytes line (version_line Two) two.0 ∙ ap version_line two.1
+          let read : cond (bytes_eq line (version_line Two)) (Some Two) (cond (bytes_eq line (version_line Three)) (Some Three) None) ≡ Some version = rw other at e in
+          elim (cases_Bool (bytes_eq line (version_line Two))) [
+            | inl two ↦
+                let last : Some Two ≡ Some version = rw two at read in
+                same_bytes line (version_line Two) two ∙ ap version_line (same_Some Two version last)
+            | inr neither ↦
+                let last : cond (bytes_eq line (version_line Three)) (Some Three) None ≡ Some version = rw neither at read in
+                let three = cond_some (bytes_eq line (version_line Three)) Three version last in
+                same_bytes line (version_line Three) three.0 ∙ ap version_line three.1
+          ]
     ]
 
 one_version : (version other : Version) → is_same_version version other ≡ true → version ≡ other
 one_version One One e = refl
 one_version Two Two e = refl
+one_version Three Three e = refl
 one_version One Two e = absurd (false≢true e)
+one_version One Three e = absurd (false≢true e)
 one_version Two One e = absurd (false≢true e)
+one_version Two Three e = absurd (false≢true e)
+one_version Three One e = absurd (false≢true e)
+one_version Three Two e = absurd (false≢true e)
 
 abbrev line_for : Option Node → List ℕ
 line_for None = end_line
 line_for (Some node) = node_line node
 
 -- the node lines that stood before a place, up to the line `end`
-record TookNodes (count : ℕ) (rest : List ℕ) (ended : List (List ℕ)) (x : List Node × Place) : Type 0 where
+record TookNodes (count leads : ℕ) (rest : List ℕ) (ended : List (List ℕ)) (x : List Node × Place) : Type 0 where
   before : ended ≡ map node_line x.0 ++ end_line ∷ x.1.ended
   after : rest ≡ x.1.rest
   few : count + length x.0 ≤ MOST_NODES
+  few_leads : leads + count_by is_lead x.0 ≤ MOST_LEADS
 
 unless : {A : Type 0} (b : Bool) (fault : TextFault) (r : Result A TextFault) (x : A) → cond b (Err fault) r ≡ Ok x → (b ≡ false) × (r ≡ Ok x)
 unless true fault r x e = absurd cc
@@ -149,46 +163,49 @@ module _ (grounds : ReadGrounds) where
             node_takes grounds version line a.0 a.1 ∙ ap line_for a.2
       ]
 
-  nodes_take : (version : Version) (count number : ℕ) (rest : List ℕ) (ended : List (List ℕ)) (x : List Node × Place) → count ≤ MOST_NODES → nodes_in version count number rest ended ≡ Ok x → TookNodes count rest ended x
+  nodes_take : (version : Version) (count leads number : ℕ) (rest : List ℕ) (ended : List (List ℕ)) (x : List Node × Place) → count ≤ MOST_NODES → leads ≤ MOST_LEADS → nodes_in version count leads number rest ended ≡ Ok x → TookNodes count leads rest ended x
   unfolding nodes_in
-  nodes_take version count number rest [] x few e = absurd cc
-  nodes_take version count number rest (line ∷ lines) x few e =
+  nodes_take version count leads number rest [] x few few_leads e = absurd cc
+  nodes_take version count leads number rest (line ∷ lines) x few few_leads e =
       let past : Place = record { ended = lines; rest = rest; number = number + 1 } in
-      let more : Result (List Node × Place) TextFault = if count == MOST_NODES then Err faults.TreeCount else nodes_in version (count + 1) (number + 1) rest lines in
+      let more : Node → Result (List Node × Place) TextFault = λ node. if are_too_many count (leads_with leads node) then Err faults.TreeCount else nodes_in version (count + 1) (leads_with leads node) (number + 1) rest lines in
       let a = bind_ok (ok_or (node_or_end version line) (faults.Line number expected.Node)) (λ next. from_node next past more) x e in
       let text = next_node_takes version line a.0 (ok_or_takes (node_or_end version line) (faults.Line number expected.Node) a.0 a.1) in
-      by_next a.0 text a.2 (λ y less within. nodes_take version (count + 1) (number + 1) rest lines y less within) where
+      by_next a.0 text a.2 (λ leads y less less_leads within. nodes_take version (count + 1) leads (number + 1) rest lines y less less_leads within) where
         by_next : (next : Option Node) → line ≡ line_for next
-            → from_node next (record { ended = lines; rest = rest; number = number + 1 }) (if count == MOST_NODES then Err faults.TreeCount else nodes_in version (count + 1) (number + 1) rest lines) ≡ Ok x
-            → ((y : List Node × Place) → count + 1 ≤ MOST_NODES → nodes_in version (count + 1) (number + 1) rest lines ≡ Ok y → TookNodes (count + 1) rest lines y) → TookNodes count rest (line ∷ lines) x
+            → from_node next (record { ended = lines; rest = rest; number = number + 1 }) (λ node. if are_too_many count (leads_with leads node) then Err faults.TreeCount else nodes_in version (count + 1) (leads_with leads node) (number + 1) rest lines) ≡ Ok x
+            → ((leads : ℕ) (y : List Node × Place) → count + 1 ≤ MOST_NODES → leads ≤ MOST_LEADS → nodes_in version (count + 1) leads (number + 1) rest lines ≡ Ok y → TookNodes (count + 1) leads rest lines y) → TookNodes count leads rest (line ∷ lines) x
         by_next None text e others =
-            subst (TookNodes count rest (line ∷ lines)) (same_ok ([], record { ended = lines; rest = rest; number = number + 1 }) x e) (record { before = ap (λ l. l ∷ lines) text; after = refl; few = omega arith })
+            subst (TookNodes count leads rest (line ∷ lines)) (same_ok ([], record { ended = lines; rest = rest; number = number + 1 }) x e) (record { before = ap (λ l. l ∷ lines) text; after = refl; few = omega arith; few_leads = omega arith })
         by_next (Some node) text e others =
-            let b = bind_ok (if count == MOST_NODES then Err faults.TreeCount else nodes_in version (count + 1) (number + 1) rest lines) (λ others. Ok (node ∷ others.0, others.1)) x e in
-            let within = unless (count == MOST_NODES) faults.TreeCount (nodes_in version (count + 1) (number + 1) rest lines) b.0 b.1 in
-            let less : count + 1 ≤ MOST_NODES = omega (arith, eqb-false count MOST_NODES within.0) in
-            let tail = others b.0 less within.1 in
-            subst (TookNodes count rest (line ∷ lines)) (same_ok (node ∷ b.0.0, b.0.1) x b.2)
-            (record { before = ap (λ l. l ∷ lines) text ∙ ap (λ ls. node_line node ∷ ls) tail.before; after = tail.after; few = omega (arith, tail.few) })
+            let now = leads_with leads node in
+            let b = bind_ok (if are_too_many count now then Err faults.TreeCount else nodes_in version (count + 1) now (number + 1) rest lines) (λ others. Ok (node ∷ others.0, others.1)) x e in
+            let within = unless (are_too_many count now) faults.TreeCount (nodes_in version (count + 1) now (number + 1) rest lines) b.0 b.1 in
+            let low = neither (count == MOST_NODES) (nat_lt MOST_LEADS now) within.0 in
+            let less : count + 1 ≤ MOST_NODES = omega (arith, eqb-false count MOST_NODES low.0) in
+            let tail = others now b.0 less (ltb-false MOST_LEADS now low.1) within.1 in
+            let sum = leads_more leads node b.0.0 in
+            subst (TookNodes count leads rest (line ∷ lines)) (same_ok (node ∷ b.0.0, b.0.1) x b.2)
+            (record { before = ap (λ l. l ∷ lines) text ∙ ap (λ ls. node_line node ∷ ls) tail.before; after = tail.after; few = omega (arith, tail.few); few_leads = omega (arith, sum, tail.few_leads) })
 
   -- ---- the certificate
 
-  pub certificate_takes : (text : List ℕ) (c : Certificate) → certificate_of text ≡ Ok c → (text ≡ certificate_text c) × (length c.nodes ≤ MOST_NODES)
+  pub certificate_takes : (text : List ℕ) (c : Certificate) → certificate_of text ≡ Ok c → IsTextOf c text
   unfolding certificate_of
   certificate_takes text c e =
       let start = place_before text 1 in
-      let a = bind_ok (in_text (form_at expected.Convoy version_in start)) (λ version. in_text (scenario_at version.0 version.1) >>= λ scenario. in_text (form_at expected.Latency (number_in (codes "latency")) scenario.1) >>= λ latency.
-      in_text (form_at expected.Schedule schedule_in latency.1) >>= λ delays. cond (is_assignment scenario.0 delays.0) (nodes_at version.0 0 delays.1) (Err faults.Schedule) >>= λ nodes.
+      let a = bind_ok (in_text (form_at expected.Convoy version_in start)) (λ version. in_text (scenario_at (lines_version version.0) version.1) >>= λ scenario. in_text (form_at expected.Latency (number_in (codes "latency")) scenario.1) >>= λ latency.
+      in_text (form_at expected.Schedule schedule_in latency.1) >>= λ delays. cond (is_assignment scenario.0 delays.0) (nodes_at version.0 0 0 delays.1) (Err faults.Schedule) >>= λ nodes.
       whole version.0 (record { scenario = scenario.0; latency = latency.0; delays = delays.0; nodes = nodes.0 }) nodes.1) c e in
-      let b = bind_ok (in_text (scenario_at a.0.0 a.0.1)) (λ scenario. in_text (form_at expected.Latency (number_in (codes "latency")) scenario.1) >>= λ latency.
-      in_text (form_at expected.Schedule schedule_in latency.1) >>= λ delays. cond (is_assignment scenario.0 delays.0) (nodes_at a.0.0 0 delays.1) (Err faults.Schedule) >>= λ nodes.
+      let b = bind_ok (in_text (scenario_at (lines_version a.0.0) a.0.1)) (λ scenario. in_text (form_at expected.Latency (number_in (codes "latency")) scenario.1) >>= λ latency.
+      in_text (form_at expected.Schedule schedule_in latency.1) >>= λ delays. cond (is_assignment scenario.0 delays.0) (nodes_at a.0.0 0 0 delays.1) (Err faults.Schedule) >>= λ nodes.
       whole a.0.0 (record { scenario = scenario.0; latency = latency.0; delays = delays.0; nodes = nodes.0 }) nodes.1) c a.2 in
       let d = bind_ok (in_text (form_at expected.Latency (number_in (codes "latency")) b.0.1)) (λ latency.
-      in_text (form_at expected.Schedule schedule_in latency.1) >>= λ delays. cond (is_assignment b.0.0 delays.0) (nodes_at a.0.0 0 delays.1) (Err faults.Schedule) >>= λ nodes.
+      in_text (form_at expected.Schedule schedule_in latency.1) >>= λ delays. cond (is_assignment b.0.0 delays.0) (nodes_at a.0.0 0 0 delays.1) (Err faults.Schedule) >>= λ nodes.
       whole a.0.0 (record { scenario = b.0.0; latency = latency.0; delays = delays.0; nodes = nodes.0 }) nodes.1) c b.2 in
-      let f = bind_ok (in_text (form_at expected.Schedule schedule_in d.0.1)) (λ delays. cond (is_assignment b.0.0 delays.0) (nodes_at a.0.0 0 delays.1) (Err faults.Schedule) >>= λ nodes.
+      let f = bind_ok (in_text (form_at expected.Schedule schedule_in d.0.1)) (λ delays. cond (is_assignment b.0.0 delays.0) (nodes_at a.0.0 0 0 delays.1) (Err faults.Schedule) >>= λ nodes.
       whole a.0.0 (record { scenario = b.0.0; latency = d.0.0; delays = delays.0; nodes = nodes.0 }) nodes.1) c d.2 in
-      let g = bind_ok (cond (is_assignment b.0.0 f.0.0) (nodes_at a.0.0 0 f.0.1) (Err faults.Schedule)) (λ nodes.
+      let g = bind_ok (cond (is_assignment b.0.0 f.0.0) (nodes_at a.0.0 0 0 f.0.1) (Err faults.Schedule)) (λ nodes.
       whole a.0.0 (record { scenario = b.0.0; latency = d.0.0; delays = f.0.0; nodes = nodes.0 }) nodes.1) c f.2 in
       let made : Certificate = record { scenario = b.0.0; latency = d.0.0; delays = f.0.0; nodes = g.0.0 } in
       let version = if_true (is_same_version a.0.0 (version_of made)) (faults.Line 1 expected.Convoy) (cond (is_at_end g.0.1) (Ok made) (Err faults.AfterEnd)) c g.2 in
@@ -196,10 +213,10 @@ module _ (grounds : ReadGrounds) where
       let same : made ≡ c = same_ok made c last.1 in
       let over = nil_ended g.0.1 last.0 in
       let t-version = took expected.Convoy version_in start a.0 a.1 in
-      let t-scenario = ((grounds.scenarios a.0.0 b.0.0 a.0.1 b.0.1).0 (from_lines (scenario_at a.0.0 a.0.1) b.0 b.1)).2 in
+      let t-scenario = ((grounds.scenarios (lines_version a.0.0) b.0.0 a.0.1 b.0.1).0 (from_lines (scenario_at (lines_version a.0.0) a.0.1) b.0 b.1)).2 in
       let t-latency = took expected.Latency (number_in (codes "latency")) b.0.1 d.0 d.1 in
       let t-schedule = took expected.Schedule schedule_in d.0.1 f.0 f.1 in
-      let t-nodes = nodes_take a.0.0 0 f.0.1.number f.0.1.rest f.0.1.ended g.0 (omega arith) (if_true (is_assignment b.0.0 f.0.0) faults.Schedule (nodes_at a.0.0 0 f.0.1) g.0 g.1).1 in
+      let t-nodes = nodes_take a.0.0 0 0 f.0.1.number f.0.1.rest f.0.1.ended g.0 (omega arith) (omega arith) (if_true (is_assignment b.0.0 f.0.0) faults.Schedule (nodes_at a.0.0 0 0 f.0.1) g.0 g.1).1 in
       let nodes : f.0.1.ended ≡ map node_line g.0.0 ++ end_line ∷ [] = t-nodes.before ∙ ap (λ ls. map node_line g.0.0 ++ end_line ∷ ls) over.0 in
       let schedule : d.0.1.ended ≡ schedule_line f.0.0 ∷ (map node_line g.0.0 ++ end_line ∷ []) =
       t-schedule.ended ∙ ap (λ l. l ∷ f.0.1.ended) (schedule_takes t-schedule.line f.0.0 t-schedule.has) ∙ ap (λ ls. schedule_line f.0.0 ∷ ls) nodes in
@@ -210,7 +227,7 @@ module _ (grounds : ReadGrounds) where
       let nothing : start.rest ≡ [] = t-version.rest ∙ t-scenario.rest ∙ t-latency.rest ∙ t-schedule.rest ∙ t-nodes.after ∙ over.1 in
       let read : text ≡ certificate_text made =
       ((grounds.texts text (certificate_lines made)).0 (both (lines_in text) (certificate_lines made) whole nothing)).0 in
-      subst (λ (x : Certificate). (text ≡ certificate_text x) × (length x.nodes ≤ MOST_NODES)) same (read, omega (arith, t-nodes.few))
+      subst (λ (x : Certificate). IsTextOf x text) same (read, record { few = omega (arith, t-nodes.few); few_leads = omega (arith, t-nodes.few_leads) })
 
 -- what was read has this text
 pub is_found : TextsAreKept → (text : List ℕ) (result : Result Certificate TextFault) → IsUnlessMemory faults.Memory (certificate_of text) result → IfOk result (λ certificate. IsTextOf certificate text)

@@ -3,7 +3,7 @@ use Rattle.std.specs.Prelude.{◌≡◌, ℕ, ◌≤◌, List, length, Ok}
 use Rattle.convoy_certificate.specs.declared.certificate.TheConstants.{LONGEST_TEXT, MOST_NODES}
 use Rattle.convoy_certificate.specs.Certificate.{Certificate, IsCertificate}
 use Rattle.convoy_certificate.specs.Text.{certificate_text}
-use Rattle.convoy_certificate.specs.Reading.{certificate_of, IsTextOf}
+use Rattle.convoy_certificate.specs.Reading.{certificate_of, AreReadable, IsTextOf}
 
 -- no two certificates have one text
 abbrev pub TextsDiffer : Type 0
@@ -14,7 +14,7 @@ abbrev pub TextsAreRead : Type 0
 TextsAreRead =
     (certificate : Certificate)
     → IsCertificate certificate
-    → length certificate.nodes ≤ MOST_NODES
+    → AreReadable certificate.nodes
     → certificate_of (certificate_text certificate) ≡ Ok certificate
 
 -- the text of a certificate that has no more nodes than may be read is within the limit of bytes

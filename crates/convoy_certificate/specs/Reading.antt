@@ -1,23 +1,24 @@
 -- What reading a text answers: the certificate, or the first fault in the order of the lines.
-use Rattle.std.specs.Prelude.{◌≡◌, ℕ, ◌+◌, ◌≤◌, ◌==◌, nat_le, Bool, true, false, ◌&&◌, if◌then◌else◌, List, [], ◌∷◌, length, codes, Option, Some, None, ok_or, Result, Ok, Err}
+use Rattle.std.specs.Prelude.{◌≡◌, ℕ, ◌+◌, ◌≤◌, ◌==◌, nat_le, nat_lt, Bool, true, false, ◌&&◌, ◌||◌, if◌then◌else◌, List, [], ◌∷◌, length, codes, Option, Some, None, ok_or, Result, Ok, Err}
 use Rattle.std.specs.Cmp.Lexicographic.{pointwise}
+use Rattle.std.specs.List.{count_by}
 use Rattle.convoy_scenario.specs.declared.line_fault.Expected.TheVariants as expected
 use Rattle.convoy_scenario.specs.declared.line_fault.LineFault.{LineFault}
 use Rattle.convoy_scenario.specs.declared.line_fault.LineFault.TheVariants as lines
 use Rattle.convoy_lines.specs.Labels.{number_in}
 use Rattle.convoy_lines.specs.Places.{Place, place_before, is_at_end}
 use Rattle.convoy_scenario.specs.LineReading.{form_at, scenario_at}
-use Rattle.convoy_scenario.specs.declared.version.Version.{Version}
-use Rattle.convoy_scenario.specs.declared.version.Version.TheVariants.{One, Two}
 use Rattle.convoy_lines.specs.Results.{◌>>=◌}
 use Rattle.convoy_scenario.specs.Scenario.{Scenario}
 use Rattle.convoy_packets.specs.Assignment.{ranges_of}
-use Rattle.convoy_certificate.specs.declared.certificate.TheConstants.{MOST_NODES}
+use Rattle.convoy_certificate.specs.declared.certificate.TheConstants.{MOST_LEADS, MOST_NODES}
 use Rattle.convoy_certificate.specs.declared.node.Node.{Node}
 use Rattle.convoy_certificate.specs.declared.text_fault.TextFault.{TextFault}
 use Rattle.convoy_certificate.specs.declared.text_fault.TextFault.TheVariants as faults
+use Rattle.convoy_certificate.specs.declared.version.Version.{Version}
+use Rattle.convoy_certificate.specs.declared.version.Version.TheVariants.{One, Two, Three}
 use Rattle.convoy_certificate.specs.Certificate.{Certificate, IsCertificate}
-use Rattle.convoy_certificate.specs.Text.{version_of, certificate_text}
+use Rattle.convoy_certificate.specs.Text.{is_lead, lines_version, version_of, certificate_text}
 use Rattle.convoy_certificate.specs.Forms.{version_in, schedule_in, node_or_end}
 
 -- the fault of a line, told of a text
@@ -38,28 +39,37 @@ is_within range delay = nat_le range.0 delay && nat_le delay range.1
 abbrev pub is_assignment : Scenario → List ℕ → Bool
 is_assignment scenario delays = pointwise is_within (ranges_of scenario) delays
 
--- a node and those after it; at the line `end` there are none, and the reading stands past it
-abbrev pub from_node : Option Node → Place → Result (List Node × Place) TextFault → Result (List Node × Place) TextFault
-from_node None past more = Ok ([], past)
-from_node (Some node) past more = more >>= λ others. Ok (node ∷ others.0, others.1)
+-- how many lead leaves there are with that node, after so many of them
+abbrev pub leads_with : ℕ → Node → ℕ
+leads_with leads node = if is_lead node then leads + 1 else leads
 
--- the nodes up to the line `end`, after so many
-unfoldable pub nodes_in : Version → ℕ → ℕ → List ℕ → List (List ℕ) → Result (List Node × Place) TextFault
-nodes_in version count number rest [] = Err (faults.Line number expected.Node)
-nodes_in version count number rest (line ∷ lines) = do
+-- a node after so many, with so many lead leaves by then, is one too many
+abbrev pub are_too_many : ℕ → ℕ → Bool
+are_too_many count leads = count == MOST_NODES || nat_lt MOST_LEADS leads
+
+-- a node and those after it; at the line `end` there are none, and the reading stands past it
+abbrev pub from_node : Option Node → Place → (Node → Result (List Node × Place) TextFault) → Result (List Node × Place) TextFault
+from_node None past more = Ok ([], past)
+from_node (Some node) past more = more node >>= λ others. Ok (node ∷ others.0, others.1)
+
+-- the nodes up to the line `end`, after so many, of which so many are lead leaves
+unfoldable pub nodes_in : Version → ℕ → ℕ → ℕ → List ℕ → List (List ℕ) → Result (List Node × Place) TextFault
+nodes_in version count leads number rest [] = Err (faults.Line number expected.Node)
+nodes_in version count leads number rest (line ∷ lines) = do
   next ← ok_or (node_or_end version line) (faults.Line number expected.Node)
   from_node next (record { ended = lines; rest = rest; number = number + 1 })
-      (if count == MOST_NODES then Err faults.TreeCount else nodes_in version (count + 1) (number + 1) rest lines)
+      (λ node. if are_too_many count (leads_with leads node) then Err faults.TreeCount
+      else nodes_in version (count + 1) (leads_with leads node) (number + 1) rest lines)
 
-abbrev pub nodes_at : Version → ℕ → Place → Result (List Node × Place) TextFault
-nodes_at version count place = nodes_in version count place.number place.rest place.ended
+abbrev pub nodes_at : Version → ℕ → ℕ → Place → Result (List Node × Place) TextFault
+nodes_at version count leads place = nodes_in version count leads place.number place.rest place.ended
 
 -- the two are one version
 abbrev pub is_same_version : Version → Version → Bool
 is_same_version One One = true
 is_same_version Two Two = true
-is_same_version One Two = false
-is_same_version Two One = false
+is_same_version Three Three = true
+is_same_version version other = false
 
 -- the certificate that was read up to a place, if it is written in that version, and nothing follows
 abbrev pub whole : Version → Certificate → Place → Result Certificate TextFault
@@ -71,12 +81,17 @@ whole version certificate past =
 unfoldable pub certificate_of : List ℕ → Result Certificate TextFault
 certificate_of text = do
   version ← in_text (form_at expected.Convoy version_in (place_before text 1))
-  scenario ← in_text (scenario_at version.0 version.1)
+  scenario ← in_text (scenario_at (lines_version version.0) version.1)
   latency ← in_text (form_at expected.Latency (number_in (codes "latency")) scenario.1)
   delays ← in_text (form_at expected.Schedule schedule_in latency.1)
-  nodes ← if is_assignment scenario.0 delays.0 then nodes_at version.0 0 delays.1 else Err faults.Schedule
+  nodes ← if is_assignment scenario.0 delays.0 then nodes_at version.0 0 0 delays.1 else Err faults.Schedule
   whole version.0 (record { scenario = scenario.0; latency = latency.0; delays = delays.0; nodes = nodes.0 }) nodes.1
+
+-- there are no more nodes, and no more lead leaves among them, than may be read
+pub record AreReadable (nodes : List Node) : Type 0 where
+  pub few : length nodes ≤ MOST_NODES
+  pub few_leads : count_by is_lead nodes ≤ MOST_LEADS
 
 -- the text is that of the certificate, which has no more nodes than may be read
 abbrev pub IsTextOf : Certificate → List ℕ → Type 0
-IsTextOf certificate text = (text ≡ certificate_text certificate) × (length certificate.nodes ≤ MOST_NODES)
+IsTextOf certificate text = (text ≡ certificate_text certificate) × AreReadable certificate.nodes

@@ -2,15 +2,19 @@ ghost use Rattle.std.specs.Prelude.{◌≡◌};
 ghost use Rattle.std.specs.List.{All, list_any};
 ghost use Rattle.convoy_packets.specs.Assignment.{IsAssignment};
 ghost use Rattle.convoy_certificate.specs.Certificate.{IsNode, IsCertificate};
-ghost use Rattle.convoy_certificate.specs.Text.{is_stamp, version_of};
+ghost use Rattle.convoy_certificate.specs.Text.{is_stamp, is_lead, version_of};
 
 use super::node::Node;
+use super::version::Version;
 use convoy_packets::Delays;
-use convoy_scenario::{Scenario, Version};
+use convoy_scenario::Scenario;
 use std::marker::Model;
 
 /// How many nodes a certificate that is read has at most.
 pub const MOST_NODES: usize = 4_000_000;
+
+/// How many of the nodes of a certificate that is read are lead leaves at most.
+pub const MOST_LEADS: usize = 100_000;
 
 /// How many bytes the text of a certificate has at most, where it has at most `MOST_NODES` nodes.
 pub const LONGEST_TEXT: usize = 67_108_864;
@@ -76,12 +80,16 @@ impl Certificate {
         &self.scenario
     }
 
-    /// The version in which the certificate is written: `Two` where its scenario has a link or its tree
-    /// a stamp leaf, else `One` (docs/FORMATS.md, "Certificate text").
+    /// The version in which the certificate is written: `Three` where its tree has a lead leaf; else
+    /// `Two` where its scenario has a link or its tree a stamp leaf; else `One` (docs/FORMATS.md,
+    /// "Certificate text").
     pub fn version(&self) -> Version
         ensures { result ≡ version_of self.now }
     {
-        if self.scenario.link_count() == 0 && !has_stamp(self.nodes.as_slice()) {
+        let nodes = self.nodes.as_slice();
+        if has_lead(nodes) {
+            Version::Three
+        } else if self.scenario.link_count() == 0 && !has_stamp(nodes) {
             Version::One
         } else {
             Version::Two
@@ -145,6 +153,27 @@ fn is_stamp(node: Node) -> bool
 {
     match node {
         Node::Stamp => true,
-        Node::Split { .. } | Node::Bound | Node::Point => false,
+        Node::Split { .. } | Node::Bound | Node::Point | Node::Lead { .. } => false,
+    }
+}
+
+/// Whether one of the nodes is a lead leaf.
+fn has_lead(nodes: &[Node]) -> bool
+    ensures { result ≡ list_any is_lead nodes.now }
+{
+    for node in nodes {
+        if is_lead(*node) {
+            return true;
+        }
+    }
+    false
+}
+
+pub(crate) fn is_lead(node: Node) -> bool
+    ensures { result ≡ is_lead node }
+{
+    match node {
+        Node::Lead { .. } => true,
+        Node::Split { .. } | Node::Bound | Node::Point | Node::Stamp => false,
     }
 }

@@ -1,10 +1,11 @@
 //! Certificates, what they say, and the one text of each: a writer and a strict reader.
 #![tactic(auto)]
 
-pub use certificate::{Certificate, LONGEST_TEXT, MOST_NODES};
+pub use certificate::{Certificate, LONGEST_TEXT, MOST_LEADS, MOST_NODES};
 pub use node::{GREATEST_PACKET, Node};
 pub use reading::read;
 pub use text_fault::TextFault;
+pub use version::Version;
 pub use writing::{push_schedule, write};
 
 mod certificate;
@@ -15,4 +16,5 @@ mod reading;
 #[cfg(test)]
 mod tests;
 mod text_fault;
+mod version;
 mod writing;

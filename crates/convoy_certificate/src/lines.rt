@@ -3,12 +3,13 @@ ghost use Rattle.convoy_certificate.specs.Certificate.{IsNode};
 ghost use Rattle.std.specs.Result.{result_map_both};
 ghost use Rattle.convoy_scenario.specs.Memory.{IsUnlessMemory};
 ghost use Rattle.convoy_lines.specs.Labels.{words_after};
-ghost use Rattle.convoy_certificate.specs.Forms.{version_in, schedule_in, split_in, stamp_in, leaf_in, node_in, node_or_end};
+ghost use Rattle.convoy_certificate.specs.Forms.{version_in, schedule_in, split_in, lead_in, stamp_in, leaf_in, node_in, node_or_end};
 
 use super::node::{GREATEST_PACKET, Node};
 use super::text_fault::TextFault;
+use super::version::Version;
 use convoy_lines::{Words, number_of, words_after};
-use convoy_scenario::{GREATEST_DELAY, Version};
+use convoy_scenario::GREATEST_DELAY;
 use std::alloc::Global;
 
 /// The version of a text whose first line this is.
@@ -19,6 +20,8 @@ pub fn version_in(line: &[u8]) -> Option<Version>
         Some(Version::One)
     } else if line == b"convoy 2".as_slice() {
         Some(Version::Two)
+    } else if line == b"convoy 3".as_slice() {
+        Some(Version::Three)
     } else {
         None
     }
@@ -44,6 +47,8 @@ fn node_in(version: Version, line: &[u8]) -> Option<Node>
     let first = words.next()?;
     if first == b"s".as_slice() {
         split_in(words)
+    } else if first == b"c".as_slice() {
+        lead_in(version, words)
     } else if words.are_over() {
         leaf_in(version, first)
     } else {
@@ -62,6 +67,21 @@ fn split_in(words: Words) -> Option<Node>
         packet: packet as u16,
         at: at as u16,
     })
+}
+
+/// The lead leaf of a line `c`, by the words after its first. Versions 1 and 2 have none.
+fn lead_in(version: Version, words: Words) -> Option<Node>
+    ensures value { result ≡ lead_in version words.entry }
+    ensures lawful { IfSome result IsNode }
+{
+    match version {
+        Version::One | Version::Two => None,
+        Version::Three => {
+            let mut words = words;
+            let latency = number_of(words.next()?, u32::MAX)?;
+            words.are_over().then_some(Node::Lead { latency })
+        }
+    }
 }
 
 fn leaf_in(version: Version, word: &[u8]) -> Option<Node>
@@ -83,7 +103,7 @@ fn stamp_in(version: Version) -> Option<Node>
 {
     match version {
         Version::One => None,
-        Version::Two => Some(Node::Stamp),
+        Version::Two | Version::Three => Some(Node::Stamp),
     }
 }
 

@@ -13,6 +13,9 @@ pub enum Node {
     Point,
     /// A leaf: the stamp bound shows that no delays of its box have a greater latency.
     Stamp,
+    /// A leaf: leads show that no delays of its box have a latency above this, in ticks, which may be
+    /// less than that of the certificate.
+    Lead { latency: u32 },
 }
 
 const _: () = prove!(size_of::<Node>() <= 8);

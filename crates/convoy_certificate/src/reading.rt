@@ -1,4 +1,4 @@
-ghost use Rattle.std.specs.Prelude.{◌≡◌, codes, Ok, IfOk, IfSome};
+ghost use Rattle.std.specs.Prelude.{◌≡◌, ◌≤◌, codes, Ok, IfOk, IfSome};
 ghost use Rattle.std.specs.Cmp.Lexicographic.{pointwise};
 ghost use Rattle.std.specs.List.{All};
 ghost use Rattle.std.specs.Result.{result_map_both};
@@ -7,23 +7,26 @@ ghost use Rattle.convoy_lines.specs.Labels.{number_in};
 ghost use Rattle.convoy_scenario.specs.LineReading.{form_at, scenario_at};
 ghost use Rattle.convoy_certificate.specs.Certificate.{Certificate, IsCertificate, IsNode};
 ghost use Rattle.convoy_certificate.specs.Forms.{version_in, schedule_in, node_or_end};
-ghost use Rattle.convoy_certificate.specs.Reading.{in_text, is_same_version, is_within, nodes_at, certificate_of, IsTextOf};
+ghost use Rattle.convoy_certificate.specs.Reading.{in_text, is_same_version, is_within, are_too_many, leads_with, nodes_at, certificate_of, IsTextOf};
+ghost use Rattle.convoy_certificate.specs.Text.{lines_version};
 
-use super::certificate::{Certificate, MOST_NODES};
+use super::certificate::{Certificate, MOST_LEADS, MOST_NODES, is_lead};
 use super::laws::{texts_are_kept, texts_are_read};
 use super::lines::{node_or_end, schedule_in, version_in};
 use super::node::Node;
 use super::text_fault::TextFault;
+use super::version::Version;
 use convoy_lines::{LineReader, number_in};
 use convoy_packets::{Delays, PacketTable};
-use convoy_scenario::{Expected, Scenario, Version, read_lines};
+use convoy_scenario::{Expected, Scenario, read_lines};
 use std::alloc::Global;
 
 /// Reads the text of a certificate (docs/FORMATS.md, "Certificate text").
 ///
 /// The error is the first fault of the text, in the order of the lines; where memory runs out, it is
 /// `TextFault::Memory`, and says nothing of the text. The tree's shape is not
-/// looked at: any list of nodes up to `MOST_NODES` is read, an empty one too.
+/// looked at: any list of nodes up to `MOST_NODES`, at most `MOST_LEADS` of them lead leaves, is read, an
+/// empty one too.
 pub fn read(alloc: Global, text: &[u8]) -> Result<Certificate, TextFault>
     // What is read is a certificate: its schedule is an assignment of its scenario.
     ensures lawful { IfOk result (λ certificate. IsCertificate certificate) }
@@ -70,6 +73,7 @@ fn is_same_version(version: Version, other: Version) -> bool
     match (version, other) {
         (Version::One, Version::One) => true,
         (Version::Two, Version::Two) => true,
+        (Version::Three, Version::Three) => true,
         _ => false,
     }
 }
@@ -88,10 +92,10 @@ fn read_scenario(
     version: Version,
     reader: &mut LineReader,
 ) -> Result<Scenario, TextFault>
-    ensures { IsUnlessMemory TextFault.Memory (in_text (scenario_at version reader.old))
+    ensures { IsUnlessMemory TextFault.Memory (in_text (scenario_at (lines_version version) reader.old))
         (result_map_both (λ scenario. (scenario, reader.new)) (λ fault. fault) result) }
 {
-    Ok(read_lines(alloc, version, reader)?)
+    Ok(read_lines(alloc, version.of_lines(), reader)?)
 }
 
 fn read_latency(reader: &mut LineReader) -> Result<u32, TextFault>
@@ -136,18 +140,35 @@ fn read_nodes(
     version: Version,
     reader: &mut LineReader,
 ) -> Result<Vec<Node>, TextFault>
-    ensures value { IsUnlessMemory TextFault.Memory (nodes_at version 0 reader.old)
+    ensures value { IsUnlessMemory TextFault.Memory (nodes_at version 0 0 reader.old)
         (result_map_both (λ nodes. (nodes.items, reader.new)) (λ fault. fault) result) }
     ensures lawful { IfOk result (λ nodes. All IsNode nodes.items) }
 {
     let mut nodes = Vec::new(alloc);
+    let mut leads = 0;
     while let Some(node) = read_node(version, reader)? {
-        if nodes.len() == MOST_NODES {
+        leads = leads_with(leads, node);
+        if are_too_many(nodes.len(), leads) {
             return Err(TextFault::TreeCount);
         }
         nodes.push(node)?;
     }
     Ok(nodes)
+}
+
+/// How many lead leaves there are with that node, after so many of them.
+fn leads_with(leads: usize, node: Node) -> usize
+    requires { leads ≤ MOST_LEADS }
+    ensures { result ≡ leads_with leads node }
+{
+    if is_lead(node) { leads + 1 } else { leads }
+}
+
+/// Whether a node after so many, with so many lead leaves by then, is one too many.
+fn are_too_many(count: usize, leads: usize) -> bool
+    ensures { result ≡ are_too_many count leads }
+{
+    count == MOST_NODES || MOST_LEADS < leads
 }
 
 /// The node of the next line, or None at the line `end`.

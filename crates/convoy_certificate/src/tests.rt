@@ -105,6 +105,81 @@ fn stamp_leaf(rt: HostRuntime) -> Result<(), Fail> {
 }
 
 #[test]
+fn lead_leaves(rt: HostRuntime) -> Result<(), Fail> {
+    let alloc = rt.alloc();
+    let third = with(alloc, BASE, b"convoy 1", b"convoy 3")?;
+    for nodes in [
+        b"c 12\nend".as_slice(),
+        b"c 0\nend",
+        b"c 4294967295\nend",
+        b"s 4 2\nt\nc 7\nend",
+    ] {
+        let text = with(alloc, &third, b"b\nend", nodes)?;
+        assert!(rt; is_kept(alloc, &text)?);
+    }
+    let text = with(
+        alloc,
+        &third,
+        b"groups a b\n",
+        b"groups a b\nlink b a 2 3\n",
+    )?;
+    let linked = with(alloc, &text, b"b\nend", b"c 12\nend")?;
+    assert!(rt; is_kept(alloc, &linked)?);
+    let certificate = read(alloc, &linked)?;
+    assert_eq!(rt;
+        certificate.nodes(),
+        [Node::Lead { latency: 12 }].as_slice()
+    );
+    Ok(())
+}
+
+#[test]
+fn faults_of_lead_leaves(rt: HostRuntime) -> Result<(), Fail> {
+    let alloc = rt.alloc();
+    let third = with(alloc, BASE, b"convoy 1", b"convoy 3")?;
+    assert!(rt; is_refused(alloc, &third, TextFault::Line(1, Expected::Convoy)));
+    let more = with(alloc, &third, b"b\nend\n", b"t\nend\n\n")?;
+    assert!(rt; is_refused(alloc, &more, TextFault::Line(1, Expected::Convoy)));
+    for nodes in [
+        b"c\nend".as_slice(),
+        b"c \nend",
+        b"c 012\nend",
+        b"c -1\nend",
+        b"c 4294967296\nend",
+        b"c 12 12\nend",
+        b"c 12 \nend",
+    ] {
+        let text = with(alloc, &third, b"b\nend", nodes)?;
+        assert!(rt; is_refused(alloc, &text, TextFault::Line(10, Expected::Node)));
+    }
+    for version in [b"convoy 1".as_slice(), b"convoy 2"] {
+        let older = with(alloc, BASE, b"convoy 1", version)?;
+        let text = with(alloc, &older, b"b\nend", b"s 4 2\nb\nc 12\nend")?;
+        assert!(rt; is_refused(alloc, &text, TextFault::Line(12, Expected::Node)));
+    }
+    let fourth = with(alloc, BASE, b"convoy 1", b"convoy 4")?;
+    assert!(rt; is_refused(alloc, &fourth, TextFault::Line(1, Expected::Convoy)));
+    Ok(())
+}
+
+/// What follows one lead leaf too many is not looked at.
+#[test]
+fn one_lead_leaf_too_many(rt: HostRuntime) -> Result<(), Fail> {
+    let alloc = rt.alloc();
+    let third = with(alloc, BASE, b"convoy 1", b"convoy 3")?;
+    let mut text = with(alloc, &third, b"end\n", b"")?;
+    for _ in 0..MOST_LEADS {
+        text.extend_from_slice(b"c 9\n")?;
+    }
+    let mut last = text.clone()?;
+    last.extend_from_slice(b"end\n")?;
+    assert!(rt; is_kept(alloc, &last)?);
+    text.extend_from_slice(b"t\nc 9\nno node\n")?;
+    assert!(rt; is_refused(alloc, &text, TextFault::TreeCount));
+    Ok(())
+}
+
+#[test]
 fn faults_of_form(rt: HostRuntime) -> Result<(), Fail> {
     let without_end = with(rt.alloc(), BASE, b"end\n", b"")?;
     assert!(rt;
@@ -279,6 +354,21 @@ groups = ["a"]
 multicast = [{ name = "m", from = "a", to = ["a"], at = 0 }]
 target = { message = "m", group = "a" }
 "#;
+
+#[test]
+fn text_of_lead_leaf(rt: HostRuntime) -> Result<(), Fail> {
+    let alloc = rt.alloc();
+    let certificate = one_leaf(&rt, alloc, BASE_SCENARIO, 12)?;
+    let (scenario, latency, delays, _) = certificate.into_parts();
+    let mut nodes = Vec::new(alloc);
+    nodes.push(Node::Lead { latency: 11 })?;
+    let led = Certificate::new(scenario, latency, delays, nodes);
+    let mut written = Vec::new(alloc);
+    write(alloc, &led, &mut written)?;
+    let third = with(alloc, BASE, b"convoy 1", b"convoy 3")?;
+    assert_eq!(rt; written, with(alloc, &third, b"b\nend", b"c 11\nend")?);
+    Ok(())
+}
 
 #[test]
 fn texts_of_values(rt: HostRuntime) -> Result<(), Fail> {

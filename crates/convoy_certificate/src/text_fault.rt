@@ -13,7 +13,7 @@ pub enum TextFault {
     /// The line `schedule` has its form, but the number of delays is not the number of packets, or a
     /// delay is not in its packet's range.
     Schedule,
-    /// There are more than `MOST_NODES` nodes.
+    /// There are more than `MOST_NODES` nodes, or more than `MOST_LEADS` lead leaves among them.
     TreeCount,
     /// A byte follows the line `end`.
     AfterEnd,

@@ -4,8 +4,9 @@ ghost use Rattle.convoy_certificate.specs.Text.{version_line, schedule_line, nod
 
 use super::certificate::Certificate;
 use super::node::Node;
+use super::version::Version;
 use convoy_lines::{push_number, push_number_line};
-use convoy_scenario::{Version, write_lines};
+use convoy_scenario::write_lines;
 use std::alloc::{AllocError, Global};
 
 /// Appends the text of a certificate (docs/FORMATS.md, "Certificate text"). Where memory runs out,
@@ -37,6 +38,7 @@ fn version_line(version: Version) -> &'static [u8]
     match version {
         Version::One => b"convoy 1\n",
         Version::Two => b"convoy 2\n",
+        Version::Three => b"convoy 3\n",
     }
 }
 
@@ -47,7 +49,7 @@ pub fn push_schedule(text: &mut Vec<u8>, delays: &[u16]) -> Result<(), AllocErro
 {
     text.extend_from_slice(b"schedule")?;
     for delay in delays {
-        push_further_number(text, *delay)?;
+        push_further_number(text, u32::from(*delay))?;
     }
     Ok(text.push(b'\n')?)
 }
@@ -67,20 +69,24 @@ fn push_node(text: &mut Vec<u8>, node: Node) -> Result<(), AllocError>
     match node {
         Node::Split { packet, at } => {
             text.push(b's')?;
-            push_further_number(text, packet)?;
-            push_further_number(text, at)?;
+            push_further_number(text, u32::from(packet))?;
+            push_further_number(text, u32::from(at))?;
         }
         Node::Bound => text.push(b'b')?,
         Node::Point => text.push(b'p')?,
         Node::Stamp => text.push(b't')?,
+        Node::Lead { latency } => {
+            text.push(b'c')?;
+            push_further_number(text, latency)?;
+        }
     }
     Ok(text.push(b'\n')?)
 }
 
 /// Appends a space and a number.
-fn push_further_number(text: &mut Vec<u8>, number: u16) -> Result<(), AllocError>
+fn push_further_number(text: &mut Vec<u8>, number: u32) -> Result<(), AllocError>
     ensures { OnOk result (text.new.items ≡ text.old.items ++ spaced (decimal number)) }
 {
     text.push(b' ')?;
-    push_number(text, u32::from(number))
+    push_number(text, number)
 }

@@ -1,4 +1,5 @@
-use Rattle.std.proofs.Common.{◌≡◌, All, length, vec_len}
+use Rattle.std.proofs.Common.{◌≡◌, ◌≤◌, All, length, vec_len}
+use Rattle.convoy_certificate.specs.declared.certificate.TheConstants.{MOST_LEADS}
 use Rattle.convoy_certificate.specs.Certificate.{IsNode}
 use Rattle.convoy_certificate.specs.Reading.{nodes_at}
 use Rattle.convoy_certificate.proofs.Nodes.{with_front}
@@ -6,7 +7,8 @@ use Rattle.convoy_certificate.proofs.reading.read_nodes.Given as goal
 
 abbrev pub invariant-loop-nodes : goal.invariant-loop-nodes
 invariant-loop-nodes l = record {
-  so_far : with_front l.nodes.items (nodes_at l.version (vec_len l.nodes) l.reader) ≡ nodes_at l.version 0 l.fn.reader;
+  so_far : with_front l.nodes.items (nodes_at l.version (vec_len l.nodes) l.leads l.reader) ≡ nodes_at l.version 0 0 l.fn.reader;
+  few : l.leads ≤ MOST_LEADS;
   lawful : All IsNode l.nodes.items;
 }
 

@@ -1,6 +1,6 @@
 use Rattle.std.proofs.Common.{ap, ◌∙◌}
 use Rattle.convoy_lines.specs.Texts.{ended}
-use Rattle.convoy_scenario.specs.declared.version.Version.{Version}
+use Rattle.convoy_certificate.specs.declared.version.Version.{Version}
 use Rattle.convoy_certificate.specs.Text.{version_line}
 use Rattle.convoy_certificate.proofs.Pieces.{in_pieces}
 use Rattle.convoy_certificate.proofs.writing.text_of.Goals as goal

@@ -1,0 +1,27 @@
+use convoy_scenario::Version as LinesVersion;
+
+/// A version of the text of a certificate (docs/FORMATS.md, "Certificate text").
+#[derive(Clone, Copy, Debug, PartialEq, Eq)]
+pub enum Version {
+    /// A scenario without links, and a tree of splits, bound leaves and point leaves.
+    One,
+    /// Lines `link` and stamp leaves may stand in the text, and one of them does.
+    Two,
+    /// Lead leaves may stand in the text too, and one of them does.
+    Three,
+}
+
+impl Version {
+    ghost use Rattle.std.specs.Prelude.{◌≡◌};
+    ghost use Rattle.convoy_certificate.specs.Text.{lines_version};
+
+    /// The version of the lines of the scenario in such a text.
+    pub(crate) fn of_lines(self) -> LinesVersion
+        ensures { result ≡ lines_version self }
+    {
+        match self {
+            Version::One => LinesVersion::One,
+            Version::Two | Version::Three => LinesVersion::Two,
+        }
+    }
+}
