@@ -1,6 +1,6 @@
 -- A box over which a right tree stands: no member of it has a greater latency than the stated one.
 use Rattle.std.specs.Prelude.{ℕ, ◌≤◌, List, [], ◌∷◌, ◌++◌, All}
-use Rattle.std.proofs.Common.{get_or, inl, inr}
+use Rattle.std.proofs.Common.{arith, get_or, inl, inr}
 use Rattle.std.proofs.lemmas.Bool.{cases_lt}
 use Rattle.std.proofs.lemmas.List.Elements.{All-nil, All-cons, All-head, All-tail, All-append}
 use Rattle.convoy_scenario.specs.Scenario.{Scenario}
@@ -10,8 +10,8 @@ use Rattle.convoy_intervals.specs.Boxes.{IsBox, IsIn, lower_half, upper_half}
 use Rattle.convoy_intervals.specs.Laws.{HalvesAreBoxes, HalvesPartition}
 use Rattle.convoy_intervals.specs.Boxes.{CanSplit}
 use Rattle.convoy_certificate.specs.declared.node.Node.{Node}
-use Rattle.convoy_certificate.specs.declared.node.Node.TheVariants.{Split, Bound, Point, Stamp}
-use Rattle.convoy_checker.specs.Laws.{BoundLeavesCover, PointLeavesCover, StampLeavesCover}
+use Rattle.convoy_certificate.specs.declared.node.Node.TheVariants.{Split, Bound, Point, Stamp, Lead}
+use Rattle.convoy_checker.specs.Laws.{BoundLeavesCover, LeadLeavesCover, PointLeavesCover, StampLeavesCover}
 use Rattle.convoy_checker.specs.Leaves.{IsRight}
 use Rattle.convoy_checker.specs.Trees.{AreTrees, boxes_below}
 use Rattle.convoy_intervals.specs.Boxes.{Box}
@@ -23,6 +23,7 @@ pub record Grounds : Type 0 where
   pub bound : BoundLeavesCover
   pub point : PointLeavesCover
   pub stamp : StampLeavesCover
+  pub lead : LeadLeavesCover
 
 -- no member of the box has a greater latency
 pub record IsCovered (plan : Scenario) (latency : ℕ) (box : Box) : Type 0 where
@@ -38,6 +39,7 @@ module _ (grounds : Grounds) (plan : Scenario) (lawful : IsScenario plan) (laten
   below_are_boxes Bound box is_box right = All-nil (IsBox plan)
   below_are_boxes Point box is_box right = All-nil (IsBox plan)
   below_are_boxes Stamp box is_box right = All-nil (IsBox plan)
+  below_are_boxes (Lead named) box is_box right = All-nil (IsBox plan)
 
   -- a box that is split is covered where both halves are
   split_covers : (packet at : ℕ) (box : Box) → CanSplit box packet at → IsCovered plan latency (lower_half box packet at) → IsCovered plan latency (upper_half box packet at) → IsCovered plan latency box
@@ -63,6 +65,8 @@ module _ (grounds : Grounds) (plan : Scenario) (lawful : IsScenario plan) (laten
       record { at = λ delays member. grounds.point plan latency box delays lawful is_box right member }
   node_covers Stamp box is_box right below =
       record { at = λ delays member. grounds.stamp plan latency box delays lawful is_box right member }
+  node_covers (Lead named) box is_box right below =
+      record { at = λ delays member. omega (arith, grounds.lead plan named box delays lawful is_box right.1 member, right.0) }
 
   -- the two parts of what holds of each of a list of boxes
   parts : (boxes others : List Box) → All (IsCovered plan latency) (boxes ++ others) → All (IsCovered plan latency) boxes × All (IsCovered plan latency) others

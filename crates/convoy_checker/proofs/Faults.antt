@@ -9,15 +9,16 @@ use Rattle.convoy_scenario.specs.Scenario.{Scenario}
 use Rattle.convoy_sim.specs.Delivery.{latency_of}
 use Rattle.convoy_intervals.specs.Boxes.{IsPoint, range_at, greatest_of, root_of}
 use Rattle.convoy_intervals.specs.Bounds.{plain_bound}
+use Rattle.convoy_leads.specs.Closing.{closes_by_leads}
 use Rattle.convoy_stamps.specs.StampBounds.{stamp_bound}
 use Rattle.convoy_intervals.specs.Boxes.{CanSplit}
 use Rattle.convoy_certificate.specs.Certificate.{Certificate}
 use Rattle.convoy_certificate.specs.declared.node.Node.{Node}
-use Rattle.convoy_certificate.specs.declared.node.Node.TheVariants.{Split, Bound, Point, Stamp}
+use Rattle.convoy_certificate.specs.declared.node.Node.TheVariants.{Split, Bound, Point, Stamp, Lead}
 use Rattle.convoy_checker.specs.declared.refused.Refused.{Refused}
 use Rattle.convoy_checker.specs.declared.refused.Refused.TheVariants as refused
 use Rattle.convoy_checker.specs.Checks.{unless, can_split, is_point, node_fault, first_fault, checked_tree, checked}
-use Rattle.convoy_checker.specs.Leaves.{IsRight}
+use Rattle.convoy_checker.specs.Leaves.{ClosesByLeads, IsRight}
 use Rattle.convoy_checker.specs.Trees.{AreTrees, boxes_below}
 use Rattle.convoy_intervals.specs.Boxes.{Box}
 use Rattle.convoy_checker.specs.Validity.{IsValid}
@@ -61,6 +62,10 @@ node_none plan latency number Point box =
 node_none plan latency number Stamp box =
     let bound = stamp_bound plan box in
     unless_none (refused.StampLeaf number bound) (nat_le bound latency) (bound ≤ latency) (Decides-le bound latency)
+node_none plan latency number (Lead named) box =
+    let low = nat_le named latency in
+    let closed = closes_by_leads plan box named in
+    unless_none (refused.LeadLeaf number) (low && closed) ((named ≤ latency) × ClosesByLeads plan named box) (Decides-and low closed (Decides-le named latency) (λ holds. holds, λ holds. holds))
 
 -- neither of two faults is there just where their first is not
 or_none : (first second : Option Refused) → (option_or first second ≡ None) ↔ (first ≡ None) × (second ≡ None)

@@ -6,7 +6,7 @@ use Rattle.std.proofs.lemmas.List.{drop_more}
 use Rattle.std.proofs.lemmas.List.Elements.{All-cons, All-head, All-tail}
 use Rattle.convoy_scenario.specs.Scenario.{Scenario}
 use Rattle.convoy_certificate.specs.declared.node.Node.{Node}
-use Rattle.convoy_certificate.specs.declared.node.Node.TheVariants.{Split, Bound, Point, Stamp}
+use Rattle.convoy_certificate.specs.declared.node.Node.TheVariants.{Split, Bound, Point, Stamp, Lead}
 use Rattle.convoy_intervals.specs.Boxes.{IsBox, lower_half, upper_half}
 use Rattle.convoy_intervals.specs.Laws.{HalvesAreBoxes}
 use Rattle.convoy_checker.specs.declared.refused.Refused.{Refused}
@@ -61,6 +61,7 @@ below_are_boxes plan latency (Split packet at) box others halves right is_box re
 below_are_boxes plan latency Bound box others halves right is_box rest = rest
 below_are_boxes plan latency Point box others halves right is_box rest = rest
 below_are_boxes plan latency Stamp box others halves right is_box rest = rest
+below_are_boxes plan latency (Lead named) box others halves right is_box rest = rest
 
 pub after_are_boxes : (plan : Scenario) (latency number : ℕ) (node : Node) (boxes next : List Box) (box : Box) → HalvesAreBoxes → slice_get boxes 0 ≡ Some box → node_fault plan latency number node box ≡ None → next ≡ boxes_after node boxes → All (IsBox plan) boxes → All (IsBox plan) next
 after_are_boxes plan latency number node boxes next box halves first none after all =

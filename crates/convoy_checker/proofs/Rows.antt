@@ -11,9 +11,12 @@ use Rattle.convoy_sim.specs.Moments.{moments_of}
 use Rattle.convoy_sim.specs.Stamps.{clocks_of, local_stamp, final_stamp}
 use Rattle.convoy_sim.specs.Delivery.{holds_back, deliver, latency_at, latency_of}
 use Rattle.convoy_intervals.specs.Bounds.{plain_bound}
+use Rattle.convoy_leads.specs.SureLeads.{leads_of, sure_time}
+use Rattle.convoy_leads.specs.Leads.{is_led}
+use Rattle.convoy_leads.specs.Closing.{closes_by_leads}
 use Rattle.convoy_certificate.specs.Certificate.{Certificate}
 use Rattle.convoy_certificate.specs.declared.node.Node.{Node}
-use Rattle.convoy_certificate.specs.declared.node.Node.TheVariants.{Split, Bound, Point}
+use Rattle.convoy_certificate.specs.declared.node.Node.TheVariants.{Split, Bound, Point, Lead}
 use Rattle.convoy_checker.specs.declared.refused.Refused.TheVariants as refused
 use Rattle.convoy_checker.specs.Checks.{checked}
 
@@ -89,3 +92,28 @@ one_point = refl
 no_split_of_a_point : checked (all_greatest (base_with 1 2) 4 (Split 0 1 ∷ Point ∷ Point ∷ [])) ≡ Err (refused.Split 0)
 unfolding base_with all_greatest message packets_of ranges_of delay_of arrive settle moments_of clocks_of local_stamp final_stamp holds_back deliver latency_at latency_of plain_bound checked
 no_split_of_a_point = refl
+
+one_lead : checked (all_greatest (base_with 3 6) 12 (Lead 12 ∷ [])) ≡ Ok 12
+unfolding base_with all_greatest message packets_of ranges_of delay_of arrive settle moments_of clocks_of local_stamp final_stamp holds_back deliver latency_at latency_of leads_of sure_time is_led closes_by_leads checked
+one_lead = refl
+
+-- a lead leaf is judged by the latency that it names
+lead_for_less : checked (all_greatest (base_with 3 6) 12 (Lead 11 ∷ [])) ≡ Err (refused.LeadLeaf 0)
+unfolding base_with all_greatest message packets_of ranges_of delay_of arrive settle moments_of clocks_of local_stamp final_stamp holds_back deliver latency_at latency_of leads_of sure_time is_led closes_by_leads checked
+lead_for_less = refl
+
+lead_for_more : checked (all_greatest (base_with 3 6) 12 (Lead 13 ∷ [])) ≡ Err (refused.LeadLeaf 0)
+unfolding base_with all_greatest message packets_of ranges_of delay_of arrive settle moments_of clocks_of local_stamp final_stamp holds_back deliver latency_at latency_of leads_of sure_time is_led closes_by_leads checked
+lead_for_more = refl
+
+leads_of_halves : checked (all_greatest (base_with 3 6) 12 (Split 7 2 ∷ Lead 11 ∷ Lead 12 ∷ [])) ≡ Ok 12
+unfolding base_with all_greatest message packets_of ranges_of delay_of arrive settle moments_of clocks_of local_stamp final_stamp holds_back deliver latency_at latency_of leads_of sure_time is_led closes_by_leads checked
+leads_of_halves = refl
+
+leads_turned : checked (all_greatest (base_with 3 6) 12 (Split 7 2 ∷ Lead 12 ∷ Lead 11 ∷ [])) ≡ Err (refused.LeadLeaf 2)
+unfolding base_with all_greatest message packets_of ranges_of delay_of arrive settle moments_of clocks_of local_stamp final_stamp holds_back deliver latency_at latency_of leads_of sure_time is_led closes_by_leads checked
+leads_turned = refl
+
+lead_of_swapped : checked (all_greatest swapped 6 (Lead 6 ∷ [])) ≡ Ok 6
+unfolding swapped all_greatest message packets_of ranges_of delay_of arrive settle moments_of clocks_of local_stamp final_stamp holds_back deliver latency_at latency_of leads_of sure_time is_led closes_by_leads checked
+lead_of_swapped = refl

@@ -6,10 +6,11 @@ use Rattle.convoy_scenario.specs.Scenario.{Scenario}
 use Rattle.convoy_sim.specs.Delivery.{latency_of}
 use Rattle.convoy_intervals.specs.Boxes.{Box, root_of, range_at, greatest_of}
 use Rattle.convoy_intervals.specs.Bounds.{plain_bound}
+use Rattle.convoy_leads.specs.Closing.{closes_by_leads}
 use Rattle.convoy_stamps.specs.StampBounds.{stamp_bound}
 use Rattle.convoy_certificate.specs.Certificate.{Certificate}
 use Rattle.convoy_certificate.specs.declared.node.Node.{Node}
-use Rattle.convoy_certificate.specs.declared.node.Node.TheVariants.{Split, Bound, Point, Stamp}
+use Rattle.convoy_certificate.specs.declared.node.Node.TheVariants.{Split, Bound, Point, Stamp, Lead}
 use Rattle.convoy_checker.specs.declared.refused.Refused.{Refused}
 use Rattle.convoy_checker.specs.declared.refused.Refused.TheVariants as refused
 use Rattle.convoy_checker.specs.Trees.{boxes_below}
@@ -36,6 +37,8 @@ node_fault scenario latency number Point box =
     unless (refused.PointLeaf number) (is_point box && nat_le (latency_of scenario (greatest_of box)) latency)
 node_fault scenario latency number Stamp box =
     let bound = stamp_bound scenario box in unless (refused.StampLeaf number bound) (nat_le bound latency)
+node_fault scenario latency number (Lead named) box =
+    unless (refused.LeadLeaf number) (nat_le named latency && closes_by_leads scenario box named)
 
 -- the first fault of the nodes from that number on, over the boxes that are open there
 abbrev pub first_fault : Scenario → ℕ → ℕ → List Box → List Node → Option Refused

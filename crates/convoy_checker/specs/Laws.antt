@@ -8,7 +8,7 @@ use Rattle.convoy_certificate.specs.declared.node.Node.{Node}
 use Rattle.convoy_certificate.specs.declared.node.Node.TheVariants.{Split}
 use Rattle.convoy_intervals.specs.Boxes.{Box, CanSplit, IsBox, IsIn}
 use Rattle.convoy_checker.specs.Checks.{checked}
-use Rattle.convoy_checker.specs.Leaves.{ClosesByBound, ClosesByPoint, ClosesByStamps}
+use Rattle.convoy_checker.specs.Leaves.{ClosesByBound, ClosesByLeads, ClosesByPoint, ClosesByStamps}
 use Rattle.convoy_checker.specs.Validity.{AreHalfTrees, IsTree, IsTreeOver, IsValid}
 use Rattle.convoy_sim.specs.Greatest.{IsGreatest, IsUpper}
 
@@ -30,6 +30,9 @@ PointLeavesCover = Covers ClosesByPoint
 
 abbrev pub StampLeavesCover : Type 0
 StampLeavesCover = Covers ClosesByStamps
+
+abbrev pub LeadLeavesCover : Type 0
+LeadLeavesCover = Covers ClosesByLeads
 
 -- nodes that begin with a split are a tree over a box just where the box can be split so, and after the split comes a tree over its lower half, and then a tree over its upper half
 abbrev pub SplitIsTwoTrees : Type 0

@@ -1,11 +1,12 @@
 -- What each kind of node says of its box, where a latency is stated.
-use Rattle.std.specs.Prelude.{ℕ, ◌≤◌}
+use Rattle.std.specs.Prelude.{ℕ, ◌≤◌, IsTrue}
 use Rattle.convoy_scenario.specs.Scenario.{Scenario}
 use Rattle.convoy_sim.specs.Delivery.{latency_of}
 use Rattle.convoy_certificate.specs.declared.node.Node.{Node}
-use Rattle.convoy_certificate.specs.declared.node.Node.TheVariants.{Split, Bound, Point, Stamp}
+use Rattle.convoy_certificate.specs.declared.node.Node.TheVariants.{Split, Bound, Point, Stamp, Lead}
 use Rattle.convoy_intervals.specs.Bounds.{plain_bound}
 use Rattle.convoy_intervals.specs.Boxes.{Box, CanSplit, IsPoint, greatest_of}
+use Rattle.convoy_leads.specs.Closing.{closes_by_leads}
 use Rattle.convoy_stamps.specs.StampBounds.{stamp_bound}
 
 -- the plain bound of the box is at most the stated latency
@@ -20,9 +21,14 @@ ClosesByPoint scenario latency box = IsPoint box × (latency_of scenario (greate
 abbrev pub ClosesByStamps : Scenario → ℕ → Box → Type 0
 ClosesByStamps scenario latency box = stamp_bound scenario box ≤ latency
 
--- the node is right over the box: the box can be split so, or the leaf closes it
+-- leads close the box for the latency
+abbrev pub ClosesByLeads : Scenario → ℕ → Box → Type 0
+ClosesByLeads scenario latency box = IsTrue (closes_by_leads scenario box latency)
+
+-- the node is right over the box: the box can be split so, or the leaf closes it; a lead leaf does so for the latency that it names
 abbrev pub IsRight : Scenario → ℕ → Node → Box → Type 0
 IsRight scenario latency (Split packet at) box = CanSplit box packet at
 IsRight scenario latency Bound box = ClosesByBound scenario latency box
 IsRight scenario latency Point box = ClosesByPoint scenario latency box
 IsRight scenario latency Stamp box = ClosesByStamps scenario latency box
+IsRight scenario latency (Lead named) box = (named ≤ latency) × ClosesByLeads scenario named box

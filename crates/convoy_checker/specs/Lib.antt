@@ -7,6 +7,7 @@ pub use Rattle.convoy_sim.specs.Delivery
 pub use Rattle.convoy_intervals.specs.Boxes
 pub use Rattle.convoy_intervals.specs.Bounds
 pub use Rattle.convoy_stamps.specs.StampBounds
+pub use Rattle.convoy_leads.specs.Closing
 pub use Rattle.convoy_certificate.specs.Certificate
 -- What a valid certificate is, which fault is told, and the laws of both. A yes does not rest on these words, since valid implies greatest is proved.
 pub mod Trees

@@ -15,6 +15,7 @@ use super::walk::Walk;
 use convoy_certificate::{Certificate, Node};
 use convoy_intervals::laws::{halves_are_boxes, members_are_assignments};
 use convoy_intervals::{DelayBox, bound};
+use convoy_leads::Leads;
 use convoy_packets::PacketTable;
 use convoy_scenario::Scenario;
 use convoy_stamps::stamp_bound;
@@ -24,7 +25,8 @@ use std::alloc::{AllocError, Global};
 /// over the root box of which every leaf is right (docs/PROTOCOL.md). Then no schedule has a
 /// greater latency.
 ///
-/// The bound of each leaf is computed from scratch. Memory grows with the depth of the tree. A
+/// The bound of each leaf is computed from scratch. Memory grows with the depth of the tree; all lead
+/// leaves are tested in the same memory, of which none is taken where there is none of them. A
 /// certificate that isn't valid is refused with its first fault, in the order of `Refused`; where
 /// memory runs out, `Refused::Memory` is the answer, and says nothing of the certificate.
 pub fn check(alloc: Global, certificate: &Certificate) -> Result<Accepted, Refused>
@@ -57,31 +59,40 @@ fn check_all(alloc: Global, certificate: &Certificate) -> Result<Accepted, Refus
     if simulated != latency {
         return Err(Refused::Latency(simulated));
     }
-    match first_fault(alloc, scenario, &table, latency, certificate.nodes())? {
+    let claim = Claim {
+        scenario,
+        table: &table,
+        latency,
+    };
+    match first_fault(alloc, &claim, certificate.nodes())? {
         None => Ok(Accepted::new(latency)),
         Some(fault) => Err(fault),
     }
 }
 
-/// The first fault of the nodes as a tree over the root box.
-fn first_fault(
-    alloc: Global,
-    scenario: &Scenario,
-    table: &PacketTable,
+/// What the nodes of a certificate are to show: that no schedule of the scenario, whose packets are
+/// those of the table, has a latency above this.
+#[derive(Drop)]
+struct Claim<'a> {
+    scenario: &'a Scenario,
+    table: &'a PacketTable,
     latency: u32,
-    nodes: &[Node],
-) -> Result<Option<Refused>, AllocError>
-    requires packets { table.now ≡ table_of scenario.now }
-    ensures { IfOk result (λ fault. fault
-        ≡ first_fault scenario.now latency 0 (root_of scenario.now ∷ []) nodes.now) }
+    ghost packets: { table.now ≡ table_of scenario.now },
+}
+
+/// The first fault of the nodes as a tree over the root box.
+fn first_fault(alloc: Global, claim: &Claim, nodes: &[Node]) -> Result<Option<Refused>, AllocError>
+    ensures { IfOk result (λ fault. fault ≡ first_fault claim.now.scenario.now claim.now.latency 0
+        (root_of claim.now.scenario.now ∷ []) nodes.now) }
 {
     halves_are_boxes();
-    let mut walk = Walk::over(alloc, DelayBox::root(alloc, table)?);
+    let mut leads = Leads::new(alloc);
+    let mut walk = Walk::over(alloc, DelayBox::root(alloc, claim.table)?);
     for (number, node) in nodes.iter().enumerate() {
         let Some(delay_box) = walk.next_box() else {
             return Ok(Some(Refused::TreeCount));
         };
-        let fault = node_fault(alloc, scenario, table, latency, number, *node, delay_box)?;
+        let fault = node_fault(alloc, claim, &mut leads, number, *node, delay_box)?;
         if fault.is_some() {
             return Ok(fault);
         }
@@ -93,18 +104,17 @@ fn first_fault(
 /// The fault of the node of that number over its box.
 fn node_fault(
     alloc: Global,
-    scenario: &Scenario,
-    table: &PacketTable,
-    latency: u32,
+    claim: &Claim,
+    leads: &mut Leads,
     number: usize,
     node: Node,
     delay_box: &DelayBox,
 ) -> Result<Option<Refused>, AllocError>
-    requires packets { table.now ≡ table_of scenario.now }
-    requires inside { IsBox scenario.now delay_box.now }
+    requires inside { IsBox claim.now.scenario.now delay_box.now }
     ensures { IfOk result (λ fault. fault
-        ≡ node_fault scenario.now latency number node delay_box.now) }
+        ≡ node_fault claim.now.scenario.now claim.now.latency number node delay_box.now) }
 {
+    let (scenario, table, latency) = (claim.scenario, claim.table, claim.latency);
     let (holds, fault) = match node {
         Node::Split { packet, at } => (can_split(delay_box, packet, at), Refused::Split(number)),
         Node::Bound => {
@@ -119,6 +129,10 @@ fn node_fault(
             let bound = stamp_bound(alloc, scenario, table, delay_box)?;
             (bound <= latency, Refused::StampLeaf(number, bound))
         }
+        Node::Lead { latency: named } => (
+            named <= latency && leads.closes(scenario, table, delay_box, named)?,
+            Refused::LeadLeaf(number),
+        ),
     };
     Ok((!holds).then_some(fault))
 }

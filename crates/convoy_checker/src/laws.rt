@@ -1,13 +1,15 @@
 //! The laws of trees and certificates. Each is the one clause of a function that does nothing; a
 //! caller that needs the law calls the function.
 
-ghost use Rattle.convoy_checker.specs.Laws.{BoundLeavesCover, PointLeavesCover, StampLeavesCover, TreesCover};
+ghost use Rattle.convoy_checker.specs.Laws.{BoundLeavesCover, PointLeavesCover, StampLeavesCover};
+ghost use Rattle.convoy_checker.specs.Laws.{LeadLeavesCover, TreesCover};
 ghost use Rattle.convoy_checker.specs.Laws.{SplitIsTwoTrees, ValidIsGreatest, CheckedIsValid};
 
 use convoy_intervals::laws::{
     greatest_is_member, halves_are_boxes, halves_partition, plain_bound_holds,
     point_has_one_member, root_holds_all, root_is_box,
 };
+use convoy_leads::laws::leads_hold;
 use convoy_stamps::laws::stamp_bound_holds;
 
 /// Where a box is closed by its plain bound, no member of it has a greater latency than the stated
@@ -34,6 +36,13 @@ pub fn stamp_leaves_cover()
     stamp_bound_holds();
 }
 
+/// Where leads close a box for a latency, no member of it has a greater one.
+pub fn lead_leaves_cover()
+    ensures { LeadLeavesCover }
+{
+    leads_hold();
+}
+
 /// Nodes over one box that begin with a split are that split, a tree over the lower half and a tree
 /// over the upper half; and the other way round.
 pub fn split_is_two_trees()
@@ -51,6 +60,7 @@ pub fn trees_cover()
     bound_leaves_cover();
     point_leaves_cover();
     stamp_leaves_cover();
+    lead_leaves_cover();
 }
 
 /// The latency of a valid certificate is the greatest of its scenario.

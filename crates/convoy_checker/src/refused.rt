@@ -20,6 +20,9 @@ pub enum Refused {
     /// The stamp bound of the box of that leaf is above the stated latency: the leaf's number, and the
     /// bound in ticks.
     StampLeaf(usize, u32),
+    /// The latency that the leaf of that number names is above the stated one, or leads don't close its
+    /// box for it.
+    LeadLeaf(usize),
     /// Memory ran out, which says nothing of the certificate.
     Memory,
 }

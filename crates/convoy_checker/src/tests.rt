@@ -7,7 +7,7 @@ use std::test::Fail;
 
 /// The text of a certificate of the base scenario of docs/PROTOCOL.md, with its groups in that
 /// order, that greatest delay, and y issued at that tick. Each packet takes the greatest delay. The
-/// version is 2 where a stamp leaf is among the nodes.
+/// version is 3 where a lead leaf is among the nodes, and 2 where a stamp leaf is.
 fn base(
     alloc: Global,
     groups: &str,
@@ -16,7 +16,13 @@ fn base(
     latency: u32,
     nodes: &str,
 ) -> Result<String, Fail> {
-    let version = if nodes.contains("t") { 2 } else { 1 };
+    let version = if nodes.contains("c") {
+        3
+    } else if nodes.contains("t") {
+        2
+    } else {
+        1
+    };
     let text = format!(in alloc;
         "convoy {version}
 delay {delay}
@@ -83,6 +89,44 @@ fn stamp_leaves(rt: HostRuntime) -> Result<(), Fail> {
         ("a b", 12, "t\n", Ok(12)),
         ("b a", 6, "t\n", Ok(6)),
         ("b a", 6, "s 0 1\nt\nt\n", Ok(6)),
+    ] {
+        let text = base(alloc, groups, 3, 6, latency, nodes)?;
+        assert_eq!(rt; answer(alloc, text.as_bytes())?, want, "{groups} {nodes}");
+    }
+    Ok(())
+}
+
+/// What is told without a test by leads: a latency above the stated one, and faults of nodes before.
+#[test]
+fn lead_leaves_untested(rt: HostRuntime) -> Result<(), Fail> {
+    let alloc = rt.alloc();
+    for (latency, nodes, want) in [
+        (12, "c 13\n", Refused::LeadLeaf(0)),
+        (12, "c 4294967295\n", Refused::LeadLeaf(0)),
+        (12, "s 4 2\nb\nc 13\n", Refused::LeadLeaf(2)),
+        (11, "c 11\n", Refused::Latency(12)),
+        (12, "p\nc 12\n", Refused::PointLeaf(0)),
+        (12, "b\nc 12\n", Refused::TreeCount),
+    ] {
+        let text = base(alloc, "a b", 3, 6, latency, nodes)?;
+        assert_eq!(rt; answer(alloc, text.as_bytes())?, Err(want), "{nodes}");
+    }
+    Ok(())
+}
+
+/// The seventh packet, from 0, is the stamp that b sends a for y.
+#[test]
+fn lead_leaves(rt: HostRuntime) -> Result<(), Fail> {
+    let alloc = rt.alloc();
+    for (groups, latency, nodes, want) in [
+        ("a b", 12, "c 12\n", Ok(12)),
+        ("a b", 12, "c 11\n", Err(Refused::LeadLeaf(0))),
+        ("a b", 12, "s 7 2\nc 11\nc 12\n", Ok(12)),
+        ("a b", 12, "s 7 2\nc 12\nc 11\n", Err(Refused::LeadLeaf(2))),
+        ("a b", 12, "s 7 2\nc 11\nb\n", Ok(12)),
+        ("a b", 12, "c 12\nc 12\n", Err(Refused::TreeCount)),
+        ("b a", 6, "c 6\n", Ok(6)),
+        ("b a", 6, "c 5\n", Err(Refused::LeadLeaf(0))),
     ] {
         let text = base(alloc, groups, 3, 6, latency, nodes)?;
         assert_eq!(rt; answer(alloc, text.as_bytes())?, want, "{groups} {nodes}");

@@ -68,7 +68,7 @@ impl Walk {
     {
         match node {
             Node::Split { packet, at } => self.split(packet, at),
-            Node::Bound | Node::Point | Node::Stamp => {
+            Node::Bound | Node::Point | Node::Stamp | Node::Lead { .. } => {
                 self.leave();
                 Ok(())
             }

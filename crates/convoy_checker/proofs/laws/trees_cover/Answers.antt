@@ -12,6 +12,7 @@ returns c plan latency nodes lawful tree delays assigned =
       bound = c.bound_leaves_cover.ensures;
       point = c.point_leaves_cover.ensures;
       stamp = c.stamp_leaves_cover.ensures;
+      lead = c.lead_leaves_cover.ensures;
     } in
     let root = root_of plan in
     let is_box = All-cons (IsBox plan) root [] (c.root_is_box.ensures plan lawful) (All-nil (IsBox plan)) in
