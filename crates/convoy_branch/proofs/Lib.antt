@@ -1,6 +1,7 @@
 pub mod Tries
 pub mod FrontTrees
 pub mod FrontCounts
+pub mod Readable
 pub mod BetterRecords
 pub mod SplitNodes
 pub mod SearchSteps

@@ -1,17 +1,20 @@
 -- What a search answers at its end.
-use Rattle.std.specs.Prelude.{◌≡◌, ℕ, ◌≤◌, ◌<◌, Bool, List, [], ◌∷◌, ◌++◌, length, map, reverse}
-use Rattle.std.specs.List.{sum}
+use Rattle.std.specs.Prelude.{◌≡◌, ◌≢◌, ℕ, ◌≤◌, ◌<◌, Bool, false, List, [], ◌∷◌, ◌++◌, length, map, reverse}
+use Rattle.std.specs.List.{list_any, sum}
 use Rattle.std.proofs.Common.{arith, refl, sym, ap, subst, ◌∙◌, length-append}
 use Rattle.std.proofs.lemmas.List.{map_push}
 use Rattle.convoy_scenario.specs.Scenario.{Scenario}
+use Rattle.convoy_branch.specs.declared.bounds.Bounds.{Bounds}
+use Rattle.convoy_branch.specs.declared.bounds.Bounds.TheVariants.{Plain, Lead}
+use Rattle.convoy_branch.specs.SearchBounds.{most_nodes}
+use Rattle.convoy_branch.specs.Uppers.{IsUpperOf}
 use Rattle.convoy_scenario.specs.WellFormed.{IsScenario}
 use Rattle.convoy_packets.specs.Assignment.{IsAssignment}
 use Rattle.convoy_sim.specs.Delivery.{latency_of}
 use Rattle.convoy_sim.specs.Record.{Record, IsAttained}
-use Rattle.convoy_sim.specs.Times.{greatest}
 use Rattle.convoy_certificate.specs.Certificate.{Certificate}
+use Rattle.convoy_certificate.specs.Text.{is_lead, is_stamp}
 use Rattle.convoy_certificate.specs.declared.node.Node.{Node}
-use Rattle.convoy_intervals.specs.Bounds.{plain_bound}
 use Rattle.convoy_intervals.specs.Boxes.{root_of}
 use Rattle.convoy_intervals.specs.Boxes.{Box}
 use Rattle.convoy_intervals.specs.Tracked.{Tracked}
@@ -19,11 +22,12 @@ use Rattle.convoy_checker.specs.Laws.{TreesCover}
 use Rattle.convoy_checker.specs.Validity.{IsValid}
 use Rattle.convoy_branch.specs.declared.search.Work.{Work}
 use Rattle.convoy_branch.specs.declared.search.Work.TheVariants.{Branch}
-use Rattle.convoy_branch.specs.Fronts.{FrontNode, Left, IsFront, left_in}
+use Rattle.convoy_branch.specs.Fronts.{AreFronts, FrontNode, Left, Spent, IsFront, left_in}
 use Rattle.convoy_branch.specs.Laws.{FrontsBound}
 use Rattle.convoy_branch.specs.Outcomes.{AreShares, IsProved, IsOpen}
 use Rattle.convoy_branch.specs.Searching.{IsSearching, front_of, front_nodes}
-use Rattle.convoy_branch.proofs.FrontTrees.{AreTrees-spent}
+use Rattle.convoy_branch.proofs.FrontTrees.{AreTrees-spent, no_leads-spent, no_stamps-spent}
+use Rattle.convoy_branch.proofs.Readable.{AreReadable-spent}
 use Rattle.convoy_branch.proofs.FrontCounts.{spent_in-spent, left_in-append, left_in-append_spent}
 
 -- the schedule of the best record is an assignment of the scenario, and has its latency there
@@ -40,11 +44,19 @@ abbrev certificate_of : Scenario → Record → List Node → Certificate
 certificate_of plan best nodes =
     record { scenario = plan; latency = best.latency; delays = best.delays; nodes = reverse nodes }
 
-valid : (plan : Scenario) (best : Record) (nodes : List Node) (tickets : ℕ) → IsAttained best → IsSearching plan best [] nodes tickets → IsValid (certificate_of plan best nodes)
-valid plan best nodes tickets attained searching = record {
+valid : (bounds : Bounds) (plan : Scenario) (best : Record) (nodes : List Node) (tickets : ℕ) → IsAttained best → IsSearching bounds plan best [] nodes tickets → IsValid (certificate_of plan best nodes)
+valid bounds plan best nodes tickets attained searching = record {
   latency = best_latency plan best searching.of_scenario attained;
-  tree = AreTrees-spent plan best.latency (reverse nodes) (root_of plan ∷ []) searching.tree;
+  tree = AreTrees-spent bounds plan best.latency (reverse nodes) (root_of plan ∷ []) searching.tree;
 }
+
+no_stamps : (bounds : Bounds) (plan : Scenario) (best : Record) (nodes : List Node) (tickets : ℕ) → IsSearching bounds plan best [] nodes tickets → bounds ≡ Plain → list_any is_stamp (reverse nodes) ≡ false
+no_stamps bounds plan best nodes tickets searching plain =
+    no_stamps-spent plan best.latency (reverse nodes) (root_of plan ∷ []) (subst (λ (b : Bounds). AreFronts b plan best.latency (root_of plan ∷ []) (map Spent (reverse nodes))) plain searching.tree)
+
+no_leads : (bounds : Bounds) (plan : Scenario) (best : Record) (nodes : List Node) (tickets : ℕ) → IsSearching bounds plan best [] nodes tickets → bounds ≢ Lead → list_any is_lead (reverse nodes) ≡ false
+no_leads bounds plan best nodes tickets searching other =
+    no_leads-spent bounds plan best.latency (reverse nodes) (root_of plan ∷ []) other searching.tree
 
 -- the tickets of one worker are all
 one_share : (tickets : ℕ) (by_worker : List ℕ) → by_worker ≡ tickets ∷ [] → AreShares 1 tickets by_worker
@@ -52,13 +64,13 @@ one_share tickets by_worker workers =
     record { each = ap (λ (ts : List ℕ). length ts) workers; all = ap (λ (ts : List ℕ). sum ts) workers ∙ omega arith }
 
 -- the nodes that are written are as many as the tickets
-nodes_spent : (plan : Scenario) (best : Record) (nodes : List Node) (tickets : ℕ) → IsSearching plan best [] nodes tickets → length (reverse nodes) ≡ tickets
-nodes_spent plan best nodes tickets searching = ap length (sym (spent_in-spent (reverse nodes))) ∙ searching.spent
+nodes_spent : (bounds : Bounds) (plan : Scenario) (best : Record) (nodes : List Node) (tickets : ℕ) → IsSearching bounds plan best [] nodes tickets → length (reverse nodes) ≡ tickets
+nodes_spent bounds plan best nodes tickets searching = ap length (sym (spent_in-spent (reverse nodes))) ∙ searching.spent
 
-IsProved-certificate : (plan : Scenario) (best : Record) (nodes : List Node) (tickets limit : ℕ) (by_worker : List ℕ) → TreesCover → IsScenario plan → IsAttained best → IsSearching plan best [] nodes tickets → by_worker ≡ tickets ∷ [] → tickets ≤ limit → IsProved plan limit (certificate_of plan best nodes) tickets by_worker
-IsProved-certificate plan best nodes tickets limit by_worker cover lawful attained searching workers few =
-    let is_valid = valid plan best nodes tickets attained searching in
-    let spent = nodes_spent plan best nodes tickets searching in
+IsProved-certificate : (bounds : Bounds) (plan : Scenario) (best : Record) (nodes : List Node) (tickets limit : ℕ) (by_worker : List ℕ) → TreesCover → IsScenario plan → IsAttained best → IsSearching bounds plan best [] nodes tickets → by_worker ≡ tickets ∷ [] → tickets ≤ limit → IsProved bounds plan 1 limit (certificate_of plan best nodes) tickets by_worker
+IsProved-certificate bounds plan best nodes tickets limit by_worker cover lawful attained searching workers few =
+    let is_valid = valid bounds plan best nodes tickets attained searching in
+    let spent = nodes_spent bounds plan best nodes tickets searching in
     record {
       of_scenario = refl;
       valid = is_valid;
@@ -67,15 +79,17 @@ IsProved-certificate plan best nodes tickets limit by_worker cover lawful attain
         upper = cover plan best.latency (reverse nodes) lawful is_valid.tree;
       };
       nodes = spent;
+      plain = no_stamps bounds plan best nodes tickets searching;
+      no_leads = no_leads bounds plan best nodes tickets searching;
       few = few;
-      readable = λ within. omega (arith, spent, few, within);
+      readable = λ within. AreReadable-spent bounds plan best.latency (reverse nodes) (root_of plan ∷ []) searching.tree (omega (arith, spent, few, within));
       shares = one_share tickets by_worker workers;
     }
 
-pub IsProved-done : (plan : Scenario) (best : Record) (nodes : List Node) (tickets limit latency : ℕ) (delays : List ℕ) (scenario : Scenario) (turned : List Node) (certificate : Certificate) (by_worker : List ℕ) → TreesCover → IsScenario plan → IsAttained best → IsSearching plan best [] nodes tickets → certificate ≡ record { scenario = scenario; latency = latency; delays = delays; nodes = turned } → scenario ≡ plan → latency ≡ best.latency → delays ≡ best.delays → turned ≡ reverse nodes → by_worker ≡ tickets ∷ [] → tickets ≤ limit → IsProved plan limit certificate tickets by_worker
-IsProved-done plan best nodes tickets limit latency delays scenario turned certificate by_worker cover lawful attained searching is same_scenario same_latency same_delays same_nodes workers few =
+pub IsProved-done : (bounds : Bounds) (plan : Scenario) (best : Record) (nodes : List Node) (tickets limit latency : ℕ) (delays : List ℕ) (scenario : Scenario) (turned : List Node) (certificate : Certificate) (by_worker : List ℕ) → TreesCover → IsScenario plan → IsAttained best → IsSearching bounds plan best [] nodes tickets → certificate ≡ record { scenario = scenario; latency = latency; delays = delays; nodes = turned } → scenario ≡ plan → latency ≡ best.latency → delays ≡ best.delays → turned ≡ reverse nodes → by_worker ≡ tickets ∷ [] → tickets ≤ limit → IsProved bounds plan 1 limit certificate tickets by_worker
+IsProved-done bounds plan best nodes tickets limit latency delays scenario turned certificate by_worker cover lawful attained searching is same_scenario same_latency same_delays same_nodes workers few =
     let whole : certificate ≡ certificate_of plan best nodes = cc in
-    subst (λ (c : Certificate). IsProved plan limit c tickets by_worker) (sym whole) (IsProved-certificate plan best nodes tickets limit by_worker cover lawful attained searching workers few)
+    subst (λ (c : Certificate). IsProved bounds plan 1 limit c tickets by_worker) (sym whole) (IsProved-certificate bounds plan best nodes tickets limit by_worker cover lawful attained searching workers few)
 
 -- with a box left the front is open
 left : (work : List Work) (branch : Tracked) (tried : Bool) (nodes : List Node) → left_in (front_nodes (work ++ Branch branch tried ∷ []) nodes) ≡ left_in (map front_of (work ++ Branch branch tried ∷ []))
@@ -86,9 +100,10 @@ some_left work branch tried nodes =
     let last : left_in (map front_of (work ++ Branch branch tried ∷ [])) ≡ left_in (map front_of work) ++ branch.space ∷ [] = ap (λ (front : List FrontNode). left_in front) (map_push front_of work (Branch branch tried)) ∙ left_in-append (map front_of work) (Left branch.space ∷ []) in
     omega (arith, ap length (left work branch tried nodes ∙ last), length-append (left_in (map front_of work)) (branch.space ∷ []))
 
-front_left : (plan : Scenario) (best : Record) (work pushed : List Work) (branch : Tracked) (tried : Bool) (nodes : List Node) (tickets latency upper : ℕ) → IsAttained best → IsSearching plan best (work ++ Branch branch tried ∷ []) nodes tickets → pushed ≡ work ++ Branch branch tried ∷ [] → latency ≡ best.latency → upper ≡ greatest (latency ∷ map (plain_bound plan) (left_in (map front_of pushed))) → IsFront plan best.latency upper tickets
-front_left plan best work pushed branch tried nodes tickets latency upper attained searching pushed_is latency_is upper_is =
-    let bounds : List Work → ℕ → ℕ = λ w n. greatest (n ∷ map (plain_bound plan) (left_in (map front_of w))) in
+front_left : (bounds : Bounds) (plan : Scenario) (best : Record) (work pushed : List Work) (branch : Tracked) (tried : Bool) (nodes : List Node) (tickets latency upper : ℕ) → IsAttained best → IsSearching bounds plan best (work ++ Branch branch tried ∷ []) nodes tickets → pushed ≡ work ++ Branch branch tried ∷ [] → latency ≡ best.latency → IsUpperOf bounds plan latency (left_in (map front_of pushed)) upper → IsFront bounds plan best.latency upper tickets
+front_left bounds plan best work pushed branch tried nodes tickets latency upper attained searching pushed_is latency_is upper_is =
+    let same : left_in (map front_of pushed) ≡ left_in (front_nodes (work ++ Branch branch tried ∷ []) nodes) = ap (λ (w : List Work). left_in (map front_of w)) pushed_is ∙ sym (left work branch tried nodes) in
+    let over_best : IsUpperOf bounds plan best.latency (left_in (map front_of pushed)) upper = subst (λ (n : ℕ). IsUpperOf bounds plan n (left_in (map front_of pushed)) upper) latency_is upper_is in
     record {
       nodes = front_nodes (work ++ Branch branch tried ∷ []) nodes;
       tree = searching.tree;
@@ -96,16 +111,16 @@ front_left plan best work pushed branch tried nodes tickets latency upper attain
       left = some_left work branch tried nodes;
       reached = (best.delays, best_assigned plan best searching.of_scenario attained, best_latency plan best searching.of_scenario attained);
       least = searching.least;
-      upper_is = upper_is ∙ ap (λ (n : ℕ). bounds pushed n) latency_is ∙ ap (λ (w : List Work). bounds w best.latency) pushed_is ∙ ap (λ (bs : List Box). greatest (best.latency ∷ map (plain_bound plan) bs)) (sym (left work branch tried nodes));
+      upper_is = subst (λ (bs : List Box). IsUpperOf bounds plan best.latency bs upper) same over_best;
     }
 
-pub IsOpen-left : (plan : Scenario) (best : Record) (work pushed : List Work) (branch : Tracked) (tried : Bool) (nodes : List Node) (tickets latency upper : ℕ) (by_worker : List ℕ) → FrontsBound → IsScenario plan → IsAttained best → IsSearching plan best (work ++ Branch branch tried ∷ []) nodes tickets → pushed ≡ work ++ Branch branch tried ∷ [] → latency ≡ best.latency → upper ≡ greatest (latency ∷ map (plain_bound plan) (left_in (map front_of pushed))) → by_worker ≡ tickets ∷ [] → IsOpen plan tickets best upper tickets by_worker
-IsOpen-left plan best work pushed branch tried nodes tickets latency upper by_worker bound lawful attained searching pushed_is latency_is upper_is workers =
-    let front = front_left plan best work pushed branch tried nodes tickets latency upper attained searching pushed_is latency_is upper_is in
+pub IsOpen-left : (bounds : Bounds) (plan : Scenario) (best : Record) (work pushed : List Work) (branch : Tracked) (tried : Bool) (nodes : List Node) (tickets latency upper : ℕ) (by_worker : List ℕ) → FrontsBound → IsScenario plan → IsAttained best → IsSearching bounds plan best (work ++ Branch branch tried ∷ []) nodes tickets → pushed ≡ work ++ Branch branch tried ∷ [] → latency ≡ best.latency → IsUpperOf bounds plan latency (left_in (map front_of pushed)) upper → by_worker ≡ tickets ∷ [] → IsOpen bounds plan 1 tickets best upper tickets by_worker
+IsOpen-left bounds plan best work pushed branch tried nodes tickets latency upper by_worker bound lawful attained searching pushed_is latency_is upper_is workers =
+    let front = front_left bounds plan best work pushed branch tried nodes tickets latency upper attained searching pushed_is latency_is upper_is in
     record {
       of_scenario = searching.of_scenario;
       reached = front.reached;
-      none_greater = bound plan best.latency upper tickets lawful front;
+      none_greater = bound bounds plan best.latency upper tickets lawful front;
       all = refl;
       front = front;
       shares = one_share tickets by_worker workers;

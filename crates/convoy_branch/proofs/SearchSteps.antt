@@ -6,12 +6,13 @@ use Rattle.std.proofs.lemmas.List.{map_push, reverse-append, length_push}
 use Rattle.std.proofs.lemmas.Bool.{false≢true}
 use Rattle.std.proofs.lemmas.List.Elements.{All-pop, All-push, All-weaker}
 use Rattle.convoy_scenario.specs.Scenario.{Scenario}
+use Rattle.convoy_branch.specs.declared.bounds.Bounds.{Bounds}
 use Rattle.convoy_packets.specs.Table.{IsTable, PacketTable, table_of}
 use Rattle.convoy_sim.specs.Delivery.{latency_of}
 use Rattle.convoy_sim.specs.Record.{Record}
 use Rattle.convoy_certificate.specs.Certificate.{IsNode}
 use Rattle.convoy_certificate.specs.declared.node.Node.{Node}
-use Rattle.convoy_certificate.specs.declared.node.Node.TheVariants.{Split, Bound, Point, Stamp}
+use Rattle.convoy_certificate.specs.declared.node.Node.TheVariants.{Split, Bound, Point, Stamp, Lead}
 use Rattle.convoy_intervals.specs.Boxes.{Box, IsBox, greatest_of, lower_half, root_of, upper_half}
 use Rattle.convoy_intervals.specs.Tracked.{Tracked}
 use Rattle.convoy_intervals.specs.Laws.{HalvesAreBoxes, UpperKeepsGreatest}
@@ -49,9 +50,9 @@ All-front : {X : Type 0} (P : X → Type 0) (xs : List X) (x : X) → All P (xs 
 All-front P xs x all = All-pop P (xs ++ x ∷ []) xs (Some x) refl all
 
 -- a front of that many nodes that is right for a latency
-abbrev IsFrontOf : Scenario → ℕ → ℕ → List FrontNode → Type 0
-IsFrontOf plan latency tickets front =
-    AreFronts plan latency (root_of plan ∷ []) front × (length (spent_in front) ≡ tickets)
+abbrev IsFrontOf : Bounds → Scenario → ℕ → ℕ → List FrontNode → Type 0
+IsFrontOf bounds plan latency tickets front =
+    AreFronts bounds plan latency (root_of plan ∷ []) front × (length (spent_in front) ≡ tickets)
 
 -- a better record leaves what waits as it is
 IsWork-better : (plan : Scenario) (best better : ℕ) (piece : Work) → best ≤ better → IsWork plan best piece → IsWork plan better piece
@@ -60,21 +61,21 @@ IsWork-better plan best better (Branch branch tried) above is =
 IsWork-better plan best better (Write node) above is = is
 
 -- a search with a better record
-better : (plan : Scenario) (best next : Record) (work : List Work) (nodes : List Node) (tickets : ℕ) → next.scenario ≡ plan → best.latency ≤ next.latency → IsSearching plan best work nodes tickets → IsSearching plan next work nodes tickets
-better plan best next work nodes tickets scenario above searching = record {
+better : (bounds : Bounds) (plan : Scenario) (best next : Record) (work : List Work) (nodes : List Node) (tickets : ℕ) → next.scenario ≡ plan → best.latency ≤ next.latency → IsSearching bounds plan best work nodes tickets → IsSearching bounds plan next work nodes tickets
+better bounds plan best next work nodes tickets scenario above searching = record {
   of_scenario = scenario;
   least = omega (arith, searching.least);
-  tree = AreFronts-better plan best.latency next.latency (front_nodes work nodes) (root_of plan ∷ []) above searching.tree;
+  tree = AreFronts-better bounds plan best.latency next.latency (front_nodes work nodes) (root_of plan ∷ []) above searching.tree;
   spent = searching.spent;
   all_work = All-weaker (IsWork plan best.latency) (IsWork plan next.latency) (λ piece is. IsWork-better plan best.latency next.latency piece above is) work searching.all_work;
   all_nodes = searching.all_nodes;
 }
 
 -- the next piece of work is a node: it is written
-pub IsSearching-written : (plan : Scenario) (best : Record) (work : List Work) (nodes : List Node) (tickets : ℕ) (node : Node) → IsSearching plan best (work ++ Write node ∷ []) nodes tickets → IsSearching plan best work (nodes ++ node ∷ []) tickets
-IsSearching-written plan best work nodes tickets node searching =
+pub IsSearching-written : (bounds : Bounds) (plan : Scenario) (best : Record) (work : List Work) (nodes : List Node) (tickets : ℕ) (node : Node) → IsSearching bounds plan best (work ++ Write node ∷ []) nodes tickets → IsSearching bounds plan best work (nodes ++ node ∷ []) tickets
+IsSearching-written bounds plan best work nodes tickets node searching =
     let same : front_nodes (work ++ Write node ∷ []) nodes ≡ front_nodes work (nodes ++ node ∷ []) = front-pushed work (Write node) (done nodes) ∙ sym (front-written work node nodes) in
-    let front : IsFrontOf plan best.latency tickets (front_nodes work (nodes ++ node ∷ [])) = subst (λ (f : List FrontNode). IsFrontOf plan best.latency tickets f) same (searching.tree, searching.spent) in
+    let front : IsFrontOf bounds plan best.latency tickets (front_nodes work (nodes ++ node ∷ [])) = subst (λ (f : List FrontNode). IsFrontOf bounds plan best.latency tickets f) same (searching.tree, searching.spent) in
     let parts = All-front (IsWork plan best.latency) work (Write node) searching.all_work in
     record {
       of_scenario = searching.of_scenario;
@@ -86,16 +87,16 @@ IsSearching-written plan best work nodes tickets node searching =
     }
 
 -- the same by what the program makes of its two lists
-pub IsSearching-popped : (plan : Scenario) (best : Record) (work rest : List Work) (nodes next : List Node) (tickets : ℕ) (piece : Work) (node : Node) → work ≡ rest ++ piece ∷ [] → piece ≡ Write node → next ≡ nodes ++ node ∷ [] → IsSearching plan best work nodes tickets → IsSearching plan best rest next tickets
-IsSearching-popped plan best work rest nodes next tickets piece node popped is written searching =
+pub IsSearching-popped : (bounds : Bounds) (plan : Scenario) (best : Record) (work rest : List Work) (nodes next : List Node) (tickets : ℕ) (piece : Work) (node : Node) → work ≡ rest ++ piece ∷ [] → piece ≡ Write node → next ≡ nodes ++ node ∷ [] → IsSearching bounds plan best work nodes tickets → IsSearching bounds plan best rest next tickets
+IsSearching-popped bounds plan best work rest nodes next tickets piece node popped is written searching =
     let whole : work ≡ rest ++ Write node ∷ [] = popped ∙ ap (λ (w : Work). rest ++ w ∷ []) is in
-    let last = subst (λ (ws : List Work). IsSearching plan best ws nodes tickets) whole searching in
-    subst (λ (ns : List Node). IsSearching plan best rest ns tickets) (sym written) (IsSearching-written plan best rest nodes tickets node last)
+    let last = subst (λ (ws : List Work). IsSearching bounds plan best ws nodes tickets) whole searching in
+    subst (λ (ns : List Node). IsSearching bounds plan best rest ns tickets) (sym written) (IsSearching-written bounds plan best rest nodes tickets node last)
 
 -- the front of a search that takes up a box
-taken : (plan : Scenario) (best : Record) (work : List Work) (nodes : List Node) (tickets : ℕ) (branch : Tracked) (tried : Bool) → IsSearching plan best (work ++ Branch branch tried ∷ []) nodes tickets → IsFrontOf plan best.latency tickets (map front_of work ++ Left branch.space ∷ done nodes)
-taken plan best work nodes tickets branch tried searching =
-    subst (λ (f : List FrontNode). IsFrontOf plan best.latency tickets f) (front-pushed work (Branch branch tried) (done nodes)) (searching.tree, searching.spent)
+taken : (bounds : Bounds) (plan : Scenario) (best : Record) (work : List Work) (nodes : List Node) (tickets : ℕ) (branch : Tracked) (tried : Bool) → IsSearching bounds plan best (work ++ Branch branch tried ∷ []) nodes tickets → IsFrontOf bounds plan best.latency tickets (map front_of work ++ Left branch.space ∷ done nodes)
+taken bounds plan best work nodes tickets branch tried searching =
+    subst (λ (f : List FrontNode). IsFrontOf bounds plan best.latency tickets f) (front-pushed work (Branch branch tried) (done nodes)) (searching.tree, searching.spent)
 
 -- what became of a box takes its place in the front
 front_turned : (work : List Work) (nodes : List Node) (turn : Turn) → front_nodes (work_after work turn) (nodes_after nodes turn) ≡ map front_of work ++ (front_after turn ++ done nodes)
@@ -104,24 +105,25 @@ front_turned work nodes (Halves packet at lower upper) =
     front-halved work (Write (Split packet at)) (Branch lower false) (Branch upper true) (done nodes)
 
 -- a leaf that closes a box may stand in a certificate
-closed_node : (plan : Scenario) (known : ℕ) (box : Box) (node : Node) → IsTurn plan box known (Closed node) → IsNode node
-closed_node plan known box (Split packet at) turn = absurd turn
-closed_node plan known box Bound turn = tt
-closed_node plan known box Point turn = tt
-closed_node plan known box Stamp turn = absurd turn
+closed_node : (bounds : Bounds) (plan : Scenario) (known : ℕ) (box : Box) (node : Node) → IsTurn bounds plan box known (Closed node) → IsNode node
+closed_node bounds plan known box (Split packet at) turn = absurd turn
+closed_node bounds plan known box Bound turn = tt
+closed_node bounds plan known box Point turn = tt
+closed_node bounds plan known box Stamp turn = tt
+closed_node bounds plan known box (Lead latency) turn = omega (arith, turn.0, turn.1.named)
 
-nodes_turned : (plan : Scenario) (known : ℕ) (nodes : List Node) (box : Box) (turn : Turn) → IsTurn plan box known turn → All IsNode nodes → All IsNode (nodes_after nodes turn)
-nodes_turned plan known nodes box (Closed node) turn all =
-    All-push IsNode nodes node all (closed_node plan known box node turn)
-nodes_turned plan known nodes box (Halves packet at lower upper) turn all = all
+nodes_turned : (bounds : Bounds) (plan : Scenario) (known : ℕ) (nodes : List Node) (box : Box) (turn : Turn) → IsTurn bounds plan box known turn → All IsNode nodes → All IsNode (nodes_after nodes turn)
+nodes_turned bounds plan known nodes box (Closed node) turn all =
+    All-push IsNode nodes node all (closed_node bounds plan known box node turn)
+nodes_turned bounds plan known nodes box (Halves packet at lower upper) turn all = all
 
 -- the halves of a box wait to be taken up: both are boxes of the scenario, and the greatest delays of the upper one were tried
 pub record HalvesWait (plan : Scenario) (known : ℕ) (lower upper : Tracked) : Type 0 where
   pub low : IsWork plan known (Branch lower false)
   pub high : IsWork plan known (Branch upper true)
 
-halves_wait : (plan : Scenario) (known packet at : ℕ) (box : Box) (lower upper : Tracked) → HalvesAreBoxes → UpperKeepsGreatest → IsBox plan box → IsTurn plan box known (Halves packet at lower upper) → HalvesWait plan known lower upper
-halves_wait plan known packet at box lower upper are_boxes keeps is_box turn =
+halves_wait : (bounds : Bounds) (plan : Scenario) (known packet at : ℕ) (box : Box) (lower upper : Tracked) → HalvesAreBoxes → UpperKeepsGreatest → IsBox plan box → IsTurn bounds plan box known (Halves packet at lower upper) → HalvesWait plan known lower upper
+halves_wait bounds plan known packet at box lower upper are_boxes keeps is_box turn =
     let halves = are_boxes plan box packet at is_box turn.1 in
     let low : lower.space ≡ lower_half box packet at = ap (λ (t : Tracked). t.space) turn.2 in
     let high : upper.space ≡ upper_half box packet at = ap (λ (t : Tracked). t.space) turn.3 in
@@ -132,40 +134,40 @@ halves_wait plan known packet at box lower upper are_boxes keeps is_box turn =
       high = (subst (λ (b : Box). IsBox plan b) (sym high) halves.1, λ told. tried, ap (λ (t : Tracked). t.scenario) turn.3);
     }
 
-work_turned : (plan : Scenario) (known : ℕ) (work : List Work) (box : Box) (turn : Turn) → HalvesAreBoxes → UpperKeepsGreatest → IsTable (table_of plan) → IsBox plan box → IsTurn plan box known turn → All (IsWork plan known) work → All (IsWork plan known) (work_after work turn)
-work_turned plan known work box (Closed node) are_boxes keeps table is_box turn all = all
-work_turned plan known work box (Halves packet at lower upper) are_boxes keeps table is_box turn all =
+work_turned : (bounds : Bounds) (plan : Scenario) (known : ℕ) (work : List Work) (box : Box) (turn : Turn) → HalvesAreBoxes → UpperKeepsGreatest → IsTable (table_of plan) → IsBox plan box → IsTurn bounds plan box known turn → All (IsWork plan known) work → All (IsWork plan known) (work_after work turn)
+work_turned bounds plan known work box (Closed node) are_boxes keeps table is_box turn all = all
+work_turned bounds plan known work box (Halves packet at lower upper) are_boxes keeps table is_box turn all =
     let Waits = IsWork plan known in
     let node = Write (Split packet at) in
-    let halves = halves_wait plan known packet at box lower upper are_boxes keeps is_box turn in
+    let halves = halves_wait bounds plan known packet at box lower upper are_boxes keeps is_box turn in
     let with_split = All-push Waits work node all (IsNode-split plan box packet at table is_box turn.1) in
     let with_lower = All-push Waits (work ++ node ∷ []) (Branch lower false) with_split halves.low in
     All-push Waits ((work ++ node ∷ []) ++ Branch lower false ∷ []) (Branch upper true) with_lower halves.high
 
 -- a box is taken up, and what becomes of it is known
-turned : (plan : Scenario) (best : Record) (work : List Work) (nodes : List Node) (tickets : ℕ) (branch : Tracked) (tried : Bool) (turn : Turn) → HalvesAreBoxes → UpperKeepsGreatest → IsTable (table_of plan) → IsTurn plan branch.space best.latency turn → IsSearching plan best (work ++ Branch branch tried ∷ []) nodes tickets → IsSearching plan best (work_after work turn) (nodes_after nodes turn) (tickets + 1)
-turned plan best work nodes tickets branch tried turn are_boxes keeps table is searching =
-    let old = taken plan best work nodes tickets branch tried searching in
-    let tree = AreFronts-filled plan best.latency branch.space (front_after turn) (AreFronts-turned plan best.latency branch.space turn is) (map front_of work) (done nodes) (root_of plan ∷ []) old.0 in
+turned : (bounds : Bounds) (plan : Scenario) (best : Record) (work : List Work) (nodes : List Node) (tickets : ℕ) (branch : Tracked) (tried : Bool) (turn : Turn) → HalvesAreBoxes → UpperKeepsGreatest → IsTable (table_of plan) → IsTurn bounds plan branch.space best.latency turn → IsSearching bounds plan best (work ++ Branch branch tried ∷ []) nodes tickets → IsSearching bounds plan best (work_after work turn) (nodes_after nodes turn) (tickets + 1)
+turned bounds plan best work nodes tickets branch tried turn are_boxes keeps table is searching =
+    let old = taken bounds plan best work nodes tickets branch tried searching in
+    let tree = AreFronts-filled bounds plan best.latency branch.space (front_after turn) (AreFronts-turned bounds plan best.latency branch.space turn is) (map front_of work) (done nodes) (root_of plan ∷ []) old.0 in
     let spent : length (spent_in (map front_of work ++ (front_after turn ++ done nodes))) ≡ tickets + 1 = omega (arith, spent_in-turned (map front_of work) (done nodes) branch.space turn, old.1) in
-    let front = subst (λ (f : List FrontNode). IsFrontOf plan best.latency (tickets + 1) f) (sym (front_turned work nodes turn)) (tree, spent) in
+    let front = subst (λ (f : List FrontNode). IsFrontOf bounds plan best.latency (tickets + 1) f) (sym (front_turned work nodes turn)) (tree, spent) in
     let parts = All-front (IsWork plan best.latency) work (Branch branch tried) searching.all_work in
     record {
       of_scenario = searching.of_scenario;
       least = searching.least;
       tree = front.0;
       spent = front.1;
-      all_work = work_turned plan best.latency work branch.space turn are_boxes keeps table parts.1.0 is parts.0;
-      all_nodes = nodes_turned plan best.latency nodes branch.space turn is searching.all_nodes;
+      all_work = work_turned bounds plan best.latency work branch.space turn are_boxes keeps table parts.1.0 is parts.0;
+      all_nodes = nodes_turned bounds plan best.latency nodes branch.space turn is searching.all_nodes;
     }
 
 -- a step over the box
-pub IsSearching-step : (plan : Scenario) (best : Record) (work : List Work) (nodes : List Node) (tickets : ℕ) (branch : Tracked) (tried : Bool) (step : Step) → HalvesAreBoxes → UpperKeepsGreatest → IsTable (table_of plan) → IsStep plan branch.space best.latency step → IsSearching plan best (work ++ Branch branch tried ∷ []) nodes tickets → IsSearching plan (unwrap_or step.found best) (work_after work step.turn) (nodes_after nodes step.turn) (tickets + 1)
-IsSearching-step plan best work nodes tickets branch tried step are_boxes keeps table is searching =
+pub IsSearching-step : (bounds : Bounds) (plan : Scenario) (best : Record) (work : List Work) (nodes : List Node) (tickets : ℕ) (branch : Tracked) (tried : Bool) (step : Step) → HalvesAreBoxes → UpperKeepsGreatest → IsTable (table_of plan) → IsStep bounds plan branch.space best.latency step → IsSearching bounds plan best (work ++ Branch branch tried ∷ []) nodes tickets → IsSearching bounds plan (unwrap_or step.found best) (work_after work step.turn) (nodes_after nodes step.turn) (tickets + 1)
+IsSearching-step bounds plan best work nodes tickets branch tried step are_boxes keeps table is searching =
     let next = unwrap_or step.found best in
-    let no_worse = IsNoWorse-found plan best branch.space step.found searching.of_scenario is.found in
-    let turn : IsTurn plan branch.space next.latency step.turn = subst (λ (n : ℕ). IsTurn plan branch.space n step.turn) no_worse.known is.turn in
-    turned plan next work nodes tickets branch tried step.turn are_boxes keeps table turn (better plan best next (work ++ Branch branch tried ∷ []) nodes tickets no_worse.scenario no_worse.above searching)
+    let no_worse = IsNoWorse-found bounds plan best branch.space step.found searching.of_scenario is.found in
+    let turn : IsTurn bounds plan branch.space next.latency step.turn = subst (λ (n : ℕ). IsTurn bounds plan branch.space n step.turn) no_worse.known is.turn in
+    turned bounds plan next work nodes tickets branch tried step.turn are_boxes keeps table turn (better bounds plan best next (work ++ Branch branch tried ∷ []) nodes tickets no_worse.scenario no_worse.above searching)
 
 -- a turn adds three pieces of work at most
 pub length-work_after : (work : List Work) (turn : Turn) → length (work_after work turn) ≤ length work + 3
@@ -174,20 +176,20 @@ length-work_after work (Halves packet at lower upper) =
     omega (arith, length_push ((work ++ Write (Split packet at) ∷ []) ++ Branch lower false ∷ []) (Branch upper true), length_push (work ++ Write (Split packet at) ∷ []) (Branch lower false), length_push work (Write (Split packet at)))
 
 -- the same by what the program makes of its parts
-pub IsSearching-taken : (plan : Scenario) (best next : Record) (work new : List Work) (nodes written : List Node) (tickets seen : ℕ) (branch : Tracked) (tried : Bool) (table : PacketTable) (step : Step) → HalvesAreBoxes → UpperKeepsGreatest → table ≡ table_of plan → IsTable table → seen ≡ best.latency → IsStep plan branch.space seen step → next ≡ unwrap_or step.found best → new ≡ work_after work step.turn → written ≡ nodes_after nodes step.turn → IsSearching plan best (work ++ Branch branch tried ∷ []) nodes tickets → IsSearching plan next new written (tickets + 1)
-IsSearching-taken plan best next work new nodes written tickets seen branch tried table step are_boxes keeps packets lawful seen_is is next_is new_is written_is searching =
+pub IsSearching-taken : (bounds : Bounds) (plan : Scenario) (best next : Record) (work new : List Work) (nodes written : List Node) (tickets seen : ℕ) (branch : Tracked) (tried : Bool) (table : PacketTable) (step : Step) → HalvesAreBoxes → UpperKeepsGreatest → table ≡ table_of plan → IsTable table → seen ≡ best.latency → IsStep bounds plan branch.space seen step → next ≡ unwrap_or step.found best → new ≡ work_after work step.turn → written ≡ nodes_after nodes step.turn → IsSearching bounds plan best (work ++ Branch branch tried ∷ []) nodes tickets → IsSearching bounds plan next new written (tickets + 1)
+IsSearching-taken bounds plan best next work new nodes written tickets seen branch tried table step are_boxes keeps packets lawful seen_is is next_is new_is written_is searching =
     let lawful' : IsTable (table_of plan) = subst (λ (t : PacketTable). IsTable t) packets lawful in
-    let is' : IsStep plan branch.space best.latency step = subst (λ (n : ℕ). IsStep plan branch.space n step) seen_is is in
-    rw (next_is, new_is, written_is) (IsSearching-step plan best work nodes tickets branch tried step are_boxes keeps lawful' is' searching)
+    let is' : IsStep bounds plan branch.space best.latency step = subst (λ (n : ℕ). IsStep bounds plan branch.space n step) seen_is is in
+    rw (next_is, new_is, written_is) (IsSearching-step bounds plan best work nodes tickets branch tried step are_boxes keeps lawful' is' searching)
 
 -- the best record after a step is no worse than before
-pub best_no_worse : (plan : Scenario) (best next : Record) (seen : ℕ) (box : Box) (step : Step) → best.scenario ≡ plan → seen ≡ best.latency → IsStep plan box seen step → next ≡ unwrap_or step.found best → best.latency ≤ next.latency
-best_no_worse plan best next seen box step scenario seen_is is next_is =
-    let is' : IsStep plan box best.latency step = subst (λ (n : ℕ). IsStep plan box n step) seen_is is in
-    let no_worse = IsNoWorse-found plan best box step.found scenario is'.found in
+pub best_no_worse : (bounds : Bounds) (plan : Scenario) (best next : Record) (seen : ℕ) (box : Box) (step : Step) → best.scenario ≡ plan → seen ≡ best.latency → IsStep bounds plan box seen step → next ≡ unwrap_or step.found best → best.latency ≤ next.latency
+best_no_worse bounds plan best next seen box step scenario seen_is is next_is =
+    let is' : IsStep bounds plan box best.latency step = subst (λ (n : ℕ). IsStep bounds plan box n step) seen_is is in
+    let no_worse = IsNoWorse-found bounds plan best box step.found scenario is'.found in
     rw next_is no_worse.above
 
 -- a box that waits is a box of the scenario, and is known to be tried where it is told to be
-pub waits : (plan : Scenario) (best : Record) (work : List Work) (nodes : List Node) (tickets : ℕ) (branch : Tracked) (tried : Bool) → IsSearching plan best (work ++ Branch branch tried ∷ []) nodes tickets → IsWork plan best.latency (Branch branch tried)
-waits plan best work nodes tickets branch tried searching =
+pub waits : (bounds : Bounds) (plan : Scenario) (best : Record) (work : List Work) (nodes : List Node) (tickets : ℕ) (branch : Tracked) (tried : Bool) → IsSearching bounds plan best (work ++ Branch branch tried ∷ []) nodes tickets → IsWork plan best.latency (Branch branch tried)
+waits bounds plan best work nodes tickets branch tried searching =
     (All-front (IsWork plan best.latency) work (Branch branch tried) searching.all_work).1

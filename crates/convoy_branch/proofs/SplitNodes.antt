@@ -8,10 +8,11 @@ use Rattle.convoy_packets.specs.Assignment.{ranges_of}
 use Rattle.convoy_packets.specs.Table.{IsRange, IsTable, table_of}
 use Rattle.convoy_certificate.specs.Certificate.{IsNode}
 use Rattle.convoy_certificate.specs.declared.node.Node.{Node}
-use Rattle.convoy_certificate.specs.declared.node.Node.TheVariants.{Split, Bound, Point, Stamp}
+use Rattle.convoy_certificate.specs.declared.node.Node.TheVariants.{Split, Bound, Point, Stamp, Lead}
 use Rattle.convoy_intervals.specs.Boxes.{IsBox, IsInside}
 use Rattle.convoy_intervals.specs.Boxes.{CanSplit}
 use Rattle.convoy_intervals.specs.Boxes.{Box}
+use Rattle.convoy_branch.specs.declared.bounds.Bounds.{Bounds}
 use Rattle.convoy_branch.specs.declared.step.Turn.{Turn}
 use Rattle.convoy_branch.specs.declared.step.Turn.TheVariants.{Closed, Halves}
 use Rattle.convoy_branch.specs.Fronts.{front_after, spent_in}
@@ -29,14 +30,15 @@ IsNode-split plan box packet at table inside part =
     )
 
 -- what a step makes of a box: a leaf, or a split that may stand in a certificate
-leaf_node : (plan : Scenario) (known : ℕ) (box : Box) (node : Node) → IsTurn plan box known (Closed node) → IsNode node
-leaf_node plan known box (Split packet at) turn = absurd turn
-leaf_node plan known box Bound turn = tt
-leaf_node plan known box Point turn = tt
-leaf_node plan known box Stamp turn = absurd turn
+leaf_node : (bounds : Bounds) (plan : Scenario) (known : ℕ) (box : Box) (node : Node) → IsTurn bounds plan box known (Closed node) → IsNode node
+leaf_node bounds plan known box (Split packet at) turn = absurd turn
+leaf_node bounds plan known box Bound turn = tt
+leaf_node bounds plan known box Point turn = tt
+leaf_node bounds plan known box Stamp turn = tt
+leaf_node bounds plan known box (Lead latency) turn = omega (arith, turn.0, turn.1.named)
 
-pub All-turn : (plan : Scenario) (known : ℕ) (box : Box) (turn : Turn) → IsTable (table_of plan) → IsBox plan box → IsTurn plan box known turn → All IsNode (spent_in (front_after turn))
-All-turn plan known box (Closed node) table inside is =
-    All-cons IsNode node [] (leaf_node plan known box node is) (All-nil IsNode)
-All-turn plan known box (Halves packet at lower upper) table inside is =
+pub All-turn : (bounds : Bounds) (plan : Scenario) (known : ℕ) (box : Box) (turn : Turn) → IsTable (table_of plan) → IsBox plan box → IsTurn bounds plan box known turn → All IsNode (spent_in (front_after turn))
+All-turn bounds plan known box (Closed node) table inside is =
+    All-cons IsNode node [] (leaf_node bounds plan known box node is) (All-nil IsNode)
+All-turn bounds plan known box (Halves packet at lower upper) table inside is =
     All-cons IsNode (Split packet at) [] (IsNode-split plan box packet at table inside is.1) (All-nil IsNode)

@@ -1,24 +1,103 @@
--- What the greatest delays of a box show: a greater latency than was seen, or that theirs is no greater.
-use Rattle.std.specs.Prelude.{◌≡◌, ℕ, ◌≤◌, ◌<◌, nat_le, Bool, true, false, if◌then◌else◌, Option, Some, None, refl}
-use Rattle.std.proofs.Common.{arith}
+-- Which leaf closes a box in a search, and what a look at the box shows: a greater latency than was seen, or that of the greatest delays is no greater.
+use Rattle.std.specs.Prelude.{◌≡◌, ◌≢◌, ℕ, ◌≤◌, ◌<◌, ◌^◌, nat_le, Bool, true, false, ◌||◌, if◌then◌else◌, Option, Some, None, is_some, refl}
+use Rattle.std.proofs.Common.{arith, ap, sym, subst, ◌∙◌}
+use Rattle.std.proofs.lemmas.Bool.{false≢true}
 use Rattle.std.proofs.lemmas.Bool.Decides.{nat_tests}
 use Rattle.convoy_scenario.specs.Scenario.{Scenario}
+use Rattle.convoy_certificate.specs.declared.node.Node.{Node}
+use Rattle.convoy_certificate.specs.declared.node.Node.TheVariants as nodes
+use Rattle.convoy_branch.specs.declared.bounds.Bounds.{Bounds}
+use Rattle.convoy_branch.specs.declared.bounds.Bounds.TheVariants.{Plain, Stamp, Lead}
+use Rattle.convoy_branch.specs.declared.step.Look.{Look}
+use Rattle.convoy_branch.specs.declared.step.Turn.TheVariants.{Closed}
+use Rattle.convoy_intervals.specs.Bounds.{plain_bound}
+use Rattle.convoy_intervals.specs.Boxes.{Box, greatest_of}
+use Rattle.convoy_stamps.specs.StampBounds.{stamp_bound}
+use Rattle.convoy_leads.specs.Closing.{closes_by_leads}
+use Rattle.convoy_branch.specs.Looks.{IsLook}
+use Rattle.convoy_branch.specs.SearchBounds.{closes_for, further_leaf, leaf_for}
+use Rattle.convoy_branch.specs.Steps.{IsTurn, StaysOpen, found_in, known_after}
 use Rattle.convoy_sim.specs.Delivery.{latency_of}
 use Rattle.convoy_sim.specs.Record.{Record, attained_by}
-use Rattle.convoy_intervals.specs.Bounds.{plain_bound}
-use Rattle.convoy_intervals.specs.Boxes.{greatest_of}
-use Rattle.convoy_intervals.specs.Boxes.{Box}
-use Rattle.convoy_branch.specs.Steps.{found_in, known_after}
+
+-- ---- Which bounds they are
+
+abbrev asks_stamps : Bounds → Bool
+asks_stamps Plain = false
+asks_stamps Stamp = true
+asks_stamps Lead = true
+
+pub stamp_is_not_plain : Stamp ≢ Plain
+stamp_is_not_plain same = false≢true (sym (ap asks_stamps same))
+
+pub lead_is_not_plain : Lead ≢ Plain
+lead_is_not_plain same = false≢true (sym (ap asks_stamps same))
+
+-- ---- Leaves
+
+-- a leaf is what becomes of the box, which the search closes then; with none it does not
+abbrev IsLeafFor : Bounds → Scenario → Box → ℕ → Option Node → Type 0
+IsLeafFor bounds plan box known None = closes_for bounds plan box known ≡ false
+IsLeafFor bounds plan box known (Some node) = IsTurn bounds plan box known (Closed node) × (closes_for bounds plan box known ≡ true)
+
+module _ (plan : Scenario) (box : Box) (known : ℕ) (small : known < 2 ^ 32) (least : stamp_bound plan box ≤ plain_bound plan box) where
+  closes_by_plain : (bounds : Bounds) → plain_bound plan box ≤ known → closes_for bounds plan box known ≡ true
+  closes_by_plain Plain within = grind (arith, nat_tests, within)
+  closes_by_plain Stamp within = grind (arith, nat_tests, within, least)
+  closes_by_plain Lead within =
+      let stamps : nat_le (stamp_bound plan box) known ≡ true = grind (arith, nat_tests, within, least) in
+      ap (λ (b : Bool). b || closes_by_leads plan box known) stamps
+
+  by_stamps : (stamps : Bool) → nat_le (stamp_bound plan box) known ≡ stamps → known < plain_bound plan box → IsLeafFor Stamp plan box known (if stamps then Some nodes.Stamp else None)
+  by_stamps true is above =
+      (record { asked = stamp_is_not_plain; plain = above; stamps = grind (arith, nat_tests, is) }, is)
+  by_stamps false is above = is
+
+  by_leads : (stamps leads : Bool) → nat_le (stamp_bound plan box) known ≡ stamps → closes_by_leads plan box known ≡ leads → known < plain_bound plan box → IsLeafFor Lead plan box known (if stamps then Some nodes.Stamp else if leads then Some (nodes.Lead known) else None)
+  by_leads true leads is closed above =
+      (record { asked = lead_is_not_plain; plain = above; stamps = grind (arith, nat_tests, is) }, ap (λ (b : Bool). b || closes_by_leads plan box known) is)
+  by_leads false true is closed above =
+      let stamps : known < stamp_bound plan box = grind (arith, nat_tests, is) in
+      ((refl, record { asked = refl; stamps = stamps; leads = closed; named = small }), ap (λ (b : Bool). b || closes_by_leads plan box known) is ∙ closed)
+  by_leads false false is closed above = ap (λ (b : Bool). b || closes_by_leads plan box known) is ∙ closed
+
+  by_further : (bounds : Bounds) → known < plain_bound plan box → IsLeafFor bounds plan box known (further_leaf bounds plan box known)
+  by_further Plain above = grind (arith, nat_tests, above)
+  by_further Stamp above = by_stamps (nat_le (stamp_bound plan box) known) refl above
+  by_further Lead above = by_leads (nat_le (stamp_bound plan box) known) (closes_by_leads plan box known) refl refl above
+
+  by_plain : (bounds : Bounds) (plain : Bool) → nat_le (plain_bound plan box) known ≡ plain → IsLeafFor bounds plan box known (if plain then Some nodes.Bound else further_leaf bounds plan box known)
+  by_plain bounds true is =
+      let within : plain_bound plan box ≤ known = grind (arith, nat_tests, is) in (within, closes_by_plain bounds within)
+  by_plain bounds false is = by_further bounds (grind (arith, nat_tests, is))
+
+  pub IsLeafFor-first : (bounds : Bounds) → IsLeafFor bounds plan box known (leaf_for bounds plan box known)
+  IsLeafFor-first bounds = by_plain bounds (nat_le (plain_bound plan box) known) refl
+
+-- the leaf closes the box
+pub turn_of_leaf : (bounds : Bounds) (plan : Scenario) (box : Box) (known : ℕ) (leaf : Option Node) (node : Node) → known < 2 ^ 32 → stamp_bound plan box ≤ plain_bound plan box → leaf ≡ leaf_for bounds plan box known → leaf ≡ Some node → IsTurn bounds plan box known (Closed node)
+turn_of_leaf bounds plan box known leaf node small least is some =
+    (subst (λ (l : Option Node). IsLeafFor bounds plan box known l) (sym is ∙ some) (IsLeafFor-first plan box known small least bounds)).0
+
+-- with no leaf the box stays open
+pub open_without : (bounds : Bounds) (plan : Scenario) (box : Box) (known : ℕ) (leaf : Option Node) → known < 2 ^ 32 → stamp_bound plan box ≤ plain_bound plan box → leaf ≡ leaf_for bounds plan box known → leaf ≡ None → closes_for bounds plan box known ≡ false
+open_without bounds plan box known leaf small least is none =
+    subst (λ (l : Option Node). IsLeafFor bounds plan box known l) (sym is ∙ none) (IsLeafFor-first plan box known small least bounds)
+
+closed_since : (bounds : Bounds) (plan : Scenario) (box : Box) (known : ℕ) (leaf : Option Node) → is_some leaf ≡ true → IsLeafFor bounds plan box known leaf → closes_for bounds plan box known ≡ true
+closed_since bounds plan box known None some is = absurd (false≢true some)
+closed_since bounds plan box known (Some node) some is = is.1
+
+open_since : (bounds : Bounds) (plan : Scenario) (box : Box) (known : ℕ) (leaf : Option Node) → is_some leaf ≡ false → IsLeafFor bounds plan box known leaf → closes_for bounds plan box known ≡ false
+open_since bounds plan box known None none is = is
+open_since bounds plan box known (Some node) none is = absurd (false≢true (sym none))
+
+-- ---- Tries
 
 -- the record of the greatest delays, where their latency is above the one seen
 abbrev pub tried_in : Scenario → Box → ℕ → Option Record
 tried_in plan box seen =
     if nat_le (latency_of plan (greatest_of box)) seen then None else Some (attained_by plan (greatest_of box))
-
--- where the bound does not close the box, what is tried is what is found
-pub found_is_tried : (plan : Scenario) (box : Box) (seen : ℕ) → seen < plain_bound plan box → tried_in plan box seen ≡ found_in plan box seen
-found_is_tried plan box seen above =
-    let open_box : nat_le (plain_bound plan box) seen ≡ false = grind (arith, nat_tests) in rw open_box
 
 -- one of two latencies is known, whichever is the greater
 known_is_greater : (tried seen : ℕ) (attained : Record) (no_more : Bool) → attained.latency ≡ tried → nat_le tried seen ≡ no_more → tried ≤ known_after seen (if no_more then None else Some attained)
@@ -29,3 +108,29 @@ known_is_greater tried seen attained false is test = grind (arith, nat_tests)
 pub known_is_tried : (plan : Scenario) (box : Box) (seen : ℕ) → latency_of plan (greatest_of box) ≤ known_after seen (tried_in plan box seen)
 known_is_tried plan box seen =
     known_is_greater (latency_of plan (greatest_of box)) seen (attained_by plan (greatest_of box)) _ refl refl
+
+-- ---- Looks
+
+-- a box that is closed at once
+pub look_closed : (bounds : Bounds) (plan : Scenario) (box : Box) (seen : ℕ) (leaf : Option Node) → seen < 2 ^ 32 → stamp_bound plan box ≤ plain_bound plan box → leaf ≡ leaf_for bounds plan box seen → is_some leaf ≡ true → IsLook bounds plan box seen (record { found = None; leaf = leaf })
+look_closed bounds plan box seen leaf small least is some =
+    let closes : closes_for bounds plan box seen ≡ true = closed_since bounds plan box seen leaf some (subst (λ (l : Option Node). IsLeafFor bounds plan box seen l) (sym is) (IsLeafFor-first plan box seen small least bounds)) in
+    let rest = nat_le (latency_of plan (greatest_of box)) seen in
+    record {
+      found = sym (ap (λ (b : Bool). if b || rest then None else Some (attained_by plan (greatest_of box))) closes);
+      leaf = is;
+      tried = λ none. absurd (false≢true (sym (ap is_some none) ∙ some));
+      named = small;
+    }
+
+-- a box that is not, whose greatest delays are tried
+pub look_open : (bounds : Bounds) (plan : Scenario) (box : Box) (seen : ℕ) (first leaf : Option Node) (found : Option Record) → seen < 2 ^ 32 → stamp_bound plan box ≤ plain_bound plan box → first ≡ leaf_for bounds plan box seen → is_some first ≡ false → found ≡ tried_in plan box seen → leaf ≡ leaf_for bounds plan box (known_after seen found) → known_after seen found < 2 ^ 32 → IsLook bounds plan box seen (record { found = found; leaf = leaf })
+look_open bounds plan box seen first leaf found small least is none found_is leaf_is named =
+    let open_box : closes_for bounds plan box seen ≡ false = open_since bounds plan box seen first none (subst (λ (l : Option Node). IsLeafFor bounds plan box seen l) (sym is) (IsLeafFor-first plan box seen small least bounds)) in
+    let rest = nat_le (latency_of plan (greatest_of box)) seen in
+    record {
+      found = found_is ∙ sym (ap (λ (b : Bool). if b || rest then None else Some (attained_by plan (greatest_of box))) open_box);
+      leaf = leaf_is;
+      tried = λ _. subst (λ (f : Option Record). latency_of plan (greatest_of box) ≤ known_after seen f) (sym found_is) (known_is_tried plan box seen);
+      named = named;
+    }

@@ -7,16 +7,22 @@ pub use Rattle.convoy_sim.specs.Record
 pub use Rattle.convoy_intervals.specs.Boxes
 pub use Rattle.convoy_intervals.specs.Bounds
 pub use Rattle.convoy_intervals.specs.Tracked
+pub use Rattle.convoy_stamps.specs.StampBounds
+pub use Rattle.convoy_leads.specs.Closing
 pub use Rattle.convoy_certificate.specs.Certificate
+pub use Rattle.convoy_certificate.specs.Text
 pub use Rattle.convoy_checker.specs.Trees
 pub use Rattle.convoy_checker.specs.Leaves
 pub use Rattle.convoy_checker.specs.Validity
--- What a search promises: a step over a box, how far a search has come, what it answers, and the laws of fronts.
+-- What a search promises: the bounds by which it goes, which boxes it closes, what it tells of those that are left, a step over a box, how far a search has come, what it answers, and the laws of fronts.
+pub mod SearchBounds
+pub mod Uppers
 pub mod Steps
 pub mod Fronts
 pub mod Outcomes
 pub mod Laws
 -- Where the program stands between two steps: no promise above this crate rests on it.
+pub mod Looks
 pub mod Searching
 -- The search of many workers as a machine, and what holds in each state that it comes to.
 pub mod Machine

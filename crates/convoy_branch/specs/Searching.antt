@@ -10,12 +10,14 @@ use Rattle.convoy_certificate.specs.Certificate.{IsNode}
 use Rattle.convoy_certificate.specs.declared.node.Node.{Node}
 use Rattle.convoy_certificate.specs.declared.node.Node.TheVariants.{Split}
 use Rattle.convoy_intervals.specs.Boxes.{IsBox, root_of}
+use Rattle.convoy_branch.specs.declared.bounds.Bounds.{Bounds}
 use Rattle.convoy_branch.specs.declared.search.Work.{Work}
 use Rattle.convoy_branch.specs.declared.search.Work.TheVariants.{Branch, Write}
 use Rattle.convoy_branch.specs.declared.step.Turn.{Turn}
 use Rattle.convoy_branch.specs.declared.step.Turn.TheVariants.{Closed, Halves}
 use Rattle.convoy_branch.specs.Fronts.{AreFronts, FrontNode, Spent, Left, spent_in}
 use Rattle.convoy_branch.specs.Steps.{IsTriedIf}
+use Rattle.convoy_branch.specs.Uppers.{IsRaised}
 
 -- the node of the front that a piece of work stands for
 abbrev pub front_of : Work → FrontNode
@@ -32,12 +34,12 @@ IsWork scenario best (Branch branch tried) =
     IsBox scenario branch.space × IsTriedIf scenario branch.space tried best × (branch.scenario ≡ scenario)
 IsWork scenario best (Write node) = IsNode node
 
--- The search has come to this: its best record, the work that is left, the nodes that are written, and the tickets that were spent.
-pub record IsSearching (scenario : Scenario) (best : Record) (work : List Work) (nodes : List Node) (tickets : ℕ) : Type 0 where
+-- The search by those bounds has come to this: its best record, the work that is left, the nodes that are written, and the tickets that were spent.
+pub record IsSearching (bounds : Bounds) (scenario : Scenario) (best : Record) (work : List Work) (nodes : List Node) (tickets : ℕ) : Type 0 where
   pub of_scenario : best.scenario ≡ scenario
   pub least : latency_of scenario (least_of (ranges_of scenario)) ≤ best.latency
   -- the front is a tree over the root box, and a ticket was spent for each of its nodes, but for the boxes that are left
-  pub tree : AreFronts scenario best.latency (root_of scenario ∷ []) (front_nodes work nodes)
+  pub tree : AreFronts bounds scenario best.latency (root_of scenario ∷ []) (front_nodes work nodes)
   pub spent : length (spent_in (front_nodes work nodes)) ≡ tickets
   pub all_work : All (IsWork scenario best.latency) work
   pub all_nodes : All IsNode nodes
@@ -51,3 +53,8 @@ work_after work (Halves packet at lower upper) =
 abbrev pub nodes_after : List Node → Turn → List Node
 nodes_after nodes (Closed node) = nodes ++ node ∷ []
 nodes_after nodes (Halves packet at lower upper) = nodes
+
+-- what a piece of work raises the best latency to: a box that is left, and nothing else
+abbrev pub IsRaisedOver : Bounds → Scenario → Work → ℕ → ℕ → Type 0
+IsRaisedOver bounds plan (Branch branch tried) best raised = IsRaised bounds plan branch.space best raised
+IsRaisedOver bounds plan (Write node) best raised = raised ≡ best

@@ -1,5 +1,5 @@
 -- A step of a search: what it does with one box, where the latency of the best record is known.
-use Rattle.std.specs.Prelude.{◌≡◌, ℕ, ◌≤◌, ◌<◌, nat_le, Bool, IsTrue, ◌||◌, if◌then◌else◌, Option, Some, None}
+use Rattle.std.specs.Prelude.{◌≡◌, ◌≢◌, ℕ, ◌≤◌, ◌<◌, ◌^◌, nat_le, Bool, false, IsTrue, ◌||◌, if◌then◌else◌, Option, Some, None}
 use Rattle.convoy_scenario.specs.Scenario.{Scenario}
 use Rattle.convoy_sim.specs.Delivery.{latency_of}
 use Rattle.convoy_sim.specs.Record.{Record, attained_by}
@@ -8,16 +8,20 @@ use Rattle.convoy_intervals.specs.Bounds.{plain_bound}
 use Rattle.convoy_intervals.specs.Boxes.{IsPoint, lower_half, upper_half, greatest_of}
 use Rattle.convoy_intervals.specs.Boxes.{CanSplit}
 use Rattle.convoy_intervals.specs.Tracked.{tracked_of}
-use Rattle.convoy_checker.specs.Leaves.{ClosesByBound}
+use Rattle.convoy_checker.specs.Leaves.{ClosesByBound, ClosesByLeads, ClosesByStamps}
+use Rattle.convoy_stamps.specs.StampBounds.{stamp_bound}
 use Rattle.convoy_intervals.specs.Boxes.{Box}
+use Rattle.convoy_branch.specs.declared.bounds.Bounds.{Bounds}
+use Rattle.convoy_branch.specs.declared.bounds.Bounds.TheVariants as bounds_of
 use Rattle.convoy_branch.specs.declared.step.Step.{Step}
 use Rattle.convoy_branch.specs.declared.step.Turn.{Turn}
 use Rattle.convoy_branch.specs.declared.step.Turn.TheVariants.{Closed, Halves}
+use Rattle.convoy_branch.specs.SearchBounds.{closes_for}
 
--- The record of the greatest delays of the box, where their latency is above the one seen. Where the bound closes the box at once, no schedule is tried.
-abbrev pub found_in : Scenario → Box → ℕ → Option Record
-found_in scenario box seen =
-    if nat_le (plain_bound scenario box) seen || nat_le (latency_of scenario (greatest_of box)) seen
+-- The record of the greatest delays of the box, where their latency is above the one seen. Where the search closes the box at once, no schedule is tried.
+abbrev pub found_in : Bounds → Scenario → Box → ℕ → Option Record
+found_in bounds scenario box seen =
+    if closes_for bounds scenario box seen || nat_le (latency_of scenario (greatest_of box)) seen
     then None
     else Some (attained_by scenario (greatest_of box))
 
@@ -30,24 +34,38 @@ abbrev pub known_after : ℕ → Option Record → ℕ
 known_after seen None = seen
 known_after seen (Some found) = found.latency
 
--- the bound does not close the box, and the latency of its greatest delays is known
-pub record StaysOpen (scenario : Scenario) (box : Box) (known : ℕ) : Type 0 where
-  pub bound : known < plain_bound scenario box
+-- the search does not close the box for the latency known, and the latency of its greatest delays is known
+pub record StaysOpen (bounds : Bounds) (scenario : Scenario) (box : Box) (known : ℕ) : Type 0 where
+  pub not_closed : closes_for bounds scenario box known ≡ false
   pub tried : latency_of scenario (greatest_of box) ≤ known
 
--- what becomes of the box: a leaf that closes it for the latency known, and a point only where its bound does not, or else its halves
-abbrev pub IsTurn : Scenario → Box → ℕ → Turn → Type 0
-IsTurn scenario box known (Closed nodes.Bound) = ClosesByBound scenario known box
-IsTurn scenario box known (Closed nodes.Point) = StaysOpen scenario box known × IsPoint box
-IsTurn scenario box known (Closed (nodes.Split packet at)) = ⊥
-IsTurn scenario box known (Closed nodes.Stamp) = ⊥
-IsTurn scenario box known (Halves packet at lower upper) =
-    StaysOpen scenario box known
+-- the search asks for stamp bounds, and that of the box closes it where the plain bound does not
+pub record NeedsStamps (bounds : Bounds) (scenario : Scenario) (box : Box) (known : ℕ) : Type 0 where
+  pub asked : bounds ≢ bounds_of.Plain
+  pub plain : known < plain_bound scenario box
+  pub stamps : ClosesByStamps scenario known box
+
+-- the search goes by leads, which close the box where its stamp bound, and so its plain one, does not; a node may name the latency
+pub record NeedsLeads (bounds : Bounds) (scenario : Scenario) (box : Box) (known : ℕ) : Type 0 where
+  pub asked : bounds ≡ bounds_of.Lead
+  pub stamps : known < stamp_bound scenario box
+  pub leads : ClosesByLeads scenario known box
+  pub named : known < 2 ^ 32
+
+-- what becomes of the box: a leaf that closes it for the latency known, and a point only where nothing else does, or else its halves
+abbrev pub IsTurn : Bounds → Scenario → Box → ℕ → Turn → Type 0
+IsTurn bounds scenario box known (Closed nodes.Bound) = ClosesByBound scenario known box
+IsTurn bounds scenario box known (Closed nodes.Stamp) = NeedsStamps bounds scenario box known
+IsTurn bounds scenario box known (Closed (nodes.Lead latency)) = (latency ≡ known) × NeedsLeads bounds scenario box known
+IsTurn bounds scenario box known (Closed nodes.Point) = StaysOpen bounds scenario box known × IsPoint box
+IsTurn bounds scenario box known (Closed (nodes.Split packet at)) = ⊥
+IsTurn bounds scenario box known (Halves packet at lower upper) =
+    StaysOpen bounds scenario box known
     × CanSplit box packet at
     × (lower ≡ tracked_of scenario (lower_half box packet at))
     × (upper ≡ tracked_of scenario (upper_half box packet at))
 
 -- a step over the box, where a record of that latency was seen
-pub record IsStep (scenario : Scenario) (box : Box) (seen : ℕ) (step : Step) : Type 0 where
-  pub found : step.found ≡ found_in scenario box seen
-  pub turn : IsTurn scenario box (known_after seen step.found) step.turn
+pub record IsStep (bounds : Bounds) (scenario : Scenario) (box : Box) (seen : ℕ) (step : Step) : Type 0 where
+  pub found : step.found ≡ found_in bounds scenario box seen
+  pub turn : IsTurn bounds scenario box (known_after seen step.found) step.turn

@@ -2,7 +2,10 @@
 //! the law calls the function.
 
 ghost use Rattle.convoy_branch.specs.Laws.{FrontsAppend, FrontsBetter, FrontsBound, FrontsFilled};
-ghost use Rattle.convoy_branch.specs.Laws.{TurnsAreFronts, TurnsAreNodes, WholeFrontsAreTrees};
+ghost use Rattle.convoy_branch.specs.Laws.{OnlyLeadsHaveLeadLeaves, PlainFrontsHaveNoStamps};
+ghost use Rattle.convoy_branch.specs.Laws.{TurnsAreFronts, TurnsAreNodes};
+ghost use Rattle.convoy_branch.specs.Laws.{UppersBegin, UppersRaised};
+ghost use Rattle.convoy_branch.specs.Laws.{WholeFrontsAreReadable, WholeFrontsAreTrees};
 
 use convoy_checker::laws::trees_cover;
 
@@ -41,4 +44,29 @@ pub fn turns_are_nodes()
 /// With no box left a front is a tree that closes the root.
 pub fn whole_fronts_are_trees()
     ensures { WholeFrontsAreTrees }
+{}
+
+/// With no box left, a front of a search by plain bounds has no stamp leaf.
+pub fn plain_fronts_have_no_stamps()
+    ensures { PlainFrontsHaveNoStamps }
+{}
+
+/// Only a front of a search by leads has lead leaves, with no box left.
+pub fn only_leads_have_lead_leaves()
+    ensures { OnlyLeadsHaveLeadLeaves }
+{}
+
+/// With no box left, the nodes of a front can be read where they are few enough for its bounds.
+pub fn whole_fronts_are_readable()
+    ensures { WholeFrontsAreReadable }
+{}
+
+/// Where no box is left, the upper bound is the best latency.
+pub fn uppers_begin()
+    ensures { UppersBegin }
+{}
+
+/// The upper bound of a box and of others starts from what the box raises the best latency to.
+pub fn uppers_raised()
+    ensures { UppersRaised }
 {}

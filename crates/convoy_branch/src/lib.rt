@@ -1,6 +1,8 @@
 //! Branch and bound: the step over one box, and the search of one worker.
 #![tactic(auto)]
 
+pub use bounds::Bounds;
+pub use closer::Closer;
 pub use event::Event;
 pub use machine::Core;
 pub use outcome::Outcome;
@@ -9,6 +11,8 @@ pub use replaying::{ReplayFault, replay};
 pub use search::{search_alone, search_from};
 pub use step::{Step, Turn, step_branch};
 
+mod bounds;
+mod closer;
 mod event;
 pub mod laws;
 mod machine;

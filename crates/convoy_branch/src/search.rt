@@ -5,14 +5,16 @@ ghost use Rattle.convoy_scenario.specs.WellFormed.{IsScenario};
 ghost use Rattle.convoy_packets.specs.Assignment.{ranges_of};
 ghost use Rattle.convoy_packets.specs.Table.{IsTable, least_of, table_of};
 ghost use Rattle.convoy_sim.specs.Delivery.{latency_of};
-ghost use Rattle.convoy_sim.specs.Times.{greatest};
-ghost use Rattle.convoy_intervals.specs.Bounds.{plain_bound};
+ghost use Rattle.convoy_branch.specs.declared.bounds.Bounds.{Bounds};
 ghost use Rattle.convoy_branch.specs.Fronts.{left_in};
 ghost use Rattle.convoy_branch.specs.Outcomes.{IsOutcome, best_of};
 ghost use Rattle.convoy_branch.specs.Searching.{IsSearching, IsWork, front_of};
-ghost use Rattle.convoy_branch.specs.Searching.{work_after, nodes_after};
+ghost use Rattle.convoy_branch.specs.Searching.{work_after, nodes_after, IsRaisedOver};
+ghost use Rattle.convoy_branch.specs.Uppers.{IsUpperOf};
 
-use super::laws::fronts_bound;
+use super::bounds::Bounds;
+use super::closer::Closer;
+use super::laws::{fronts_bound, uppers_begin, uppers_raised};
 use super::outcome::Outcome;
 use super::step::{Turn, step_branch};
 use convoy_certificate::{Certificate, Node};
@@ -29,7 +31,9 @@ mod tests;
 
 /// Searches for the greatest latency of a scenario with one worker, by branch and bound
 /// (docs/PROTOCOL.md). It starts from the record of the least delays, takes up the upper half of
-/// each split first, and spends a ticket for each box that it takes up, at most `limit` of them.
+/// each split first, and spends a ticket for each box that it takes up, at most `limit` of them. Boxes
+/// are closed by those bounds: by plain ones no node of the certificate is a stamp leaf, and only by leads
+/// is one a lead leaf, which names the latency that was known where it closed its box.
 ///
 /// `Outcome::Open` is the answer only where a box is left when all tickets are spent.
 pub fn search_alone(
@@ -37,13 +41,14 @@ pub fn search_alone(
     scenario: &Scenario,
     table: &PacketTable,
     limit: u64,
+    bounds: Bounds,
 ) -> Result<Outcome, AllocError>
     requires packets { table.now ≡ table_of scenario.now }
-    ensures { IfOk result (λ outcome. IsOutcome scenario.now limit outcome) }
+    ensures { IfOk result (λ outcome. IsOutcome bounds scenario.now 1 limit outcome) }
 {
     let delays = Delays::least(alloc, table)?;
     let opening = Record::of(scenario, table, delays);
-    search_from(alloc, scenario, table, opening, limit)
+    search_from(alloc, scenario, table, opening, limit, bounds)
 }
 
 /// The search of [`search_alone`] from an opening record of the scenario. Its latency is at least
@@ -54,26 +59,28 @@ pub fn search_from(
     table: &PacketTable,
     opening: Record,
     limit: u64,
+    bounds: Bounds,
 ) -> Result<Outcome, AllocError>
     requires packets { table.now ≡ table_of scenario.now }
     requires of_scenario { opening.scenario ≡ scenario.now }
     requires least { latency_of scenario.now (least_of (ranges_of scenario.now)) ≤ opening.latency }
-    ensures value { IfOk result (λ outcome. IsOutcome scenario.now limit outcome) }
+    ensures value { IfOk result (λ outcome. IsOutcome bounds scenario.now 1 limit outcome) }
     ensures opened { IfOk result (λ outcome. opening.latency ≤ best_of outcome) }
 {
+    let mut closer = Closer::new(alloc, bounds);
     let mut search = Search::start(alloc, scenario, table, opening)?;
     while let Some(work) = search.work.pop() {
         match work {
             Work::Write(node) => search.nodes.push(node)?,
             Work::Branch { branch, tried } if search.tickets < limit => {
-                search.take_up(alloc, scenario, table, branch, tried)?;
+                search.take_up(alloc, scenario, table, branch, tried, &mut closer)?;
             }
             Work::Branch { branch, tried } => {
-                return search.into_open(alloc, scenario, branch, tried);
+                return search.into_open(alloc, scenario, table, branch, tried, &mut closer);
             }
         }
     }
-    search.into_proved(alloc, scenario)
+    search.into_proved(alloc, scenario, bounds)
 }
 
 /// What a search has still to do.
@@ -111,8 +118,8 @@ impl Search {
         requires of_scenario { opening.scenario ≡ scenario.now }
         requires least { latency_of scenario.now (least_of (ranges_of scenario.now))
             ≤ opening.latency }
-        ensures searching { IfOk result
-            (λ s. IsSearching scenario.now s.best s.work.items s.nodes.items 0) }
+        ensures searching { (bounds : Bounds) → IfOk result
+            (λ s. IsSearching bounds scenario.now s.best s.work.items s.nodes.items s.tickets) }
         ensures best { IfOk result (λ s. s.best ≡ opening) }
         ensures tickets { IfOk result (λ s. s.tickets ≡ 0) }
         ensures lawful { IfOk result (λ _. IsTable table.now) }
@@ -138,23 +145,25 @@ impl Search {
         table: &PacketTable,
         branch: Tracked,
         tried: bool,
+        closer: &mut Closer,
     ) -> Result<(), AllocError>
         requires packets { table.now ≡ table_of scenario.now }
         requires lawful { IsTable table.now }
-        requires searching { IsSearching scenario.now self.old.best
+        requires searching { IsSearching closer.old scenario.now self.old.best
             (self.old.work.items ++ Work.Branch branch tried ∷ []) self.old.nodes.items
             self.old.tickets }
         requires ticket { self.old.tickets < u64.MAX }
-        ensures searching { OnOk result (IsSearching scenario.now self.new.best
+        ensures searching { OnOk result (IsSearching closer.old scenario.now self.new.best
             self.new.work.items self.new.nodes.items (self.old.tickets + 1)) }
         ensures best { OnOk result (self.old.best.latency ≤ self.new.best.latency) }
         ensures ticket { OnOk result (self.new.tickets ≡ self.old.tickets + 1) }
         ensures few { OnOk result (length self.new.work.items ≤ length self.old.work.items + 3) }
+        ensures same { closer.new ≡ closer.old }
     {
         halves_are_boxes();
         upper_keeps_greatest();
         let seen = self.best.latency();
-        let step = match step_branch(alloc, scenario, table, branch, tried, seen) {
+        let step = match step_branch(alloc, scenario, table, branch, tried, seen, closer) {
             Ok(step) => step,
             Err((_, error)) => return Err(error),
         };
@@ -204,10 +213,15 @@ impl Search {
     }
 
     /// The outcome of a search with no work left.
-    fn into_proved(self, alloc: Global, scenario: &Scenario) -> Result<Outcome, AllocError>
-        requires { IsSearching scenario.now self.best [] self.nodes.items self.tickets }
+    fn into_proved(
+        self,
+        alloc: Global,
+        scenario: &Scenario,
+        bounds: Bounds,
+    ) -> Result<Outcome, AllocError>
+        requires { IsSearching bounds scenario.now self.best [] self.nodes.items self.tickets }
         ensures value { (limit : ℕ) → self.tickets ≤ limit
-            → IfOk result (λ outcome. IsOutcome scenario.now limit outcome) }
+            → IfOk result (λ outcome. IsOutcome bounds scenario.now 1 limit outcome) }
         ensures best { IfOk result (λ outcome. best_of outcome ≡ self.best.latency) }
     {
         trees_cover();
@@ -228,18 +242,22 @@ impl Search {
         mut self,
         alloc: Global,
         scenario: &Scenario,
+        table: &PacketTable,
         branch: Tracked,
         tried: bool,
+        closer: &mut Closer,
     ) -> Result<Outcome, AllocError>
-        requires { IsSearching scenario.now self.best
+        requires packets { table.now ≡ table_of scenario.now }
+        requires searching { IsSearching closer.old scenario.now self.best
             (self.work.items ++ Work.Branch branch tried ∷ []) self.nodes.items self.tickets }
-        ensures value { IfOk result (λ outcome. IsOutcome scenario.now self.tickets outcome) }
+        ensures value { IfOk result (λ outcome. IsOutcome closer.old scenario.now 1 self.tickets outcome) }
         ensures best { IfOk result (λ outcome. best_of outcome ≡ self.best.latency) }
     {
         fronts_bound();
         is_scenario(scenario);
         self.work.push(Work::Branch { branch, tried })?;
-        let upper = greatest_bound(scenario, &self.work, self.best.latency());
+        let seen = self.best.latency();
+        let upper = upper_of(alloc, scenario, table, &self.work, seen, closer)?;
         Ok(Outcome::Open {
             best: self.best,
             upper,
@@ -256,17 +274,48 @@ fn is_scenario(scenario: &Scenario)
     let _ = scenario.delay();
 }
 
-/// The greatest of a number of ticks and the bounds of the boxes that are left.
-fn greatest_bound(scenario: &Scenario, work: &[Work], seen: u32) -> u32
-    requires { All (IsWork scenario.now seen) work.now }
-    ensures { let boxes = left_in (map front_of work.now) in result
-        ≡ greatest (seen ∷ map (plain_bound scenario.now) boxes) }
+/// The upper bound of all latencies, in ticks, where that is the best one and the boxes of the work are
+/// left.
+fn upper_of(
+    alloc: Global,
+    scenario: &Scenario,
+    table: &PacketTable,
+    work: &[Work],
+    seen: u32,
+    closer: &mut Closer,
+) -> Result<u32, AllocError>
+    requires packets { table.now ≡ table_of scenario.now }
+    requires work { All (IsWork scenario.now seen) work.now }
+    ensures value { IfOk result (λ upper. IsUpperOf closer.old scenario.now seen
+        (left_in (map front_of work.now)) upper) }
+    ensures same { closer.new ≡ closer.old }
 {
-    let mut greatest = seen;
+    uppers_begin();
+    uppers_raised();
+    let mut upper = seen;
     for piece in work {
-        if let Work::Branch { branch, .. } = piece {
-            greatest = greatest.max(branch.bound());
-        }
+        upper = raised_over(alloc, scenario, table, piece, upper, closer)?;
     }
-    greatest
+    Ok(upper)
+}
+
+/// What a piece of work raises an upper bound to, in ticks: a box that is left, and nothing else.
+fn raised_over(
+    alloc: Global,
+    scenario: &Scenario,
+    table: &PacketTable,
+    piece: &Work,
+    upper: u32,
+    closer: &mut Closer,
+) -> Result<u32, AllocError>
+    requires packets { table.now ≡ table_of scenario.now }
+    requires work { (seen : ℕ) × IsWork scenario.now seen piece.now }
+    ensures value { IfOk result
+        (λ raised. IsRaisedOver closer.old scenario.now piece.now upper raised) }
+    ensures same { closer.new ≡ closer.old }
+{
+    match piece {
+        Work::Branch { branch, .. } => closer.raised(alloc, scenario, table, branch, upper),
+        Work::Write(_) => Ok(upper),
+    }
 }

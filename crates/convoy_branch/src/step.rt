@@ -6,14 +6,18 @@ ghost use Rattle.convoy_sim.specs.Delivery.{latency_of};
 ghost use Rattle.convoy_sim.specs.Record.{attained_by};
 ghost use Rattle.convoy_intervals.specs.Boxes.{IsBox, IsPoint, greatest_of};
 ghost use Rattle.convoy_intervals.specs.Boxes.{CanSplit};
-ghost use Rattle.convoy_branch.specs.Steps.{known_after, IsStep, IsTriedIf, IsTurn, StaysOpen};
+ghost use Rattle.convoy_branch.specs.declared.bounds.Bounds.{Bounds};
+ghost use Rattle.convoy_branch.specs.Steps.{IsStep, IsTriedIf, IsTurn, StaysOpen};
+ghost use Rattle.convoy_branch.specs.Looks.{IsLook};
 
+use super::closer::Closer;
 use convoy_certificate::Node;
 use convoy_intervals::laws::members_are_assignments;
 use convoy_intervals::{DelayBox, Tracked};
 use convoy_packets::PacketTable;
 use convoy_scenario::Scenario;
 use convoy_sim::Record;
+use convoy_stamps::laws::stamp_bound_at_most_plain;
 use std::alloc::{AllocError, Global};
 
 #[cfg(test)]
@@ -47,10 +51,11 @@ pub enum Turn {
 /// Takes up one box of a search, where the best record has the latency `seen`, in ticks. The caller
 /// says by `tried` that the schedule of the box's greatest delays is known to have no greater one.
 ///
-/// The box is closed where its bound is at most `seen`. Else the schedule of its greatest delays is
-/// simulated, unless it was tried, and a latency above `seen` is found; then the box is closed where
-/// its bound is at most that, or where it has one member, and else is split (docs/PROTOCOL.md). Where
-/// memory runs out the box comes back as it was.
+/// The box is closed for `seen` if a bound of it is at most that: the plain one, or else, where the
+/// search asks for it, the stamp bound; or else, where it goes by leads, if these close it. Else the
+/// schedule of its greatest delays is simulated, unless it was tried, and a latency above `seen` is
+/// found; then the box is closed for that, or where it has one member, and else is split
+/// (docs/PROTOCOL.md). Where memory runs out the box comes back as it was.
 pub fn step_branch(
     alloc: Global,
     scenario: &Scenario,
@@ -58,31 +63,72 @@ pub fn step_branch(
     branch: Tracked,
     tried: bool,
     seen: u32,
+    closer: &mut Closer,
 ) -> Result<Step, (Tracked, AllocError)>
     requires packets { table.now ≡ table_of scenario.now }
     requires of_scenario { branch.scenario ≡ scenario.now }
     requires known { IsTriedIf scenario.now branch.space tried seen }
-    ensures value { IfOk result (λ step. IsStep scenario.now branch.space seen step) }
+    ensures value { IfOk result (λ step. IsStep closer.old scenario.now branch.space seen step) }
     ensures back { IfErr result (λ refused. refused.0 ≡ branch) }
+    ensures same { closer.new ≡ closer.old }
 {
-    let bound = branch.bound();
-    if bound <= seen {
-        return Ok(Step {
-            found: None,
-            turn: Turn::Closed(Node::Bound),
-        });
-    }
-    let found = match try_greatest(alloc, scenario, table, &branch, tried, seen) {
-        Ok(found) => found,
+    stamp_bound_at_most_plain();
+    let look = match look_at(alloc, scenario, table, &branch, tried, seen, closer) {
+        Ok(look) => look,
         Err(error) => return Err((branch, error)),
     };
-    let known = known_after(seen, &found);
-    let turn = if bound <= known {
-        Turn::Closed(Node::Bound)
-    } else {
-        open_turn(scenario, table, branch)?
+    let turn = match look.leaf {
+        Some(leaf) => Turn::Closed(leaf),
+        None => open_turn(scenario, table, branch)?,
     };
-    Ok(Step { found, turn })
+    Ok(Step {
+        found: look.found,
+        turn,
+    })
+}
+
+/// What a look at a box shows.
+#[derive(Drop)]
+struct Look {
+    /// A record of a greater latency than was seen.
+    found: Option<Record>,
+    /// The leaf that closes the box for the latency that is known then.
+    leaf: Option<Node>,
+}
+
+/// Asks whether the box is closed for the latency seen, in ticks, then for that of its greatest
+/// delays, and then whether it is closed for that if it is greater.
+fn look_at(
+    alloc: Global,
+    scenario: &Scenario,
+    table: &PacketTable,
+    branch: &Tracked,
+    tried: bool,
+    seen: u32,
+    closer: &mut Closer,
+) -> Result<Look, AllocError>
+    requires packets { table.now ≡ table_of scenario.now }
+    requires of_scenario { branch.now.scenario ≡ scenario.now }
+    requires known { IsTriedIf scenario.now branch.now.space tried seen }
+    ensures value { IfOk result (λ look. IsLook closer.old scenario.now branch.now.space seen look) }
+    ensures same { closer.new ≡ closer.old }
+{
+    stamp_bound_at_most_plain();
+    let leaf = closer.leaf_for(alloc, scenario, table, branch, seen)?;
+    if leaf.is_some() {
+        return Ok(Look { found: None, leaf });
+    }
+    match try_greatest(alloc, scenario, table, branch, tried, seen)? {
+        None => Ok(Look { found: None, leaf }),
+        Some(found) => {
+            let latency = found.latency();
+            let leaf = closer.leaf_for(alloc, scenario, table, branch, latency)?;
+            Ok(Look {
+                found: Some(found),
+                leaf,
+            })
+        }
+    }
 }
 
 /// The record of the greatest delays of a box, if their latency is above `seen`, in ticks. This is
@@ -110,18 +156,7 @@ fn try_greatest(
     Ok(Some(Record::of(scenario, table, delays)))
 }
 
-/// The greatest latency known, in ticks: that of the record found, or else the one seen before.
-fn known_after(seen: u32, found: &Option<Record>) -> u32
-    ensures { result ≡ known_after seen found.now }
-{
-    match found {
-        Some(best) => best.latency(),
-        None => seen,
-    }
-}
-
-/// What becomes of a box that its bound does not close: a leaf where it has one member, and else
-/// its halves. Where memory runs out the box comes back as it was.
+/// What becomes of a box that is not closed: a leaf where it has one member, and else its halves. Where memory runs out the box comes back as it was.
 fn open_turn(
     scenario: &Scenario,
     table: &PacketTable,
@@ -129,9 +164,8 @@ fn open_turn(
 ) -> Result<Turn, (Tracked, AllocError)>
     requires packets { table.now ≡ table_of scenario.now }
     requires of_scenario { branch.scenario ≡ scenario.now }
-    requires one_each { length branch.space ≡ length table.now.ranges }
-    ensures value { (known : ℕ) → StaysOpen scenario.now branch.space known
-        → IfOk result (λ turn. IsTurn scenario.now branch.space known turn) }
+    ensures value { (bounds : Bounds) (known : ℕ) → StaysOpen bounds scenario.now branch.space known
+        → IfOk result (λ turn. IsTurn bounds scenario.now branch.space known turn) }
     ensures back { IfErr result (λ refused. refused.0 ≡ branch) }
 {
     match place_to_split(table, branch.space()) {

@@ -4,6 +4,7 @@ ghost use Rattle.convoy_packets.specs.Table.{table_of};
 ghost use Rattle.convoy_sim.specs.Record.{attained_by};
 
 use super::{search_alone, search_from};
+use crate::bounds::Bounds;
 use crate::outcome::Outcome;
 use crate::scenarios::base;
 use convoy_certificate::Node;
@@ -26,9 +27,14 @@ enum Ending {
 }
 
 /// What a search of a scenario answers.
-fn outcome_of(alloc: Global, scenario: &Scenario, limit: u64) -> Result<Outcome, Fail> {
+fn outcome_of(
+    alloc: Global,
+    scenario: &Scenario,
+    limit: u64,
+    bounds: Bounds,
+) -> Result<Outcome, Fail> {
     let table = PacketTable::of(alloc, scenario)?;
-    Ok(search_alone(alloc, scenario, &table, limit)?)
+    Ok(search_alone(alloc, scenario, &table, limit, bounds)?)
 }
 
 /// What a search answers that opens with the record of the greatest delays, where their latency is no
@@ -43,7 +49,7 @@ fn outcome_from_greatest(
     let least = Record::of(scenario, &table, Delays::least(alloc, &table)?);
     let opening = Record::of(scenario, &table, Delays::greatest(alloc, &table)?);
     assert!(rt; least.latency() <= opening.latency());
-    Ok(search_from(alloc, scenario, &table, opening, limit)?)
+    Ok(search_from(alloc, scenario, &table, opening, limit, Bounds::Plain)?)
 }
 
 fn ending_of(outcome: &Outcome) -> Ending {
@@ -79,7 +85,7 @@ fn base_is_one_leaf(rt: HostRuntime) -> Result<(), Fail> {
     let alloc = rt.alloc();
     let scenario = base(alloc, 3, "\"a\", \"b\"", 6)?;
     for limit in [1, 1_000_000] {
-        let outcome = outcome_of(alloc, &scenario, limit)?;
+        let outcome = outcome_of(alloc, &scenario, limit, Bounds::Plain)?;
         assert_eq!(rt;
             ending_of(&outcome),
             Ending::Proved(12, 1, 1),
@@ -97,7 +103,7 @@ fn base_is_one_leaf(rt: HostRuntime) -> Result<(), Fail> {
 fn no_ticket_at_all(rt: HostRuntime) -> Result<(), Fail> {
     let alloc = rt.alloc();
     let scenario = base(alloc, 3, "\"a\", \"b\"", 6)?;
-    let outcome = outcome_of(alloc, &scenario, 0)?;
+    let outcome = outcome_of(alloc, &scenario, 0, Bounds::Plain)?;
     assert_eq!(rt; ending_of(&outcome), Ending::Open(2, 12, 0));
     Ok(())
 }
@@ -107,7 +113,7 @@ fn swapped_groups(rt: HostRuntime) -> Result<(), Fail> {
     let alloc = rt.alloc();
     let scenario = base(alloc, 3, "\"b\", \"a\"", 6)?;
     for limit in [1_469, 1_000_000] {
-        let outcome = outcome_of(alloc, &scenario, limit)?;
+        let outcome = outcome_of(alloc, &scenario, limit, Bounds::Plain)?;
         assert_eq!(rt;
             ending_of(&outcome),
             Ending::Proved(6, 1_469, 1_469),
@@ -118,18 +124,32 @@ fn swapped_groups(rt: HostRuntime) -> Result<(), Fail> {
 }
 
 #[test]
+fn swapped_groups_by_stamps(rt: HostRuntime) -> Result<(), Fail> {
+    let alloc = rt.alloc();
+    let scenario = base(alloc, 3, "\"b\", \"a\"", 6)?;
+    let outcome = outcome_of(alloc, &scenario, 1, Bounds::Stamp)?;
+    assert_eq!(rt; ending_of(&outcome), Ending::Proved(6, 1, 1));
+    if let Outcome::Proved { certificate, .. } = &outcome {
+        assert_eq!(rt; certificate.nodes(), [Node::Stamp].as_slice());
+    }
+    let outcome = outcome_of(alloc, &scenario, 0, Bounds::Stamp)?;
+    assert_eq!(rt; ending_of(&outcome), Ending::Open(2, 6, 0));
+    Ok(())
+}
+
+#[test]
 fn swapped_groups_limited(rt: HostRuntime) -> Result<(), Fail> {
     let alloc = rt.alloc();
     let scenario = base(alloc, 3, "\"b\", \"a\"", 6)?;
     for limit in [1, 10] {
-        let outcome = outcome_of(alloc, &scenario, limit)?;
+        let outcome = outcome_of(alloc, &scenario, limit, Bounds::Plain)?;
         assert_eq!(rt;
             ending_of(&outcome),
             Ending::Open(6, 12, limit),
             "limit {limit}"
         );
     }
-    match outcome_of(alloc, &scenario, 1_468)? {
+    match outcome_of(alloc, &scenario, 1_468, Bounds::Plain)? {
         Outcome::Open { best, tickets, .. } => {
             assert_eq!(rt; (best.latency(), tickets), (6, 1_468));
         }
@@ -143,11 +163,13 @@ fn neighbours_of_the_base(rt: HostRuntime) -> Result<(), Fail> {
     let alloc = rt.alloc();
     for (delay, at, want) in [(3, 5, 11), (3, 7, 6), (1, 2, 4)] {
         let scenario = base(alloc, delay, "\"a\", \"b\"", at)?;
-        match outcome_of(alloc, &scenario, 1_000_000)? {
-            Outcome::Proved { certificate, .. } => {
-                assert_eq!(rt; certificate.latency(), want, "y at {at}, delay {delay}");
+        for bounds in [Bounds::Plain, Bounds::Stamp] {
+            match outcome_of(alloc, &scenario, 1_000_000, bounds)? {
+                Outcome::Proved { certificate, .. } => {
+                    assert_eq!(rt; certificate.latency(), want, "y at {at}, delay {delay}");
+                }
+                Outcome::Open { .. } => assert!(rt; false, "y at {at}, delay {delay}"),
             }
-            Outcome::Open { .. } => assert!(rt; false, "y at {at}, delay {delay}"),
         }
     }
     Ok(())

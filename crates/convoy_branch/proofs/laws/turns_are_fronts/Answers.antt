@@ -2,4 +2,4 @@ use Rattle.convoy_branch.proofs.FrontTrees.{AreFronts-turned}
 use Rattle.convoy_branch.proofs.laws.turns_are_fronts.Goals as goal
 
 pub returns : goal.returns
-returns c scenario best branch turn is = AreFronts-turned scenario best branch turn is
+returns c bounds scenario best branch turn is = AreFronts-turned bounds scenario best branch turn is

@@ -1,0 +1,44 @@
+-- The bounds of boxes by which a search goes, and the boxes that it closes for a latency.
+use Rattle.std.specs.Prelude.{ℕ, nat_le, Bool, ◌||◌, if◌then◌else◌, Option, Some, None}
+use Rattle.convoy_scenario.specs.Scenario.{Scenario}
+use Rattle.convoy_certificate.specs.declared.certificate.TheConstants.{MOST_LEADS, MOST_NODES}
+use Rattle.convoy_certificate.specs.declared.node.Node.{Node}
+use Rattle.convoy_certificate.specs.declared.node.Node.TheVariants as nodes
+use Rattle.convoy_intervals.specs.Bounds.{plain_bound}
+use Rattle.convoy_intervals.specs.Boxes.{Box}
+use Rattle.convoy_stamps.specs.StampBounds.{stamp_bound}
+use Rattle.convoy_leads.specs.Closing.{closes_by_leads}
+use Rattle.convoy_branch.specs.declared.bounds.Bounds.{Bounds}
+use Rattle.convoy_branch.specs.declared.bounds.Bounds.TheVariants.{Plain, Stamp, Lead}
+
+-- the bound of a box by which a search goes; where leads do not close the box, a search by leads goes by its stamp bound
+abbrev pub bound_of : Bounds → Scenario → Box → ℕ
+bound_of Plain scenario box = plain_bound scenario box
+bound_of Stamp scenario box = stamp_bound scenario box
+bound_of Lead scenario box = stamp_bound scenario box
+
+-- whether a search closes the box for a latency: its bound is at most that, or, in a search by leads, these close it
+abbrev pub closes_for : Bounds → Scenario → Box → ℕ → Bool
+closes_for Plain scenario box latency = nat_le (plain_bound scenario box) latency
+closes_for Stamp scenario box latency = nat_le (stamp_bound scenario box) latency
+closes_for Lead scenario box latency = nat_le (stamp_bound scenario box) latency || closes_by_leads scenario box latency
+
+-- the leaf with which it does so where the plain bound is above the latency
+abbrev pub further_leaf : Bounds → Scenario → Box → ℕ → Option Node
+further_leaf Plain scenario box latency = None
+further_leaf Stamp scenario box latency = if nat_le (stamp_bound scenario box) latency then Some nodes.Stamp else None
+further_leaf Lead scenario box latency =
+    if nat_le (stamp_bound scenario box) latency then Some nodes.Stamp
+    else if closes_by_leads scenario box latency then Some (nodes.Lead latency)
+    else None
+
+-- the leaf with which a search closes the box for a latency: the first of those for which it asks
+abbrev pub leaf_for : Bounds → Scenario → Box → ℕ → Option Node
+leaf_for bounds scenario box latency =
+    if nat_le (plain_bound scenario box) latency then Some nodes.Bound else further_leaf bounds scenario box latency
+
+-- how many nodes of a search by those bounds can be read in any case: by leads each of them may be a lead leaf
+abbrev pub most_nodes : Bounds → ℕ
+most_nodes Plain = MOST_NODES
+most_nodes Stamp = MOST_NODES
+most_nodes Lead = MOST_LEADS
