@@ -115,6 +115,13 @@ impl Owner {
         Ok(Thief::of(stealer, pass))
     }
 
+    /// How many branches were put.
+    pub fn put_count(&self) -> u64
+        ensures { result ≡ length self.now.put }
+    {
+        self.count
+    }
+
     /// Joins a thief of this deque: the owner takes over its tasks and its share.
     pub fn join(&mut self, thief: Thief)
         requires { thief.deque ≡ self.old.deque }

@@ -123,12 +123,14 @@ draws most id v c some_share free named small s held slots at fits =
 pub weighs : (most id : ℕ) (v : View) (c : List (ℕ × Unit {0})) → Allows (Holds most) 0 id (v, c) 0 (λ n. n) (Weighed (step 0 0 0 0 none) (v, c))
 weighs most id v c s held slots at fits =
     let kept = held.3 in
-    let own = part_le_sum (λ u. u.share) s.views id v at in (
+    let own = part_le_sum (λ u. u.share) s.views id v at in
+    let tickets = part_le_sum (λ u. length u.tickets) s.views id v at in
+    let right = all_at (IsRight most held.0) s.views id v at kept.each in (
       v,
       keeps,
       tt,
       (held.0, held.1, subst (λ (words : List ℕ). set words 0 (slice_index words 0) ≡ (held.0 + held.1) ∷ []) (sym held.2) refl, subst (λ views. IsKept most held.0 held.1 views) (sym (set_again s.views id v at)) kept),
-      (refl, omega (arith, kept.shares)),
+      (refl, omega (arith, kept.shares), λ some_share. omega (arith, tickets, kept.count, kept.within, right.named some_share)),
     )
 
 active_halves : (done : Bool) (n : ℕ) → cond done 0 (n - n / 2) + cond done 0 (n / 2) ≡ cond done 0 n

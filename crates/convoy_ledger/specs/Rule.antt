@@ -73,6 +73,9 @@ Drew step before n after =
     × (n < before.0.most → (after.0 ≡ with_ticket before.0 n) × All (λ ticket. ticket < n) before.0.tickets × (length before.0.tickets ≤ n))
     × (before.0.most ≤ n → after.0 ≡ with_miss before.0)
 
--- the share of a clerk is within the whole
+-- the share of a clerk is within the whole, and its tickets are no more than there are
 abbrev pub Weighed : Step (Unit {0}) → Me (Unit {0}) View → ℕ → Me (Unit {0}) View → Type 0
-Weighed step before n after = (after ≡ before) × (before.0.share ≤ whole)
+Weighed step before n after =
+    (after ≡ before)
+    × (before.0.share ≤ whole)
+    × (0 < before.0.share → length before.0.tickets ≤ before.0.most)

@@ -23,6 +23,9 @@ whole = 4294967296
 abbrev pub most_tickets : ℕ
 most_tickets = 281474976710656
 
+abbrev pub list_length : List ℕ → ℕ
+list_length numbers = length numbers
+
 -- how often the number stands in the list
 abbrev pub times : ℕ → List ℕ → ℕ
 times x numbers = count_by (λ number. number == x) numbers

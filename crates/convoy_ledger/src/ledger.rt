@@ -42,12 +42,13 @@ impl Model for Ledger {
 pub struct Clerk {
     seat: Seat<(), View>,
     share: u64,
+    drawn: u64,
     done: bool,
 }
 
 impl Model for Clerk {
     ghost use Rattle.std.specs.Prelude.{◌≡◌, ◌<◌, []};
-    ghost use Rattle.convoy_ledger.specs.Tickets.{Account};
+    ghost use Rattle.convoy_ledger.specs.Tickets.{Account, list_length};
 
     ghost Value = { Account };
 
@@ -61,7 +62,8 @@ impl Model for Clerk {
     ghost invariant = { λ c. (c.seat.me.1 ≡ [])
         × (c.seat.me.0.share ≡ c.share)
         × (c.seat.me.0.done ≡ c.done)
-        × (0 < c.share) };
+        × (0 < c.share)
+        × (c.drawn ≡ list_length c.seat.me.0.tickets) };
 }
 
 impl Ledger {
@@ -77,6 +79,7 @@ impl Ledger {
         let clerk = Clerk {
             seat,
             share: WHOLE_SHARE,
+            drawn: 0,
             done: false,
         };
         Ok((Ledger { table, most }, clerk))
@@ -102,6 +105,7 @@ impl Ledger {
         }
         let ticket = self.table.shared.fetch_add::<Draw>(&mut clerk.seat, 0, 1);
         if ticket < self.most {
+            clerk.drawn += 1;
             Some(ticket)
         } else {
             clerk.done = true;
@@ -128,6 +132,7 @@ impl Ledger {
         Ok(Clerk {
             seat,
             share,
+            drawn: 0,
             done: clerk.done,
         })
     }
@@ -143,10 +148,16 @@ impl Ledger {
           done = clerk.old.done || other.done;
         } }
     {
-        let Clerk { seat, share, done } = other;
+        let Clerk {
+            seat,
+            share,
+            drawn,
+            done,
+        } = other;
         self.table.shared.join_seat::<Halve>(&mut clerk.seat, seat);
         self.table.shared.load::<Weigh>(&mut clerk.seat, 0);
         clerk.share += share;
+        clerk.drawn += drawn;
         clerk.done |= done;
     }
 
@@ -171,6 +182,13 @@ impl Ledger {
 }
 
 impl Clerk {
+    /// How many tickets the clerk drew, with those of the clerks that were joined to it.
+    pub fn drawn(&self) -> u64
+        ensures { result ≡ length self.now.tickets }
+    {
+        self.drawn
+    }
+
     /// Whether the clerk is done: it, or one that was joined to it or from which it was split,
     /// found that all tickets are drawn.
     pub fn done(&self) -> bool

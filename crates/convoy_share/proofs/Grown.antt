@@ -5,6 +5,7 @@ use Rattle.std.proofs.lemmas.List.Elements.{All-head}
 use Rattle.convoy_scenario.specs.Scenario.{Scenario}
 use Rattle.convoy_intervals.specs.Boxes.{Box}
 use Rattle.convoy_intervals.specs.Tracked.{Tracked}
+use Rattle.convoy_branch.specs.declared.bounds.Bounds.{Bounds}
 use Rattle.convoy_branch.specs.declared.step.Turn.{Turn}
 use Rattle.convoy_branch.specs.declared.step.Turn.TheVariants.{Halves}
 use Rattle.convoy_branch.specs.Laws.{FrontsBetter}
@@ -31,47 +32,47 @@ IsLater-then before between after first second = record {
 }
 
 -- a branch that is left is one of the scenario, and was tried if it is told to be
-pub todo_right : (scenario : Scenario) (before after : Means) (first put : List Box) (low : ℕ) (boxes : List Box) (front rest : List Piece) (branch : Tracked) (tried : Bool) → IsGrown scenario before after first put low boxes (front ++ Todo branch tried ∷ rest) → IsPiece scenario after.hand.seen put (Todo branch tried)
-todo_right scenario before after first put low boxes front rest branch tried grown =
+pub todo_right : (bounds : Bounds) (scenario : Scenario) (before after : Means) (first put : List Box) (low : ℕ) (boxes : List Box) (front rest : List Piece) (branch : Tracked) (tried : Bool) → IsGrown bounds scenario before after first put low boxes (front ++ Todo branch tried ∷ rest) → IsPiece scenario after.hand.seen put (Todo branch tried)
+todo_right bounds scenario before after first put low boxes front rest branch tried grown =
     let P = IsPiece scenario after.hand.seen put in
     All-head P (Todo branch tried) rest (All-parts P front (Todo branch tried ∷ rest) grown.way.trees.each).1
 
-pub IsGrown-start : (scenario : Scenario) (means : Means) (put : List Box) (low : ℕ) (branch : Tracked) → branch.scenario ≡ scenario → IsGrown scenario means means put put low (branch.space ∷ []) (Todo branch false ∷ [])
-IsGrown-start scenario means put low branch of_scenario = record {
+pub IsGrown-start : (bounds : Bounds) (scenario : Scenario) (means : Means) (put : List Box) (low : ℕ) (branch : Tracked) → branch.scenario ≡ scenario → IsGrown bounds scenario means means put put low (branch.space ∷ []) (Todo branch false ∷ [])
+IsGrown-start bounds scenario means put low branch of_scenario = record {
   later = IsLater-same means;
   tickets = 0;
   spent = omega arith;
-  way = IsUnderWay-start scenario means.hand.seen put low branch of_scenario;
+  way = IsUnderWay-start bounds scenario means.hand.seen put low branch of_scenario;
 }
 
-pub IsGrown-turned : (better : FrontsBetter) (scenario : Scenario) (most : ℕ) (before between after : Means) (first put : List Box) (low : ℕ) (boxes : List Box) (front rest : List Piece) (branch : Tracked) (tried : Bool) (turn : Turn) → IsTakenUp scenario most branch between after (Turned turn) → IsGrown scenario before between first put low boxes (front ++ Todo branch tried ∷ rest) → IsGrown scenario before after first put low boxes (front ++ (pieces_of turn ++ rest))
-IsGrown-turned better scenario most before between after first put low boxes front rest branch tried turn taken grown =
+pub IsGrown-turned : (better : FrontsBetter) (bounds : Bounds) (scenario : Scenario) (most : ℕ) (before between after : Means) (first put : List Box) (low : ℕ) (boxes : List Box) (front rest : List Piece) (branch : Tracked) (tried : Bool) (turn : Turn) → IsTakenUp bounds scenario most branch between after (Turned turn) → IsGrown bounds scenario before between first put low boxes (front ++ Todo branch tried ∷ rest) → IsGrown bounds scenario before after first put low boxes (front ++ (pieces_of turn ++ rest))
+IsGrown-turned better bounds scenario most before between after first put low boxes front rest branch tried turn taken grown =
     let pieces = front ++ Todo branch tried ∷ rest in
-    let way = IsUnderWay-better better scenario between.hand.seen after.hand.seen first put low boxes pieces grown.tickets taken.later.seen grown.way in
+    let way = IsUnderWay-better better bounds scenario between.hand.seen after.hand.seen first put low boxes pieces grown.tickets taken.later.seen grown.way in
     record {
       later = IsLater-then before between after grown.later taken.later;
       tickets = grown.tickets + 1;
       spent = omega (arith, taken.ticket.0, grown.spent);
-      way = IsUnderWay-turned scenario after.hand.seen first put low boxes front rest branch tried grown.tickets turn taken.ticket.2 way;
+      way = IsUnderWay-turned bounds scenario after.hand.seen first put low boxes front rest branch tried grown.tickets turn taken.ticket.3 way;
     }
 
-pub IsGrown-put : (better : FrontsBetter) (scenario : Scenario) (most : ℕ) (before between after : Means) (first put : List Box) (low : ℕ) (boxes : List Box) (front rest : List Piece) (branch : Tracked) (tried : Bool) (packet at : ℕ) (lower upper : Tracked) (number : ℕ) → IsTakenUp scenario most branch between after (Turned (Halves packet at lower upper)) → number ≡ length put → low ≤ length put → IsGrown scenario before between first put low boxes (front ++ Todo branch tried ∷ rest) → IsGrown scenario before after first (put ++ lower.space ∷ []) low boxes (front ++ (parted packet at (Pushed number) upper ++ rest))
-IsGrown-put better scenario most before between after first put low boxes front rest branch tried packet at lower upper number taken same below grown =
+pub IsGrown-put : (better : FrontsBetter) (bounds : Bounds) (scenario : Scenario) (most : ℕ) (before between after : Means) (first put : List Box) (low : ℕ) (boxes : List Box) (front rest : List Piece) (branch : Tracked) (tried : Bool) (packet at : ℕ) (lower upper : Tracked) (number : ℕ) → IsTakenUp bounds scenario most branch between after (Turned (Halves packet at lower upper)) → number ≡ length put → low ≤ length put → IsGrown bounds scenario before between first put low boxes (front ++ Todo branch tried ∷ rest) → IsGrown bounds scenario before after first (put ++ lower.space ∷ []) low boxes (front ++ (parted packet at (Pushed number) upper ++ rest))
+IsGrown-put better bounds scenario most before between after first put low boxes front rest branch tried packet at lower upper number taken same below grown =
     let pieces = front ++ Todo branch tried ∷ rest in
-    let way = IsUnderWay-better better scenario between.hand.seen after.hand.seen first put low boxes pieces grown.tickets taken.later.seen grown.way in
+    let way = IsUnderWay-better better bounds scenario between.hand.seen after.hand.seen first put low boxes pieces grown.tickets taken.later.seen grown.way in
     record {
       later = IsLater-then before between after grown.later taken.later;
       tickets = grown.tickets + 1;
       spent = omega (arith, taken.ticket.0, grown.spent);
-      way = IsUnderWay-put scenario after.hand.seen first put low boxes front rest branch tried grown.tickets packet at lower upper number taken.ticket.2 same below way;
+      way = IsUnderWay-put bounds scenario after.hand.seen first put low boxes front rest branch tried grown.tickets packet at lower upper number taken.ticket.3 same below way;
     }
 
-pub IsGrown-left : (better : FrontsBetter) (scenario : Scenario) (most : ℕ) (before between after : Means) (first put : List Box) (low : ℕ) (boxes : List Box) (front rest : List Piece) (branch left : Tracked) (tried : Bool) → IsTakenUp scenario most branch between after (Left left) → IsGrown scenario before between first put low boxes (front ++ Todo branch tried ∷ rest) → IsGrown scenario before after first put low boxes (front ++ Todo left tried ∷ rest)
-IsGrown-left better scenario most before between after first put low boxes front rest branch left tried taken grown =
-    let same = subst (λ (b : Tracked). IsGrown scenario before between first put low boxes (front ++ Todo b tried ∷ rest)) (sym taken.ticket.0) grown in
+pub IsGrown-left : (better : FrontsBetter) (bounds : Bounds) (scenario : Scenario) (most : ℕ) (before between after : Means) (first put : List Box) (low : ℕ) (boxes : List Box) (front rest : List Piece) (branch left : Tracked) (tried : Bool) → IsTakenUp bounds scenario most branch between after (Left left) → IsGrown bounds scenario before between first put low boxes (front ++ Todo branch tried ∷ rest) → IsGrown bounds scenario before after first put low boxes (front ++ Todo left tried ∷ rest)
+IsGrown-left better bounds scenario most before between after first put low boxes front rest branch left tried taken grown =
+    let same = subst (λ (b : Tracked). IsGrown bounds scenario before between first put low boxes (front ++ Todo b tried ∷ rest)) (sym taken.ticket.0) grown in
     record {
       later = IsLater-then before between after same.later taken.later;
       tickets = same.tickets;
       spent = omega (arith, taken.ticket.1, same.spent);
-      way = IsUnderWay-better better scenario between.hand.seen after.hand.seen first put low boxes (front ++ Todo left tried ∷ rest) same.tickets taken.later.seen same.way;
+      way = IsUnderWay-better better bounds scenario between.hand.seen after.hand.seen first put low boxes (front ++ Todo left tried ∷ rest) same.tickets taken.later.seen same.way;
     }

@@ -6,7 +6,13 @@ pub mod Turns
 pub mod UnderWay
 pub mod Placings
 pub mod Fillings
+pub mod Finishings
 pub mod Endings
+pub mod LeftUppers
+pub mod Outcomes
 pub mod Grown
 pub mod Offered
 pub mod Worked
+pub mod Drained
+pub mod Openings
+pub mod Closings

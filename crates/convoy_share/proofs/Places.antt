@@ -9,6 +9,7 @@ use Rattle.convoy_intervals.specs.Boxes.{Box}
 use Rattle.convoy_sim.specs.Delivery.{latency_of}
 use Rattle.convoy_intervals.specs.Boxes.{greatest_of}
 use Rattle.convoy_checker.proofs.TreeLaws.{AreTrees-filled}
+use Rattle.convoy_branch.specs.declared.bounds.Bounds.{Bounds}
 use Rattle.convoy_branch.specs.Fronts.{AreFronts, FrontNode, Left, front_below, IsOfFront}
 use Rattle.convoy_branch.specs.Laws.{FrontsBetter}
 use Rattle.convoy_share.specs.declared.piece.Piece.{Piece}
@@ -16,20 +17,20 @@ use Rattle.convoy_share.specs.declared.piece.Piece.TheVariants.{Done, Todo, Push
 use Rattle.convoy_share.specs.Pieces.{front_of, AreTreesOf, IsPiece}
 
 -- a tree over a box that is left may stand in for the box
-pub AreTreesOf-filled : (scenario : Scenario) (seen : ℕ) (put boxes : List Box) (branch : Box) (piece : Piece) (front inner rest : List Piece) → front_of put piece ≡ Left branch → AreTreesOf scenario seen put (branch ∷ []) inner → AreTreesOf scenario seen put boxes (front ++ piece ∷ rest) → AreTreesOf scenario seen put boxes (front ++ (inner ++ rest))
-AreTreesOf-filled scenario seen put boxes branch piece front inner rest is inner_tree tree =
-    let T : List FrontNode → Type 0 = λ f. AreFronts scenario seen boxes f in
+pub AreTreesOf-filled : (bounds : Bounds) (scenario : Scenario) (seen : ℕ) (put boxes : List Box) (branch : Box) (piece : Piece) (front inner rest : List Piece) → front_of put piece ≡ Left branch → AreTreesOf bounds scenario seen put (branch ∷ []) inner → AreTreesOf bounds scenario seen put boxes (front ++ piece ∷ rest) → AreTreesOf bounds scenario seen put boxes (front ++ (inner ++ rest))
+AreTreesOf-filled bounds scenario seen put boxes branch piece front inner rest is inner_tree tree =
+    let T : List FrontNode → Type 0 = λ f. AreFronts bounds scenario seen boxes f in
     let before = map (front_of put) front in
     let within = map (front_of put) inner in
     let after = map (front_of put) rest in
     let old : T (before ++ Left branch ∷ after) = subst T (map-append (front_of put) front (piece ∷ rest) ∙ ap (λ (n : FrontNode). before ++ n ∷ after) is) tree in
-    let new : T (before ++ (within ++ after)) = AreTrees-filled front_below (IsOfFront scenario seen) (Left branch) branch (λ box names. names) (λ box. refl) within inner_tree before after boxes old in
+    let new : T (before ++ (within ++ after)) = AreTrees-filled front_below (IsOfFront bounds scenario seen) (Left branch) branch (λ box names. names) (λ box. refl) within inner_tree before after boxes old in
     subst T (sym (map-append (front_of put) front (inner ++ rest) ∙ ap (λ (ns : List FrontNode). before ++ ns) (map-append (front_of put) inner rest))) new
 
 -- a greater latency leaves trees and pieces right
-pub AreTreesOf-better : (better : FrontsBetter) (scenario : Scenario) (seen more : ℕ) (put boxes : List Box) (pieces : List Piece) → seen ≤ more → AreTreesOf scenario seen put boxes pieces → AreTreesOf scenario more put boxes pieces
-AreTreesOf-better better scenario seen more put boxes pieces above tree =
-    better scenario seen more boxes (map (front_of put) pieces) above tree
+pub AreTreesOf-better : (better : FrontsBetter) (bounds : Bounds) (scenario : Scenario) (seen more : ℕ) (put boxes : List Box) (pieces : List Piece) → seen ≤ more → AreTreesOf bounds scenario seen put boxes pieces → AreTreesOf bounds scenario more put boxes pieces
+AreTreesOf-better better bounds scenario seen more put boxes pieces above tree =
+    better bounds scenario seen more boxes (map (front_of put) pieces) above tree
 
 pub IsPiece-better : (scenario : Scenario) (seen more : ℕ) (put : List Box) → seen ≤ more → (piece : Piece) → IsPiece scenario seen put piece → IsPiece scenario more put piece
 IsPiece-better scenario seen more put above (Done node) is = is
@@ -55,9 +56,9 @@ fronts_later scenario seen put later (piece ∷ pieces) each =
     let front = front_of (put ++ later) in
     ap (λ (n : FrontNode). n ∷ map (front_of put) pieces) (front_later scenario seen put later piece (All-head P piece pieces each)) ∙ ap (λ (ns : List FrontNode). front piece ∷ ns) (fronts_later scenario seen put later pieces (All-tail P piece pieces each))
 
-pub AreTreesOf-later : (scenario : Scenario) (seen : ℕ) (put later boxes : List Box) (pieces : List Piece) → All (IsPiece scenario seen put) pieces → AreTreesOf scenario seen put boxes pieces → AreTreesOf scenario seen (put ++ later) boxes pieces
-AreTreesOf-later scenario seen put later boxes pieces each tree =
-    subst (λ (f : List FrontNode). AreFronts scenario seen boxes f) (fronts_later scenario seen put later pieces each) tree
+pub AreTreesOf-later : (bounds : Bounds) (scenario : Scenario) (seen : ℕ) (put later boxes : List Box) (pieces : List Piece) → All (IsPiece scenario seen put) pieces → AreTreesOf bounds scenario seen put boxes pieces → AreTreesOf bounds scenario seen (put ++ later) boxes pieces
+AreTreesOf-later bounds scenario seen put later boxes pieces each tree =
+    subst (λ (f : List FrontNode). AreFronts bounds scenario seen boxes f) (fronts_later scenario seen put later pieces each) tree
 
 pub IsPiece-later : (scenario : Scenario) (seen : ℕ) (put later : List Box) (piece : Piece) → IsPiece scenario seen put piece → IsPiece scenario seen (put ++ later) piece
 IsPiece-later scenario seen put later (Done node) is = is

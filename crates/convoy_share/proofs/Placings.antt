@@ -1,41 +1,42 @@
 -- The trees of all tasks are put into slots by their numbers.
-use Rattle.std.specs.Prelude.{◌≡◌, ℕ, zero, suc, ◌+◌, ◌≤◌, ◌<◌, List, [], ◌∷◌, ◌++◌, length, replicate}
+use Rattle.std.specs.Prelude.{◌≡◌, ℕ, zero, suc, ◌+◌, ◌≤◌, ◌<◌, List, [], ◌∷◌, ◌++◌, length, replicate, reverse}
 use Rattle.std.specs.List.{All, sum_by}
 use Rattle.std.proofs.Common.{arith, refl, ap, sym, subst, ◌∙◌, inl, inr, get_or, set}
 use Rattle.std.proofs.lemmas.Bool.{cases_eq, cases_lt}
-use Rattle.std.proofs.lemmas.List.{get_or-set_same, get_or-set_other, get_or-replicate, get_or_past, length-set, length-replicate}
+use Rattle.std.proofs.lemmas.List.{reverse-append, get_or-set_same, get_or-set_other, get_or-replicate, get_or_past, length-set, length-replicate}
 use Rattle.std.proofs.lemmas.List.Elements.{All-nil, All-cons, All-head, All-tail}
 use Rattle.std.proofs.lemmas.List.Sums.{sum_by-cons, sum_by-set}
 use Rattle.convoy_ledger.specs.Tickets.{times, once_below}
 use Rattle.convoy_scenario.specs.Scenario.{Scenario}
 use Rattle.convoy_intervals.specs.Boxes.{Box, root_of}
+use Rattle.convoy_branch.specs.declared.bounds.Bounds.{Bounds}
 use Rattle.convoy_deque.specs.declared.task.Task.{Task}
 use Rattle.convoy_deque.specs.Tasks.{tasks_at, AreAllTaken, IsPut}
 use Rattle.convoy_share.specs.declared.piece.Piece.{Piece}
 use Rattle.convoy_share.specs.declared.piece.Piece.TheVariants.{Pushed}
 use Rattle.convoy_share.specs.Pieces.{places_in, spent, IsPiece}
 use Rattle.convoy_share.specs.Subtrees.{Subtree, IsSubtree, IsResult}
-use Rattle.convoy_share.specs.Filling.{slot_at, there, IsSlot, IsPlacing, IsFilling}
+use Rattle.convoy_share.specs.Filling.{slot_at, there, IsSlot, IsPlacing, CanBeFilled, IsFilling}
 use Rattle.convoy_share.proofs.Counts.{sum_none, own_number, other_number, tasks-cons, once_one, once_le, once_low}
 use Rattle.convoy_share.proofs.Slots.{IsSlot-set, put_is}
 
 -- a tree over a box is not empty
-subtree_there : (scenario : Scenario) (seen : ℕ) (put : List Box) (number : ℕ) (branch : Box) (pieces : List Piece) → IsSubtree scenario seen put number branch pieces → there pieces ≡ 1
-subtree_there scenario seen put number branch [] is = absurd is.tree
-subtree_there scenario seen put number branch (piece ∷ pieces) is = refl
+subtree_there : (bounds : Bounds) (scenario : Scenario) (seen : ℕ) (put : List Box) (number : ℕ) (branch : Box) (pieces : List Piece) → IsSubtree bounds scenario seen put number branch pieces → there pieces ≡ 1
+subtree_there bounds scenario seen put number branch [] is = absurd is.tree
+subtree_there bounds scenario seen put number branch (piece ∷ pieces) is = refl
 
 -- and may lie in the slot of its number
-subtree_slot : (scenario : Scenario) (seen : ℕ) (put : List Box) (number : ℕ) (pieces : List Piece) → IsSubtree scenario seen put number (get_or put number []) pieces → IsSlot scenario seen put number pieces
-subtree_slot scenario seen put number [] is = tt
-subtree_slot scenario seen put number (piece ∷ pieces) is = is
+subtree_slot : (bounds : Bounds) (scenario : Scenario) (seen : ℕ) (put : List Box) (number : ℕ) (pieces : List Piece) → IsSubtree bounds scenario seen put number (get_or put number []) pieces → IsSlot bounds scenario seen put number pieces
+subtree_slot bounds scenario seen put number [] is = tt
+subtree_slot bounds scenario seen put number (piece ∷ pieces) is = is
 
 none_there : (slot : List Piece) → there slot ≡ 0 → slot ≡ []
 none_there [] is = refl
 none_there (piece ∷ pieces) is = absurd (omega arith)
 
 -- the first of the tasks that are left finds its slot empty, and its number is below the count
-first_free : (scenario : Scenario) (seen : ℕ) (put : List Box) (all : List Subtree) (slots : List (List Piece)) (task : Task) (tasks : List Task) (subtrees : List Subtree) → IsPlacing scenario seen put all slots (task ∷ tasks) subtrees → (slot_at slots task.number ≡ []) × (task.number < length slots)
-first_free scenario seen put all slots task tasks subtrees placing =
+first_free : (bounds : Bounds) (scenario : Scenario) (seen : ℕ) (put : List Box) (all : List Subtree) (slots : List (List Piece)) (task : Task) (tasks : List Task) (subtrees : List Subtree) → IsPlacing bounds scenario seen put all slots (task ∷ tasks) subtrees → (slot_at slots task.number ≡ []) × (task.number < length slots)
+first_free bounds scenario seen put all slots task tasks subtrees placing =
     let n = task.number in
     let once = placing.once n in
     let more = tasks-cons n task tasks in
@@ -50,18 +51,18 @@ placed_sum f slots n subtree subtrees none empty low =
     omega (arith, sum_by-set f slots n subtree.pieces [] low, sum_by-cons (λ (s : Subtree). f s.pieces) subtree subtrees, ap f empty, none)
 
 -- it is put there
-pub IsPlacing-next : (scenario : Scenario) (seen : ℕ) (put : List Box) (all : List Subtree) (slots : List (List Piece)) (task : Task) (tasks : List Task) (subtree : Subtree) (subtrees : List Subtree) → IsPlacing scenario seen put all slots (task ∷ tasks) (subtree ∷ subtrees) → IsPlacing scenario seen put all (set slots task.number subtree.pieces) tasks subtrees
-IsPlacing-next scenario seen put all slots task tasks subtree subtrees placing =
+pub IsPlacing-next : (bounds : Bounds) (scenario : Scenario) (seen : ℕ) (put : List Box) (all : List Subtree) (slots : List (List Piece)) (task : Task) (tasks : List Task) (subtree : Subtree) (subtrees : List Subtree) → IsPlacing bounds scenario seen put all slots (task ∷ tasks) (subtree ∷ subtrees) → IsPlacing bounds scenario seen put all (set slots task.number subtree.pieces) tasks subtrees
+IsPlacing-next bounds scenario seen put all slots task tasks subtree subtrees placing =
     let n = task.number in
     let pieces = subtree.pieces in
-    let free = first_free scenario seen put all slots task tasks (subtree ∷ subtrees) placing in
+    let free = first_free bounds scenario seen put all slots task tasks (subtree ∷ subtrees) placing in
     let branch = put_is put task (All-head (IsPut put) task tasks placing.right) in
-    let sub : IsSubtree scenario seen put n (get_or put n []) pieces = subst (λ (b : Box). IsSubtree scenario seen put n b pieces) (sym branch) placing.trees.1 in
+    let sub : IsSubtree bounds scenario seen put n (get_or put n []) pieces = subst (λ (b : Box). IsSubtree bounds scenario seen put n b pieces) (sym branch) placing.trees.1 in
     record {
-      each_slot = IsSlot-set scenario seen put slots n pieces (subtree_slot scenario seen put n pieces sub) placing.each_slot free.1;
+      each_slot = IsSlot-set bounds scenario seen put slots n pieces (subtree_slot bounds scenario seen put n pieces sub) placing.each_slot free.1;
       size = length-set slots n pieces ∙ placing.size;
       trees = placing.trees.2;
-      once = λ x. once x free.0 free.1 (subtree_there scenario seen put n (get_or put n []) pieces sub);
+      once = λ x. once x free.0 free.1 (subtree_there bounds scenario seen put n (get_or put n []) pieces sub);
       right = All-tail (IsPut put) task tasks placing.right;
       sums = λ f none. omega (arith, placing.sums f none, placed_sum f slots n subtree subtrees none free.0 free.1);
     } where
@@ -81,8 +82,8 @@ empty_slot n x = elim (cases_lt x n) [
   | inr past ↦ get_or_past (replicate n []) x [] (omega (arith, past, length-replicate {A = List Piece} n []))
 ]
 
-pub IsPlacing-start : (scenario : Scenario) (seen tickets roots : ℕ) (put : List Box) (taken : List Task) (subtrees : List Subtree) → IsResult scenario seen tickets roots put taken subtrees → AreAllTaken put taken → IsPlacing scenario seen put subtrees (replicate (length put) []) taken subtrees
-IsPlacing-start scenario seen tickets roots put taken subtrees is all = record {
+pub IsPlacing-start : (bounds : Bounds) (scenario : Scenario) (seen tickets roots : ℕ) (put : List Box) (taken : List Task) (subtrees : List Subtree) → IsResult bounds scenario seen tickets roots put taken subtrees → AreAllTaken put taken → IsPlacing bounds scenario seen put subtrees (replicate (length put) []) taken subtrees
+IsPlacing-start bounds scenario seen tickets roots put taken subtrees is all = record {
   each_slot = λ x. rw (empty_slot (length put) x) tt;
   size = length-replicate (length put) [];
   trees = is.trees;
@@ -92,8 +93,8 @@ IsPlacing-start scenario seen tickets roots put taken subtrees is all = record {
 }
 
 -- all have them: the root stands under the number 0
-pub IsFilling-start : (scenario : Scenario) (seen tickets : ℕ) (put : List Box) (taken : List Task) (subtrees : List Subtree) (slots : List (List Piece)) → get_or put 0 [] ≡ root_of scenario → 0 < length put → IsResult scenario seen tickets 1 put taken subtrees → IsPlacing scenario seen put subtrees slots [] [] → IsFilling scenario seen tickets put [] (Pushed 0 ∷ []) slots
-IsFilling-start scenario seen tickets put taken subtrees slots root some is placing = record {
+pub IsFilling-start : (bounds : Bounds) (scenario : Scenario) (seen tickets : ℕ) (put : List Box) (taken : List Task) (subtrees : List Subtree) (slots : List (List Piece)) → get_or put 0 [] ≡ root_of scenario → 0 < length put → IsResult bounds scenario seen tickets 1 put taken subtrees → IsPlacing bounds scenario seen put subtrees slots [] [] → IsFilling bounds scenario seen tickets put [] (Pushed 0 ∷ []) slots
+IsFilling-start bounds scenario seen tickets put taken subtrees slots root some is placing = record {
   tree = (root, tt);
   settled = refl;
   each_done = All-nil (IsPiece scenario seen put);
@@ -102,3 +103,37 @@ IsFilling-start scenario seen tickets put taken subtrees slots root some is plac
   once = λ x. omega (arith, is.places x, once_one x, placing.once x, placing.sums (λ slot. times x (places_in slot)) refl);
   nodes = omega (arith, is.nodes, placing.sums spent refl);
 }
+
+-- the first tree that is left
+first_placed : (bounds : Bounds) (scenario : Scenario) (seen : ℕ) (put : List Box) (all : List Subtree) (slots : List (List Piece)) (tasks : List Task) (tree : Subtree) (trees : List Subtree) → IsPlacing bounds scenario seen put all slots tasks (tree ∷ trees) → (tree.number < length slots) × ((rest : List Task) × IsPlacing bounds scenario seen put all (set slots tree.number tree.pieces) rest trees)
+first_placed bounds scenario seen put all slots [] tree trees placing = absurd placing.trees
+first_placed bounds scenario seen put all slots (task ∷ tasks) tree trees placing =
+    let same = placing.trees.0 in
+    let free = first_free bounds scenario seen put all slots task tasks (tree ∷ trees) placing in (
+      omega (arith, free.1, same),
+      (tasks, subst (λ (n : ℕ). IsPlacing bounds scenario seen put all (set slots n tree.pieces) tasks trees) (sym same) (IsPlacing-next bounds scenario seen put all slots task tasks tree trees placing)),
+    )
+
+-- the trees are put from the last of a list that is turned round
+pub IsPlacing-popped : (bounds : Bounds) (scenario : Scenario) (seen : ℕ) (put : List Box) (all : List Subtree) (slots : List (List Piece)) (tasks : List Task) (trees less : List Subtree) (tree : Subtree) → trees ≡ less ++ tree ∷ [] → IsPlacing bounds scenario seen put all slots tasks (reverse trees) → (tree.number < length slots) × ((rest : List Task) × IsPlacing bounds scenario seen put all (set slots tree.number tree.pieces) rest (reverse less))
+IsPlacing-popped bounds scenario seen put all slots tasks trees less tree popped placing =
+    let turned : reverse trees ≡ tree ∷ reverse less = ap (λ (ts : List Subtree). reverse ts) popped ∙ reverse-append less (tree ∷ []) in
+    first_placed bounds scenario seen put all slots tasks tree (reverse less) (subst (λ (ts : List Subtree). IsPlacing bounds scenario seen put all slots tasks ts) turned placing)
+
+-- the same by what the program makes of a tree
+pub IsPlacing-put : (bounds : Bounds) (scenario : Scenario) (seen : ℕ) (put : List Box) (all : List Subtree) (slots : List (List Piece)) (tasks : List Task) (trees less : List Subtree) (tree : Subtree) (number : ℕ) (pieces : List Piece) → number ≡ tree.number → pieces ≡ tree.pieces → trees ≡ less ++ tree ∷ [] → IsPlacing bounds scenario seen put all slots tasks (reverse trees) → (number < length slots) × ((rest : List Task) × IsPlacing bounds scenario seen put all (set slots number pieces) rest (reverse less))
+IsPlacing-put bounds scenario seen put all slots tasks trees less tree number pieces same_number same_pieces popped placing =
+    rw (same_number, same_pieces) (IsPlacing-popped bounds scenario seen put all slots tasks trees less tree popped placing)
+
+-- once all trees have their slots
+pub IsPlacing-ended : (bounds : Bounds) (scenario : Scenario) (seen : ℕ) (put : List Box) (all : List Subtree) (slots : List (List Piece)) (tasks : List Task) → IsPlacing bounds scenario seen put all slots tasks [] → IsPlacing bounds scenario seen put all slots [] []
+IsPlacing-ended bounds scenario seen put all slots [] placing = placing
+IsPlacing-ended bounds scenario seen put all slots (task ∷ tasks) placing = absurd placing.trees
+
+pub IsFilling-opened : (bounds : Bounds) (scenario : Scenario) (seen tickets count : ℕ) (put : List Box) (taken : List Task) (subtrees : List Subtree) (slots : List (List Piece)) → CanBeFilled bounds scenario seen tickets count put taken subtrees → IsPlacing bounds scenario seen put subtrees slots [] [] → IsFilling bounds scenario seen tickets put [] (Pushed 0 ∷ []) slots
+IsFilling-opened bounds scenario seen tickets count put taken subtrees slots can placing =
+    IsFilling-start bounds scenario seen tickets put taken subtrees slots can.root can.some_put can.result placing
+
+pub IsPlacing-opened : (bounds : Bounds) (scenario : Scenario) (seen tickets count : ℕ) (put : List Box) (taken : List Task) (subtrees : List Subtree) (slots : List (List Piece)) → slots ≡ replicate count [] → CanBeFilled bounds scenario seen tickets count put taken subtrees → IsPlacing bounds scenario seen put subtrees slots taken subtrees
+IsPlacing-opened bounds scenario seen tickets count put taken subtrees slots empty can =
+    subst (λ (s : List (List Piece)). IsPlacing bounds scenario seen put subtrees s taken subtrees) (ap (λ (n : ℕ). replicate n []) (sym can.count_is) ∙ sym empty) (IsPlacing-start bounds scenario seen tickets 1 put taken subtrees can.result can.all)

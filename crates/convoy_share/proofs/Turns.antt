@@ -12,6 +12,7 @@ use Rattle.convoy_certificate.specs.declared.node.Node.TheVariants.{Split}
 use Rattle.convoy_intervals.specs.Boxes.{Box, IsBox, greatest_of}
 use Rattle.convoy_intervals.specs.Tracked.{Tracked}
 use Rattle.convoy_intervals.specs.Laws.{UpperKeepsGreatest}
+use Rattle.convoy_branch.specs.declared.bounds.Bounds.{Bounds}
 use Rattle.convoy_branch.specs.declared.step.Turn.{Turn}
 use Rattle.convoy_branch.specs.declared.step.Turn.TheVariants.{Closed, Halves}
 use Rattle.convoy_branch.specs.Steps.{IsTurn}
@@ -32,19 +33,19 @@ spent-turn (Closed node) = refl
 spent-turn (Halves packet at lower upper) = refl
 
 -- they are a tree over the box
-tree_of : (fronts : TurnsAreFronts) (scenario : Scenario) (known : ℕ) (branch : Box) (turn : Turn) → IsTurn scenario branch known turn → AreTreesOf scenario known [] (branch ∷ []) (pieces_of turn)
-tree_of fronts scenario known branch (Closed node) is = fronts scenario known branch (Closed node) is
-tree_of fronts scenario known branch (Halves packet at lower upper) is =
-    fronts scenario known branch (Halves packet at lower upper) is
+tree_of : (fronts : TurnsAreFronts) (bounds : Bounds) (scenario : Scenario) (known : ℕ) (branch : Box) (turn : Turn) → IsTurn bounds scenario branch known turn → AreTreesOf bounds scenario known [] (branch ∷ []) (pieces_of turn)
+tree_of fronts bounds scenario known branch (Closed node) is = fronts bounds scenario known branch (Closed node) is
+tree_of fronts bounds scenario known branch (Halves packet at lower upper) is =
+    fronts bounds scenario known branch (Halves packet at lower upper) is
 
 -- they may stand in a tree of the scenario
-pieces_right : (nodes : TurnsAreNodes) (keeps : UpperKeepsGreatest) (scenario : Scenario) (known : ℕ) (branch : Box) (turn : Turn) → IsTable (table_of scenario) → IsBox scenario branch → IsTurn scenario branch known turn → All (IsPiece scenario known []) (pieces_of turn)
-pieces_right nodes keeps scenario known branch (Closed node) table inside is =
+pieces_right : (nodes : TurnsAreNodes) (keeps : UpperKeepsGreatest) (bounds : Bounds) (scenario : Scenario) (known : ℕ) (branch : Box) (turn : Turn) → IsTable (table_of scenario) → IsBox scenario branch → IsTurn bounds scenario branch known turn → All (IsPiece scenario known []) (pieces_of turn)
+pieces_right nodes keeps bounds scenario known branch (Closed node) table inside is =
     let P = IsPiece scenario known [] in
-    All-cons P (Done node) [] (All-head IsNode node [] (nodes scenario known branch (Closed node) table inside is)) (All-nil P)
-pieces_right nodes keeps scenario known branch (Halves packet at lower upper) table inside is =
+    All-cons P (Done node) [] (All-head IsNode node [] (nodes bounds scenario known branch (Closed node) table inside is)) (All-nil P)
+pieces_right nodes keeps bounds scenario known branch (Halves packet at lower upper) table inside is =
     let P = IsPiece scenario known [] in
-    let split : IsNode (Split packet at) = All-head IsNode (Split packet at) [] (nodes scenario known branch (Halves packet at lower upper) table inside is) in
+    let split : IsNode (Split packet at) = All-head IsNode (Split packet at) [] (nodes bounds scenario known branch (Halves packet at lower upper) table inside is) in
     let same : greatest_of upper.space ≡ greatest_of branch = ap (λ (t : Tracked). greatest_of t.space) is.3 ∙ keeps branch packet at in
     let tried : latency_of scenario (greatest_of upper.space) ≤ known = subst (λ (ds : List ℕ). latency_of scenario ds ≤ known) (sym same) is.0.tried in
     All-cons P (Done (Split packet at)) (Todo lower false ∷ Todo upper true ∷ []) split (
@@ -54,8 +55,8 @@ pieces_right nodes keeps scenario known branch (Halves packet at lower upper) ta
     )
 
 -- a step's turn, for each latency from the one known on
-pub IsTurned-step : (better : FrontsBetter) (fronts : TurnsAreFronts) (nodes : TurnsAreNodes) (keeps : UpperKeepsGreatest) (scenario : Scenario) (known seen : ℕ) (branch : Box) (turn : Turn) → IsTable (table_of scenario) → IsBox scenario branch → known ≤ seen → IsTurn scenario branch known turn → IsTurned scenario seen branch turn
-IsTurned-step better fronts nodes keeps scenario known seen branch turn table inside above is = record {
-  tree = AreTreesOf-better better scenario known seen [] (branch ∷ []) (pieces_of turn) above (tree_of fronts scenario known branch turn is);
-  each = pieces_better scenario known seen [] (pieces_of turn) above (pieces_right nodes keeps scenario known branch turn table inside is);
+pub IsTurned-step : (better : FrontsBetter) (fronts : TurnsAreFronts) (nodes : TurnsAreNodes) (keeps : UpperKeepsGreatest) (bounds : Bounds) (scenario : Scenario) (known seen : ℕ) (branch : Box) (turn : Turn) → IsTable (table_of scenario) → IsBox scenario branch → known ≤ seen → IsTurn bounds scenario branch known turn → IsTurned bounds scenario seen branch turn
+IsTurned-step better fronts nodes keeps bounds scenario known seen branch turn table inside above is = record {
+  tree = AreTreesOf-better better bounds scenario known seen [] (branch ∷ []) (pieces_of turn) above (tree_of fronts bounds scenario known branch turn is);
+  each = pieces_better scenario known seen [] (pieces_of turn) above (pieces_right nodes keeps bounds scenario known branch turn table inside is);
 }

@@ -10,6 +10,7 @@ use Rattle.convoy_scenario.specs.Scenario.{Scenario}
 use Rattle.convoy_certificate.specs.declared.node.Node.TheVariants.{Split}
 use Rattle.convoy_intervals.specs.Boxes.{Box}
 use Rattle.convoy_intervals.specs.Tracked.{Tracked}
+use Rattle.convoy_branch.specs.declared.bounds.Bounds.{Bounds}
 use Rattle.convoy_branch.specs.declared.step.Turn.{Turn}
 use Rattle.convoy_branch.specs.declared.step.Turn.TheVariants.{Closed, Halves}
 use Rattle.convoy_branch.specs.Fronts.{AreFronts, Spent, Left}
@@ -27,8 +28,8 @@ use Rattle.convoy_share.proofs.Turns.{places_in-turn, spent-turn}
 use Rattle.convoy_share.proofs.Joins.{ArePieces-better, ArePieces-later, AreSubtrees-better, AreSubtrees-append}
 
 -- other pieces in the place of a branch that is left
-ArePieces-filled : (scenario : Scenario) (seen : ℕ) (put : List Box) (low : ℕ) (boxes : List Box) (branch : Tracked) (tried : Bool) (front inner rest : List Piece) → ArePieces scenario seen put low (branch.space ∷ []) inner → ArePieces scenario seen put low boxes (front ++ Todo branch tried ∷ rest) → ArePieces scenario seen put low boxes (front ++ (inner ++ rest))
-ArePieces-filled scenario seen put low boxes branch tried front inner rest new old =
+ArePieces-filled : (bounds : Bounds) (scenario : Scenario) (seen : ℕ) (put : List Box) (low : ℕ) (boxes : List Box) (branch : Tracked) (tried : Bool) (front inner rest : List Piece) → ArePieces bounds scenario seen put low (branch.space ∷ []) inner → ArePieces bounds scenario seen put low boxes (front ++ Todo branch tried ∷ rest) → ArePieces bounds scenario seen put low boxes (front ++ (inner ++ rest))
+ArePieces-filled bounds scenario seen put low boxes branch tried front inner rest new old =
     let P = IsPiece scenario seen put in
     let Q : ℕ → Type 0 = λ n. low ≤ n in
     let each = All-parts P front (Todo branch tried ∷ rest) old.each in
@@ -36,14 +37,14 @@ ArePieces-filled scenario seen put low boxes branch tried front inner rest new o
     let parts = All-parts Q (places_in front) (places_in rest) above in
     let places : places_in (front ++ (inner ++ rest)) ≡ places_in front ++ (places_in inner ++ places_in rest) = filter_map-append pushed_number front (inner ++ rest) ∙ ap (λ (ts : List ℕ). places_in front ++ ts) (filter_map-append pushed_number inner rest) in
     record {
-      tree = AreTreesOf-filled scenario seen put boxes branch.space (Todo branch tried) front inner rest refl new.tree old.tree;
+      tree = AreTreesOf-filled bounds scenario seen put boxes branch.space (Todo branch tried) front inner rest refl new.tree old.tree;
       above = subst (λ (ts : List ℕ). All Q ts) (sym places) (All-append Q (places_in front) (places_in inner ++ places_in rest) parts.0 (All-append Q (places_in inner) (places_in rest) new.above parts.1));
       each = All-append P front (inner ++ rest) each.0 (All-append P inner rest new.each (All-tail P (Todo branch tried) rest each.1));
     }
 
 -- a branch that nobody has looked at
-pub IsUnderWay-start : (scenario : Scenario) (seen : ℕ) (put : List Box) (low : ℕ) (branch : Tracked) → branch.scenario ≡ scenario → IsUnderWay scenario seen put put low (branch.space ∷ []) (Todo branch false ∷ []) 0
-IsUnderWay-start scenario seen put low branch of_scenario = record {
+pub IsUnderWay-start : (bounds : Bounds) (scenario : Scenario) (seen : ℕ) (put : List Box) (low : ℕ) (branch : Tracked) → branch.scenario ≡ scenario → IsUnderWay bounds scenario seen put put low (branch.space ∷ []) (Todo branch false ∷ []) 0
+IsUnderWay-start bounds scenario seen put low branch of_scenario = record {
   trees = record {
     tree = (refl, tt);
     above = All-nil (λ (n : ℕ). low ≤ n);
@@ -54,34 +55,34 @@ IsUnderWay-start scenario seen put low branch of_scenario = record {
   more = ([], sym (append-nil put));
 }
 
-pub IsUnderWay-better : (better : FrontsBetter) (scenario : Scenario) (seen more : ℕ) (before put : List Box) (low : ℕ) (boxes : List Box) (pieces : List Piece) (tickets : ℕ) → seen ≤ more → IsUnderWay scenario seen before put low boxes pieces tickets → IsUnderWay scenario more before put low boxes pieces tickets
-IsUnderWay-better better scenario seen more before put low boxes pieces tickets above way = record {
-  trees = ArePieces-better better scenario seen more put low boxes pieces above way.trees;
+pub IsUnderWay-better : (better : FrontsBetter) (bounds : Bounds) (scenario : Scenario) (seen more : ℕ) (before put : List Box) (low : ℕ) (boxes : List Box) (pieces : List Piece) (tickets : ℕ) → seen ≤ more → IsUnderWay bounds scenario seen before put low boxes pieces tickets → IsUnderWay bounds scenario more before put low boxes pieces tickets
+IsUnderWay-better better bounds scenario seen more before put low boxes pieces tickets above way = record {
+  trees = ArePieces-better better bounds scenario seen more put low boxes pieces above way.trees;
   places = way.places;
   nodes = way.nodes;
   more = way.more;
 }
 
 -- a box is closed, or parted and both halves are kept
-pub IsUnderWay-turned : (scenario : Scenario) (seen : ℕ) (before put : List Box) (low : ℕ) (boxes : List Box) (front rest : List Piece) (branch : Tracked) (tried : Bool) (tickets : ℕ) (turn : Turn) → IsTurned scenario seen branch.space turn → IsUnderWay scenario seen before put low boxes (front ++ Todo branch tried ∷ rest) tickets → IsUnderWay scenario seen before put low boxes (front ++ (pieces_of turn ++ rest)) (tickets + 1)
-IsUnderWay-turned scenario seen before put low boxes front rest branch tried tickets turn is way =
+pub IsUnderWay-turned : (bounds : Bounds) (scenario : Scenario) (seen : ℕ) (before put : List Box) (low : ℕ) (boxes : List Box) (front rest : List Piece) (branch : Tracked) (tried : Bool) (tickets : ℕ) (turn : Turn) → IsTurned bounds scenario seen branch.space turn → IsUnderWay bounds scenario seen before put low boxes (front ++ Todo branch tried ∷ rest) tickets → IsUnderWay bounds scenario seen before put low boxes (front ++ (pieces_of turn ++ rest)) (tickets + 1)
+IsUnderWay-turned bounds scenario seen before put low boxes front rest branch tried tickets turn is way =
     let pieces = pieces_of turn in
     let Q : ℕ → Type 0 = λ n. low ≤ n in
-    let inner : ArePieces scenario seen put low (branch.space ∷ []) pieces = record {
-      tree = AreTreesOf-later scenario seen [] put (branch.space ∷ []) pieces is.each is.tree;
+    let inner : ArePieces bounds scenario seen put low (branch.space ∷ []) pieces = record {
+      tree = AreTreesOf-later bounds scenario seen [] put (branch.space ∷ []) pieces is.each is.tree;
       above = subst (λ (ts : List ℕ). All Q ts) (sym (places_in-turn turn)) (All-nil Q);
       each = pieces_later scenario seen [] put pieces is.each;
     } in
     record {
-      trees = ArePieces-filled scenario seen put low boxes branch tried front pieces rest inner way.trees;
+      trees = ArePieces-filled bounds scenario seen put low boxes branch tried front pieces rest inner way.trees;
       places = λ x. omega (arith, way.places x, places-append x front (Todo branch tried ∷ rest), places-append x front (pieces ++ rest), places-append x pieces rest, ap (times x) (places_in-turn turn));
       nodes = omega (arith, way.nodes, spent-append front (Todo branch tried ∷ rest), spent-append front (pieces ++ rest), spent-append pieces rest, spent-turn turn);
       more = way.more;
     }
 
 -- a box is parted and its lower half is put
-pub IsUnderWay-put : (scenario : Scenario) (seen : ℕ) (before put : List Box) (low : ℕ) (boxes : List Box) (front rest : List Piece) (branch : Tracked) (tried : Bool) (tickets packet at : ℕ) (lower upper : Tracked) (number : ℕ) → IsTurned scenario seen branch.space (Halves packet at lower upper) → number ≡ length put → low ≤ length put → IsUnderWay scenario seen before put low boxes (front ++ Todo branch tried ∷ rest) tickets → IsUnderWay scenario seen before (put ++ lower.space ∷ []) low boxes (front ++ (parted packet at (Pushed number) upper ++ rest)) (tickets + 1)
-IsUnderWay-put scenario seen before put low boxes front rest branch tried tickets packet at lower upper number is same below way =
+pub IsUnderWay-put : (bounds : Bounds) (scenario : Scenario) (seen : ℕ) (before put : List Box) (low : ℕ) (boxes : List Box) (front rest : List Piece) (branch : Tracked) (tried : Bool) (tickets packet at : ℕ) (lower upper : Tracked) (number : ℕ) → IsTurned bounds scenario seen branch.space (Halves packet at lower upper) → number ≡ length put → low ≤ length put → IsUnderWay bounds scenario seen before put low boxes (front ++ Todo branch tried ∷ rest) tickets → IsUnderWay bounds scenario seen before (put ++ lower.space ∷ []) low boxes (front ++ (parted packet at (Pushed number) upper ++ rest)) (tickets + 1)
+IsUnderWay-put bounds scenario seen before put low boxes front rest branch tried tickets packet at lower upper number is same below way =
     let next = put ++ lower.space ∷ [] in
     let turn = Halves packet at lower upper in
     let pieces = parted packet at (Pushed number) upper in
@@ -90,35 +91,35 @@ IsUnderWay-put scenario seen before put low boxes front rest branch tried ticket
     let whole = pieces_later scenario seen [] next (pieces_of turn) is.each in
     let parts = All-parts P (Done (Split packet at) ∷ []) (Todo lower false ∷ Todo upper true ∷ []) whole in
     let last : lower.space ≡ get_or next number [] = sym (get_or_push put lower.space [] number (sym same)) in
-    let inner : ArePieces scenario seen next low (branch.space ∷ []) pieces = record {
-      tree = subst (λ (b : Box). AreFronts scenario seen (branch.space ∷ []) (Spent (Split packet at) ∷ Left b ∷ Left upper.space ∷ [])) last is.tree;
+    let inner : ArePieces bounds scenario seen next low (branch.space ∷ []) pieces = record {
+      tree = subst (λ (b : Box). AreFronts bounds scenario seen (branch.space ∷ []) (Spent (Split packet at) ∷ Left b ∷ Left upper.space ∷ [])) last is.tree;
       above = All-cons Q number [] (omega (arith, same, below)) (All-nil Q);
       each = All-cons P (Done (Split packet at)) (Pushed number ∷ Todo upper true ∷ []) (All-head P (Done (Split packet at)) [] parts.0) (All-cons P (Pushed number) (Todo upper true ∷ []) (omega (arith, same, length_push put lower.space)) (All-tail P (Todo lower false) (Todo upper true ∷ []) parts.1));
     } in
-    let old = ArePieces-later scenario seen put (lower.space ∷ []) low boxes (front ++ Todo branch tried ∷ rest) way.trees in
+    let old = ArePieces-later bounds scenario seen put (lower.space ∷ []) low boxes (front ++ Todo branch tried ∷ rest) way.trees in
     record {
-      trees = ArePieces-filled scenario seen next low boxes branch tried front pieces rest inner old;
+      trees = ArePieces-filled bounds scenario seen next low boxes branch tried front pieces rest inner old;
       places = λ x. omega (arith, way.places x, places-append x front (Todo branch tried ∷ rest), places-append x front (pieces ++ rest), places-append x pieces rest, ap (λ (n : ℕ). times x (n ∷ [])) same, once_more x (length put), ap (once_below x) (length_push put lower.space));
       nodes = omega (arith, way.nodes, spent-append front (Todo branch tried ∷ rest), spent-append front (pieces ++ rest));
       more = (way.more.0 ++ lower.space ∷ [], ap (λ (bs : List Box). bs ++ lower.space ∷ []) way.more.1 ∙ append_assoc before way.more.0 (lower.space ∷ []));
     }
 
 -- a worker that has taken nothing, and whose branches are all roots
-pub IsResult-none : (scenario : Scenario) (seen roots : ℕ) (put : List Box) → roots ≡ length put → IsResult scenario seen 0 roots put [] []
-IsResult-none scenario seen roots put same = record {
+pub IsResult-none : (bounds : Bounds) (scenario : Scenario) (seen roots : ℕ) (put : List Box) → roots ≡ length put → IsResult bounds scenario seen 0 roots put [] []
+IsResult-none bounds scenario seen roots put same = record {
   trees = tt;
   places = λ x. omega (arith, ap (once_below x) same);
   nodes = refl;
 }
 
 -- one task more
-pub IsResult-more : (better : FrontsBetter) (scenario : Scenario) (seen more tickets drawn roots : ℕ) (before put : List Box) (taken : List Task) (subtrees : List Subtree) (task : Task) (pieces : List Piece) → seen ≤ more → IsResult scenario seen tickets roots before taken subtrees → IsUnderWay scenario more before put (task.number + 1) (task.branch.space ∷ []) pieces drawn → IsResult scenario more (tickets + drawn) roots put (taken ++ task ∷ []) (subtrees ++ record { number = task.number; pieces = pieces } ∷ [])
-IsResult-more better scenario seen more tickets drawn roots before put taken subtrees task pieces above is way =
+pub IsResult-more : (better : FrontsBetter) (bounds : Bounds) (scenario : Scenario) (seen more tickets drawn roots : ℕ) (before put : List Box) (taken : List Task) (subtrees : List Subtree) (task : Task) (pieces : List Piece) → seen ≤ more → IsResult bounds scenario seen tickets roots before taken subtrees → IsUnderWay bounds scenario more before put (task.number + 1) (task.branch.space ∷ []) pieces drawn → IsResult bounds scenario more (tickets + drawn) roots put (taken ++ task ∷ []) (subtrees ++ record { number = task.number; pieces = pieces } ∷ [])
+IsResult-more better bounds scenario seen more tickets drawn roots before put taken subtrees task pieces above is way =
     let subtree : Subtree = record { number = task.number; pieces = pieces } in
     let later = way.more.0 in
-    let trees : AreSubtrees scenario more (before ++ later) taken subtrees = AreSubtrees-better better scenario seen more before later taken subtrees above is.trees in
+    let trees : AreSubtrees bounds scenario more (before ++ later) taken subtrees = AreSubtrees-better better bounds scenario seen more before later taken subtrees above is.trees in
     record {
-      trees = AreSubtrees-append scenario more put taken (task ∷ []) subtrees (subtree ∷ []) (subst (λ (p : List Box). AreSubtrees scenario more p taken subtrees) (sym way.more.1) trees) (refl, way.trees, tt);
+      trees = AreSubtrees-append bounds scenario more put taken (task ∷ []) subtrees (subtree ∷ []) (subst (λ (p : List Box). AreSubtrees bounds scenario more p taken subtrees) (sym way.more.1) trees) (refl, way.trees, tt);
       places = λ x. omega (arith, is.places x, way.places x, sum_by_push (λ (s : Subtree). times x (places_in s.pieces)) subtrees subtree);
       nodes = omega (arith, is.nodes, way.nodes, sum_by_push (λ (s : Subtree). spent s.pieces) subtrees subtree);
     }

@@ -1,13 +1,13 @@
 -- What is proved of trees that several workers search. Each is the one clause of the function of its name in the crate's module `laws`.
-use Rattle.std.specs.Prelude.{◌≡◌, ℕ, ◌+◌, ◌≤◌, ◌<◌, max, List, [], ◌∷◌, ◌++◌, length, map, replicate, slice_set}
+use Rattle.std.specs.Prelude.{◌≡◌, ℕ, ◌+◌, ◌≤◌, ◌<◌, max, List, [], ◌∷◌, ◌++◌, length, replicate, slice_set}
 use Rattle.std.specs.List.{All}
 use Rattle.convoy_scenario.specs.Scenario.{Scenario}
 use Rattle.convoy_packets.specs.Assignment.{ranges_of}
 use Rattle.convoy_packets.specs.Table.{least_of}
 use Rattle.convoy_sim.specs.Delivery.{latency_of}
 use Rattle.convoy_sim.specs.Greatest.{IsReached}
-use Rattle.convoy_sim.specs.Times.{greatest}
-use Rattle.convoy_intervals.specs.Bounds.{plain_bound}
+use Rattle.convoy_branch.specs.declared.bounds.Bounds.{Bounds}
+use Rattle.convoy_branch.specs.Uppers.{IsUpperOf}
 use Rattle.convoy_intervals.specs.Boxes.{Box}
 use Rattle.convoy_checker.specs.Validity.{IsTree}
 use Rattle.convoy_branch.specs.Fronts.{IsFront, left_in}
@@ -22,41 +22,41 @@ use Rattle.convoy_share.specs.Filling.{slot_at, IsPlacing, IsFilling}
 -- a result and that of a thief are one result, for the greater latency
 abbrev pub ResultsJoin : Type 0
 ResultsJoin =
-    (scenario : Scenario) (seen other_seen tickets other_tickets roots : ℕ) (put : List Box) (taken other_taken : List Task) (subtrees others : List Subtree)
-    → IsResult scenario seen tickets roots put taken subtrees
-    → IsResult scenario other_seen other_tickets 0 [] other_taken others
-    → IsResult scenario (max seen other_seen) (tickets + other_tickets) roots put (taken ++ other_taken) (subtrees ++ others)
+    (bounds : Bounds) (scenario : Scenario) (seen other_seen tickets other_tickets roots : ℕ) (put : List Box) (taken other_taken : List Task) (subtrees others : List Subtree)
+    → IsResult bounds scenario seen tickets roots put taken subtrees
+    → IsResult bounds scenario other_seen other_tickets 0 [] other_taken others
+    → IsResult bounds scenario (max seen other_seen) (tickets + other_tickets) roots put (taken ++ other_taken) (subtrees ++ others)
 
 -- where each branch put was taken, once, the trees can be put into slots by their numbers
 abbrev pub TreesArePlaced : Type 0
 TreesArePlaced =
-    (scenario : Scenario) (seen tickets roots : ℕ) (put : List Box) (taken : List Task) (subtrees : List Subtree)
-    → IsResult scenario seen tickets roots put taken subtrees
+    (bounds : Bounds) (scenario : Scenario) (seen tickets roots : ℕ) (put : List Box) (taken : List Task) (subtrees : List Subtree)
+    → IsResult bounds scenario seen tickets roots put taken subtrees
     → AreAllTaken put taken
-    → IsPlacing scenario seen put subtrees (replicate (length put) []) taken subtrees
+    → IsPlacing bounds scenario seen put subtrees (replicate (length put) []) taken subtrees
 
 -- a place is filled by the tree of its number
 abbrev pub PlacesAreFilled : Type 0
 PlacesAreFilled =
-    (scenario : Scenario) (seen tickets : ℕ) (put : List Box) (done rest : List Piece) (number : ℕ) (slots : List (List Piece))
-    → IsFilling scenario seen tickets put done (Pushed number ∷ rest) slots
-    → IsFilling scenario seen tickets put done (slot_at slots number ++ rest) (slice_set slots number [])
+    (bounds : Bounds) (scenario : Scenario) (seen tickets : ℕ) (put : List Box) (done rest : List Piece) (number : ℕ) (slots : List (List Piece))
+    → IsFilling bounds scenario seen tickets put done (Pushed number ∷ rest) slots
+    → IsFilling bounds scenario seen tickets put done (slot_at slots number ++ rest) (slice_set slots number [])
 
 -- with every place filled and no box left, the nodes are a tree that closes the root, and number the tickets
 abbrev pub WholeTreesClose : Type 0
 WholeTreesClose =
-    (scenario : Scenario) (seen tickets : ℕ) (put : List Box) (done : List Piece) (slots : List (List Piece))
+    (bounds : Bounds) (scenario : Scenario) (seen tickets : ℕ) (put : List Box) (done : List Piece) (slots : List (List Piece))
     → left_in (front put done) ≡ []
-    → IsFilling scenario seen tickets put done [] slots
+    → IsFilling bounds scenario seen tickets put done [] slots
     → IsTree scenario seen (nodes_in done) × (length (nodes_in done) ≡ tickets)
 
 -- with every place filled and boxes left, the pieces are a front
 abbrev pub OpenTreesAreFronts : Type 0
 OpenTreesAreFronts =
-    (scenario : Scenario) (seen tickets upper : ℕ) (put : List Box) (done : List Piece) (slots : List (List Piece))
+    (bounds : Bounds) (scenario : Scenario) (seen tickets upper : ℕ) (put : List Box) (done : List Piece) (slots : List (List Piece))
     → 0 < length (left_in (front put done))
     → IsReached scenario seen
     → latency_of scenario (least_of (ranges_of scenario)) ≤ seen
-    → upper ≡ greatest (seen ∷ map (plain_bound scenario) (left_in (front put done)))
-    → IsFilling scenario seen tickets put done [] slots
-    → IsFront scenario seen upper tickets
+    → IsUpperOf bounds scenario seen (left_in (front put done)) upper
+    → IsFilling bounds scenario seen tickets put done [] slots
+    → IsFront bounds scenario seen upper tickets

@@ -14,4 +14,8 @@ pub mod Laws
 pub mod Growing
 pub mod Means
 pub mod Offers
+pub mod Common
 pub mod Workers
+pub mod Opening
+pub mod Finishing
+pub mod Ended

@@ -1,8 +1,9 @@
 -- What a worker looks, publishes and draws with, from step to step.
-use Rattle.std.specs.Prelude.{◌≡◌, ℕ, ◌+◌, ◌≤◌, List, true, length}
+use Rattle.std.specs.Prelude.{◌≡◌, ℕ, ◌+◌, ◌≤◌, List, false, true, length}
 use Rattle.convoy_scenario.specs.Scenario.{Scenario}
 use Rattle.convoy_intervals.specs.Boxes.{Box}
 use Rattle.convoy_intervals.specs.Tracked.{Tracked}
+use Rattle.convoy_branch.specs.declared.bounds.Bounds.{Bounds}
 use Rattle.convoy_share.specs.declared.means.Means.{Means}
 use Rattle.convoy_share.specs.declared.means.TakenUp.{TakenUp}
 use Rattle.convoy_share.specs.declared.means.TakenUp.TheVariants.{Turned, Left}
@@ -23,19 +24,19 @@ abbrev pub drawn : Means → ℕ
 drawn means = length means.clerk.tickets
 
 -- what becomes of a branch that is taken up: a ticket is spent for its turn, or there was none and it is left
-abbrev pub IsSpentFor : Scenario → ℕ → Tracked → Means → Means → TakenUp → Type 0
-IsSpentFor scenario most branch before after (Turned turn) =
-    (drawn after ≡ drawn before + 1) × (drawn after ≤ most) × IsTurned scenario after.hand.seen branch.space turn
-IsSpentFor scenario most branch before after (Left left) =
+abbrev pub IsSpentFor : Bounds → Scenario → ℕ → Tracked → Means → Means → TakenUp → Type 0
+IsSpentFor bounds scenario most branch before after (Turned turn) =
+    (drawn after ≡ drawn before + 1) × (drawn after ≤ most) × (before.clerk.done ≡ false) × IsTurned bounds scenario after.hand.seen branch.space turn
+IsSpentFor bounds scenario most branch before after (Left left) =
     (left ≡ branch) × (drawn after ≡ drawn before) × (after.clerk.done ≡ true)
 
-pub record IsTakenUp (scenario : Scenario) (most : ℕ) (branch : Tracked) (before after : Means) (taken : TakenUp) : Type 0 where
+pub record IsTakenUp (bounds : Bounds) (scenario : Scenario) (most : ℕ) (branch : Tracked) (before after : Means) (taken : TakenUp) : Type 0 where
   pub later : IsLater before after
-  pub ticket : IsSpentFor scenario most branch before after taken
+  pub ticket : IsSpentFor bounds scenario most branch before after taken
 
 -- How far boxes were searched that the worker took up: for each node it drew a ticket in between.
-pub record IsGrown (scenario : Scenario) (before after : Means) (first put : List Box) (low : ℕ) (boxes : List Box) (pieces : List Piece) : Type 0 where
+pub record IsGrown (bounds : Bounds) (scenario : Scenario) (before after : Means) (first put : List Box) (low : ℕ) (boxes : List Box) (pieces : List Piece) : Type 0 where
   pub later : IsLater before after
   pub tickets : ℕ
   pub spent : drawn after ≡ drawn before + tickets
-  pub way : IsUnderWay scenario after.hand.seen first put low boxes pieces tickets
+  pub way : IsUnderWay bounds scenario after.hand.seen first put low boxes pieces tickets

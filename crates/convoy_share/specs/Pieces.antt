@@ -1,12 +1,14 @@
 -- The pieces of a tree that several workers search.
-use Rattle.std.specs.Prelude.{◌≡◌, ℕ, ◌<◌, List, [], length, map, slice_index_or, Option, Some, None}
+use Rattle.std.specs.Prelude.{◌≡◌, ℕ, ◌<◌, List, [], length, map, slice_index_or, Bool, true, false, Option, Some, None}
 use Rattle.std.specs.List.{filter_map}
 use Rattle.convoy_scenario.specs.Scenario.{Scenario}
 use Rattle.convoy_certificate.specs.Certificate.{IsNode}
 use Rattle.convoy_certificate.specs.declared.node.Node.{Node}
 use Rattle.convoy_intervals.specs.Boxes.{Box}
+use Rattle.convoy_branch.specs.declared.bounds.Bounds.{Bounds}
 use Rattle.convoy_branch.specs.Fronts.{AreFronts, FrontNode, Spent, Left}
 use Rattle.convoy_branch.specs.Steps.{IsTriedIf}
+use Rattle.convoy_branch.specs.Uppers.{IsRaised}
 use Rattle.convoy_share.specs.declared.piece.Piece.{Piece}
 use Rattle.convoy_share.specs.declared.piece.Piece.TheVariants.{Done, Todo, Pushed}
 
@@ -20,8 +22,8 @@ abbrev pub front : List Box → List Piece → List FrontNode
 front put pieces = map (front_of put) pieces
 
 -- the pieces are trees over those boxes, each node right for that latency
-abbrev pub AreTreesOf : Scenario → ℕ → List Box → List Box → List Piece → Type 0
-AreTreesOf scenario seen put boxes pieces = AreFronts scenario seen boxes (front put pieces)
+abbrev pub AreTreesOf : Bounds → Scenario → ℕ → List Box → List Box → List Piece → Type 0
+AreTreesOf bounds scenario seen put boxes pieces = AreFronts bounds scenario seen boxes (front put pieces)
 
 -- the numbers of the branches whose trees belong among the pieces
 abbrev pub pushed_number : Piece → Option ℕ
@@ -42,9 +44,27 @@ nodes_in pieces = filter_map done_node pieces
 abbrev pub spent : List Piece → ℕ
 spent pieces = length (nodes_in pieces)
 
+-- whether a piece is a branch that is left, and the boxes that are left
+abbrev pub is_left : Piece → Bool
+is_left (Todo branch tried) = true
+is_left piece = false
+
+abbrev pub todo_box : Piece → Option Box
+todo_box (Todo branch tried) = Some branch.space
+todo_box piece = None
+
+abbrev pub left_boxes : List Piece → List Box
+left_boxes pieces = filter_map todo_box pieces
+
 -- what may stand in a tree of that scenario, where that latency was seen and those branches were put
 abbrev pub IsPiece : Scenario → ℕ → List Box → Piece → Type 0
 IsPiece scenario seen put (Done node) = IsNode node
 IsPiece scenario seen put (Todo branch tried) =
     (branch.scenario ≡ scenario) × IsTriedIf scenario branch.space tried seen
 IsPiece scenario seen put (Pushed number) = number < length put
+
+-- what a piece raises an upper bound to: a branch that is left, and nothing else
+abbrev pub IsRaisedOver : Bounds → Scenario → Piece → ℕ → ℕ → Type 0
+IsRaisedOver bounds scenario (Todo branch tried) upper raised = IsRaised bounds scenario branch.space upper raised
+IsRaisedOver bounds scenario (Done node) upper raised = raised ≡ upper
+IsRaisedOver bounds scenario (Pushed number) upper raised = raised ≡ upper

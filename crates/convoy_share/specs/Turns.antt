@@ -5,6 +5,7 @@ use Rattle.convoy_scenario.specs.Scenario.{Scenario}
 use Rattle.convoy_certificate.specs.declared.node.Node.TheVariants.{Split}
 use Rattle.convoy_intervals.specs.Boxes.{Box}
 use Rattle.convoy_intervals.specs.Tracked.{Tracked}
+use Rattle.convoy_branch.specs.declared.bounds.Bounds.{Bounds}
 use Rattle.convoy_branch.specs.declared.step.Turn.{Turn}
 use Rattle.convoy_branch.specs.declared.step.Turn.TheVariants.{Closed, Halves}
 use Rattle.convoy_share.specs.declared.piece.Piece.{Piece}
@@ -21,6 +22,6 @@ pieces_of (Closed node) = Done node ∷ []
 pieces_of (Halves packet at lower upper) = parted packet at (Todo lower false) upper
 
 -- they are a tree over it, and may stand in a tree of the scenario
-pub record IsTurned (scenario : Scenario) (seen : ℕ) (branch : Box) (turn : Turn) : Type 0 where
-  pub tree : AreTreesOf scenario seen [] (branch ∷ []) (pieces_of turn)
+pub record IsTurned (bounds : Bounds) (scenario : Scenario) (seen : ℕ) (branch : Box) (turn : Turn) : Type 0 where
+  pub tree : AreTreesOf bounds scenario seen [] (branch ∷ []) (pieces_of turn)
   pub each : All (IsPiece scenario seen []) (pieces_of turn)

@@ -5,11 +5,14 @@ ghost use Rattle.std.specs.Prelude.{IfNone, IfOk, IfSome, OnOk};
 ghost use Rattle.std.specs.List.{sum_by};
 ghost use Rattle.convoy_scenario.specs.Scenario.{Scenario};
 ghost use Rattle.convoy_intervals.specs.Boxes.{Box};
+ghost use Rattle.convoy_branch.specs.declared.bounds.Bounds.{Bounds};
+ghost use Rattle.convoy_branch.specs.Fronts.{left_in};
 ghost use Rattle.convoy_share.specs.Filling.{IsFilling, slot_at};
+ghost use Rattle.convoy_share.specs.Pieces.{front};
 
 use super::piece::Piece;
 use convoy_intervals::Tracked;
-use std::alloc::AllocError;
+use std::alloc::{AllocError, Global};
 use std::marker::Model;
 
 /// The tree of one number, or nothing. Contracts see its pieces in order.
@@ -29,6 +32,22 @@ impl Model for Slot {
 }
 
 impl Slot {
+    /// No tree.
+    pub fn empty(alloc: Global) -> Slot
+        ensures { result ≡ [] }
+    {
+        Slot {
+            pieces: Vec::new(alloc),
+        }
+    }
+
+    /// A tree of pieces that stand from the last one back.
+    pub fn of(pieces: Vec<Piece>) -> Slot
+        ensures { result ≡ reverse pieces.items }
+    {
+        Slot { pieces }
+    }
+
     /// Puts the tree in front of the pieces, which stand from the last one back, and leaves nothing.
     fn pour(&mut self, rest: &mut Vec<Piece>) -> Result<(), AllocError>
         ensures rest { OnOk result (reverse rest.new.items ≡ self.old ++ reverse rest.old.items) }
@@ -66,17 +85,18 @@ impl Filling {
 
     /// The same, in the words of a filling, which it stays. No piece is lost or added.
     fn fill_place(&mut self, number: u64) -> Result<(), AllocError>
-        requires { (scenario : Scenario) × (seen : ℕ) × (tickets : ℕ) × (put : List Box)
-            × IsFilling scenario seen tickets put self.old.done.items
+        requires { (bounds : Bounds) × (scenario : Scenario) × (seen : ℕ) × (tickets : ℕ) × (put : List Box)
+            × IsFilling bounds scenario seen tickets put self.old.done.items
             (Piece.Pushed number ∷ reverse self.old.rest.items) self.old.slots.items }
-        ensures filling { (scenario : Scenario) (seen tickets : ℕ) (put : List Box)
-            → IsFilling scenario seen tickets put self.old.done.items
+        ensures filling { (bounds : Bounds) (scenario : Scenario) (seen tickets : ℕ) (put : List Box)
+            → IsFilling bounds scenario seen tickets put self.old.done.items
             (Piece.Pushed number ∷ reverse self.old.rest.items) self.old.slots.items
-            → OnOk result (IsFilling scenario seen tickets put self.new.done.items
+            → OnOk result (IsFilling bounds scenario seen tickets put self.new.done.items
             (reverse self.new.rest.items) self.new.slots.items) }
         ensures pieces { OnOk result
             (length self.new.rest.items + sum_by length self.new.slots.items
             ≡ length self.old.rest.items + sum_by length self.old.slots.items) }
+        ensures done { OnOk result (self.new.done.items ≡ self.old.done.items) }
     {
         self.fill(number)?;
         Ok(())
@@ -85,20 +105,25 @@ impl Filling {
     /// Settles what is next, until a branch is left: that branch, and whether it was tried. None where
     /// nothing is left.
     pub fn next_left(&mut self) -> Result<Option<(Tracked, bool)>, AllocError>
-        requires { (scenario : Scenario) × (seen : ℕ) × (tickets : ℕ) × (put : List Box)
-            × IsFilling scenario seen tickets put self.old.done.items
+        requires { (bounds : Bounds) × (scenario : Scenario) × (seen : ℕ) × (tickets : ℕ) × (put : List Box)
+            × IsFilling bounds scenario seen tickets put self.old.done.items
             (reverse self.old.rest.items) self.old.slots.items }
-        ensures some { (scenario : Scenario) (seen tickets : ℕ) (put : List Box)
-            → IsFilling scenario seen tickets put self.old.done.items
+        ensures some { (bounds : Bounds) (scenario : Scenario) (seen tickets : ℕ) (put : List Box)
+            → IsFilling bounds scenario seen tickets put self.old.done.items
             (reverse self.old.rest.items) self.old.slots.items
             → IfOk result (λ next. IfSome next (λ left.
-            IsFilling scenario seen tickets put self.new.done.items
+            IsFilling bounds scenario seen tickets put self.new.done.items
             (Piece.Todo left.0 left.1 ∷ reverse self.new.rest.items) self.new.slots.items)) }
-        ensures none { (scenario : Scenario) (seen tickets : ℕ) (put : List Box)
-            → IsFilling scenario seen tickets put self.old.done.items
+        ensures none { (bounds : Bounds) (scenario : Scenario) (seen tickets : ℕ) (put : List Box)
+            → IsFilling bounds scenario seen tickets put self.old.done.items
             (reverse self.old.rest.items) self.old.slots.items
             → IfOk result (λ next. IfNone next
-            (IsFilling scenario seen tickets put self.new.done.items [] self.new.slots.items)) }
+            (IsFilling bounds scenario seen tickets put self.new.done.items [] self.new.slots.items)) }
+        ensures left { (put : List Box) → OnOk result
+            (left_in (front put self.new.done.items) ≡ left_in (front put self.old.done.items)) }
+        ensures fewer { IfOk result (λ next. IfSome next (λ _.
+            length self.new.rest.items + sum_by length self.new.slots.items
+            < length self.old.rest.items + sum_by length self.old.slots.items)) }
     {
         while let Some(piece) = self.rest.pop() {
             match piece {

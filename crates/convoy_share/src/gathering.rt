@@ -1,36 +1,34 @@
 //! How the owner takes in what the thieves bring.
 
 ghost use Rattle.std.specs.Prelude.{◌≡◌, ◌+◌, ℕ, OnOk};
-ghost use Rattle.convoy_scenario.specs.Scenario.{Scenario as OfScenario};
 ghost use Rattle.convoy_deque.specs.Tasks.{DequeId};
+ghost use Rattle.convoy_share.specs.Common.{common_of};
 ghost use Rattle.convoy_share.specs.Workers.{IsOwner, IsThief};
 
 use super::means::Means;
 use super::owner::OwnerWorker;
+use super::shared::Shared;
 use super::thief::ThiefWorker;
 use convoy_branch::laws::fronts_better;
-use convoy_incumbent::Board;
-use convoy_ledger::Ledger;
 use std::alloc::AllocError;
 
 /// Takes in what a thief of the owner's deque brings: what it published and drew, its share of the
 /// deque, and its trees.
 pub(crate) fn gather(
-    board: &Board,
-    ledger: &Ledger,
+    shared: &Shared,
     owner: &mut OwnerWorker,
     thief: ThiefWorker,
 ) -> Result<(), AllocError>
-    requires hand { owner.old.means.hand.board ≡ board.now }
-    requires other_hand { thief.means.hand.board ≡ board.now }
-    requires clerk { owner.old.means.clerk.ledger ≡ ledger.now }
-    requires other_clerk { thief.means.clerk.ledger ≡ ledger.now }
+    requires hand { owner.old.means.hand.board ≡ shared.now.board.now }
+    requires other_hand { thief.means.hand.board ≡ shared.now.board.now }
+    requires clerk { owner.old.means.clerk.ledger ≡ shared.now.ledger.now }
+    requires other_clerk { thief.means.clerk.ledger ≡ shared.now.ledger.now }
     requires deque { thief.end.deque ≡ owner.old.end.deque }
-    ensures { (scenario : OfScenario) (deque : DequeId) (hand clerk share hand_too clerk_too : ℕ)
-        → IsOwner scenario board.now ledger.now deque hand clerk share owner.old
-        → IsThief scenario board.now ledger.now deque hand_too clerk_too thief
-        → OnOk result (IsOwner scenario board.now ledger.now deque
-        (hand + hand_too) (clerk + clerk_too) (share + 1) owner.new) }
+    ensures { (deque : DequeId) (hand clerk share joined least hand_too clerk_too : ℕ)
+        → IsOwner (common_of shared.now) deque hand clerk share joined least owner.old
+        → IsThief (common_of shared.now) deque hand_too clerk_too thief
+        → OnOk result (IsOwner (common_of shared.now) deque (hand + hand_too) (clerk + clerk_too) (share + 1)
+        (joined + 1) least owner.new) }
 {
     fronts_better();
     let ThiefWorker {
@@ -39,8 +37,9 @@ pub(crate) fn gather(
         mut trees,
     } = thief;
     let Means { hand, clerk, .. } = means;
-    board.join(&mut owner.means.hand, hand);
-    ledger.join(&mut owner.means.clerk, clerk);
+    owner.drawn_by_thieves.push(clerk.drawn())?;
+    shared.board.join(&mut owner.means.hand, hand);
+    shared.ledger.join(&mut owner.means.clerk, clerk);
     owner.end.join(end);
     owner.trees.append(&mut trees)?;
     Ok(())

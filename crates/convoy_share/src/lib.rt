@@ -2,19 +2,29 @@
 #![tactic(auto)]
 
 pub use fault::SearchFault;
-pub use gate::Gate;
+pub use gate::{Gate, NoGate};
 pub use piece::Piece;
+pub use searching::{search, search_from};
 
+mod ending;
 mod fault;
 mod filling;
+mod finishing;
 mod gate;
 mod gathering;
 mod growing;
 pub mod laws;
 mod means;
+mod opening;
 mod owner;
 mod piece;
+mod placing;
 mod running;
+mod searching;
+mod settled;
+mod shared;
+#[cfg(test)]
+mod tests;
 mod thief;
 mod tree;
 mod worker;

@@ -1,21 +1,19 @@
 //! What a worker looks, publishes and draws with, and how it takes up a branch.
 
-ghost use Rattle.std.specs.Prelude.{◌≡◌, ◌≤◌, ◌+◌, true, length, IfOk, IfSome, OnOk};
+ghost use Rattle.std.specs.Prelude.{◌≡◌, ◌≤◌, ◌+◌, false, true, length, IfOk, IfSome, OnOk};
 ghost use Rattle.std.specs.Bool.{OnFalse, OnTrue};
-ghost use Rattle.convoy_packets.specs.Table.{table_of};
 ghost use Rattle.convoy_branch.specs.Steps.{known_after, IsTriedIf};
 ghost use Rattle.convoy_share.specs.Means.{IsTakenUp};
 
 use super::fault::SearchFault;
 use super::gate::Gate;
+use super::shared::Shared;
 use convoy_branch::laws::{fronts_better, turns_are_fronts, turns_are_nodes};
-use convoy_branch::{Step, Turn, step_branch};
-use convoy_incumbent::{Board, Hand, NoteFault};
+use convoy_branch::{Closer, Step, Turn, step_branch};
+use convoy_incumbent::{Board, Hand};
 use convoy_intervals::Tracked;
 use convoy_intervals::laws::upper_keeps_greatest;
 use convoy_ledger::{Clerk, Ledger};
-use convoy_packets::PacketTable;
-use convoy_scenario::Scenario;
 use convoy_sim::Record;
 use std::alloc::Global;
 use std::sync::Wait;
@@ -30,6 +28,21 @@ pub(crate) struct Means {
     pub taken_up: u64,
 }
 
+impl Means {
+    /// Those of a worker that has taken up nothing.
+    pub fn of(hand: Hand, clerk: Clerk, worker: u32) -> Means
+        ensures hand { result.hand ≡ hand }
+        ensures clerk { result.clerk ≡ clerk }
+    {
+        Means {
+            hand,
+            clerk,
+            worker,
+            taken_up: 0,
+        }
+    }
+}
+
 /// What became of a branch that was taken up.
 #[derive(Drop)]
 pub(crate) enum TakenUp {
@@ -42,40 +55,42 @@ pub(crate) enum TakenUp {
 /// Takes up a branch: looks, draws a ticket, and does the step where there was one.
 pub(crate) fn take_up<R: Wait, G: Gate>(
     rt: &R,
-    alloc: Global,
     gate: &G,
-    scenario: &Scenario,
-    table: &PacketTable,
-    board: &Board,
-    ledger: &Ledger,
+    shared: &Shared,
     means: &mut Means,
     branch: Tracked,
     tried: bool,
 ) -> Result<TakenUp, SearchFault>
-    requires packets { table.now ≡ table_of scenario.now }
-    requires board { board.now.scenario ≡ scenario.now }
-    requires hand { means.old.hand.board ≡ board.now }
-    requires clerk { means.old.clerk.ledger ≡ ledger.now }
-    requires of_scenario { branch.scenario ≡ scenario.now }
-    requires known { IsTriedIf scenario.now branch.space tried means.old.hand.seen }
-    ensures { IfOk result (λ taken.
-        IsTakenUp scenario.now ledger.now.most branch means.old means.new taken) }
+    requires hand { means.old.hand.board ≡ shared.now.board.now }
+    requires clerk { means.old.clerk.ledger ≡ shared.now.ledger.now }
+    requires of_scenario { branch.scenario ≡ shared.now.scenario.now }
+    requires known { IsTriedIf shared.now.scenario.now branch.space tried means.old.hand.seen }
+    ensures { IfOk result (λ taken. IsTakenUp shared.now.bounds shared.now.scenario.now
+        shared.now.ledger.now.most branch means.old means.new taken) }
 {
     fronts_better();
     turns_are_fronts();
     turns_are_nodes();
     upper_keeps_greatest();
-    let _count = table.len();
+    let _count = shared.table.len();
     let _space = branch.space();
-    gate.before_branch(means.worker, means.taken_up);
     means.taken_up = means.taken_up.saturating_add(1);
-    let seen = board.look(&mut means.hand);
-    if !has_drawn(ledger, &mut means.clerk) {
+    gate.before_branch(means.worker, means.taken_up);
+    let seen = shared.board.look(&mut means.hand);
+    if !has_drawn(shared.ledger, &mut means.clerk) {
         return Ok(TakenUp::Left(branch));
     }
-    match step_branch(alloc, scenario, table, branch, tried, seen) {
+    let Shared {
+        alloc,
+        scenario,
+        table,
+        bounds,
+        ..
+    } = *shared;
+    let mut closer = Closer::new(alloc, bounds);
+    match step_branch(alloc, scenario, table, branch, tried, seen, &mut closer) {
         Ok(Step { found, turn }) => {
-            publish_found(rt, board, &mut means.hand, found)?;
+            publish_found(rt, shared.board, &mut means.hand, found)?;
             Ok(TakenUp::Turned(turn))
         }
         Err(_) => Err(SearchFault::Memory),
@@ -87,7 +102,8 @@ fn has_drawn(ledger: &Ledger, clerk: &mut Clerk) -> bool
     requires { clerk.old.ledger ≡ ledger.now }
     ensures same { (clerk.new.ledger ≡ ledger.now) × (clerk.new.share ≡ clerk.old.share) }
     ensures some { OnTrue result ((length clerk.new.tickets ≡ length clerk.old.tickets + 1)
-        × (length clerk.new.tickets ≤ ledger.now.most)) }
+        × (length clerk.new.tickets ≤ ledger.now.most)
+        × (clerk.old.done ≡ false)) }
     ensures none { OnFalse result ((clerk.new.tickets ≡ clerk.old.tickets)
         × (clerk.new.done ≡ true)) }
 {
@@ -126,11 +142,7 @@ fn publish<R: Wait>(
     ensures seen { OnOk result ((hand.old.seen ≤ hand.new.seen)
         × (found.latency ≤ hand.new.seen)) }
 {
-    let noted = match board.note(rt, found) {
-        Ok(noted) => noted,
-        Err(NoteFault::Memory(_)) => return Err(SearchFault::Memory),
-        Err(NoteFault::PlaceTooLarge(late)) => return Err(SearchFault::PlaceTooLarge(late)),
-    };
+    let noted = board.note(rt, found)?;
     board.publish(hand, noted);
     Ok(())
 }

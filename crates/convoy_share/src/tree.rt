@@ -31,6 +31,15 @@ impl Tree {
     {
         Tree { number, pieces }
     }
+
+    /// The number of the branch, and the pieces from the last one back.
+    pub fn into_parts(self) -> (u64, Vec<Piece>)
+        ensures number { result.0 ≡ self.number }
+        ensures pieces { reverse result.1.items ≡ self.pieces }
+    {
+        let Tree { number, pieces } = self;
+        (number, pieces)
+    }
 }
 
 /// Keeps a tree.

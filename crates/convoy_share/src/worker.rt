@@ -2,7 +2,6 @@
 
 ghost use Rattle.std.specs.Prelude.{◌≡◌, ◌≤◌, ◌+◌, ◌*◌, ◌-◌, ℕ, List, [], ◌∷◌, ◌++◌, length, reverse};
 ghost use Rattle.std.specs.Prelude.{IfOk, OnOk};
-ghost use Rattle.convoy_packets.specs.Table.{table_of};
 ghost use Rattle.convoy_intervals.specs.Boxes.{Box};
 ghost use Rattle.convoy_branch.specs.Steps.{IsTriedIf};
 ghost use Rattle.convoy_share.specs.Growing.{pieces_in};
@@ -13,50 +12,38 @@ use super::gate::Gate;
 use super::growing::Growing;
 use super::means::{Means, TakenUp, take_up};
 use super::piece::Piece;
+use super::shared::Shared;
 use convoy_branch::laws::fronts_better;
-use convoy_incumbent::Board;
 use convoy_intervals::Tracked;
-use convoy_ledger::Ledger;
-use convoy_packets::PacketTable;
-use convoy_scenario::Scenario;
-use std::alloc::Global;
 use std::sync::Wait;
 
 /// Takes up the branch that is next in a tree, and keeps both halves of a split.
 fn advance<R: Wait, G: Gate>(
     rt: &R,
-    alloc: Global,
     gate: &G,
-    scenario: &Scenario,
-    table: &PacketTable,
-    board: &Board,
-    ledger: &Ledger,
+    shared: &Shared,
     means: &mut Means,
     growing: &mut Growing,
     branch: Tracked,
     tried: bool,
 ) -> Result<(), SearchFault>
-    requires packets { table.now ≡ table_of scenario.now }
-    requires board { board.now.scenario ≡ scenario.now }
-    requires hand { means.old.hand.board ≡ board.now }
-    requires clerk { means.old.clerk.ledger ≡ ledger.now }
-    requires of_scenario { branch.scenario ≡ scenario.now }
-    requires known { IsTriedIf scenario.now branch.space tried means.old.hand.seen }
+    requires hand { means.old.hand.board ≡ shared.now.board.now }
+    requires clerk { means.old.clerk.ledger ≡ shared.now.ledger.now }
+    requires of_scenario { branch.scenario ≡ shared.now.scenario.now }
+    requires known { IsTriedIf shared.now.scenario.now branch.space tried means.old.hand.seen }
     ensures grown { (before : Means) (first put : List Box) (low : ℕ) (boxes : List Box)
-        → IsGrown scenario.now before means.old first put low boxes
+        → IsGrown shared.now.bounds shared.now.scenario.now before means.old first put low boxes
         (growing.old.work.items ++ Piece.Todo branch tried ∷ reverse growing.old.written.items)
-        → OnOk result (IsGrown scenario.now before means.new first put low boxes
+        → OnOk result (IsGrown shared.now.bounds shared.now.scenario.now before means.new first put low boxes
         (pieces_in growing.new)) }
-    ensures board { OnOk result (means.new.hand.board ≡ board.now) }
-    ensures ledger { OnOk result (means.new.clerk.ledger ≡ ledger.now) }
+    ensures board { OnOk result (means.new.hand.board ≡ shared.now.board.now) }
+    ensures ledger { OnOk result (means.new.clerk.ledger ≡ shared.now.ledger.now) }
     ensures fewer { OnOk result
-        (3 * (ledger.now.most - drawn means.new) + length growing.new.work.items
-        ≤ 3 * (ledger.now.most - drawn means.old) + length growing.old.work.items) }
+        (3 * (shared.now.ledger.now.most - drawn means.new) + length growing.new.work.items
+        ≤ 3 * (shared.now.ledger.now.most - drawn means.old) + length growing.old.work.items) }
 {
     fronts_better();
-    match take_up(
-        rt, alloc, gate, scenario, table, board, ledger, means, branch, tried,
-    )? {
+    match take_up(rt, gate, shared, means, branch, tried)? {
         TakenUp::Turned(turn) => growing.follow(turn)?,
         TakenUp::Left(branch) => growing.leave(branch, tried)?,
     }
@@ -67,39 +54,21 @@ fn advance<R: Wait, G: Gate>(
 /// back.
 pub(crate) fn search_branch<R: Wait, G: Gate>(
     rt: &R,
-    alloc: Global,
     gate: &G,
-    scenario: &Scenario,
-    table: &PacketTable,
-    board: &Board,
-    ledger: &Ledger,
+    shared: &Shared,
     means: &mut Means,
     branch: Tracked,
 ) -> Result<Vec<Piece>, SearchFault>
-    requires packets { table.now ≡ table_of scenario.now }
-    requires board { board.now.scenario ≡ scenario.now }
-    requires hand { means.old.hand.board ≡ board.now }
-    requires clerk { means.old.clerk.ledger ≡ ledger.now }
-    requires of_scenario { branch.scenario ≡ scenario.now }
+    requires hand { means.old.hand.board ≡ shared.now.board.now }
+    requires clerk { means.old.clerk.ledger ≡ shared.now.ledger.now }
+    requires of_scenario { branch.scenario ≡ shared.now.scenario.now }
     ensures { (put : List Box) (low : ℕ) → IfOk result (λ pieces.
-        IsGrown scenario.now means.old means.new put put low (branch.space ∷ [])
+        IsGrown shared.now.bounds shared.now.scenario.now means.old means.new put put low (branch.space ∷ [])
         (reverse pieces.items)) }
 {
-    let mut growing = Growing::of(alloc, branch)?;
+    let mut growing = Growing::of(shared.alloc, branch)?;
     while let Some((branch, tried)) = growing.next()? {
-        advance(
-            rt,
-            alloc,
-            gate,
-            scenario,
-            table,
-            board,
-            ledger,
-            means,
-            &mut growing,
-            branch,
-            tried,
-        )?;
+        advance(rt, gate, shared, means, &mut growing, branch, tried)?;
     }
     Ok(growing.written)
 }

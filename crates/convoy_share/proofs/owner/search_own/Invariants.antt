@@ -5,11 +5,11 @@ use Rattle.convoy_share.proofs.owner.search_own.Given as goal
 
 abbrev pub invariant-loop-growing : goal.invariant-loop-growing
 invariant-loop-growing g l =
-    ((low : ℕ) → low ≤ length l.fn.owner.put → IsGrown l.scenario l.fn.means l.means l.fn.owner.put l.owner.put low (l.fn.branch.space ∷ []) (pieces_in l.growing))
-    × (l.means.hand.board ≡ l.board)
-    × (l.means.clerk.ledger ≡ l.ledger)
+    ((low : ℕ) → low ≤ length l.fn.owner.put → IsGrown l.shared.bounds l.shared.scenario.now l.fn.means l.means l.fn.owner.put l.owner.put low (l.fn.branch.space ∷ []) (pieces_in l.growing))
+    × (l.means.hand.board ≡ l.shared.board.now)
+    × (l.means.clerk.ledger ≡ l.shared.ledger.now)
     × (l.owner ≡ record l.fn.owner { put = l.owner.put })
     × (length l.fn.owner.put ≤ length l.owner.put)
 
 abbrev pub decreases-loop-growing : goal.decreases-loop-growing
-decreases-loop-growing g l = 3 * (l.ledger.most - drawn l.means) + length l.growing.work.items
+decreases-loop-growing g l = 3 * (l.shared.ledger.now.most - drawn l.means) + length l.growing.work.items

@@ -1,5 +1,5 @@
-use Rattle.convoy_share.proofs.Worked.{owner_own}
+use Rattle.convoy_share.proofs.Worked.{owner_own, owner_given}
 use Rattle.convoy_share.proofs.owner.work.Goals as goal
 
-pub work_once-requires-clause-owner : goal.work_once-requires-clause-owner
-work_once-requires-clause-owner g c = owner_own _ _ _ _ _ _ _ _ c.loop.invariant
+pub work_once-requires : goal.work_once-requires
+work_once-requires g c = owner_own _ _ _ _ _ _ _ _ c.loop.invariant

@@ -1,6 +1,6 @@
-use Rattle.convoy_share.specs.Workers.{IsOwner}
+use Rattle.convoy_share.specs.Common.{common_of}
+use Rattle.convoy_share.specs.Workers.{StaysOwner}
 use Rattle.convoy_share.proofs.owner.work.Given as goal
 
 abbrev pub invariant-loop : goal.invariant-loop
-invariant-loop g l =
-    IsOwner l.scenario l.board l.ledger l.fn.worker.end.deque l.fn.worker.means.hand.share l.fn.worker.means.clerk.share l.fn.worker.end.share l.worker
+invariant-loop g l = StaysOwner (common_of l.shared) l.fn.worker l.worker

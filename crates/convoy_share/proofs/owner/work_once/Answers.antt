@@ -1,6 +1,7 @@
-use Rattle.std.proofs.Common.{◌≡◌, ◌≤◌, List, [], ◌∷◌, ◌+◌, length, reverse, ◌∙◌, ap, sym, subst, ◌++◌}
+use Rattle.std.proofs.Common.{List, [], ◌∷◌, ◌+◌, ◌≤◌, ◌≡◌, length, reverse, ◌∙◌, ap, refl, sym, subst, ◌++◌}
 use Rattle.convoy_intervals.specs.Boxes.{Box}
 use Rattle.convoy_deque.specs.Tasks.{OwnerEnd}
+use Rattle.convoy_share.specs.Common.{common_of}
 use Rattle.convoy_share.specs.declared.owner.OwnerWorker.{OwnerWorker}
 use Rattle.convoy_share.specs.Means.{IsGrown}
 use Rattle.convoy_share.specs.Subtrees.{Subtree}
@@ -9,9 +10,10 @@ use Rattle.convoy_share.proofs.owner.work_once.Goals as goal
 
 pub returns-in_ok-keep-in-Some : goal.returns-in_ok-keep-in-Some
 returns-in_ok-keep-in-Some g c =
+    let shared = c.args.shared.now in
     let old = c.args.worker.now in
     let trees = c.in_ok-keep-in-Some.ensures ∙ ap (λ (t : Subtree). old.trees.items ++ t ∷ []) c.of.ensures in
-    let new : OwnerWorker = record { means = c.search_own.new.means; end = c.search_own.new.owner; trees = c.keep.new.trees } in
+    let new : OwnerWorker = record { means = c.search_taken.new.means; end = c.search_taken.new.owner; trees = c.keep.new.trees; drawn_by_thieves = old.drawn_by_thieves } in
     let took = c.in-Some.ensures.some in
     let told = c.in_ok-pieces-in-Some.ensures in
     let task = c.in-Some.task in
@@ -19,5 +21,5 @@ returns-in_ok-keep-in-Some g c =
     let put : c.take.new.self.put ≡ old.end.put = ap (λ (o : OwnerEnd). o.put) took.0 in
     let pieces = reverse c.in_ok-pieces-in-Some.pieces.items in
     let below = subst (λ (bs : List Box). task.number + 1 ≤ length bs) (sym put) (number_below old.end.put task took.2) in
-    let grown = subst (λ (bs : List Box). IsGrown c.args.scenario.now old.means new.means bs new.end.put (task.number + 1) (task.branch.space ∷ []) pieces) put (told.grown (task.number + 1) below) in
-    owner_more c.fronts_better.ensures c.args.scenario.now c.args.board.now c.args.ledger.now old.end.deque old.means.hand.share old.means.clerk.share old.end.share old new task pieces c.requires.owner end grown trees
+    let grown = subst (λ (bs : List Box). IsGrown shared.bounds shared.scenario.now old.means new.means bs new.end.put (task.number + 1) (task.branch.space ∷ []) pieces) put (told.grown (task.number + 1) below) in
+    owner_more c.fronts_better.ensures (common_of shared) old new task pieces c.requires end grown trees refl

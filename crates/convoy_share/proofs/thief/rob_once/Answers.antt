@@ -1,4 +1,5 @@
 use Rattle.std.proofs.Common.{[], ◌∷◌, ◌+◌, reverse, ◌∙◌, ap, ◌++◌}
+use Rattle.convoy_share.specs.Common.{common_of}
 use Rattle.convoy_share.specs.declared.thief.ThiefWorker.{ThiefWorker}
 use Rattle.convoy_share.specs.Subtrees.{Subtree}
 use Rattle.convoy_share.proofs.Worked.{thief_more}
@@ -9,4 +10,4 @@ returns-in_ok-keep-in-Success g c =
     let old = c.args.worker.now in
     let trees = c.in_ok-keep-in-Success.ensures ∙ ap (λ (t : Subtree). old.trees.items ++ t ∷ []) c.of.ensures in
     let new : ThiefWorker = record { means = c.search_branch.new.means; end = c.steal.new.self; trees = c.keep.new.trees } in
-    thief_more c.fronts_better.ensures c.args.scenario.now c.args.board.now c.args.ledger.now old.end.deque old.means.hand.share old.means.clerk.share old new c.in-Success.task (reverse c.in_ok-pieces-in-Success.pieces.items) c.requires.thief c.in-Success.ensures.0 (c.in_ok-pieces-in-Success.ensures [] (c.in-Success.task.number + 1)) trees
+    thief_more c.fronts_better.ensures (common_of c.args.shared.now) old.end.deque old.means.hand.share old.means.clerk.share old new c.in-Success.task (reverse c.in_ok-pieces-in-Success.pieces.items) c.requires c.in-Success.ensures.0 (c.in_ok-pieces-in-Success.ensures [] (c.in-Success.task.number + 1)) trees

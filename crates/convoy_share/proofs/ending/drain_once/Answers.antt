@@ -1,0 +1,15 @@
+use Rattle.std.proofs.Common.{List, [], ◌∷◌, ◌++◌, ◌≡◌, ◌∙◌, ap, refl, reverse}
+use Rattle.convoy_share.specs.Common.{common_of}
+use Rattle.convoy_share.specs.declared.owner.OwnerWorker.{OwnerWorker}
+use Rattle.convoy_share.specs.declared.piece.Piece.{Piece}
+use Rattle.convoy_share.specs.Subtrees.{Subtree}
+use Rattle.convoy_share.proofs.Drained.{owner_drained}
+use Rattle.convoy_share.proofs.ending.drain_once.Goals as goal
+
+pub returns-clause-owner : goal.returns-clause-owner
+returns-clause-owner c =
+    let old = c.args.worker.now in
+    let took = c.in-Some.ensures.some in
+    let new : OwnerWorker = record { means = old.means; end = c.take.new.self; trees = c.keep.new.trees; drawn_by_thieves = old.drawn_by_thieves } in
+    let trees = c.in_ok-keep.ensures ∙ ap (λ (t : Subtree). old.trees.items ++ t ∷ []) c.of-2.ensures in
+    owner_drained c.fronts_better.ensures (common_of c.args.shared.now) old new c.in-Some.task (reverse c.in_ok-growing.growing.work.items) c.requires took.1 refl took.0 (ap (λ (ps : List Piece). reverse ps) c.in_ok-growing.ensures.0) trees refl

@@ -1,0 +1,21 @@
+-- What contracts see of what all workers share.
+use Rattle.convoy_scenario.specs.Scenario.{Scenario}
+use Rattle.convoy_incumbent.specs.Boards.{BoardId}
+use Rattle.convoy_ledger.specs.Tickets.{LedgerId}
+use Rattle.convoy_branch.specs.declared.bounds.Bounds.{Bounds}
+use Rattle.convoy_share.specs.declared.shared.Shared.{Shared}
+
+-- the bounds by which the workers go, the scenario, the board and the ledger
+pub record Common : Type 0 where
+  pub bounds : Bounds
+  pub scenario : Scenario
+  pub board : BoardId
+  pub ledger : LedgerId
+
+abbrev pub common_of : Shared → Common
+common_of shared =
+    record { bounds = shared.bounds; scenario = shared.scenario.now; board = shared.board.now; ledger = shared.ledger.now }
+
+abbrev pub common_by : Bounds → Scenario → BoardId → LedgerId → Common
+common_by bounds scenario board ledger =
+    record { bounds = bounds; scenario = scenario; board = board; ledger = ledger }

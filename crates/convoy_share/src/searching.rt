@@ -1,0 +1,277 @@
+//! The search of several workers.
+
+ghost use Rattle.std.specs.Prelude.{◌≡◌, ℕ, ◌-◌, ◌+◌, ◌≤◌, [], false, true, length, IfOk};
+ghost use Rattle.std.specs.List.{list_any, sum};
+ghost use Rattle.convoy_packets.specs.Assignment.{ranges_of};
+ghost use Rattle.convoy_packets.specs.Table.{least_of, table_of};
+ghost use Rattle.convoy_sim.specs.Delivery.{latency_of};
+ghost use Rattle.convoy_branch.specs.Outcomes.{IsOutcome, best_of};
+ghost use Rattle.convoy_ledger.specs.Tickets.{most_tickets, whole};
+ghost use Rattle.convoy_share.specs.Common.{Common, common_of};
+ghost use Rattle.convoy_share.specs.Ended.{IsClosed, IsEnded};
+ghost use Rattle.convoy_share.specs.Pieces.{is_left};
+
+use super::ending::{Ended, finish};
+use super::fault::SearchFault;
+use super::gate::Gate;
+use super::opening::open_workers;
+use super::piece::Piece;
+use super::running::run;
+use super::settled::{has_left, nodes_of, upper_over};
+use super::shared::Shared;
+use convoy_branch::laws::{
+    fronts_better, fronts_bound, only_leads_have_lead_leaves, plain_fronts_have_no_stamps,
+    whole_fronts_are_readable, whole_fronts_are_trees,
+};
+use convoy_branch::{Bounds, Outcome};
+use convoy_certificate::Certificate;
+use convoy_checker::laws::trees_cover;
+use convoy_incumbent::{Board, CloseFault, Hand};
+use convoy_ledger::{Clerk, Ledger};
+use convoy_packets::{Delays, PacketTable};
+use convoy_scenario::Scenario;
+use convoy_sim::Record;
+use std::alloc::{AllocError, Global};
+use std::sync::Wait;
+use std::sync::atomic::AtomicBool;
+use std::thread::Threads;
+
+/// Searches for the greatest latency of a scenario with so many workers, each in a thread of its own, by
+/// branch and bound (docs/PROTOCOL.md). It starts from the record of the least delays. The workers draw
+/// their tickets from one ledger of `limit`, and each calls the gate before it takes up a branch; boxes
+/// are closed by those bounds. Where a thread can't be started, its worker runs after the others.
+///
+/// The errors are that memory ran out, and that more records were found than the board can name. Each
+/// comes after all threads have ended; of several the one of the worker of the least number.
+pub fn search<R: Threads + Wait + Sync, G: Gate + Sync>(
+    rt: &R,
+    alloc: Global,
+    scenario: &Scenario,
+    table: &PacketTable,
+    workers: u32,
+    limit: u64,
+    bounds: Bounds,
+    gate: &G,
+) -> Result<Outcome, SearchFault>
+    requires packets { table.now ≡ table_of scenario.now }
+    requires workers { (1 ≤ workers) × (workers ≤ 16) }
+    requires tickets { (1 ≤ limit) × (limit ≤ most_tickets) }
+    ensures { IfOk result (λ outcome. IsOutcome bounds scenario.now workers limit outcome) }
+{
+    let delays = Delays::least(alloc, table)?;
+    let opening = Record::of(scenario, table, delays);
+    search_from(
+        rt, alloc, scenario, table, opening, workers, limit, bounds, gate,
+    )
+}
+
+/// The search of [`search`] from an opening record of the scenario. Its latency is at least that of the
+/// least delays, and the latency that the search finds is at least that of the record.
+pub fn search_from<'a, R: Threads + Wait + Sync, G: Gate + Sync>(
+    rt: &R,
+    alloc: Global,
+    scenario: &'a Scenario,
+    table: &'a PacketTable,
+    opening: Record,
+    workers: u32,
+    limit: u64,
+    bounds: Bounds,
+    gate: &G,
+) -> Result<Outcome, SearchFault>
+    requires packets { table.now ≡ table_of scenario.now }
+    requires of_scenario { opening.scenario ≡ scenario.now }
+    requires least { latency_of scenario.now (least_of (ranges_of scenario.now)) ≤ opening.latency }
+    requires workers { (1 ≤ workers) × (workers ≤ 16) }
+    requires tickets { (1 ≤ limit) × (limit ≤ most_tickets) }
+    ensures value { IfOk result (λ outcome. IsOutcome bounds scenario.now workers limit outcome) }
+    ensures opened { IfOk result (λ outcome. opening.latency ≤ best_of outcome) }
+{
+    let (board, hand) = match Board::open(rt, alloc, opening) {
+        Ok(opened) => opened,
+        Err((_, fault)) => return Err(fault.into()),
+    };
+    let (ledger, clerk) = Ledger::open(alloc, limit)?;
+    let begun = AtomicBool::new(false);
+    let ended = AtomicBool::new(false);
+    let shared = Shared {
+        alloc,
+        scenario,
+        table,
+        bounds,
+        board: &board,
+        ledger: &ledger,
+        begun: &begun,
+        ended: &ended,
+        workers,
+    };
+    let brought = search_together(rt, gate, &shared, hand, clerk)?;
+    let closed = close(alloc, board, ledger, brought)?;
+    Ok(closed.into_outcome(alloc, scenario, table, bounds)?)
+}
+
+/// Runs all workers, and puts together what they bring.
+fn search_together<R: Threads + Wait + Sync, G: Gate + Sync>(
+    rt: &R,
+    gate: &G,
+    shared: &Shared,
+    hand: Hand,
+    clerk: Clerk,
+) -> Result<Ended, SearchFault>
+    requires workers { (1 ≤ shared.now.workers) × (shared.now.workers ≤ 16) }
+    requires hand { (hand.board ≡ shared.now.board.now) × (hand.share ≡ whole) }
+    requires clerk { (clerk.ledger ≡ shared.now.ledger.now) × (clerk.share ≡ whole) }
+    requires none { clerk.tickets ≡ [] }
+    ensures { IfOk result (λ ended. IsEnded (common_of shared.now) whole whole (shared.now.workers - 1)
+        hand.seen ended) }
+{
+    let (owner, thieves) = open_workers(shared, hand, clerk)?;
+    let owner = run(rt, gate, shared, owner, thieves)?;
+    finish(rt, gate, shared, owner)
+}
+
+/// What a search has come to.
+#[derive(Drop)]
+pub(crate) struct Closed {
+    /// The record of the greatest latency that was found.
+    best: Record,
+    /// How many tickets were drawn.
+    tickets: u64,
+    /// How many each worker drew.
+    by_worker: Vec<u64>,
+    /// The tree.
+    pieces: Vec<Piece>,
+}
+
+/// Ends board and ledger, of which all workers' shares are back.
+fn close(alloc: Global, board: Board, ledger: Ledger, ended: Ended) -> Result<Closed, SearchFault>
+    requires hand { (ended.hand.board ≡ board) × (ended.hand.share ≡ whole) }
+    requires clerk { (ended.clerk.ledger ≡ ledger) × (ended.clerk.share ≡ whole) }
+    requires theirs { sum ended.drawn_by_thieves.items ≤ length ended.clerk.tickets }
+    ensures closed { (common : Common) (joined least : ℕ)
+        → common.board ≡ board → common.ledger ≡ ledger → board.scenario ≡ common.scenario
+        → IsEnded common whole whole joined least ended
+        → IfOk result (λ closed. IsClosed common.bounds common.scenario (joined + 1) ledger.most
+        closed) }
+    ensures no_less { IfOk result (λ closed. ended.hand.seen ≤ closed.best.latency) }
+{
+    fronts_better();
+    let Ended {
+        hand,
+        clerk,
+        pieces,
+        drawn_by_thieves,
+    } = ended;
+    let Ok(tickets) = ledger.close(clerk) else {
+        unreachable!();
+    };
+    let by_worker = tickets_by_worker(alloc, tickets, &drawn_by_thieves)?;
+    let best = match board.close(hand) {
+        Ok(best) => best,
+        Err(CloseFault::Memory(_, _)) => return Err(SearchFault::Memory),
+        Err(CloseFault::HandsOut(_, _)) => unreachable!(),
+    };
+    Ok(Closed {
+        best,
+        tickets,
+        by_worker,
+        pieces,
+    })
+}
+
+/// How many tickets each worker drew, where so many were drawn in all, and those by the thieves: the
+/// owner drew the others.
+fn tickets_by_worker(alloc: Global, tickets: u64, thieves: &[u64]) -> Result<Vec<u64>, AllocError>
+    requires { sum thieves.now ≤ tickets }
+    ensures count { IfOk result (λ shares. length shares.items ≡ length thieves.now + 1) }
+    ensures all { IfOk result (λ shares. sum shares.items ≡ tickets) }
+{
+    let theirs = thieves.iter().sum::<u64>();
+    let mut by_worker = Vec::new(alloc);
+    by_worker.push(tickets - theirs)?;
+    by_worker.extend_from_slice(thieves)?;
+    Ok(by_worker)
+}
+
+impl Closed {
+    /// The outcome: a certificate where no branch is left.
+    fn into_outcome(
+        self,
+        alloc: Global,
+        scenario: &Scenario,
+        table: &PacketTable,
+        bounds: Bounds,
+    ) -> Result<Outcome, AllocError>
+        requires packets { table.now ≡ table_of scenario.now }
+        requires closed { (workers : ℕ) × (limit : ℕ)
+            × IsClosed bounds scenario.now workers limit self }
+        requires least { latency_of scenario.now (least_of (ranges_of scenario.now))
+            ≤ self.best.latency }
+        ensures value { (workers limit : ℕ) → IsClosed bounds scenario.now workers limit self
+            → IfOk result (λ outcome. IsOutcome bounds scenario.now workers limit outcome) }
+        ensures best { IfOk result (λ outcome. best_of outcome ≡ self.best.latency) }
+    {
+        if has_left(&self.pieces) {
+            self.into_open(alloc, scenario, table, bounds)
+        } else {
+            self.into_proved(alloc, scenario, bounds)
+        }
+    }
+
+    /// The outcome where no branch is left.
+    fn into_proved(
+        self,
+        alloc: Global,
+        scenario: &Scenario,
+        bounds: Bounds,
+    ) -> Result<Outcome, AllocError>
+        requires closed { (workers : ℕ) × (limit : ℕ)
+            × IsClosed bounds scenario.now workers limit self }
+        requires none { list_any is_left self.pieces.items ≡ false }
+        ensures value { (workers limit : ℕ) → IsClosed bounds scenario.now workers limit self
+            → IfOk result (λ outcome. IsOutcome bounds scenario.now workers limit outcome) }
+        ensures best { IfOk result (λ outcome. best_of outcome ≡ self.best.latency) }
+    {
+        plain_fronts_have_no_stamps();
+        only_leads_have_lead_leaves();
+        whole_fronts_are_readable();
+        trees_cover();
+        whole_fronts_are_trees();
+        let nodes = nodes_of(alloc, &self.pieces)?;
+        let latency = self.best.latency();
+        let delays = self.best.delays().copy()?;
+        Ok(Outcome::Proved {
+            certificate: Certificate::new(scenario.copy()?, latency, delays, nodes),
+            tickets: self.tickets,
+            by_worker: self.by_worker,
+        })
+    }
+
+    /// The outcome where a branch is left.
+    fn into_open(
+        self,
+        alloc: Global,
+        scenario: &Scenario,
+        table: &PacketTable,
+        bounds: Bounds,
+    ) -> Result<Outcome, AllocError>
+        requires packets { table.now ≡ table_of scenario.now }
+        requires closed { (workers : ℕ) × (limit : ℕ)
+            × IsClosed bounds scenario.now workers limit self }
+        requires least { latency_of scenario.now (least_of (ranges_of scenario.now))
+            ≤ self.best.latency }
+        requires some { list_any is_left self.pieces.items ≡ true }
+        ensures value { (workers limit : ℕ) → IsClosed bounds scenario.now workers limit self
+            → IfOk result (λ outcome. IsOutcome bounds scenario.now workers limit outcome) }
+        ensures best { IfOk result (λ outcome. best_of outcome ≡ self.best.latency) }
+    {
+        fronts_bound();
+        let seen = self.best.latency();
+        let upper = upper_over(alloc, scenario, table, bounds, &self.pieces, seen)?;
+        Ok(Outcome::Open {
+            best: self.best,
+            upper,
+            tickets: self.tickets,
+            by_worker: self.by_worker,
+        })
+    }
+}

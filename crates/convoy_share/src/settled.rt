@@ -1,0 +1,95 @@
+//! What a tree says once every place is filled.
+
+ghost use Rattle.std.specs.Prelude.{◌≡◌, ℕ, List, IfOk};
+ghost use Rattle.std.specs.List.{All, list_any};
+ghost use Rattle.convoy_packets.specs.Table.{table_of};
+ghost use Rattle.convoy_intervals.specs.Boxes.{Box};
+ghost use Rattle.convoy_branch.specs.Uppers.{IsUpperOf};
+ghost use Rattle.convoy_share.specs.Pieces.{IsPiece, IsRaisedOver, is_left, left_boxes, nodes_in};
+
+use super::piece::Piece;
+use convoy_branch::laws::{uppers_begin, uppers_raised};
+use convoy_branch::{Bounds, Closer};
+use convoy_certificate::Node;
+use convoy_packets::PacketTable;
+use convoy_scenario::Scenario;
+use std::alloc::{AllocError, Global};
+
+impl Piece {
+    /// Whether it is a branch that is left.
+    fn is_left(&self) -> bool
+        ensures { result ≡ is_left self.now }
+    {
+        matches!(self, Piece::Todo { .. })
+    }
+}
+
+/// Whether a branch is left.
+pub(crate) fn has_left(pieces: &[Piece]) -> bool
+    ensures { result ≡ list_any is_left pieces.now }
+{
+    for piece in pieces {
+        if piece.is_left() {
+            return true;
+        }
+    }
+    false
+}
+
+/// The nodes for which tickets were spent.
+pub(crate) fn nodes_of(alloc: Global, pieces: &[Piece]) -> Result<Vec<Node>, AllocError>
+    ensures { IfOk result (λ nodes. nodes.items ≡ nodes_in pieces.now) }
+{
+    let mut nodes = Vec::with_capacity(alloc, pieces.len())?;
+    for piece in pieces {
+        if let Piece::Done(node) = piece {
+            nodes.push(*node)?;
+        }
+    }
+    Ok(nodes)
+}
+
+/// The upper bound of all latencies, in ticks, of a search by those bounds where that is the best one
+/// and the branches among the pieces are left.
+pub(crate) fn upper_over(
+    alloc: Global,
+    scenario: &Scenario,
+    table: &PacketTable,
+    bounds: Bounds,
+    pieces: &[Piece],
+    seen: u32,
+) -> Result<u32, AllocError>
+    requires packets { table.now ≡ table_of scenario.now }
+    requires pieces { (best : ℕ) × (put : List Box) × All (IsPiece scenario.now best put) pieces.now }
+    ensures { IfOk result (λ upper. IsUpperOf bounds scenario.now seen (left_boxes pieces.now) upper) }
+{
+    uppers_begin();
+    uppers_raised();
+    let mut closer = Closer::new(alloc, bounds);
+    let mut upper = seen;
+    for piece in pieces {
+        upper = raised_over(alloc, scenario, table, piece, upper, &mut closer)?;
+    }
+    Ok(upper)
+}
+
+/// What a piece raises an upper bound to, in ticks: a branch that is left, and nothing else.
+fn raised_over(
+    alloc: Global,
+    scenario: &Scenario,
+    table: &PacketTable,
+    piece: &Piece,
+    upper: u32,
+    closer: &mut Closer,
+) -> Result<u32, AllocError>
+    requires packets { table.now ≡ table_of scenario.now }
+    requires piece { (best : ℕ) × (put : List Box) × IsPiece scenario.now best put piece.now }
+    ensures value { IfOk result
+        (λ raised. IsRaisedOver closer.old scenario.now piece.now upper raised) }
+    ensures same { closer.new ≡ closer.old }
+{
+    match piece {
+        Piece::Todo { branch, .. } => closer.raised(alloc, scenario, table, branch, upper),
+        Piece::Done(_) | Piece::Pushed(_) => Ok(upper),
+    }
+}
