@@ -1,0 +1,5 @@
+pub mod Finding
+pub mod Holders
+pub mod PacketLines
+pub mod Rows
+pub mod Truth

@@ -1,0 +1,24 @@
+use Rattle.std.proofs.Common.{◌≡◌, None, Some, map, refl, arith}
+use Rattle.std.specs.Prelude.{slice_index}
+use Rattle.convoy_packets.specs.Assignment.{range_of, ranges_of}
+use Rattle.convoy_explain.specs.PacketLists.{packet_line, packets_text}
+use Rattle.convoy_explain.proofs.PacketLines.{none_left, one_more, range_at}
+use Rattle.convoy_explain.proofs.packet_list.packets_text.Goals as goal
+
+pub loop-i-init : goal.loop-i-init
+unfolding packets_text
+loop-i-init c = rw (c.new-text.ensures.items, c.requires) refl
+
+pub loop-i-preserved : goal.loop-i-preserved
+unfolding ranges_of
+loop-i-preserved c =
+    let packets = c.args.table.now.packets in
+    let same : c.args.table.now.ranges ≡ map (range_of c.args.scenario.now) packets = rw c.requires refl in
+    let range = range_at (range_of c.args.scenario.now) packets c.args.table.now.ranges c.loop-i.i c.packet.result c.range.result same c.packet.ensures c.range.ensures.value in
+    let line = c.in_ok-line.ensures range in
+    rw (c.in_ok-extend_from_slice.ensures.items, c.as_bytes.ensures.value)
+    (one_more (λ p. packet_line c.args.scenario.now p.0 p.1 None) c.loop-i.text.items _ _ packets c.loop-i.i c.packet.result c.packet.ensures c.loop-i.invariant line)
+
+pub returns : goal.returns
+returns c =
+    none_left (λ p. packet_line c.args.scenario.now p.0 p.1 None) c.loop-i.text.items _ c.args.table.now.packets c.loop-i.i (omega arith) c.loop-i.invariant

@@ -1,0 +1,93 @@
+-- Why the target is delivered when it is, as a run tells it.
+use Rattle.std.specs.Prelude.{ℕ, ◌+◌, ◌==◌, Bool, ◌&&◌, List, Option, None, find, unwrap_or, if◌then◌else◌}
+use Rattle.std.specs.Option.{option_map}
+use Rattle.convoy_scenario.specs.Scenario.{Scenario, message_at, message_numbers, is_addressed}
+use Rattle.convoy_packets.specs.declared.packet.Packet.{Packet}
+use Rattle.convoy_packets.specs.declared.packet.Packet.TheVariants.{Multicast, Propose}
+use Rattle.convoy_packets.specs.Assignment.{Schedule, delay_in}
+use Rattle.convoy_sim.specs.declared.run.Proposal.{Proposal}
+use Rattle.convoy_sim.specs.declared.timestamp.Timestamp.{Timestamp}
+use Rattle.convoy_sim.specs.Run.{Run, proposed_of, committed_of, delivered_of, final_stamp_of}
+use Rattle.convoy_sim.specs.Stamps.{is_less, no_stamp}
+use Rattle.convoy_explain.specs.Causes.{flight_in, holder_with}
+use Rattle.convoy_explain.specs.declared.explanation.Explanation.{Explanation}
+use Rattle.convoy_explain.specs.declared.explanation.Holder.{Holder}
+use Rattle.convoy_explain.specs.declared.explanation.LastProposal.{LastProposal}
+
+-- what stands for a proposal where none is told
+abbrev pub no_proposal : Proposal
+no_proposal = record { tick = 0; stamp = no_stamp }
+
+abbrev pub proposal_told : Run → ℕ → ℕ → Proposal
+proposal_told run m g = unwrap_or (proposed_of run m g) no_proposal
+
+abbrev pub committed_told : Run → ℕ → ℕ → ℕ
+committed_told run m g = unwrap_or (committed_of run m g) 0
+
+abbrev pub delivered_told : Run → ℕ → ℕ → ℕ
+delivered_told run m g = unwrap_or (delivered_of run m g) 0
+
+abbrev pub final_told : Run → ℕ → Timestamp
+final_told run m = unwrap_or (final_stamp_of run m) no_stamp
+
+-- message n is ahead of message m at group g, and is committed there as m is delivered
+abbrev pub is_last_ahead_told : Scenario → Run → ℕ → ℕ → ℕ → Bool
+is_last_ahead_told scenario run m g n =
+    is_addressed (message_at scenario n) g
+    && is_less (proposal_told run n g).stamp (final_told run m)
+    && (committed_told run n g == delivered_told run m g)
+
+-- the message that holds message m back at group g up to its delivery
+unfoldable pub holder_told : Scenario → Run → ℕ → ℕ → Option ℕ
+holder_told scenario run m g =
+    if committed_told run m g == delivered_told run m g then None
+    else find (is_last_ahead_told scenario run m g) (message_numbers scenario)
+
+-- the tick at which the proposal of group h for message n comes to group g
+abbrev pub propose_told : List Packet → Schedule → Run → ℕ → ℕ → ℕ → ℕ
+propose_told packets delays run n g h = (proposal_told run n h).tick + delay_in packets delays (Propose n h g)
+
+-- the group whose proposal for message n comes last to group g
+unfoldable pub last_proposer_told : Scenario → List Packet → Schedule → Run → ℕ → ℕ → ℕ
+last_proposer_told scenario packets delays run n g =
+    unwrap_or (find (λ h. propose_told packets delays run n g h == committed_told run n g) (message_at scenario n).destinations) g
+
+-- how the last proposal for message n comes to group g
+abbrev pub last_proposal_told : Scenario → List Packet → Schedule → Run → ℕ → ℕ → LastProposal
+last_proposal_told scenario packets delays run n g =
+    let h = last_proposer_told scenario packets delays run n g in
+    record {
+      message = n;
+      from = h;
+      sent = flight_in packets delays (Multicast n h);
+      proposal = proposal_told run n h;
+      answered = flight_in packets delays (Propose n h g);
+      committed = committed_told run n g;
+    }
+
+-- the message that holds message m back at group g, with what g proposed for it
+abbrev pub holder_told_at : Scenario → Run → ℕ → ℕ → Option Holder
+holder_told_at scenario run m g =
+    option_map (λ n. holder_with n (proposal_told run n g)) (holder_told scenario run m g)
+
+-- the final stamp of message m, and the tick at which its group gave it
+abbrev pub stamped_told : Run → ℕ → Proposal
+stamped_told run m =
+    let stamp = final_told run m in
+    record { tick = (proposal_told run m stamp.group).tick; stamp = stamp }
+
+-- why message m is delivered at group g when it is
+abbrev pub explanation_told_at : Scenario → List Packet → Schedule → Run → ℕ → ℕ → Explanation
+explanation_told_at scenario packets delays run m g = record {
+  latency = run.latency;
+  delivered = delivered_told run m g;
+  committed = committed_told run m g;
+  stamped = stamped_told run m;
+  holder = holder_told_at scenario run m g;
+  last = last_proposal_told scenario packets delays run (unwrap_or (holder_told scenario run m g) m) g;
+}
+
+-- why the target of the scenario is delivered when it is
+unfoldable pub explanation_told : Scenario → List Packet → Schedule → Run → Explanation
+explanation_told scenario packets delays run =
+    explanation_told_at scenario packets delays run scenario.target_message scenario.target_group

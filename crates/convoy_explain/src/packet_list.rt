@@ -1,0 +1,155 @@
+ghost use Rattle.std.specs.Prelude.{◌≡◌, ◌++◌, ◌<◌, None, OnErr, OnOk, IfOk, Some, length, string_bytes};
+ghost use Rattle.std.specs.List.{flat_map, enumerate_from, slice_get};
+ghost use Rattle.convoy_packets.specs.Assignment.{IsAssignment, range_of};
+ghost use Rattle.convoy_packets.specs.Table.{table_of};
+ghost use Rattle.convoy_explain.specs.PacketLists.{packet_line, packet_text, packets_text, scheduled_packets_text};
+ghost use Rattle.convoy_explain.specs.PacketLists.{taken_text};
+ghost use Rattle.convoy_scenario.specs.Lines.{sender_word};
+ghost use Rattle.convoy_scenario.specs.Scenario.{message_at};
+
+use super::telling::{group_name, message_name};
+use convoy_packets::laws::delays_are_one_each;
+use convoy_packets::{Delays, Packet, PacketTable};
+use convoy_scenario::{Scenario, Sender};
+use std::alloc::{AllocError, Global};
+
+/// Appends the list of a scenario's packets, with the packet table of the scenario: for each, in
+/// packet order, one of the lines
+///
+/// ```text
+/// packet N: MESSAGE from SENDER to GROUP, LEAST to MOST ticks
+/// packet N: proposal of MESSAGE from GROUP to GROUP, LEAST to MOST ticks
+/// ```
+///
+/// where N is its number, from 0, SENDER a group or `client`, and the ticks are its range
+/// (docs/FORMATS.md, "What `packets` writes"). Where memory runs out the vector is as it was.
+pub fn write_packets(
+    scenario: &Scenario,
+    table: &PacketTable,
+    out: &mut Vec<u8>,
+) -> Result<(), AllocError>
+    requires { table.now ≡ table_of scenario.now }
+    ensures ok { OnOk result (out.new.items ≡ out.old.items ++ packets_text scenario.now) }
+    ensures err { OnErr result (out.new.items ≡ out.old.items) }
+{
+    let text = packets_text(*out.allocator(), scenario, table)?;
+    out.extend_from_slice(&text)
+}
+
+/// Appends the list of a scenario's packets as [`write_packets`] does, each line with the delay that
+/// a schedule of the scenario gives the packet, after `takes`.
+pub fn write_scheduled_packets(
+    scenario: &Scenario,
+    table: &PacketTable,
+    delays: &Delays,
+    out: &mut Vec<u8>,
+) -> Result<(), AllocError>
+    requires table { table.now ≡ table_of scenario.now }
+    requires assignment { IsAssignment scenario.now delays.now }
+    ensures ok { OnOk result (out.new.items ≡ out.old.items ++ scheduled_packets_text scenario.now delays.now) }
+    ensures err { OnErr result (out.new.items ≡ out.old.items) }
+{
+    let text = scheduled_text(*out.allocator(), scenario, table, delays)?;
+    out.extend_from_slice(&text)
+}
+
+/// The lines of all packets.
+fn packets_text(
+    alloc: Global,
+    scenario: &Scenario,
+    table: &PacketTable,
+) -> Result<Vec<u8>, AllocError>
+    requires { table.now ≡ table_of scenario.now }
+    ensures { IfOk result (λ text. text.items ≡ packets_text scenario.now) }
+{
+    let mut text = Vec::new(alloc);
+    for i in 0..table.len() {
+        let line = packet_line(alloc, scenario, i, table.packet(i), table.range(i), None)?;
+        text.extend_from_slice(line.as_bytes())?;
+    }
+    Ok(text)
+}
+
+/// The lines of all packets with their delays.
+fn scheduled_text(
+    alloc: Global,
+    scenario: &Scenario,
+    table: &PacketTable,
+    delays: &Delays,
+) -> Result<Vec<u8>, AllocError>
+    requires table { table.now ≡ table_of scenario.now }
+    requires assignment { IsAssignment scenario.now delays.now }
+    ensures { IfOk result (λ text. text.items ≡ scheduled_packets_text scenario.now delays.now) }
+{
+    delays_are_one_each();
+    let mut text = Vec::new(alloc);
+    for i in 0..table.len() {
+        let delay = Some(delays.delay(i));
+        let line = packet_line(alloc, scenario, i, table.packet(i), table.range(i), delay)?;
+        text.extend_from_slice(line.as_bytes())?;
+    }
+    Ok(text)
+}
+
+/// The line of a packet, of that number and range.
+fn packet_line(
+    alloc: Global,
+    scenario: &Scenario,
+    i: usize,
+    packet: Packet,
+    range: (u16, u16),
+    delay: Option<u16>,
+) -> Result<String, AllocError>
+    ensures { range ≡ range_of scenario.now packet
+        → IfOk result (λ line. string_bytes line ≡ packet_line scenario.now i packet delay) }
+{
+    let what = packet_text(alloc, scenario, packet)?;
+    let taken = taken_text(alloc, delay)?;
+    let (least, most) = range;
+    format!(in alloc; "packet {i}: {what}, {least} to {most} ticks{taken}\n")
+}
+
+/// What a packet is.
+#[tactic(auto, unfolding(crate::specs::PacketLists::packet_text))]
+fn packet_text(alloc: Global, scenario: &Scenario, packet: Packet) -> Result<String, AllocError>
+    ensures { IfOk result (λ text. string_bytes text ≡ packet_text scenario.now packet) }
+{
+    match packet {
+        Packet::Multicast { message, to } => {
+            let name = message_name(scenario, message);
+            let sender = sender_word(scenario, message);
+            let to = group_name(scenario, to);
+            format!(in alloc; "{name} from {sender} to {to}")
+        }
+        Packet::Propose { message, from, to } => {
+            let name = message_name(scenario, message);
+            let from = group_name(scenario, from);
+            let to = group_name(scenario, to);
+            format!(in alloc; "proposal of {name} from {from} to {to}")
+        }
+    }
+}
+
+/// The delay that a schedule gives a packet, if there is one.
+#[tactic(auto, unfolding(crate::specs::PacketLists::taken_text))]
+fn taken_text(alloc: Global, delay: Option<u16>) -> Result<String, AllocError>
+    ensures { IfOk result (λ text. string_bytes text ≡ taken_text delay) }
+{
+    match delay {
+        Some(delay) => format!(in alloc; ", takes {delay}"),
+        None => Ok(String::new(alloc)),
+    }
+}
+
+/// The word for who sends a message; a client where the scenario has no such message.
+fn sender_word(scenario: &Scenario, message: usize) -> &str
+    ensures { result.now ≡ sender_word scenario.now (message_at scenario.now message).sender }
+{
+    if message >= scenario.message_count() {
+        return "client";
+    }
+    match scenario.sender(message) {
+        Sender::Client => "client",
+        Sender::Group(group) => group_name(scenario, group),
+    }
+}

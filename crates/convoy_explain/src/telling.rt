@@ -1,0 +1,320 @@
+ghost use Rattle.std.specs.Prelude.{◌≡◌, ◌++◌, OnErr, OnOk, IfOk, string_bytes};
+ghost use Rattle.convoy_scenario.specs.Scenario.{group_name_at};
+ghost use Rattle.convoy_explain.specs.Explanations.{answered_text, awaited_text, commit_text, flight_text};
+ghost use Rattle.convoy_explain.specs.Explanations.{gap_after, holder_text, latency_text, message_name_at};
+ghost use Rattle.convoy_explain.specs.Explanations.{node_word, sender_text, sent_text, stamp_text, text_of};
+ghost use Rattle.convoy_explain.specs.Explanations.{tick_word, worst_text};
+ghost use Rattle.convoy_scenario.specs.Scenario.{message_at};
+
+use super::explanation::{Explanation, Flight, Holder, LastProposal};
+use convoy_scenario::{Scenario, Sender};
+use convoy_sim::Timestamp;
+use std::alloc::{AllocError, Global};
+
+/// Appends the text of an explanation of the schedule of a valid certificate, which has so many nodes,
+/// for a reader who asks why the greatest latency is what it is (docs/FORMATS.md, "What `explain`
+/// writes"):
+///
+/// ```text
+/// MESSAGE at GROUP: at worst N ticks, from its issue at tick N to its delivery at tick N
+/// committed at GROUP at tick N with stamp TIME.GROUP, given by GROUP at tick N
+/// held back by MESSAGE, which came to GROUP at tick N with stamp TIME.GROUP, before TIME.GROUP
+/// MESSAGE is committed at GROUP at tick N, when the last proposal comes:
+///   tick N   SENDER sends MESSAGE to GROUP, packet N, N ticks
+///   tick N   GROUP proposes TIME.GROUP to GROUP, packet N, N ticks
+/// no schedule is worse: N nodes, checked
+/// ```
+///
+/// The text says that no schedule is worse, which the certificate has to show: it is for a certificate
+/// that was checked. Where memory runs out the vector is as it was.
+pub fn write_explanation(
+    scenario: &Scenario,
+    why: &Explanation,
+    nodes: usize,
+    out: &mut Vec<u8>,
+) -> Result<(), AllocError>
+    ensures ok { OnOk result (out.new.items ≡ out.old.items ++ text_of scenario.now why.now nodes) }
+    ensures err { OnErr result (out.new.items ≡ out.old.items) }
+{
+    let text = text(*out.allocator(), scenario, why, nodes)?;
+    out.extend_from_slice(&text)
+}
+
+/// The lines of an explanation.
+#[tactic(auto, unfolding(crate::specs::Explanations::text_of))]
+fn text(
+    alloc: Global,
+    scenario: &Scenario,
+    why: &Explanation,
+    nodes: usize,
+) -> Result<Vec<u8>, AllocError>
+    ensures { IfOk result (λ text. text.items ≡ text_of scenario.now why.now nodes) }
+{
+    let mut text = Vec::new(alloc);
+    text.extend_from_slice(latency_line(alloc, scenario, why)?.as_bytes())?;
+    text.extend_from_slice(commit_line(alloc, scenario, why)?.as_bytes())?;
+    text.extend_from_slice(holder_line(alloc, scenario, why)?.as_bytes())?;
+    text.extend_from_slice(awaited_line(alloc, scenario, &why.last)?.as_bytes())?;
+    text.extend_from_slice(sent_line(alloc, scenario, &why.last)?.as_bytes())?;
+    text.extend_from_slice(answered_line(alloc, scenario, &why.last)?.as_bytes())?;
+    text.extend_from_slice(worst_line(alloc, nodes)?.as_bytes())?;
+    Ok(text)
+}
+
+/// How late the target is, and when.
+fn latency_line(alloc: Global, scenario: &Scenario, why: &Explanation) -> Result<String, AllocError>
+    ensures { IfOk result (λ line. string_bytes line ≡ latency_text scenario.now why.now) }
+{
+    let message = message_name(scenario, scenario.target_message());
+    let group = group_name(scenario, scenario.target_group());
+    let ticks = tick_word(why.latency);
+    let issue = scenario.issue_tick(scenario.target_message());
+    format!(in alloc;
+        "{message} at {group}: at worst {} {ticks}, from its issue at tick {issue} to its delivery at tick {}\n",
+        why.latency, why.delivered,
+    )
+}
+
+/// When the target is committed at its group, and with which stamp.
+fn commit_line(alloc: Global, scenario: &Scenario, why: &Explanation) -> Result<String, AllocError>
+    ensures { IfOk result (λ line. string_bytes line ≡ commit_text scenario.now why.now) }
+{
+    let group = group_name(scenario, scenario.target_group());
+    let stamp = stamp_text(alloc, scenario, why.stamped.stamp)?;
+    let giver = group_name(scenario, why.stamped.stamp.group);
+    format!(in alloc;
+        "committed at {group} at tick {} with stamp {stamp}, given by {giver} at tick {}\n",
+        why.committed, why.stamped.tick,
+    )
+}
+
+/// What holds the target back.
+fn holder_line(alloc: Global, scenario: &Scenario, why: &Explanation) -> Result<String, AllocError>
+    ensures { IfOk result (λ line. string_bytes line ≡ holder_text scenario.now why.now why.now.holder) }
+{
+    match &why.holder {
+        Some(holder) => held_line(alloc, scenario, why, holder),
+        None => String::from_str(
+            alloc,
+            "no message holds it back: it is delivered as it is committed\n",
+        ),
+    }
+}
+
+/// That a message holds the target back.
+fn held_line(
+    alloc: Global,
+    scenario: &Scenario,
+    why: &Explanation,
+    holder: &Holder,
+) -> Result<String, AllocError>
+    ensures { IfOk result (λ line. string_bytes line ≡ holder_text scenario.now why.now (Some holder.now)) }
+{
+    let message = message_name(scenario, holder.message);
+    let group = group_name(scenario, scenario.target_group());
+    let stamp = stamp_text(alloc, scenario, holder.proposal.stamp)?;
+    let last = stamp_text(alloc, scenario, why.stamped.stamp)?;
+    format!(in alloc;
+        "held back by {message}, which came to {group} at tick {} with stamp {stamp}, before {last}\n",
+        holder.proposal.tick,
+    )
+}
+
+/// When the awaited message is committed.
+fn awaited_line(
+    alloc: Global,
+    scenario: &Scenario,
+    last: &LastProposal,
+) -> Result<String, AllocError>
+    ensures { IfOk result (λ line. string_bytes line ≡ awaited_text scenario.now last.now) }
+{
+    let message = message_name(scenario, last.message);
+    let group = group_name(scenario, scenario.target_group());
+    format!(in alloc;
+        "{message} is committed at {group} at tick {}, when the last proposal comes:\n",
+        last.committed,
+    )
+}
+
+/// How the awaited message comes to the group of the last proposal.
+fn sent_line(alloc: Global, scenario: &Scenario, last: &LastProposal) -> Result<String, AllocError>
+    ensures { IfOk result (λ line. string_bytes line ≡ sent_text scenario.now last.now last.now.sent) }
+{
+    match &last.sent {
+        Some(flight) => flown_line(alloc, scenario, last, flight),
+        None => issued_line(alloc, scenario, last),
+    }
+}
+
+/// That the awaited message goes to the group of the last proposal.
+fn flown_line(
+    alloc: Global,
+    scenario: &Scenario,
+    last: &LastProposal,
+    flight: &Flight,
+) -> Result<String, AllocError>
+    ensures { IfOk result (λ line. string_bytes line ≡ sent_text scenario.now last.now (Some flight.now)) }
+{
+    let tick = issue_tick(scenario, last.message);
+    let gap = gap_after(tick);
+    let sender = sender_name(scenario, last.message);
+    let message = message_name(scenario, last.message);
+    let to = group_name(scenario, last.from);
+    let flight = flight_text(alloc, flight)?;
+    format!(in alloc; "  tick {tick}{gap}{sender} sends {message} to {to}{flight}\n")
+}
+
+/// That the group of the last proposal issues the awaited message itself.
+fn issued_line(
+    alloc: Global,
+    scenario: &Scenario,
+    last: &LastProposal,
+) -> Result<String, AllocError>
+    ensures { IfOk result (λ line. string_bytes line ≡ sent_text scenario.now last.now None) }
+{
+    let tick = issue_tick(scenario, last.message);
+    let gap = gap_after(tick);
+    let group = group_name(scenario, last.from);
+    let message = message_name(scenario, last.message);
+    format!(in alloc; "  tick {tick}{gap}{group} issues {message}\n")
+}
+
+/// How the last proposal comes to the target's group.
+fn answered_line(
+    alloc: Global,
+    scenario: &Scenario,
+    last: &LastProposal,
+) -> Result<String, AllocError>
+    ensures { IfOk result (λ line. string_bytes line ≡ answered_text scenario.now last.now last.now.answered) }
+{
+    match &last.answered {
+        Some(flight) => proposed_line(alloc, scenario, last, flight),
+        None => own_line(alloc, scenario, last),
+    }
+}
+
+/// That the last proposal goes to the target's group.
+fn proposed_line(
+    alloc: Global,
+    scenario: &Scenario,
+    last: &LastProposal,
+    flight: &Flight,
+) -> Result<String, AllocError>
+    ensures { IfOk result (λ line. string_bytes line ≡ answered_text scenario.now last.now (Some flight.now)) }
+{
+    let tick = last.proposal.tick;
+    let gap = gap_after(tick);
+    let from = group_name(scenario, last.from);
+    let stamp = stamp_text(alloc, scenario, last.proposal.stamp)?;
+    let to = group_name(scenario, scenario.target_group());
+    let flight = flight_text(alloc, flight)?;
+    format!(in alloc; "  tick {tick}{gap}{from} proposes {stamp} to {to}{flight}\n")
+}
+
+/// That the last proposal is that of the target's group itself.
+fn own_line(alloc: Global, scenario: &Scenario, last: &LastProposal) -> Result<String, AllocError>
+    ensures { IfOk result (λ line. string_bytes line ≡ answered_text scenario.now last.now None) }
+{
+    let tick = last.proposal.tick;
+    let gap = gap_after(tick);
+    let from = group_name(scenario, last.from);
+    let stamp = stamp_text(alloc, scenario, last.proposal.stamp)?;
+    format!(in alloc; "  tick {tick}{gap}{from} proposes {stamp} itself\n")
+}
+
+/// That no schedule is worse.
+fn worst_line(alloc: Global, nodes: usize) -> Result<String, AllocError>
+    ensures { IfOk result (λ line. string_bytes line ≡ worst_text nodes) }
+{
+    let word = node_word(nodes);
+    format!(in alloc; "no schedule is worse: {nodes} {word}, checked\n")
+}
+
+/// A packet on its way.
+#[tactic(auto, unfolding(crate::specs::Explanations::flight_text))]
+fn flight_text(alloc: Global, flight: &Flight) -> Result<String, AllocError>
+    ensures { IfOk result (λ text. string_bytes text ≡ flight_text flight.now) }
+{
+    let ticks = tick_word(u32::from(flight.delay));
+    format!(in alloc; ", packet {}, {} {ticks}", flight.packet, flight.delay)
+}
+
+/// A stamp, with the name of the group that gave it.
+#[tactic(auto, unfolding(crate::specs::Explanations::stamp_text))]
+fn stamp_text(alloc: Global, scenario: &Scenario, stamp: Timestamp) -> Result<String, AllocError>
+    ensures { IfOk result (λ text. string_bytes text ≡ stamp_text scenario.now stamp) }
+{
+    let giver = group_name(scenario, stamp.group);
+    format!(in alloc; "{}.{giver}", stamp.time)
+}
+
+fn tick_word(count: u32) -> &'static str
+    ensures { result.now ≡ tick_word count }
+{
+    if count == 1 { "tick" } else { "ticks" }
+}
+
+fn node_word(count: usize) -> &'static str
+    ensures { result.now ≡ node_word count }
+{
+    if count == 1 { "node" } else { "nodes" }
+}
+
+/// What follows a tick at the head of a line.
+fn gap_after(tick: u32) -> &'static str
+    ensures { result.now ≡ gap_after tick }
+{
+    if tick < 10 {
+        "   "
+    } else if tick < 100 {
+        "  "
+    } else {
+        " "
+    }
+}
+
+/// Who sends a message; a client where the scenario has no such message.
+fn sender_name(scenario: &Scenario, message: usize) -> &str
+    ensures { result.now ≡ sender_text scenario.now (message_at scenario.now message).sender }
+{
+    if message >= scenario.message_count() {
+        return "a client";
+    }
+    match scenario.sender(message) {
+        Sender::Client => "a client",
+        Sender::Group(group) => group_name(scenario, group),
+    }
+}
+
+/// The tick at which a message is issued; 0 where the scenario has no such message.
+fn issue_tick(scenario: &Scenario, message: usize) -> u32
+    ensures { result ≡ (message_at scenario.now message).at }
+{
+    if message < scenario.message_count() {
+        scenario.issue_tick(message)
+    } else {
+        0
+    }
+}
+
+/// The name of a group, and none for a group that the scenario has not.
+pub(crate) fn group_name(scenario: &Scenario, group: usize) -> &str
+    ensures { result.now ≡ group_name_at scenario.now group }
+{
+    if group < scenario.group_count() {
+        scenario.group_name(group)
+    } else {
+        ""
+    }
+}
+
+/// The name of a message, and none for a message that the scenario has not.
+pub(crate) fn message_name(scenario: &Scenario, message: usize) -> &str
+    ensures { result.now ≡ message_name_at scenario.now message }
+{
+    if message < scenario.message_count() {
+        scenario.message_name(message)
+    } else {
+        ""
+    }
+}
