@@ -7,6 +7,7 @@ use Rattle.std.proofs.lemmas.List.Elements.{All-nil, All-push}
 use Rattle.std.proofs.lemmas.Fn.{FoldsTo-push}
 use Rattle.convoy_jobs.specs.Jobs.{ended_jobs, jobs_of}
 use Rattle.convoy_jobs.specs.Laws.{EndedJobsStay}
+use Rattle.convoy_engine.specs.Options.{Settings}
 use Rattle.convoy_engine.specs.declared.batch.Batch.{Batch}
 use Rattle.convoy_engine.specs.declared.done.Done.TheVariants.{Fine}
 use Rattle.convoy_engine.specs.declared.fault.Fault.{Fault}
@@ -22,20 +23,20 @@ pub byte_taken : (text piece : List ℕ) (i : ℕ) → i < length piece → (tex
 byte_taken text piece i below = append_assoc text (take i piece) (get_or piece i 0 ∷ []) ∙ ap (λ x. text ++ x) (sym (take_more piece i 0 below))
 
 -- to stop in a piece is to stop among the jobs of the whole piece
-pub stops_in_piece : EndedJobsStay → {K : Type 0} (limit : ℕ) (may_write : K → Answer → K → Type 0) (start new : K) (text piece : List ℕ) (i : ℕ) (fault : Fault) →
-    i < length piece → StopsAnswering limit may_write start new (ended_jobs ((text ++ take i piece) ++ get_or piece i 0 ∷ [])) fault →
-    StopsAnswering limit may_write start new (ended_jobs (text ++ piece)) fault
-stops_in_piece stay limit may_write start new text piece i fault below stop =
+pub stops_in_piece : EndedJobsStay → {K : Type 0} (settings : Settings) (may_write : K → Answer → K → Type 0) (start new : K) (text piece : List ℕ) (i : ℕ) (fault : Fault) →
+    i < length piece → StopsAnswering settings may_write start new (ended_jobs ((text ++ take i piece) ++ get_or piece i 0 ∷ [])) fault →
+    StopsAnswering settings may_write start new (ended_jobs (text ++ piece)) fault
+stops_in_piece stay settings may_write start new text piece i fault below stop =
     let front = (text ++ take i piece) ++ get_or piece i 0 ∷ [] in
     let more = stay front (drop (i + 1) piece) in
     let whole : text ++ piece ≡ front ++ drop (i + 1) piece =
     ap (λ x. text ++ x) (sym (take-append-drop (i + 1) piece)) ∙ sym (append_assoc text (take (i + 1) piece) (drop (i + 1) piece))
     ∙ ap (λ x. x ++ drop (i + 1) piece) (sym (byte_taken text piece i below)) in
-    stops_among limit may_write start new (ended_jobs front) more.0 (ended_jobs (text ++ piece)) fault stop (ap ended_jobs whole ∙ more.1)
+    stops_among settings may_write start new (ended_jobs front) more.0 (ended_jobs (text ++ piece)) fault stop (ap ended_jobs whole ∙ more.1)
 
 -- no block yet
-pub no_blocks : {K : Type 0} (limit : ℕ) (may_write : K → Answer → K → Type 0) (start : K) → HasRun may_write start start (AnswersAll limit [])
-no_blocks limit may_write start =
+pub no_blocks : {K : Type 0} (settings : Settings) (may_write : K → Answer → K → Type 0) (start : K) → HasRun may_write start start (AnswersAll settings [])
+no_blocks settings may_write start =
     record { answers = []; calls = refl; says = record { replies = []; allowed = tt; written = record { each = All-nil IsPiece; whole = refl } } }
 
 joined_push : (answers : List Answer) (bytes : List ℕ) → joined (answers ++ Moved bytes ∷ []) ≡ joined answers ++ bytes
@@ -45,8 +46,8 @@ piece : (bytes : List ℕ) → 0 < length bytes → IsPiece (Moved bytes)
 piece [] more = absurd (omega arith)
 piece (b ∷ bytes) more = tt
 
-module _ {S K : Type 0} (reads : S → Answer → S → Type 0) (writes : K → Answer → K → Type 0) (limit most count : ℕ) (source mid new : S) (sink now : K)
-    (bytes : List ℕ) (batch : Batch) (p : MovesPieces reads source bytes count mid) (u : IsUnderWay limit writes sink now bytes batch) (below : count < most) where
+module _ {S K : Type 0} (reads : S → Answer → S → Type 0) (writes : K → Answer → K → Type 0) (settings : Settings) (most count : ℕ) (source mid new : S) (sink now : K)
+    (bytes : List ℕ) (batch : Batch) (p : MovesPieces reads source bytes count mid) (u : IsUnderWay settings writes sink now bytes batch) (below : count < most) where
   given : ReadsOn p.answers bytes
   given = record { each = p.each; whole = p.whole }
 
@@ -57,7 +58,7 @@ module _ {S K : Type 0} (reads : S → Answer → S → Type 0) (writes : K → 
   calls answer moved = FoldsTo-push reads source p.answers mid answer new p.calls moved
 
   -- a read failed
-  pub by_failure : reads mid Failed new → IsBatchRun limit most reads writes source new sink now (Err Read)
+  pub by_failure : reads mid Failed new → IsBatchRun settings most reads writes source new sink now (Err Read)
   by_failure failed = record {
     reads = p.answers ++ Failed ∷ [];
     writes = u.ready.wrote.answers;
@@ -71,8 +72,8 @@ module _ {S K : Type 0} (reads : S → Answer → S → Type 0) (writes : K → 
   to_end = record { pieces = p.answers; last = refl; given = given }
 
   -- the text ended, and all went out
-  pub by_end : (more : List ℕ) (last : K) (done : Unit {0}) → reads mid (Moved more) new → length more ≡ 0 → EndsBatch limit writes sink last bytes (Ok done) →
-      IsBatchRun limit most reads writes source new sink last (Ok Fine)
+  pub by_end : (more : List ℕ) (last : K) (done : Unit {0}) → reads mid (Moved more) new → length more ≡ 0 → EndsBatch settings writes sink last bytes (Ok done) →
+      IsBatchRun settings most reads writes source new sink last (Ok Fine)
   by_end (b ∷ more) last done moved none ends = absurd (omega arith)
   by_end [] last done moved none ends = record {
     reads = p.answers ++ Moved [] ∷ [];
@@ -84,8 +85,8 @@ module _ {S K : Type 0} (reads : S → Answer → S → Type 0) (writes : K → 
   }
 
   -- the text ended, and not all went out
-  pub by_fault : (more : List ℕ) (last : K) (fault : Fault) → reads mid (Moved more) new → length more ≡ 0 → EndsBatch limit writes sink last bytes (Err fault) →
-      IsBatchRun limit most reads writes source new sink last (Err fault)
+  pub by_fault : (more : List ℕ) (last : K) (fault : Fault) → reads mid (Moved more) new → length more ≡ 0 → EndsBatch settings writes sink last bytes (Err fault) →
+      IsBatchRun settings most reads writes source new sink last (Err fault)
   by_fault (b ∷ more) last fault moved none ends = absurd (omega arith)
   by_fault [] last Write moved none ends = record {
     reads = p.answers ++ Moved [] ∷ [];
@@ -113,8 +114,8 @@ module _ {S K : Type 0} (reads : S → Answer → S → Type 0) (writes : K → 
 
   -- answering stopped in a piece
   pub in_piece : (more : List ℕ) (last : K) (fault : Fault) → reads mid (Moved more) new → 0 < length more →
-      StopsAnswering limit writes sink last (ended_jobs (bytes ++ more)) fault →
-      IsBatchRun limit most reads writes source new sink last (Err fault)
+      StopsAnswering settings writes sink last (ended_jobs (bytes ++ more)) fault →
+      IsBatchRun settings most reads writes source new sink last (Err fault)
   in_piece more last Write moved some stop = record {
     reads = p.answers ++ Moved more ∷ [];
     writes = stop.answers;
@@ -140,10 +141,10 @@ module _ {S K : Type 0} (reads : S → Answer → S → Type 0) (writes : K → 
   in_piece more last other moved some stop = absurd stop
 
 -- as many reads as there may be gave no end
-pub by_reads : {S K : Type 0} (reads : S → Answer → S → Type 0) (writes : K → Answer → K → Type 0) (limit most count : ℕ) (source mid : S) (sink now : K)
-    (bytes : List ℕ) (batch : Batch) → MovesPieces reads source bytes count mid → IsUnderWay limit writes sink now bytes batch → count ≡ most →
-    IsBatchRun limit most reads writes source mid sink now (Err TooManyReads)
-by_reads reads writes limit most count source mid sink now bytes batch p u all = record {
+pub by_reads : {S K : Type 0} (reads : S → Answer → S → Type 0) (writes : K → Answer → K → Type 0) (settings : Settings) (most count : ℕ) (source mid : S) (sink now : K)
+    (bytes : List ℕ) (batch : Batch) → MovesPieces reads source bytes count mid → IsUnderWay settings writes sink now bytes batch → count ≡ most →
+    IsBatchRun settings most reads writes source mid sink now (Err TooManyReads)
+by_reads reads writes settings most count source mid sink now bytes batch p u all = record {
   reads = p.answers;
   writes = u.ready.wrote.answers;
   read = p.calls;

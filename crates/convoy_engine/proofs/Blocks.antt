@@ -5,6 +5,7 @@ use Rattle.std.specs.Result.{IsOk, OnOk, OnErr, is_err}
 use Rattle.std.proofs.lemmas.Grind.{flat_map-append}
 use Rattle.std.proofs.lemmas.List.{append-nil}
 use Rattle.std.proofs.lemmas.List.Elements.{All-append}
+use Rattle.convoy_engine.specs.Options.{Settings}
 use Rattle.convoy_engine.specs.declared.done.Done.{Done}
 use Rattle.convoy_engine.specs.declared.fault.Fault.{Fault}
 use Rattle.convoy_engine.specs.declared.fault.Fault.TheVariants.{Memory, Write, TooLong, TooManyJobs}
@@ -50,18 +51,18 @@ fault_pushed fault old a b c d e out digits phrase ending h1 h2 h3 h4 h5 h6 numb
     rw (h6, h5, h4, h3, h2, h1, number, ← text) (simp append_assoc)
 
 -- one more reply
-replies_push : (limit : ℕ) (jobs : List (List ℕ)) (replies : List Reply) (job : List ℕ) (reply : Reply) →
-    AreReplies limit jobs replies → JobSays limit job reply → AreReplies limit (jobs ++ job ∷ []) (replies ++ reply ∷ [])
-replies_push limit [] [] job reply are says = (says, tt)
-replies_push limit [] (r ∷ replies) job reply are says = absurd are
-replies_push limit (j ∷ jobs) [] job reply are says = absurd are
-replies_push limit (j ∷ jobs) (r ∷ replies) job reply are says = (are.0, replies_push limit jobs replies job reply are.1 says)
+replies_push : (settings : Settings) (jobs : List (List ℕ)) (replies : List Reply) (job : List ℕ) (reply : Reply) →
+    AreReplies settings jobs replies → JobSays settings job reply → AreReplies settings (jobs ++ job ∷ []) (replies ++ reply ∷ [])
+replies_push settings [] [] job reply are says = (says, tt)
+replies_push settings [] (r ∷ replies) job reply are says = absurd are
+replies_push settings (j ∷ jobs) [] job reply are says = absurd are
+replies_push settings (j ∷ jobs) (r ∷ replies) job reply are says = (are.0, replies_push settings jobs replies job reply are.1 says)
 
-as_many : (limit : ℕ) (jobs : List (List ℕ)) (replies : List Reply) → AreReplies limit jobs replies → length replies ≡ length jobs
-as_many limit [] [] are = refl
-as_many limit [] (r ∷ replies) are = absurd are
-as_many limit (j ∷ jobs) [] are = absurd are
-as_many limit (j ∷ jobs) (r ∷ replies) are = ap suc (as_many limit jobs replies are.1)
+as_many : (settings : Settings) (jobs : List (List ℕ)) (replies : List Reply) → AreReplies settings jobs replies → length replies ≡ length jobs
+as_many settings [] [] are = refl
+as_many settings [] (r ∷ replies) are = absurd are
+as_many settings (j ∷ jobs) [] are = absurd are
+as_many settings (j ∷ jobs) (r ∷ replies) are = ap suc (as_many settings jobs replies are.1)
 
 blocks_push : (number last : ℕ) (replies : List Reply) (reply : Reply) → last ≡ number + length replies →
     blocks_from number (replies ++ reply ∷ []) ≡ blocks_from number replies ++ block_of last reply
@@ -100,19 +101,19 @@ fails_join a b xs ys first second = record {
 }
 
 -- the block of one more job goes out
-pub one_more : {K : Type 0} (limit number : ℕ) (may_write : K → Answer → K → Type 0) (start mid new : K)
+pub one_more : {K : Type 0} (settings : Settings) (number : ℕ) (may_write : K → Answer → K → Type 0) (start mid new : K)
     (jobs : List (List ℕ)) (job : List ℕ) (done : Unit {0}) →
-    HasRun may_write start mid (AnswersAll limit jobs) → number ≡ length jobs + 1 →
-    AnswersOne limit may_write mid new number job (Ok done) → HasRun may_write start new (AnswersAll limit (jobs ++ job ∷ []))
-one_more limit number may_write start mid new jobs job done before next one =
+    HasRun may_write start mid (AnswersAll settings jobs) → number ≡ length jobs + 1 →
+    AnswersOne settings may_write mid new number job (Ok done) → HasRun may_write start new (AnswersAll settings (jobs ++ job ∷ []))
+one_more settings number may_write start mid new jobs job done before next one =
     let all = before.says in
-    let same = as_many limit jobs all.replies all.allowed in
+    let same = as_many settings jobs all.replies all.allowed in
     record {
       answers = before.answers ++ one.run.answers;
       calls = runs_join may_write start mid new before.answers one.run.answers before.calls one.run.calls;
       says = record {
         replies = all.replies ++ one.reply ∷ [];
-        allowed = replies_push limit jobs all.replies job one.reply all.allowed one.allowed;
+        allowed = replies_push settings jobs all.replies job one.reply all.allowed one.allowed;
         written = subst (λ (text : List ℕ). WritesAll text (before.answers ++ one.run.answers))
             (sym (blocks_push 1 number all.replies one.reply (omega (arith, next, same))))
             (writes_join (blocks_from 1 all.replies) (block_of number one.reply) before.answers one.run.answers all.written one.run.says);
@@ -120,14 +121,14 @@ one_more limit number may_write start mid new jobs job done before next one =
     }
 
 -- the sink fails within it
-pub one_fails : {K : Type 0} (limit number : ℕ) (may_write : K → Answer → K → Type 0) (start mid new : K)
+pub one_fails : {K : Type 0} (settings : Settings) (number : ℕ) (may_write : K → Answer → K → Type 0) (start mid new : K)
     (jobs all : List (List ℕ)) (job : List ℕ) (more : List (List ℕ)) (fault : Fault) →
-    HasRun may_write start mid (AnswersAll limit jobs) → number ≡ length jobs + 1 → length jobs < MOST_JOBS →
-    AnswersOne limit may_write mid new number job (Err fault) → (jobs ++ job ∷ []) ++ more ≡ all →
-    (fault ≡ Write) × HasRun may_write start new (FailsAnswering limit all)
-one_fails limit number may_write start mid new jobs all job more fault before next few one is =
+    HasRun may_write start mid (AnswersAll settings jobs) → number ≡ length jobs + 1 → length jobs < MOST_JOBS →
+    AnswersOne settings may_write mid new number job (Err fault) → (jobs ++ job ∷ []) ++ more ≡ all →
+    (fault ≡ Write) × HasRun may_write start new (FailsAnswering settings all)
+one_fails settings number may_write start mid new jobs all job more fault before next few one is =
     let done = before.says in
-    let same = as_many limit jobs done.replies done.allowed in (
+    let same = as_many settings jobs done.replies done.allowed in (
       one.run.says.0,
       record {
         answers = before.answers ++ one.run.answers;
@@ -138,7 +139,7 @@ one_fails limit number may_write start mid new jobs all job more fault before ne
           front = is;
           few = omega (arith, few, length-append jobs (job ∷ []));
           replies = done.replies ++ one.reply ∷ [];
-          allowed = replies_push limit jobs done.replies job one.reply done.allowed one.allowed;
+          allowed = replies_push settings jobs done.replies job one.reply done.allowed one.allowed;
           written = subst (λ (text : List ℕ). FailsWithin text (before.answers ++ one.run.answers))
               (sym (blocks_push 1 number done.replies one.reply (omega (arith, next, same))))
               (fails_join (blocks_from 1 done.replies) (block_of number one.reply) before.answers one.run.answers done.written one.run.says.1);
@@ -147,52 +148,52 @@ one_fails limit number may_write start mid new jobs all job more fault before ne
     )
 
 -- what a block tells is allowed for its job
-told_allowed : (limit : ℕ) (job : List ℕ) (want reply : Reply) → JobSays limit job want →
-    (reply ≡ want) ⊎ (IsOk want × (reply ≡ Err Memory)) → JobSays limit job reply
-told_allowed limit job want reply says (inl same) = subst (JobSays limit job) (sym same) says
-told_allowed limit job want reply says (inr memory) = record {
+told_allowed : (settings : Settings) (job : List ℕ) (want reply : Reply) → JobSays settings job want →
+    (reply ≡ want) ⊎ (IsOk want × (reply ≡ Err Memory)) → JobSays settings job reply
+told_allowed settings job want reply says (inl same) = subst (JobSays settings job) (sym same) says
+told_allowed settings job want reply says (inr memory) = record {
   long = λ more. let bad : IsOk {T = Done × List ℕ} {E = Fault} (Err TooLong) = subst IsOk (says.long more) memory.0 in cc;
   short = λ few. inr memory.1;
 }
 
 -- the block went out
-pub block_out : {E K : Type 0} (limit number : ℕ) (may_write : K → Answer → K → Type 0) (old new : K) (job : List ℕ) (want : Reply)
-    (block text : List ℕ) (wrote : Result (Unit {0}) E) (done : Unit {0}) → JobSays limit job want → IsBlockFor number want block → text ≡ block →
+pub block_out : {E K : Type 0} (settings : Settings) (number : ℕ) (may_write : K → Answer → K → Type 0) (old new : K) (job : List ℕ) (want : Reply)
+    (block text : List ℕ) (wrote : Result (Unit {0}) E) (done : Unit {0}) → JobSays settings job want → IsBlockFor number want block → text ≡ block →
     HasRun may_write old new (λ answers. MatchResult wrote (λ u. WritesAll text answers) (λ e. FailsWithin text answers)) →
-    is_err wrote ≡ false → AnswersOne limit may_write old new number job (Ok done)
-block_out limit number may_write old new job want block text (Ok x) done says is same run fine = record {
+    is_err wrote ≡ false → AnswersOne settings may_write old new number job (Ok done)
+block_out settings number may_write old new job want block text (Ok x) done says is same run fine = record {
   reply = is.reply;
-  allowed = told_allowed limit job want is.reply says is.told;
+  allowed = told_allowed settings job want is.reply says is.told;
   run = record { answers = run.answers; calls = run.calls; says = subst (λ (t : List ℕ). WritesAll t run.answers) (same ∙ is.block) run.says };
 }
-block_out limit number may_write old new job want block text (Err e) done says is same run fine = cc
+block_out settings number may_write old new job want block text (Err e) done says is same run fine = cc
 
 -- the sink failed
-pub block_failed : {E K : Type 0} (limit number : ℕ) (may_write : K → Answer → K → Type 0) (old new : K) (job : List ℕ) (want : Reply)
-    (block text : List ℕ) (wrote : Result (Unit {0}) E) → JobSays limit job want → IsBlockFor number want block → text ≡ block →
+pub block_failed : {E K : Type 0} (settings : Settings) (number : ℕ) (may_write : K → Answer → K → Type 0) (old new : K) (job : List ℕ) (want : Reply)
+    (block text : List ℕ) (wrote : Result (Unit {0}) E) → JobSays settings job want → IsBlockFor number want block → text ≡ block →
     HasRun may_write old new (λ answers. MatchResult wrote (λ u. WritesAll text answers) (λ e. FailsWithin text answers)) →
-    is_err wrote ≡ true → AnswersOne limit may_write old new number job (Err Write)
-block_failed limit number may_write old new job want block text (Ok x) says is same run failed = cc
-block_failed limit number may_write old new job want block text (Err e) says is same run failed = record {
+    is_err wrote ≡ true → AnswersOne settings may_write old new number job (Err Write)
+block_failed settings number may_write old new job want block text (Ok x) says is same run failed = cc
+block_failed settings number may_write old new job want block text (Err e) says is same run failed = record {
   reply = is.reply;
-  allowed = told_allowed limit job want is.reply says is.told;
+  allowed = told_allowed settings job want is.reply says is.told;
   run = record { answers = run.answers; calls = run.calls; says = (refl, subst (λ (t : List ℕ). FailsWithin t run.answers) (same ∙ is.block) run.says) };
 }
 
 -- the block of the job that ended fails
-pub end_fails : {K : Type 0} (limit number : ℕ) (may_write : K → Answer → K → Type 0) (start mid new : K)
-    (jobs : List (List ℕ)) (job : List ℕ) (fault : Fault) → IsReady limit may_write start mid jobs number →
-    AnswersOne limit may_write mid new number job (Err fault) → StopsAnswering limit may_write start new (jobs ++ job ∷ []) fault
-end_fails limit number may_write start mid new jobs job fault ready one =
-    let failed = one_fails limit number may_write start mid new jobs (jobs ++ job ∷ []) job [] fault ready.wrote ready.next ready.few one (append-nil (jobs ++ job ∷ [])) in
-    subst (StopsAnswering limit may_write start new (jobs ++ job ∷ [])) (sym failed.0) failed.1
+pub end_fails : {K : Type 0} (settings : Settings) (number : ℕ) (may_write : K → Answer → K → Type 0) (start mid new : K)
+    (jobs : List (List ℕ)) (job : List ℕ) (fault : Fault) → IsReady settings may_write start mid jobs number →
+    AnswersOne settings may_write mid new number job (Err fault) → StopsAnswering settings may_write start new (jobs ++ job ∷ []) fault
+end_fails settings number may_write start mid new jobs job fault ready one =
+    let failed = one_fails settings number may_write start mid new jobs (jobs ++ job ∷ []) job [] fault ready.wrote ready.next ready.few one (append-nil (jobs ++ job ∷ [])) in
+    subst (StopsAnswering settings may_write start new (jobs ++ job ∷ [])) (sym failed.0) failed.1
 
 -- it is the last that there may be
-pub end_most : {K : Type 0} (limit number : ℕ) (may_write : K → Answer → K → Type 0) (start mid new : K)
-    (jobs : List (List ℕ)) (job : List ℕ) (done : Unit {0}) → IsReady limit may_write start mid jobs number → MOST_JOBS ≤ number →
-    AnswersOne limit may_write mid new number job (Ok done) → HasRun may_write start new (AnswersMost limit (jobs ++ job ∷ []))
-end_most limit number may_write start mid new jobs job done ready most one =
-    let all = one_more limit number may_write start mid new jobs job done ready.wrote ready.next one in
+pub end_most : {K : Type 0} (settings : Settings) (number : ℕ) (may_write : K → Answer → K → Type 0) (start mid new : K)
+    (jobs : List (List ℕ)) (job : List ℕ) (done : Unit {0}) → IsReady settings may_write start mid jobs number → MOST_JOBS ≤ number →
+    AnswersOne settings may_write mid new number job (Ok done) → HasRun may_write start new (AnswersMost settings (jobs ++ job ∷ []))
+end_most settings number may_write start mid new jobs job done ready most one =
+    let all = one_more settings number may_write start mid new jobs job done ready.wrote ready.next one in
     record {
       answers = all.answers;
       calls = all.calls;
@@ -206,32 +207,32 @@ end_most limit number may_write start mid new jobs job done ready most one =
     }
 
 -- one more may come
-pub end_ready : {K : Type 0} (limit number next : ℕ) (may_write : K → Answer → K → Type 0) (start mid new : K)
-    (jobs : List (List ℕ)) (job : List ℕ) (done : Unit {0}) → IsReady limit may_write start mid jobs number → number < MOST_JOBS → next ≡ number + 1 →
-    AnswersOne limit may_write mid new number job (Ok done) → IsReady limit may_write start new (jobs ++ job ∷ []) next
-end_ready limit number next may_write start mid new jobs job done ready few then one = record {
-  wrote = one_more limit number may_write start mid new jobs job done ready.wrote ready.next one;
+pub end_ready : {K : Type 0} (settings : Settings) (number next : ℕ) (may_write : K → Answer → K → Type 0) (start mid new : K)
+    (jobs : List (List ℕ)) (job : List ℕ) (done : Unit {0}) → IsReady settings may_write start mid jobs number → number < MOST_JOBS → next ≡ number + 1 →
+    AnswersOne settings may_write mid new number job (Ok done) → IsReady settings may_write start new (jobs ++ job ∷ []) next
+end_ready settings number next may_write start mid new jobs job done ready few then one = record {
+  wrote = one_more settings number may_write start mid new jobs job done ready.wrote ready.next one;
   next = omega (arith, then, ready.next, length-append jobs (job ∷ []));
   few = omega (arith, ready.next, few, length-append jobs (job ∷ []));
 }
 
 -- the divider that ended the job is the end of the text so far
-pub job_ended : {K : Type 0} (limit : ℕ) (may_write : K → Answer → K → Type 0) (start new : K) (jobs : List (List ℕ)) (read : List ℕ)
+pub job_ended : {K : Type 0} (settings : Settings) (may_write : K → Answer → K → Type 0) (start new : K) (jobs : List (List ℕ)) (read : List ℕ)
     (batch : Batch) (result : Result (Unit {0}) Fault) →
-    MatchResult result (λ u. IsReady limit may_write start new jobs batch.number × IsFresh batch.splitter) (StopsAnswering limit may_write start new jobs) →
+    MatchResult result (λ u. IsReady settings may_write start new jobs batch.number × IsFresh batch.splitter) (StopsAnswering settings may_write start new jobs) →
     ended_jobs read ≡ jobs → IsJobStart read →
-    MatchResult result (λ u. IsUnderWay limit may_write start new read batch) (StopsAnswering limit may_write start new (ended_jobs read))
-job_ended limit may_write start new jobs read batch (Ok u) ended is fresh = record {
-  ready = subst (λ (all : List (List ℕ)). IsReady limit may_write start new all batch.number) (sym is) ended.0;
+    MatchResult result (λ u. IsUnderWay settings may_write start new read batch) (StopsAnswering settings may_write start new (ended_jobs read))
+job_ended settings may_write start new jobs read batch (Ok u) ended is fresh = record {
+  ready = subst (λ (all : List (List ℕ)). IsReady settings may_write start new all batch.number) (sym is) ended.0;
   after = ended.1.after read fresh;
 }
-job_ended limit may_write start new jobs read batch (Err fault) ended is fresh =
-    subst (λ (all : List (List ℕ)). StopsAnswering limit may_write start new all fault) (sym is) ended
+job_ended settings may_write start new jobs read batch (Err fault) ended is fresh =
+    subst (λ (all : List (List ℕ)). StopsAnswering settings may_write start new all fault) (sym is) ended
 
 -- to stop among some jobs is to stop among more
-pub stops_among : {K : Type 0} (limit : ℕ) (may_write : K → Answer → K → Type 0) (start new : K) (jobs more all : List (List ℕ)) (fault : Fault) →
-    StopsAnswering limit may_write start new jobs fault → all ≡ jobs ++ more → StopsAnswering limit may_write start new all fault
-stops_among limit may_write start new jobs more all Write stop is = record {
+pub stops_among : {K : Type 0} (settings : Settings) (may_write : K → Answer → K → Type 0) (start new : K) (jobs more all : List (List ℕ)) (fault : Fault) →
+    StopsAnswering settings may_write start new jobs fault → all ≡ jobs ++ more → StopsAnswering settings may_write start new all fault
+stops_among settings may_write start new jobs more all Write stop is = record {
   answers = stop.answers;
   calls = stop.calls;
   says = record {
@@ -244,7 +245,7 @@ stops_among limit may_write start new jobs more all Write stop is = record {
     written = stop.says.written;
   };
 }
-stops_among limit may_write start new jobs more all TooManyJobs stop is = record {
+stops_among settings may_write start new jobs more all TooManyJobs stop is = record {
   answers = stop.answers;
   calls = stop.calls;
   says = record {
@@ -255,30 +256,30 @@ stops_among limit may_write start new jobs more all TooManyJobs stop is = record
     answered = stop.says.answered;
   };
 }
-stops_among limit may_write start new jobs more all other stop is = absurd stop
+stops_among settings may_write start new jobs more all other stop is = absurd stop
 
 -- the last job of the text is answered
-pub last_answered : {K : Type 0} (limit number : ℕ) (may_write : K → Answer → K → Type 0) (start mid new : K)
-    (text : List ℕ) (jobs : List (List ℕ)) (job : List ℕ) (result : Result (Unit {0}) Fault) → IsReady limit may_write start mid jobs number →
-    AnswersOne limit may_write mid new number job result → jobs_of text ≡ jobs ++ job ∷ [] → EndsBatch limit may_write start new text result
-last_answered limit number may_write start mid new text jobs job (Ok done) ready one is = (
+pub last_answered : {K : Type 0} (settings : Settings) (number : ℕ) (may_write : K → Answer → K → Type 0) (start mid new : K)
+    (text : List ℕ) (jobs : List (List ℕ)) (job : List ℕ) (result : Result (Unit {0}) Fault) → IsReady settings may_write start mid jobs number →
+    AnswersOne settings may_write mid new number job result → jobs_of text ≡ jobs ++ job ∷ [] → EndsBatch settings may_write start new text result
+last_answered settings number may_write start mid new text jobs job (Ok done) ready one is = (
   omega (arith, ready.few, ap length is, length-append jobs (job ∷ [])),
-  subst (λ (all : List (List ℕ)). HasRun may_write start new (AnswersAll limit all)) (sym is)
-      (one_more limit number may_write start mid new jobs job done ready.wrote ready.next one),
+  subst (λ (all : List (List ℕ)). HasRun may_write start new (AnswersAll settings all)) (sym is)
+      (one_more settings number may_write start mid new jobs job done ready.wrote ready.next one),
 )
-last_answered limit number may_write start mid new text jobs job (Err fault) ready one is =
-    let failed = one_fails limit number may_write start mid new jobs (jobs_of text) job [] fault ready.wrote ready.next ready.few one
+last_answered settings number may_write start mid new text jobs job (Err fault) ready one is =
+    let failed = one_fails settings number may_write start mid new jobs (jobs_of text) job [] fault ready.wrote ready.next ready.few one
     (append-nil (jobs ++ job ∷ []) ∙ sym is) in
-    subst (λ (f : Fault). EndsBatch limit may_write start new text (Err f)) (sym failed.0) failed.1
+    subst (λ (f : Fault). EndsBatch settings may_write start new text (Err f)) (sym failed.0) failed.1
 
 -- the job before the last divider is answered, and no more
-pub last_stops : {K : Type 0} (limit : ℕ) (may_write : K → Answer → K → Type 0) (start new : K)
-    (text : List ℕ) (jobs : List (List ℕ)) (job : List ℕ) (fault : Fault) → StopsAnswering limit may_write start new (jobs ++ job ∷ []) fault →
-    jobs_of text ≡ (jobs ++ job ∷ []) ++ [] ∷ [] → EndsBatch limit may_write start new text (Err fault)
-last_stops limit may_write start new text jobs job Write stop is =
-    stops_among limit may_write start new (jobs ++ job ∷ []) ([] ∷ []) (jobs_of text) Write stop is
-last_stops limit may_write start new text jobs job TooManyJobs stop is = (
+pub last_stops : {K : Type 0} (settings : Settings) (may_write : K → Answer → K → Type 0) (start new : K)
+    (text : List ℕ) (jobs : List (List ℕ)) (job : List ℕ) (fault : Fault) → StopsAnswering settings may_write start new (jobs ++ job ∷ []) fault →
+    jobs_of text ≡ (jobs ++ job ∷ []) ++ [] ∷ [] → EndsBatch settings may_write start new text (Err fault)
+last_stops settings may_write start new text jobs job Write stop is =
+    stops_among settings may_write start new (jobs ++ job ∷ []) ([] ∷ []) (jobs_of text) Write stop is
+last_stops settings may_write start new text jobs job TooManyJobs stop is = (
   omega (arith, ap length is, length-append (jobs ++ job ∷ []) ([] ∷ []), ap length stop.says.front, length-append stop.says.first stop.says.others, stop.says.most),
-  stops_among limit may_write start new (jobs ++ job ∷ []) ([] ∷ []) (jobs_of text) TooManyJobs stop is,
+  stops_among settings may_write start new (jobs ++ job ∷ []) ([] ∷ []) (jobs_of text) TooManyJobs stop is,
 )
-last_stops limit may_write start new text jobs job other stop is = absurd stop
+last_stops settings may_write start new text jobs job other stop is = absurd stop

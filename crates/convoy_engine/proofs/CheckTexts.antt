@@ -84,7 +84,7 @@ check_fault (Ok latency) fault is = cc
 check_fault (Err checks.Memory) fault is = cc
 check_fault (Err other) fault is = cc
 
-text_fault : (read : Result Certificate TextFault) (fault : Fault) → Err fault ≡ reply_of_text read → fault ≡ Memory
+pub text_fault : (read : Result Certificate TextFault) (fault : Fault) → Err fault ≡ reply_of_text read → fault ≡ Memory
 text_fault (Ok certificate) fault is = check_fault (checked certificate) fault is
 text_fault (Err texts.Memory) fault is = cc
 text_fault (Err other) fault is = cc

@@ -1,18 +1,27 @@
 -- The faults that a command's rule allows for a text.
-use Rattle.std.proofs.Common.{◌≡◌, ◌≤◌, ℕ, List, Result, Ok, Err, arith}
+use Rattle.std.proofs.Common.{◌≡◌, ◌≢◌, ◌≤◌, ℕ, Bool, true, false, cond, nat_le, List, Result, Ok, Err, length, lit≤, arith}
 use Rattle.convoy_engine.specs.declared.command.Command.{Command}
-use Rattle.convoy_engine.specs.declared.command.Command.TheVariants.{First, Simulate, Timeline, Check, Analyse, Latency}
+use Rattle.convoy_engine.specs.declared.command.Command.TheVariants.{First, Simulate, Timeline, Packets, Check, Explain, Analyse, Latency}
+use Rattle.convoy_certificate.specs.Certificate.{Certificate}
+use Rattle.convoy_certificate.specs.Reading.{certificate_of}
+use Rattle.convoy_certificate.specs.declared.text_fault.TextFault.{TextFault}
+use Rattle.convoy_engine.specs.declared.reading.TheConstants.{LONGEST_JOB}
 use Rattle.convoy_engine.specs.declared.fault.Fault.{Fault}
+use Rattle.convoy_engine.specs.declared.fault.Fault.TheVariants.{TooLong}
 use Rattle.convoy_engine.specs.Faults.{row_of}
 use Rattle.convoy_engine.specs.Commands.{says_for}
 use Rattle.convoy_engine.specs.First.{first_text}
+use Rattle.convoy_engine.specs.Inputs.{is_certificate_text, reply_of_job, reply_of_reading}
+use Rattle.convoy_engine.specs.PacketsTold.{certificate_packets, packets_of_text}
 use Rattle.convoy_engine.specs.Replies.{fine}
 use Rattle.convoy_engine.specs.Searches.{IsFaulty}
-use Rattle.convoy_engine.specs.Simulate.{simulate_text}
-use Rattle.convoy_engine.specs.Timelines.{timeline_of_text}
+use Rattle.convoy_engine.specs.Simulate.{certificate_simulated, simulate_text}
+use Rattle.convoy_engine.specs.Timelines.{certificate_timeline, timeline_of_text}
 use Rattle.convoy_engine.proofs.CaseTexts.{made_number}
-use Rattle.convoy_engine.proofs.CheckTexts.{check_number}
+use Rattle.convoy_engine.proofs.CheckTexts.{check_number, text_fault}
+use Rattle.convoy_engine.proofs.ExplainTexts.{explain_number}
 use Rattle.convoy_engine.proofs.FirstTexts.{first_number, told_number}
+use Rattle.convoy_engine.proofs.PacketsTexts.{packets_number}
 
 -- the fault of an answer is that of the reply
 fault_of_fine : (answer : Result (List ℕ) Fault) (fault : Fault) → Err fault ≡ fine answer → answer ≡ Err fault
@@ -25,14 +34,49 @@ faulty_number text fault faulty =
     let low = told_number faulty.cause in
     rw faulty.told (omega (arith, low))
 
+-- the number is that of no device's fault
+pub record IsNoDevice (number : ℕ) : Type 0 where
+  pub no_read : number ≢ 40
+  pub no_write : number ≢ 41
+
+low_is_none : (number : ℕ) → number ≤ 14 → IsNoDevice number
+low_is_none number low = record { no_read = λ is. omega arith; no_write = λ is. omega arith }
+
+-- a job's fault is one of its text, or that it is too long
+job_number : (answer : Result (List ℕ) Fault) (fault : Fault) →
+    ((refused : Fault) → answer ≡ Err refused → (row_of refused).0 ≤ 14) → (b : Bool) →
+    Err fault ≡ cond b (fine answer) (Err TooLong) → IsNoDevice (row_of fault).0
+job_number answer fault low true is = low_is_none _ (low fault (fault_of_fine answer fault is))
+job_number answer fault low false is =
+    let same : fault ≡ TooLong = cc in
+    rw same (record { no_read = λ i. omega arith; no_write = λ i. omega arith })
+
+-- a certificate's fault is want of memory
+reading_number : (made : Certificate → List ℕ) (read : Result Certificate TextFault) (fault : Fault) →
+    Err fault ≡ reply_of_reading made read → IsNoDevice (row_of fault).0
+reading_number made (Ok certificate) fault is = cc
+reading_number made (Err refused) fault is =
+    let none = text_fault (Err refused) fault is in low_is_none _ (rw none (lit≤ tt))
+
+form_number : (made : Certificate → List ℕ) (answer : List ℕ → Result (List ℕ) Fault) (text : List ℕ) (fault : Fault) →
+    ((refused : Fault) → answer text ≡ Err refused → (row_of refused).0 ≤ 14) → (b : Bool) →
+    Err fault ≡ cond b (reply_of_reading made (certificate_of text)) (reply_of_job answer text) → IsNoDevice (row_of fault).0
+form_number made answer text fault low true is = reading_number made (certificate_of text) fault is
+form_number made answer text fault low false is = job_number (answer text) fault low (nat_le (length text) LONGEST_JOB) is
+
 -- none is a device's, by its number
 pub says_number : (command : Command) (text : List ℕ) (fault : Fault) →
-    says_for command text (Err fault) → (row_of fault).0 ≤ 14
+    says_for command text (Err fault) → IsNoDevice (row_of fault).0
 unfolding simulate_text timeline_of_text
 says_number First text fault says =
-    let low = first_number text fault (fault_of_fine (first_text text) fault says) in omega (arith, low)
-says_number Simulate text fault says = made_number _ text fault (fault_of_fine (simulate_text text) fault says)
-says_number Timeline text fault says = made_number _ text fault (fault_of_fine (timeline_of_text text) fault says)
-says_number Check text fault says = check_number text fault says
-says_number (Analyse options) text fault says = faulty_number text fault says
-says_number (Latency options) text fault says = faulty_number text fault says
+    let low = first_number text fault (fault_of_fine (first_text text) fault says) in low_is_none _ low
+says_number Simulate text fault says =
+    form_number certificate_simulated simulate_text text fault (λ refused is. made_number _ text refused is) (is_certificate_text text) says
+says_number Timeline text fault says =
+    form_number certificate_timeline timeline_of_text text fault (λ refused is. made_number _ text refused is) (is_certificate_text text) says
+says_number Packets text fault says =
+    form_number certificate_packets packets_of_text text fault (λ refused is. packets_number text refused is) (is_certificate_text text) says
+says_number Check text fault says = low_is_none _ (check_number text fault says)
+says_number Explain text fault says = low_is_none _ (explain_number text fault says)
+says_number (Analyse options) text fault says = low_is_none _ (faulty_number text fault says)
+says_number (Latency options) text fault says = low_is_none _ (faulty_number text fault says)

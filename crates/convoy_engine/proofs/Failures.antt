@@ -9,7 +9,7 @@ use Rattle.convoy_engine.specs.Reads.{ReadsText, StopsReading}
 use Rattle.convoy_engine.specs.Faults.{row_of}
 use Rattle.convoy_engine.specs.Commands.{longest_for, says_for}
 use Rattle.convoy_engine.specs.declared.command.Command.{Command}
-use Rattle.convoy_engine.proofs.CommandTexts.{says_number}
+use Rattle.convoy_engine.proofs.CommandTexts.{IsNoDevice, says_number}
 use Rattle.convoy_engine.specs.Runs.{Replied}
 use Rattle.convoy_engine.specs.Laws.{told_reads, FailuresAreTold}
 
@@ -40,9 +40,9 @@ in_stop longest most_reads reads Memory stop = none_in_pieces reads stop.each
 in_stop longest most_reads reads other stop = absurd stop
 
 -- where the text has a fault, which is no device's
-in_refusal : (fault : Fault) → (row_of fault).0 ≤ 14 → 0 ≡ told_reads (Err fault)
-in_refusal Read low = absurd (omega arith)
-in_refusal other low = refl
+in_refusal : (fault : Fault) → IsNoDevice (row_of fault).0 → 0 ≡ told_reads (Err fault)
+in_refusal Read none = absurd (none.no_read refl)
+in_refusal other none = refl
 
 -- where nothing was written
 in_nothing : (writes : List Answer) → writes ≡ [] → failures writes ≡ 0

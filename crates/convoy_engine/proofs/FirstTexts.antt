@@ -42,7 +42,7 @@ told_number scenario.TargetNotAddressed = lit≤ tt
 told_number scenario.LinkToItself = lit≤ tt
 told_number scenario.Memory = lit≤ tt
 
-mapped_number : {X : Type 0} (made : X → List ℕ) (read : Result X ScenarioFault) (fault : Fault) →
+pub mapped_number : {X : Type 0} (made : X → List ℕ) (read : Result X ScenarioFault) (fault : Fault) →
     result_map_both made told_of read ≡ Err fault → (row_of fault).0 ≤ 14
 mapped_number made (Ok plan) fault is = cc
 mapped_number made (Err refused) fault is = let same : told_of refused ≡ fault = cc in rw same at (told_number refused)

@@ -4,7 +4,9 @@ pub mod Blocks
 pub mod CaseTexts
 pub mod CheckTexts
 pub mod CommandTexts
+pub mod ExplainTexts
 pub mod Failures
 pub mod FirstTexts
+pub mod PacketsTexts
 pub mod Pieces
 pub mod Refusals

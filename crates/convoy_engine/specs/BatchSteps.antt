@@ -3,6 +3,7 @@ use Rattle.std.specs.Prelude.{◌≡◌, ◌⊎◌, ℕ, ◌+◌, ◌<◌, List,
 use Rattle.convoy_jobs.specs.Jobs.{ended_jobs, jobs_of}
 use Rattle.convoy_jobs.specs.Splitting.{Holds, IsAfter, IsJobStart}
 use Rattle.convoy_jobs.specs.declared.splitter.Splitter.{Splitter}
+use Rattle.convoy_engine.specs.Options.{Settings}
 use Rattle.convoy_engine.specs.declared.batch.Batch.{Batch}
 use Rattle.convoy_engine.specs.declared.batch.TheConstants.{MOST_JOBS}
 use Rattle.convoy_engine.specs.declared.reading.TheConstants.{LONGEST_JOB}
@@ -20,17 +21,17 @@ pub record IsBlockFor (number : ℕ) (want : Reply) (out : List ℕ) : Type 0 wh
   pub block : out ≡ block_of number reply
 
 -- a block of a job went out, or a front of it and then the sink failed
-pub record AnswersOne {K : Type 0} (limit : ℕ) (may_write : K → Answer → K → Type 0) (old new : K)
+pub record AnswersOne {K : Type 0} (settings : Settings) (may_write : K → Answer → K → Type 0) (old new : K)
     (number : ℕ) (job : List ℕ) (result : Result (Unit {0}) Fault) : Type 0 where
   pub reply : Reply
-  pub allowed : JobSays limit job reply
+  pub allowed : JobSays settings job reply
   pub run : HasRun may_write old new (λ answers. MatchResult result
       (λ _. WritesAll (block_of number reply) answers) (λ fault. (fault ≡ Write) × FailsWithin (block_of number reply) answers))
 
 -- the blocks of these jobs have gone out, and one more job may come
-pub record IsReady {K : Type 0} (limit : ℕ) (may_write : K → Answer → K → Type 0) (start now : K)
+pub record IsReady {K : Type 0} (settings : Settings) (may_write : K → Answer → K → Type 0) (start now : K)
     (jobs : List (List ℕ)) (number : ℕ) : Type 0 where
-  pub wrote : HasRun may_write start now (AnswersAll limit jobs)
+  pub wrote : HasRun may_write start now (AnswersAll settings jobs)
   pub next : number ≡ length jobs + 1
   pub few : length jobs < MOST_JOBS
 
@@ -40,22 +41,22 @@ pub record IsFresh (splitter : Splitter) : Type 0 where
   pub after : (text : List ℕ) → IsJobStart text → IsAfter LONGEST_JOB splitter text
 
 -- this text was read, and the blocks of the jobs whose divider had ended have gone out
-pub record IsUnderWay {K : Type 0} (limit : ℕ) (may_write : K → Answer → K → Type 0) (start now : K)
+pub record IsUnderWay {K : Type 0} (settings : Settings) (may_write : K → Answer → K → Type 0) (start now : K)
     (text : List ℕ) (batch : Batch) : Type 0 where
-  pub ready : IsReady limit may_write start now (ended_jobs text) batch.number
+  pub ready : IsReady settings may_write start now (ended_jobs text) batch.number
   pub after : IsAfter LONGEST_JOB batch.splitter text
 
 -- how answering ends early where these jobs were read
-abbrev pub StopsAnswering : {K : Type 0} → ℕ → (K → Answer → K → Type 0) → K → K → List (List ℕ) → Fault → Type 0
-StopsAnswering limit may_write start now jobs Write = HasRun may_write start now (FailsAnswering limit jobs)
-StopsAnswering limit may_write start now jobs TooManyJobs = HasRun may_write start now (AnswersMost limit jobs)
-StopsAnswering limit may_write start now jobs other = ⊥
+abbrev pub StopsAnswering : {K : Type 0} → Settings → (K → Answer → K → Type 0) → K → K → List (List ℕ) → Fault → Type 0
+StopsAnswering settings may_write start now jobs Write = HasRun may_write start now (FailsAnswering settings jobs)
+StopsAnswering settings may_write start now jobs TooManyJobs = HasRun may_write start now (AnswersMost settings jobs)
+StopsAnswering settings may_write start now jobs other = ⊥
 
 -- how the end of the text ends a batch
-abbrev pub EndsBatch : {K : Type 0} → ℕ → (K → Answer → K → Type 0) → K → K → List ℕ → Result (Unit {0}) Fault → Type 0
-EndsBatch limit may_write start now text (Ok done) =
-    (length (jobs_of text) < MOST_JOBS + 1) × HasRun may_write start now (AnswersAll limit (jobs_of text))
-EndsBatch limit may_write start now text (Err Write) = HasRun may_write start now (FailsAnswering limit (jobs_of text))
-EndsBatch limit may_write start now text (Err TooManyJobs) =
-    (MOST_JOBS < length (jobs_of text)) × HasRun may_write start now (AnswersMost limit (jobs_of text))
-EndsBatch limit may_write start now text (Err other) = ⊥
+abbrev pub EndsBatch : {K : Type 0} → Settings → (K → Answer → K → Type 0) → K → K → List ℕ → Result (Unit {0}) Fault → Type 0
+EndsBatch settings may_write start now text (Ok done) =
+    (length (jobs_of text) < MOST_JOBS + 1) × HasRun may_write start now (AnswersAll settings (jobs_of text))
+EndsBatch settings may_write start now text (Err Write) = HasRun may_write start now (FailsAnswering settings (jobs_of text))
+EndsBatch settings may_write start now text (Err TooManyJobs) =
+    (MOST_JOBS < length (jobs_of text)) × HasRun may_write start now (AnswersMost settings (jobs_of text))
+EndsBatch settings may_write start now text (Err other) = ⊥

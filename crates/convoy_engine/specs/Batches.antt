@@ -3,6 +3,7 @@ use Rattle.std.specs.Prelude.{◌≡◌, ◌⊎◌, ℕ, ◌+◌, ◌<◌, ◌�
 use Rattle.std.specs.List.{FoldsTo}
 use Rattle.convoy_lines.specs.Texts.{ended, number_line}
 use Rattle.convoy_jobs.specs.Jobs.{ended_jobs, jobs_of}
+use Rattle.convoy_engine.specs.Options.{Settings}
 use Rattle.convoy_engine.specs.declared.batch.TheConstants.{MOST_JOBS}
 use Rattle.convoy_engine.specs.declared.reading.TheConstants.{LONGEST_JOB}
 use Rattle.convoy_engine.specs.declared.done.Done.{Done}
@@ -16,9 +17,9 @@ use Rattle.convoy_engine.specs.Searches.{LatencySays}
 use Rattle.convoy_engine.specs.Writes.{WritesAll, FailsWithin}
 
 -- What may be answered for a job, by its own text alone: that it is too long just where it is, and else what `latency` answers, unless memory ran out.
-pub record JobSays (limit : ℕ) (job : List ℕ) (reply : Reply) : Type 0 where
+pub record JobSays (settings : Settings) (job : List ℕ) (reply : Reply) : Type 0 where
   pub long : LONGEST_JOB < length job → reply ≡ Err TooLong
-  pub short : length job ≤ LONGEST_JOB → SaysUnlessMemory (LatencySays limit) job reply
+  pub short : length job ≤ LONGEST_JOB → SaysUnlessMemory (LatencySays settings) job reply
 
 -- the first line of a block
 abbrev pub job_line : ℕ → List ℕ
@@ -39,35 +40,35 @@ blocks_from number [] = []
 blocks_from number (reply ∷ replies) = block_of number reply ++ blocks_from (number + 1) replies
 
 -- each job has its reply
-abbrev pub AreReplies : ℕ → List (List ℕ) → List Reply → Type 0
-AreReplies limit [] [] = Unit {0}
-AreReplies limit [] (reply ∷ replies) = ⊥
-AreReplies limit (job ∷ jobs) [] = ⊥
-AreReplies limit (job ∷ jobs) (reply ∷ replies) = JobSays limit job reply × AreReplies limit jobs replies
+abbrev pub AreReplies : Settings → List (List ℕ) → List Reply → Type 0
+AreReplies settings [] [] = Unit {0}
+AreReplies settings [] (reply ∷ replies) = ⊥
+AreReplies settings (job ∷ jobs) [] = ⊥
+AreReplies settings (job ∷ jobs) (reply ∷ replies) = JobSays settings job reply × AreReplies settings jobs replies
 
 -- the blocks of these jobs went out, from job 1 on
-pub record AnswersAll (limit : ℕ) (jobs : List (List ℕ)) (writes : List Answer) : Type 0 where
+pub record AnswersAll (settings : Settings) (jobs : List (List ℕ)) (writes : List Answer) : Type 0 where
   pub replies : List Reply
-  pub allowed : AreReplies limit jobs replies
+  pub allowed : AreReplies settings jobs replies
   pub written : WritesAll (blocks_from 1 replies) writes
 
 -- a front of the blocks of the first of these jobs went out, and then the sink failed
-pub record FailsAnswering (limit : ℕ) (jobs : List (List ℕ)) (writes : List Answer) : Type 0 where
+pub record FailsAnswering (settings : Settings) (jobs : List (List ℕ)) (writes : List Answer) : Type 0 where
   pub first : List (List ℕ)
   pub others : List (List ℕ)
   pub front : first ++ others ≡ jobs
   pub few : length first ≤ MOST_JOBS
   pub replies : List Reply
-  pub allowed : AreReplies limit first replies
+  pub allowed : AreReplies settings first replies
   pub written : FailsWithin (blocks_from 1 replies) writes
 
 -- the blocks of the first of these jobs went out, as many as there may be
-pub record AnswersMost (limit : ℕ) (jobs : List (List ℕ)) (writes : List Answer) : Type 0 where
+pub record AnswersMost (settings : Settings) (jobs : List (List ℕ)) (writes : List Answer) : Type 0 where
   pub first : List (List ℕ)
   pub others : List (List ℕ)
   pub front : first ++ others ≡ jobs
   pub most : length first ≡ MOST_JOBS
-  pub answered : AnswersAll limit first writes
+  pub answered : AnswersAll settings first writes
 
 -- the reads gave this, piece by piece, and not the end
 pub record ReadsOn (reads : List Answer) (text : List ℕ) : Type 0 where
@@ -85,39 +86,39 @@ abbrev pub ReadsAll : List Answer → List ℕ → Type 0
 ReadsAll = ReadsThen (Moved [])
 
 -- the last read alone shows that there are too many jobs
-pub record ShowsTooMany (limit : ℕ) (reads writes : List Answer) : Type 0 where
+pub record ShowsTooMany (settings : Settings) (reads writes : List Answer) : Type 0 where
   pub bytes : List ℕ
   pub before : List ℕ
   pub last : ReadsThen (Moved bytes) reads before
   pub few : length (ended_jobs before) < MOST_JOBS
-  pub outcome : ((text : List ℕ) × ReadsOn reads text × AnswersMost limit (ended_jobs text) writes)
-      ⊎ ((text : List ℕ) × ReadsAll reads text × (MOST_JOBS < length (jobs_of text)) × AnswersMost limit (jobs_of text) writes)
+  pub outcome : ((text : List ℕ) × ReadsOn reads text × AnswersMost settings (ended_jobs text) writes)
+      ⊎ ((text : List ℕ) × ReadsAll reads text × (MOST_JOBS < length (jobs_of text)) × AnswersMost settings (jobs_of text) writes)
 
 -- What a run gives, by what its reads and its writes answered, where at most so many reads are made.
-abbrev pub BatchRunsTo : ℕ → ℕ → List Answer → List Answer → Result Done Fault → Type 0
+abbrev pub BatchRunsTo : Settings → ℕ → List Answer → List Answer → Result Done Fault → Type 0
 -- the text was read, and the blocks of all its jobs went out
-BatchRunsTo limit most_reads reads writes (Ok Fine) =
-    (text : List ℕ) × ReadsAll reads text × (length (jobs_of text) ≤ MOST_JOBS) × AnswersAll limit (jobs_of text) writes
-BatchRunsTo limit most_reads reads writes (Ok done) = ⊥
+BatchRunsTo settings most_reads reads writes (Ok Fine) =
+    (text : List ℕ) × ReadsAll reads text × (length (jobs_of text) ≤ MOST_JOBS) × AnswersAll settings (jobs_of text) writes
+BatchRunsTo settings most_reads reads writes (Ok done) = ⊥
 -- the blocks of the jobs whose divider had ended went out, and then a read failed
-BatchRunsTo limit most_reads reads writes (Err Read) =
-    (text : List ℕ) × ReadsThen Failed reads text × (length (ended_jobs text) < MOST_JOBS) × AnswersAll limit (ended_jobs text) writes
+BatchRunsTo settings most_reads reads writes (Err Read) =
+    (text : List ℕ) × ReadsThen Failed reads text × (length (ended_jobs text) < MOST_JOBS) × AnswersAll settings (ended_jobs text) writes
 -- they went out, and as many reads as there may be gave no end
-BatchRunsTo limit most_reads reads writes (Err TooManyReads) =
-    (text : List ℕ) × ReadsOn reads text × (length reads ≡ most_reads) × (length (ended_jobs text) < MOST_JOBS) × AnswersAll limit (ended_jobs text) writes
+BatchRunsTo settings most_reads reads writes (Err TooManyReads) =
+    (text : List ℕ) × ReadsOn reads text × (length reads ≡ most_reads) × (length (ended_jobs text) < MOST_JOBS) × AnswersAll settings (ended_jobs text) writes
 -- one job more than there may be begins: the blocks of those before it went out
-BatchRunsTo limit most_reads reads writes (Err TooManyJobs) = ShowsTooMany limit reads writes
+BatchRunsTo settings most_reads reads writes (Err TooManyJobs) = ShowsTooMany settings reads writes
 -- the sink failed within a block of what had been read
-BatchRunsTo limit most_reads reads writes (Err Write) =
+BatchRunsTo settings most_reads reads writes (Err Write) =
     (text : List ℕ)
-    × ((ReadsOn reads text × FailsAnswering limit (ended_jobs text) writes) ⊎ (ReadsAll reads text × FailsAnswering limit (jobs_of text) writes))
+    × ((ReadsOn reads text × FailsAnswering settings (ended_jobs text) writes) ⊎ (ReadsAll reads text × FailsAnswering settings (jobs_of text) writes))
 -- there was no memory for a block, before all else
-BatchRunsTo limit most_reads reads writes (Err Memory) = (reads ≡ []) × (writes ≡ [])
-BatchRunsTo limit most_reads reads writes (Err fault) = ⊥
+BatchRunsTo settings most_reads reads writes (Err Memory) = (reads ≡ []) × (writes ≡ [])
+BatchRunsTo settings most_reads reads writes (Err fault) = ⊥
 
 -- Over a source and a sink that may answer so, from their old states to their new ones, there is
 -- a run of a batch that gives this result.
-pub record IsBatchRun {S K : Type 0} (limit most_reads : ℕ)
+pub record IsBatchRun {S K : Type 0} (settings : Settings) (most_reads : ℕ)
     (may_read : S → Answer → S → Type 0) (may_write : K → Answer → K → Type 0)
     (source new_source : S) (sink new_sink : K) (result : Result Done Fault) : Type 0 where
   pub reads : List Answer
@@ -125,4 +126,4 @@ pub record IsBatchRun {S K : Type 0} (limit most_reads : ℕ)
   pub read : FoldsTo may_read source reads new_source
   pub few : length reads ≤ most_reads
   pub wrote : FoldsTo may_write sink writes new_sink
-  pub outcome : BatchRunsTo limit most_reads reads writes result
+  pub outcome : BatchRunsTo settings most_reads reads writes result

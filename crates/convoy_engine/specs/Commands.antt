@@ -1,10 +1,12 @@
 -- The commands: what each may answer for a text, and how long the text may be.
 use Rattle.std.specs.Prelude.{◌≡◌, ℕ}
 use Rattle.convoy_engine.specs.declared.command.Command.{Command}
-use Rattle.convoy_engine.specs.declared.command.Command.TheVariants.{First, Simulate, Timeline, Check, Analyse, Latency}
+use Rattle.convoy_engine.specs.declared.command.Command.TheVariants.{First, Simulate, Timeline, Packets, Check, Explain, Analyse, Latency}
 use Rattle.convoy_engine.specs.declared.reading.TheConstants.{LONGEST_CERTIFICATE, LONGEST_JOB}
 use Rattle.convoy_engine.specs.Checks.{CheckSays}
+use Rattle.convoy_engine.specs.Explains.{ExplainSays}
 use Rattle.convoy_engine.specs.First.{FirstSays}
+use Rattle.convoy_engine.specs.PacketsTold.{PacketsSays}
 use Rattle.convoy_engine.specs.Replies.{Rule}
 use Rattle.convoy_engine.specs.Searches.{AnalyseSays, LatencySays}
 use Rattle.convoy_engine.specs.Simulate.{SimulateSays}
@@ -15,14 +17,18 @@ abbrev pub says_for : Command → Rule
 says_for First = FirstSays
 says_for Simulate = SimulateSays
 says_for Timeline = TimelineSays
+says_for Packets = PacketsSays
 says_for Check = CheckSays
-says_for (Analyse options) = AnalyseSays options.limit
-says_for (Latency options) = LatencySays options.limit
+says_for Explain = ExplainSays
+says_for (Analyse options) = AnalyseSays options
+says_for (Latency options) = LatencySays options
 
--- how many bytes its text has at most
+-- how many bytes its text has at most: where it may be a certificate, as many as those have
 abbrev pub longest_for : Command → ℕ
-longest_for Check = LONGEST_CERTIFICATE
-longest_for other = LONGEST_JOB
+longest_for First = LONGEST_JOB
+longest_for (Analyse options) = LONGEST_JOB
+longest_for (Latency options) = LONGEST_JOB
+longest_for other = LONGEST_CERTIFICATE
 
 -- where the command searches, one worker does
 abbrev pub IsAlone : Command → Type 0

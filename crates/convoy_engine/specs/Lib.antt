@@ -12,11 +12,15 @@ pub use Rattle.convoy_packets.specs.Table
 pub use Rattle.convoy_sim.specs.Delivery
 pub use Rattle.convoy_sim.specs.Greatest
 pub use Rattle.convoy_timeline.specs.Timeline
+pub use Rattle.convoy_explain.specs.Causes
+pub use Rattle.convoy_explain.specs.Explanations
+pub use Rattle.convoy_explain.specs.PacketLists
 pub use Rattle.convoy_certificate.specs.Certificate
 pub use Rattle.convoy_certificate.specs.Reading as CertificateReading
 pub use Rattle.convoy_certificate.specs.Text as CertificateText
 pub use Rattle.convoy_checker.specs.Checks as CertificateChecks
 pub use Rattle.convoy_checker.specs.Validity
+pub use Rattle.convoy_branch.specs.SearchBounds
 pub use Rattle.convoy_branch.specs.Fronts
 pub use Rattle.convoy_branch.specs.Outcomes
 -- what a reader has to believe: which answers each command may give, and what its run does at its devices
@@ -26,9 +30,12 @@ pub mod Refusals
 pub mod Replies
 pub mod Cases
 pub mod First
+pub mod Checks
+pub mod Inputs
 pub mod Simulate
 pub mod Timelines
-pub mod Checks
+pub mod PacketsTold
+pub mod Explains
 pub mod Searches
 pub mod Options
 pub mod Commands

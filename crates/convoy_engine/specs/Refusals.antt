@@ -48,6 +48,7 @@ row_of_check (checks.BoundLeaf node bound) =
 row_of_check (checks.PointLeaf node) = (27, codes "point leaf " ++ decimal node)
 row_of_check (checks.StampLeaf node bound) =
     (29, codes "stamp leaf " ++ (decimal node ++ (codes " bound " ++ decimal bound)))
+row_of_check (checks.LeadLeaf node) = (36, codes "lead leaf " ++ decimal node)
 row_of_check checks.Memory = (11, codes "out of memory")
 
 -- the number and the text of a refusal

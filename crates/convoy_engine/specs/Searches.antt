@@ -1,5 +1,6 @@
 -- What a search gives for a text, and what the commands `analyse` and `latency` write.
-use Rattle.std.specs.Prelude.{◌≡◌, ◌⊎◌, ℕ, ◌≤◌, List, ◌++◌, length, Result, Ok, Err}
+use Rattle.std.specs.Prelude.{◌≡◌, ◌≢◌, ◌⊎◌, ℕ, ◌≤◌, false, List, ◌++◌, length, Result, Ok, Err}
+use Rattle.std.specs.List.{list_any}
 use Rattle.convoy_lines.specs.Texts.{ended}
 use Rattle.convoy_scenario.specs.Scenario.{Scenario}
 use Rattle.convoy_scenario.specs.Reading.{scenario_of_text}
@@ -9,8 +10,9 @@ use Rattle.convoy_packets.specs.Assignment.{IsAssignment}
 use Rattle.convoy_sim.specs.Delivery.{latency_of}
 use Rattle.convoy_sim.specs.Greatest.{IsGreatest, IsReached, IsUpper}
 use Rattle.convoy_certificate.specs.Certificate.{Certificate, IsCertificate}
-use Rattle.convoy_certificate.specs.Text.{certificate_text, schedule_line}
+use Rattle.convoy_certificate.specs.Text.{certificate_text, is_lead, is_stamp, schedule_line}
 use Rattle.convoy_checker.specs.Validity.{IsValid}
+use Rattle.convoy_branch.specs.declared.bounds.Bounds.TheVariants.{Plain, Lead}
 use Rattle.convoy_branch.specs.Fronts.{IsFront}
 use Rattle.convoy_branch.specs.Outcomes.{IsOutcome}
 use Rattle.convoy_branch.specs.declared.outcome.Outcome.{Outcome}
@@ -21,6 +23,7 @@ use Rattle.convoy_engine.specs.declared.reading.TheConstants.{LONGEST_CERTIFICAT
 use Rattle.convoy_engine.specs.Checks.{check_reply}
 use Rattle.convoy_engine.specs.Faults.{told_of}
 use Rattle.convoy_engine.specs.Lines.{accepted_line, greatest_line, open_line}
+use Rattle.convoy_engine.specs.Options.{Settings}
 use Rattle.convoy_engine.specs.Replies.{Rule}
 
 -- The text has this fault.
@@ -29,20 +32,20 @@ pub record IsFaulty (text : List ℕ) (fault : Fault) : Type 0 where
   pub found : scenario_of_text text ≡ Err cause
   pub told : fault ≡ told_of cause
 
--- A search with that limit for the scenario of the text ended so.
-pub record IsSearchOf (limit : ℕ) (text : List ℕ) (outcome : Outcome) : Type 0 where
+-- A search with these settings for the scenario of the text ended so.
+pub record IsSearchOf (settings : Settings) (text : List ℕ) (outcome : Outcome) : Type 0 where
   pub scenario : Scenario
   pub read : scenario_of_text text ≡ Ok scenario
   pub lawful : IsScenario scenario
-  pub ended : IsOutcome scenario limit outcome
+  pub ended : IsOutcome settings.bounds scenario 1 settings.limit outcome
 
 -- what a search for the scenario of a text gives; or the scenario's fault, or memory ran out
-abbrev pub SearchGives : ℕ → List ℕ → Result Outcome Fault → Type 0
-SearchGives limit text (Ok outcome) = IsSearchOf limit text outcome
-SearchGives limit text (Err fault) = IsFaulty text fault ⊎ (fault ≡ Memory)
+abbrev pub SearchGives : Settings → List ℕ → Result Outcome Fault → Type 0
+SearchGives settings text (Ok outcome) = IsSearchOf settings text outcome
+SearchGives settings text (Err fault) = IsFaulty text fault ⊎ (fault ≡ Memory)
 
 -- THE HEADLINE. What is written is a certificate of the scenario that was read, with a node for each ticket that was spent; its schedule has the stated latency; no assignment has a greater one; and the checker accepts what is written.
-pub record IsProof (limit : ℕ) (text out : List ℕ) : Type 0 where
+pub record IsProof (settings : Settings) (text out : List ℕ) : Type 0 where
   pub certificate : Certificate
   pub lawful : IsCertificate certificate
   pub read : scenario_of_text text ≡ Ok certificate.scenario
@@ -50,34 +53,37 @@ pub record IsProof (limit : ℕ) (text out : List ℕ) : Type 0 where
   pub latency : latency_of certificate.scenario certificate.delays ≡ certificate.latency
   pub greatest : IsGreatest certificate.scenario certificate.latency
   pub valid : IsValid certificate
-  pub few : length certificate.nodes ≤ limit
+  pub few : length certificate.nodes ≤ settings.limit
+  -- by plain bounds it has no stamp leaf, and only by leads it has lead leaves
+  pub plain : settings.bounds ≡ Plain → list_any is_stamp certificate.nodes ≡ false
+  pub no_leads : settings.bounds ≢ Lead → list_any is_lead certificate.nodes ≡ false
   -- the checker reads it whole: it is within the limit of bytes
   pub fits : length out ≤ LONGEST_CERTIFICATE
   pub accepted : check_reply out ≡ Ok (Fine, accepted_line certificate.latency)
 
 -- The greatest latency of the scenario that was read is from `least` to `most`: so says the front of a search that spent as many tickets as the limit.
-pub record IsOpenBetween (limit : ℕ) (text : List ℕ) (scenario : Scenario) (least most : ℕ) : Type 0 where
+pub record IsOpenBetween (settings : Settings) (text : List ℕ) (scenario : Scenario) (least most : ℕ) : Type 0 where
   pub read : scenario_of_text text ≡ Ok scenario
   pub lawful : IsScenario scenario
   pub reached : IsReached scenario least
   pub upper : IsUpper scenario most
-  pub front : IsFront scenario least most limit
+  pub front : IsFront settings.bounds scenario least most settings.limit
 
 -- What is written is the least and the most that the greatest latency may be, and a schedule that has the least.
-pub record IsOpenProof (limit : ℕ) (text out : List ℕ) : Type 0 where
+pub record IsOpenProof (settings : Settings) (text out : List ℕ) : Type 0 where
   pub scenario : Scenario
   pub delays : List ℕ
   pub most : ℕ
   pub assigned : IsAssignment scenario delays
-  pub between : IsOpenBetween limit text scenario (latency_of scenario delays) most
+  pub between : IsOpenBetween settings text scenario (latency_of scenario delays) most
   pub written : out ≡ open_line (latency_of scenario delays) most ++ ended (schedule_line delays)
 
 -- what `analyse` may answer
-abbrev pub AnalyseSays : ℕ → Rule
-AnalyseSays limit text (Ok (Fine, out)) = IsProof limit text out
-AnalyseSays limit text (Ok (Open, out)) = IsOpenProof limit text out
-AnalyseSays limit text (Ok (Refused, out)) = ⊥
-AnalyseSays limit text (Err fault) = IsFaulty text fault
+abbrev pub AnalyseSays : Settings → Rule
+AnalyseSays settings text (Ok (Fine, out)) = IsProof settings text out
+AnalyseSays settings text (Ok (Open, out)) = IsOpenProof settings text out
+AnalyseSays settings text (Ok (Refused, out)) = ⊥
+AnalyseSays settings text (Err fault) = IsFaulty text fault
 
 -- The greatest latency of the scenario that was read is written.
 pub record IsGreatestTold (text out : List ℕ) : Type 0 where
@@ -89,16 +95,16 @@ pub record IsGreatestTold (text out : List ℕ) : Type 0 where
   pub written : out ≡ greatest_line latency
 
 -- What is written is the least and the most that the greatest latency may be.
-pub record IsFrontTold (limit : ℕ) (text out : List ℕ) : Type 0 where
+pub record IsFrontTold (settings : Settings) (text out : List ℕ) : Type 0 where
   pub scenario : Scenario
   pub least : ℕ
   pub most : ℕ
-  pub between : IsOpenBetween limit text scenario least most
+  pub between : IsOpenBetween settings text scenario least most
   pub written : out ≡ open_line least most
 
 -- what `latency` may answer
-abbrev pub LatencySays : ℕ → Rule
-LatencySays limit text (Ok (Fine, out)) = IsGreatestTold text out
-LatencySays limit text (Ok (Open, out)) = IsFrontTold limit text out
-LatencySays limit text (Ok (Refused, out)) = ⊥
-LatencySays limit text (Err fault) = IsFaulty text fault
+abbrev pub LatencySays : Settings → Rule
+LatencySays settings text (Ok (Fine, out)) = IsGreatestTold text out
+LatencySays settings text (Ok (Open, out)) = IsFrontTold settings text out
+LatencySays settings text (Ok (Refused, out)) = ⊥
+LatencySays settings text (Err fault) = IsFaulty text fault

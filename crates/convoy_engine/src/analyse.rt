@@ -41,7 +41,7 @@ pub fn run_analyse<S: Source, K: Sink>(
     options: &Options,
 ) -> Result<Done, Fault>
     requires alone { options.now.workers ≡ 1 }
-    ensures { IsRun LONGEST_JOB (AnalyseSays options.now.limit) options.now.most_reads
+    ensures { IsRun LONGEST_JOB (AnalyseSays options.now) options.now.most_reads
         S.reads K.writes source.old source.new sink.old sink.new result }
 {
     let most_reads = options.most_reads();
@@ -54,7 +54,7 @@ pub(crate) fn analyse_answer(
     text: &[u8],
     options: &Options,
 ) -> Result<(Done, Vec<u8>), Fault>
-    ensures { SaysUnlessMemory (AnalyseSays options.now.limit) text.now (reply_of result) }
+    ensures { SaysUnlessMemory (AnalyseSays options.now) text.now (reply_of result) }
 {
     texts_are_read();
     texts_are_short();

@@ -42,7 +42,7 @@ pub fn run_batch<S: Source, K: Sink>(
     options: &Options,
 ) -> Result<Done, Fault>
     requires alone { options.now.workers ≡ 1 }
-    ensures { IsBatchRun options.now.limit options.now.most_reads
+    ensures { IsBatchRun options.now options.now.most_reads
         S.reads K.writes source.old source.new sink.old sink.new result }
 {
     let most_reads = options.most_reads();
@@ -91,10 +91,10 @@ impl Batch {
         options: &Options,
     ) -> Result<(), Fault>
         ensures { (start : K) (text : List ℕ) →
-            IsUnderWay options.now.limit K.writes start sink.old text self.old →
+            IsUnderWay options.now K.writes start sink.old text self.old →
             MatchResult result
-            (λ _. IsUnderWay options.now.limit K.writes start sink.new (text ++ piece.now) self.new)
-            (StopsAnswering options.now.limit K.writes start sink.new (ended_jobs (text ++ piece.now))) }
+            (λ _. IsUnderWay options.now K.writes start sink.new (text ++ piece.now) self.new)
+            (StopsAnswering options.now K.writes start sink.new (ended_jobs (text ++ piece.now))) }
     {
         ended_jobs_stay();
         for byte in piece {
@@ -112,10 +112,10 @@ impl Batch {
         options: &Options,
     ) -> Result<(), Fault>
         ensures { (start : K) (text : List ℕ) →
-            IsUnderWay options.now.limit K.writes start sink.old text self.old →
+            IsUnderWay options.now K.writes start sink.old text self.old →
             MatchResult result
-            (λ _. IsUnderWay options.now.limit K.writes start sink.new (text ++ byte ∷ []) self.new)
-            (StopsAnswering options.now.limit K.writes start sink.new (ended_jobs (text ++ byte ∷ []))) }
+            (λ _. IsUnderWay options.now K.writes start sink.new (text ++ byte ∷ []) self.new)
+            (StopsAnswering options.now K.writes start sink.new (ended_jobs (text ++ byte ∷ []))) }
     {
         if self.splitter.take(byte) {
             self.end_job(alloc, sink, options)
@@ -132,8 +132,8 @@ impl Batch {
         options: &Options,
     ) -> Result<(), Fault>
         ensures { (start : K) (text : List ℕ) →
-            IsUnderWay options.now.limit K.writes start sink.old text self.old →
-            EndsBatch options.now.limit K.writes start sink.new text result }
+            IsUnderWay options.now K.writes start sink.old text self.old →
+            EndsBatch options.now K.writes start sink.new text result }
     {
         if !self.splitter.finish() {
             return self.answer(alloc, sink, options);
@@ -150,12 +150,12 @@ impl Batch {
         options: &Options,
     ) -> Result<(), Fault>
         ensures { (start : K) (jobs : List (List ℕ)) (job : List ℕ) →
-            IsReady options.now.limit K.writes start sink.old jobs self.old.number →
+            IsReady options.now K.writes start sink.old jobs self.old.number →
             Holds LONGEST_JOB self.old.splitter job →
             MatchResult result
-            (λ _. IsReady options.now.limit K.writes start sink.new (jobs ++ job ∷ []) self.new.number
+            (λ _. IsReady options.now K.writes start sink.new (jobs ++ job ∷ []) self.new.number
             × IsFresh self.new.splitter)
-            (StopsAnswering options.now.limit K.writes start sink.new (jobs ++ job ∷ [])) }
+            (StopsAnswering options.now K.writes start sink.new (jobs ++ job ∷ [])) }
     {
         self.answer(alloc, sink, options)?;
         if self.number >= MOST_JOBS {
@@ -174,7 +174,7 @@ impl Batch {
         options: &Options,
     ) -> Result<(), Fault>
         ensures job { (job : List ℕ) → Holds LONGEST_JOB self.old.splitter job →
-            AnswersOne options.now.limit K.writes sink.old sink.new self.old.number job result }
+            AnswersOne options.now K.writes sink.old sink.new self.old.number job result }
         ensures splitter { self.new.splitter ≡ self.old.splitter }
         ensures number { self.new.number ≡ self.old.number }
     {
@@ -194,7 +194,7 @@ fn job_answer(
     options: &Options,
 ) -> Result<(Done, Vec<u8>), Fault>
     ensures { (job : List ℕ) → Holds LONGEST_JOB splitter.now job →
-        JobSays options.now.limit job (reply_of result) }
+        JobSays options.now job (reply_of result) }
 {
     match splitter.job() {
         Ok(text) => latency_answer(alloc, text, options),

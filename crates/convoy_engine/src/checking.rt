@@ -54,7 +54,7 @@ pub(crate) fn check_answer(alloc: Global, text: &[u8]) -> Result<(Done, Vec<u8>)
 }
 
 /// The answer to a text that is that of no certificate.
-fn answer_to_fault(alloc: Global, fault: TextFault) -> Result<(Done, Vec<u8>), Fault>
+pub(crate) fn answer_to_fault(alloc: Global, fault: TextFault) -> Result<(Done, Vec<u8>), Fault>
     ensures { IsReply (reply_of_text (Err fault)) (reply_of result) }
 {
     match fault {
@@ -84,7 +84,7 @@ fn accept(alloc: Global, latency: u32) -> Result<(Done, Vec<u8>), Fault>
 }
 
 /// A refusal.
-fn refuse(alloc: Global, refusal: Refusal) -> Result<(Done, Vec<u8>), Fault>
+pub(crate) fn refuse(alloc: Global, refusal: Refusal) -> Result<(Done, Vec<u8>), Fault>
     ensures { IsReply (Ok (ends.Refused, refused_line (row_of_refusal refusal))) (reply_of result) }
 {
     let mut line = Vec::new(alloc);

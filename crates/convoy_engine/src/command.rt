@@ -9,10 +9,12 @@ use super::analyse::analyse_answer;
 use super::checking::check_answer;
 use super::device::{Sink, Source};
 use super::done::Done;
+use super::explaining::explain_answer;
 use super::fault::Fault;
 use super::first::first_answer;
 use super::latency::latency_answer;
 use super::options::Options;
+use super::packets::packets_answer;
 use super::reading::{LONGEST_CERTIFICATE, LONGEST_JOB, read_to_end};
 use super::simulate::simulate_answer;
 use super::timeline::timeline_answer;
@@ -28,8 +30,12 @@ pub enum Command {
     Simulate,
     /// What happens at each group under that schedule.
     Timeline,
+    /// The packets, with their ranges.
+    Packets,
     /// Whether a certificate is valid.
     Check,
+    /// Why the latency of a certificate is what it is.
+    Explain,
     /// A certificate of the greatest latency.
     Analyse(Options),
     /// The greatest latency.
@@ -65,12 +71,12 @@ fn longest_of(command: &Command) -> usize
     ensures { result ≡ longest_for command.now }
 {
     match command {
-        Command::First
-        | Command::Simulate
+        Command::First | Command::Analyse(_) | Command::Latency(_) => LONGEST_JOB,
+        Command::Simulate
         | Command::Timeline
-        | Command::Analyse(_)
-        | Command::Latency(_) => LONGEST_JOB,
-        Command::Check => LONGEST_CERTIFICATE,
+        | Command::Packets
+        | Command::Check
+        | Command::Explain => LONGEST_CERTIFICATE,
     }
 }
 
@@ -80,9 +86,11 @@ fn answer_of(alloc: Global, command: &Command, text: &[u8]) -> Result<(Done, Vec
 {
     match command {
         Command::First => fine(first_answer(alloc, text)),
-        Command::Simulate => fine(simulate_answer(alloc, text)),
-        Command::Timeline => fine(timeline_answer(alloc, text)),
+        Command::Simulate => simulate_answer(alloc, text),
+        Command::Timeline => timeline_answer(alloc, text),
+        Command::Packets => packets_answer(alloc, text),
         Command::Check => check_answer(alloc, text),
+        Command::Explain => explain_answer(alloc, text),
         Command::Analyse(options) => analyse_answer(alloc, text, options),
         Command::Latency(options) => latency_answer(alloc, text, options),
     }

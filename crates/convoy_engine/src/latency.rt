@@ -35,7 +35,7 @@ pub fn run_latency<S: Source, K: Sink>(
     options: &Options,
 ) -> Result<Done, Fault>
     requires alone { options.now.workers ≡ 1 }
-    ensures { IsRun LONGEST_JOB (LatencySays options.now.limit) options.now.most_reads
+    ensures { IsRun LONGEST_JOB (LatencySays options.now) options.now.most_reads
         S.reads K.writes source.old source.new sink.old sink.new result }
 {
     let most_reads = options.most_reads();
@@ -48,7 +48,7 @@ pub(crate) fn latency_answer(
     text: &[u8],
     options: &Options,
 ) -> Result<(Done, Vec<u8>), Fault>
-    ensures { SaysUnlessMemory (LatencySays options.now.limit) text.now (reply_of result) }
+    ensures { SaysUnlessMemory (LatencySays options.now) text.now (reply_of result) }
 {
     valid_is_greatest();
     fronts_bound();

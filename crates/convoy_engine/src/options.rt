@@ -1,14 +1,17 @@
-ghost use Rattle.std.specs.Prelude.{◌≡◌, ◌↔◌, ◌≤◌, IfSome, IsSome};
+ghost use Rattle.std.specs.Prelude.{◌≡◌, ◌↔◌, ◌≤◌, min, IfSome, IsSome};
+ghost use Rattle.convoy_branch.specs.SearchBounds.{most_nodes};
+ghost use Rattle.convoy_branch.specs.declared.bounds.Bounds.TheVariants.{Plain};
 ghost use Rattle.convoy_engine.specs.Options.{AreSettings};
 
+use convoy_branch::Bounds;
 use convoy_certificate::MOST_NODES;
 use std::marker::Model;
 
 /// How many workers a search has at most.
 pub const MOST_WORKERS: u32 = 16;
 
-/// How many tickets a search spends at most. A certificate has a node for each, and so no more than
-/// are read.
+/// How many tickets a search by plain or stamp bounds spends at most. A certificate has a node for
+/// each, and so no more than are read.
 pub const MOST_TICKETS: u64 = MOST_NODES as u64;
 
 /// How many tickets a search spends at most where the user asks for no other limit.
@@ -21,14 +24,16 @@ pub const MOST_SIMULATIONS: u64 = 1_000_000;
 pub const DEFAULT_SIMULATIONS: u64 = 20_000;
 
 /// How a search runs: its workers, from 1 to [`MOST_WORKERS`]; its limit of tickets, from 1 to
-/// [`MOST_TICKETS`]; how many schedules are simulated at most to find a good one to start from, up to
-/// [`MOST_SIMULATIONS`]; and how many reads of the input are made at most.
+/// [`MOST_TICKETS`], or by leads to as many as lead leaves are read; how many schedules are simulated at most to find a good one to start from, up to
+/// [`MOST_SIMULATIONS`]; how many reads of the input are made at most; and by what it closes
+/// boxes.
 #[derive(Clone, Copy, Debug)]
 pub struct Options {
     workers: u32,
     limit: u64,
     simulations: u64,
     most_reads: u64,
+    bounds: Bounds,
 }
 
 impl Model for Options {
@@ -41,6 +46,7 @@ impl Model for Options {
       limit = o.limit;
       simulations = o.simulations;
       most_reads = o.most_reads;
+      bounds = o.bounds;
     } };
 
     ghost inverse = { λ s. record {
@@ -48,6 +54,7 @@ impl Model for Options {
       limit = s.limit;
       simulations = s.simulations;
       most_reads = s.most_reads;
+      bounds = s.bounds;
     } };
 
     ghost invariant = { λ o. AreSettings (record {
@@ -55,11 +62,12 @@ impl Model for Options {
       limit = o.limit;
       simulations = o.simulations;
       most_reads = o.most_reads;
+      bounds = o.bounds;
     }) };
 }
 
 impl Options {
-    /// Options of these numbers, of a search that starts from the least delays; none where the workers
+    /// Options of these numbers, of a search by plain bounds that starts from the least delays; none where the workers
     /// or the limit are out of range.
     pub fn new(workers: u32, limit: u64, most_reads: u64) -> Option<Options>
         ensures range { IsSome result ↔ AreSettings (record {
@@ -67,12 +75,14 @@ impl Options {
           limit = limit;
           simulations = 0;
           most_reads = most_reads;
+          bounds = Plain;
         }) }
         ensures value { IfSome result (λ options. options ≡ record {
           workers = workers;
           limit = limit;
           simulations = 0;
           most_reads = most_reads;
+          bounds = Plain;
         }) }
     {
         if workers < 1 || workers > MOST_WORKERS || limit < 1 || limit > MOST_TICKETS {
@@ -83,6 +93,7 @@ impl Options {
             limit,
             simulations: 0,
             most_reads,
+            bounds: Bounds::Plain,
         })
     }
 
@@ -93,6 +104,18 @@ impl Options {
     {
         Options {
             simulations,
+            ..self
+        }
+    }
+
+    /// The same options, of a search by those bounds, or by leads. It spends no more tickets than nodes
+    /// are read for sure, whatever they are: a greater limit is lowered to that number.
+    pub fn going_by(self, bounds: Bounds) -> Options
+        ensures { result ≡ record self { limit = min self.limit (most_nodes bounds); bounds = bounds } }
+    {
+        Options {
+            limit: self.limit.min(bounds.most_nodes() as u64),
+            bounds,
             ..self
         }
     }
@@ -125,5 +148,12 @@ impl Options {
         ensures { result ≡ self.now.most_reads }
     {
         self.most_reads
+    }
+
+    /// By what the search closes boxes.
+    pub fn bounds(&self) -> Bounds
+        ensures { result ≡ self.now.bounds }
+    {
+        self.bounds
     }
 }

@@ -76,6 +76,7 @@ fn line_of_check(alloc: Global, fault: Refused) -> Result<String, AllocError>
         Refused::StampLeaf(node, bound) => {
             format!(in alloc; "refused 29 stamp leaf {node} bound {bound}\n")
         }
+        Refused::LeadLeaf(node) => format!(in alloc; "refused 36 lead leaf {node}\n"),
         Refused::Memory => String::from_str(alloc, "refused 11 out of memory\n"),
     }
 }

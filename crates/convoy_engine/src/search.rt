@@ -14,7 +14,7 @@ use std::alloc::{AllocError, Global};
 /// Searches for the greatest latency of the scenario that a text gives, by the options' limit of
 /// tickets. The faults are those of [`read_toml`], and `Fault::Memory`.
 pub(crate) fn search_text(alloc: Global, text: &[u8], options: &Options) -> Result<Outcome, Fault>
-    ensures { SearchGives options.now.limit text.now result }
+    ensures { SearchGives options.now text.now result }
 {
     let scenario = read_toml(alloc, text)?.scenario;
     let table = PacketTable::of(alloc, &scenario)?;
@@ -30,17 +30,18 @@ fn search(
     options: &Options,
 ) -> Result<Outcome, AllocError>
     requires packets { table.now ≡ table_of scenario.now }
-    ensures { IfOk result (λ outcome. IsOutcome scenario.now options.now.limit outcome) }
+    ensures { IfOk result (λ outcome. IsOutcome options.now.bounds scenario.now 1 options.now.limit outcome) }
 {
     let limit = options.limit();
+    let bounds = options.bounds();
     let simulations = options.simulations();
     if simulations == 0 {
-        return search_alone(alloc, scenario, table, limit);
+        return search_alone(alloc, scenario, table, limit, bounds);
     }
-    match search_alone(alloc, scenario, table, 1)? {
+    match search_alone(alloc, scenario, table, 1, bounds)? {
         Outcome::Open { best, upper, .. } => {
             match seek(alloc, scenario, table, best, upper, simulations) {
-                Ok(found) => search_from(alloc, scenario, table, found, limit),
+                Ok(found) => search_from(alloc, scenario, table, found, limit, bounds),
                 Err((_, error)) => Err(error),
             }
         }

@@ -2,7 +2,10 @@
 
 mod batches;
 mod devices;
+mod explains;
 mod fixture;
+mod hostile;
 mod options;
 mod rows;
+mod stamps;
 mod texts;

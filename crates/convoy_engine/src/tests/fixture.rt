@@ -3,8 +3,9 @@
 ghost use Rattle.std.specs.Prelude.{◌≡◌};
 
 use crate::{
-    DEFAULT_SIMULATIONS, Done, Fault, MOST_TICKETS, Options, Sink, SliceSource, Source, VecSink,
-    fault_line, run_analyse, run_check, run_first, run_latency, run_simulate, run_timeline,
+    Bounds, DEFAULT_SIMULATIONS, Done, Fault, MOST_TICKETS, Options, Sink, SliceSource, Source,
+    VecSink, fault_line, run_analyse, run_check, run_first, run_latency, run_simulate,
+    run_timeline,
 };
 use std::alloc::{AllocError, Global};
 
@@ -20,6 +21,8 @@ pub(super) enum Asked {
     Check,
     Analyse(u64),
     Latency(u64),
+    AnalyseBy(Bounds, u64),
+    LatencyBy(Bounds, u64),
 }
 
 /// How a run ended, and what it has written, with the line of its fault.
@@ -41,6 +44,14 @@ pub(super) fn run<S: Source, K: Sink>(
         Asked::Analyse(limit) => run_analyse(alloc, source, sink, &options(limit, reads)),
         Asked::Latency(limit) => {
             let options = options(limit, reads).seeking(DEFAULT_SIMULATIONS);
+            run_latency(alloc, source, sink, &options)
+        }
+        Asked::AnalyseBy(bounds, limit) => {
+            let options = options(limit, reads).going_by(bounds);
+            run_analyse(alloc, source, sink, &options)
+        }
+        Asked::LatencyBy(bounds, limit) => {
+            let options = options(limit, reads).going_by(bounds);
             run_latency(alloc, source, sink, &options)
         }
     }

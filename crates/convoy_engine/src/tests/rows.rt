@@ -3,8 +3,9 @@
 use super::fixture::{Asked, changed, told};
 use super::texts::{
     BASE, CERTIFICATE_OF_BASE, CERTIFICATE_OF_LINKED, CERTIFICATE_OF_LONE, CERTIFICATE_OF_ONE_TICK,
-    CERTIFICATE_OF_SWAPPED, FIRST_OF_BASE, LONE, LONE_TO_TWO, ONE_TICK, RAISED_TWICE, RIVALS,
-    STAMPS_OF_BASE, STAMPS_OF_CLIMB, STAMPS_OF_SWAPPED, TIMELINE_OF_BASE,
+    CERTIFICATE_OF_SWAPPED, FIRST_OF_BASE, LEADS_OF_BASE, LONE, LONE_TO_TWO, ONE_TICK,
+    RAISED_TWICE, RIVALS, STAMPS_OF_BASE, STAMPS_OF_CLIMB, STAMPS_OF_SWAPPED, STAMPS_OF_TURNS,
+    TIMELINE_OF_BASE,
 };
 use crate::{DEFAULT_LIMIT, Done};
 use std::alloc::{AllocError, Global};
@@ -570,7 +571,7 @@ const CHECKS: [Row; 14] = [
 ];
 
 /// Rows of `check` for certificates with stamp leaves.
-const STAMPS: [Row; 5] = [
+const STAMPS: [Row; 7] = [
     Row {
         name: "accepted",
         asked: Asked::Check,
@@ -616,6 +617,104 @@ const STAMPS: [Row; 5] = [
         told: "refused 29 stamp leaf 0 bound 11\n",
         done: Some(Done::Refused),
     },
+    Row {
+        name: "accepted",
+        asked: Asked::Check,
+        text: STAMPS_OF_TURNS,
+        part: "",
+        other: "",
+        told: "accepted 9\n",
+        done: Some(Done::Fine),
+    },
+    Row {
+        name: "refused_certificates",
+        asked: Asked::Check,
+        text: STAMPS_OF_TURNS,
+        part: "latency 9\nschedule 3 3 3 2 3 3 1 3 1 ",
+        other: "latency 6\nschedule 3 3 3 3 3 3 3 3 3 ",
+        told: "refused 29 stamp leaf 0 bound 9\n",
+        done: Some(Done::Refused),
+    },
+];
+
+/// Rows of `check` for certificates with lead leaves that are told without a test by leads.
+const LEADS: [Row; 6] = [
+    Row {
+        name: "refused_certificates",
+        asked: Asked::Check,
+        text: LEADS_OF_BASE,
+        part: "c 12",
+        other: "c 13",
+        told: "refused 36 lead leaf 0\n",
+        done: Some(Done::Refused),
+    },
+    Row {
+        name: "refused_texts",
+        asked: Asked::Check,
+        text: LEADS_OF_BASE,
+        part: "convoy 3",
+        other: "convoy 1",
+        told: "refused 20 line 10 expected node\n",
+        done: Some(Done::Refused),
+    },
+    Row {
+        name: "refused_texts",
+        asked: Asked::Check,
+        text: LEADS_OF_BASE,
+        part: "convoy 3",
+        other: "convoy 2",
+        told: "refused 20 line 10 expected node\n",
+        done: Some(Done::Refused),
+    },
+    Row {
+        name: "refused_texts",
+        asked: Asked::Check,
+        text: LEADS_OF_BASE,
+        part: "c 12",
+        other: "b",
+        told: "refused 20 line 1 expected convoy\n",
+        done: Some(Done::Refused),
+    },
+    Row {
+        name: "refused_texts",
+        asked: Asked::Check,
+        text: LEADS_OF_BASE,
+        part: "c 12",
+        other: "c 012",
+        told: "refused 20 line 10 expected node\n",
+        done: Some(Done::Refused),
+    },
+    Row {
+        name: "refused_texts",
+        asked: Asked::Check,
+        text: LEADS_OF_BASE,
+        part: "c 12",
+        other: "c 4294967296",
+        told: "refused 20 line 10 expected node\n",
+        done: Some(Done::Refused),
+    },
+];
+
+/// Rows of `check` for lead leaves that are tested.
+const LEADS_TESTED: [Row; 2] = [
+    Row {
+        name: "accepted",
+        asked: Asked::Check,
+        text: LEADS_OF_BASE,
+        part: "",
+        other: "",
+        told: "accepted 12\n",
+        done: Some(Done::Fine),
+    },
+    Row {
+        name: "refused_certificates",
+        asked: Asked::Check,
+        text: LEADS_OF_BASE,
+        part: "c 12",
+        other: "c 11",
+        told: "refused 36 lead leaf 0\n",
+        done: Some(Done::Refused),
+    },
 ];
 
 /// Whether a run of the row's command tells what it is to tell, and ends so.
@@ -652,6 +751,22 @@ fn links(rt: HostRuntime) -> Result<(), Fail> {
 #[test]
 fn stamps(rt: HostRuntime) -> Result<(), Fail> {
     for row in &STAMPS {
+        assert!(rt; holds(rt.alloc(), row)?, "{} {}", row.name, row.told);
+    }
+    Ok(())
+}
+
+#[test]
+fn leads(rt: HostRuntime) -> Result<(), Fail> {
+    for row in &LEADS {
+        assert!(rt; holds(rt.alloc(), row)?, "{} {}", row.name, row.told);
+    }
+    Ok(())
+}
+
+#[test]
+fn tested_leads(rt: HostRuntime) -> Result<(), Fail> {
+    for row in &LEADS_TESTED {
         assert!(rt; holds(rt.alloc(), row)?, "{} {}", row.name, row.told);
     }
     Ok(())
@@ -699,6 +814,7 @@ fn lengths_of_certificates(rt: HostRuntime) {
     assert_eq!(rt; CERTIFICATE_OF_LONE.len(), 80);
     assert_eq!(rt; CERTIFICATE_OF_LINKED.len(), 161);
     assert_eq!(rt; STAMPS_OF_SWAPPED.len(), 148);
+    assert_eq!(rt; LEADS_OF_BASE.len(), 152);
 }
 
 /// Nine lines stand above the nodes, and one below them. Of a search that ends early, which schedule

@@ -110,6 +110,21 @@ t
 end
 ";
 
+/// The base, whose root box leads close for 12.
+pub(super) const LEADS_OF_BASE: &str = "\
+convoy 3
+delay 3
+groups a b
+multicast x client 0 b
+multicast t client 0 a b
+multicast y a 6 a b
+target t a
+latency 12
+schedule 3 3 3 3 3 3 3 3
+c 12
+end
+";
+
 /// The stamp bound of the base is 12, as the plain bound is, and this schedule has the latency 5.
 pub(super) const STAMPS_OF_BASE: &str = "\
 convoy 2
@@ -139,6 +154,23 @@ multicast n c 10 c b
 target t c
 latency 11
 schedule 1 3 1 1 1 1 1 1 3 3 3 3 3 3 3
+t
+end
+";
+
+/// Four messages, and the stamp of t at a may have the time 5, since u and v may raise the clocks of a
+/// and b by turns: a greater one than that of w at b, though the other three surely arrive there before.
+pub(super) const STAMPS_OF_TURNS: &str = "\
+convoy 2
+delay 3
+groups a b
+multicast t b 1 a b
+multicast u b 1 a b
+multicast v a 0 a b
+multicast w b 4 a b
+target t b
+latency 9
+schedule 3 3 3 2 3 3 1 3 1 3 3 3
 t
 end
 ";
@@ -267,4 +299,17 @@ multicast = [
     { name = \"n\", from = \"c\", to = [\"c\", \"b\"], at = 10 },
 ]
 target = { message = \"t\", group = \"c\" }
+";
+
+/// The scenario of the certificate in which u and v raise clocks by turns.
+pub(super) const RAISED_BY_TURNS: &str = "\
+delay = 3
+groups = [\"a\", \"b\"]
+multicast = [
+    { name = \"t\", from = \"b\", to = [\"a\", \"b\"], at = 1 },
+    { name = \"u\", from = \"b\", to = [\"a\", \"b\"], at = 1 },
+    { name = \"v\", from = \"a\", to = [\"a\", \"b\"], at = 0 },
+    { name = \"w\", from = \"b\", to = [\"a\", \"b\"], at = 4 },
+]
+target = { message = \"t\", group = \"b\" }
 ";

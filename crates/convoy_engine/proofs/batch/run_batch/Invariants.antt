@@ -8,5 +8,5 @@ abbrev pub invariant-loop : goal.invariant-loop
 invariant-loop g l = record {
   bytes : List ℕ;
   moved : MovesPieces g.S.Source.reads l.fn.source bytes l.counter l.source;
-  under : IsUnderWay l.options.limit g.K.Sink.writes l.fn.sink l.sink bytes l.batch;
+  under : IsUnderWay l.options g.K.Sink.writes l.fn.sink l.sink bytes l.batch;
 }

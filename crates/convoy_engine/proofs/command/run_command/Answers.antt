@@ -17,7 +17,7 @@ returns-in_err-done g c =
       read = read.calls;
       few = read.says.0;
       wrote = refl;
-      outcome = refused_run _ _ _ _ _ _ (λ allowed. let low = says_number _ _ Write allowed in absurd (omega arith)) whole (rw c.deref.ensures.value at c.in_err-done.ensures);
+      outcome = refused_run _ _ _ _ _ _ (λ allowed. (says_number _ _ Write allowed).no_write refl) whole (rw c.deref.ensures.value at c.in_err-done.ensures);
     })
 
 pub returns-then-is_err : goal.returns-then-is_err

@@ -27,6 +27,10 @@ pub returns-in-StampLeaf : goal.returns-in-StampLeaf
 unfolding refused_line digits
 returns-in-StampLeaf c = simp (c.in-StampLeaf.is, append_assoc) c.format-in-StampLeaf.ensures.ok
 
+pub returns-in-LeadLeaf : goal.returns-in-LeadLeaf
+unfolding refused_line digits
+returns-in-LeadLeaf c = rw c.in-LeadLeaf.is c.format-in-LeadLeaf.ensures.ok
+
 pub returns-in-Memory : goal.returns-in-Memory
 unfolding refused_line digits
 returns-in-Memory c = rw c.in-Memory.is c.from_str-in-Memory.ensures.ok

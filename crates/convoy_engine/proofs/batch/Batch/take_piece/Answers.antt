@@ -7,12 +7,12 @@ use Rattle.convoy_engine.proofs.batch.Batch.take_piece.Goals as goal
 
 pub loop-byte-init : goal.loop-byte-init
 loop-byte-init g c = λ start text under.
-    let P : List ℕ → Type 0 = λ t. IsUnderWay c.args.options.now.limit g.K.Sink.writes start c.args.sink.now t c.args.self.now in
+    let P : List ℕ → Type 0 = λ t. IsUnderWay c.args.options.now g.K.Sink.writes start c.args.sink.now t c.args.self.now in
     subst P (sym (append-nil text)) under
 
 pub loop-byte-preserved : goal.loop-byte-preserved
 loop-byte-preserved g c = λ start text under.
-    let P : List ℕ → Type 0 = λ t. IsUnderWay c.args.options.now.limit g.K.Sink.writes start c.take.new.sink t c.take.new.self in
+    let P : List ℕ → Type 0 = λ t. IsUnderWay c.args.options.now g.K.Sink.writes start c.take.new.sink t c.take.new.self in
     subst P (byte_taken text c.args.piece.now c.loop-byte.byte-index c.loop-byte-test.true)
     (c.in_ok-take.ensures start (text ++ take c.loop-byte.byte-index c.args.piece.now) (c.loop-byte.invariant start text under))
 
@@ -25,5 +25,5 @@ returns-in_err-take g c = λ start text under.
 
 pub returns : goal.returns
 returns g c = λ start text under.
-    let P : List ℕ → Type 0 = λ t. IsUnderWay c.args.options.now.limit g.K.Sink.writes start c.loop-byte.sink t c.loop-byte.self in
+    let P : List ℕ → Type 0 = λ t. IsUnderWay c.args.options.now g.K.Sink.writes start c.loop-byte.sink t c.loop-byte.self in
     subst P (ap (λ x. text ++ x) (take_all c.loop-byte.byte-index c.args.piece.now c.loop-byte-test.false)) (c.loop-byte.invariant start text under)

@@ -6,5 +6,5 @@ use Rattle.convoy_engine.proofs.batch.Batch.take_piece.Given as goal
 abbrev pub invariant-loop-byte : goal.invariant-loop-byte
 invariant-loop-byte g l =
     (start : g.row.K.Denot) (text : List ℕ)
-    → IsUnderWay l.options.limit g.K.Sink.writes start l.fn.sink text l.fn.self
-    → IsUnderWay l.options.limit g.K.Sink.writes start l.sink (text ++ take l.byte-index l.piece) l.self
+    → IsUnderWay l.options g.K.Sink.writes start l.fn.sink text l.fn.self
+    → IsUnderWay l.options g.K.Sink.writes start l.sink (text ++ take l.byte-index l.piece) l.self
