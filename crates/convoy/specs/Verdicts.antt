@@ -47,7 +47,7 @@ Obeys may_read may_write (Run command) source new_source sink new_sink result =
     × (result ≡ result_map_both status_of (λ fault. fault) ended)
 Obeys may_read may_write (Batch options) source new_source sink new_sink result =
     (ended : Result Done Fault)
-    × IsBatchRun options.limit MOST_READS may_read may_write source new_source sink new_sink ended
+    × IsBatchRun options MOST_READS may_read may_write source new_source sink new_sink ended
     × (result ≡ result_map_both status_of (λ fault. fault) ended)
 Obeys may_read may_write (Text text status) source new_source sink new_sink result =
     (new_source ≡ source)

@@ -7,7 +7,7 @@ use super::MOST_READS;
 use clap::error::ErrorKind;
 use clap::{Arg, ArgMatches, Error, value_parser};
 use convoy_engine::{
-    Command, DEFAULT_LIMIT, DEFAULT_SIMULATIONS, MOST_SIMULATIONS, MOST_TICKETS, Options,
+    Bounds, Command, DEFAULT_LIMIT, DEFAULT_SIMULATIONS, MOST_SIMULATIONS, MOST_TICKETS, Options,
 };
 use std::alloc::{AllocError, Global};
 use std::convert::AsStr;
@@ -25,6 +25,9 @@ pub enum Verdict {
     Memory,
 }
 
+/// The version of the program.
+const VERSION: &str = "0.1.0";
+
 /// The status of a command line that asked for help.
 const HELP: u8 = 0;
 
@@ -38,10 +41,13 @@ Convoy says how late, at worst, one message is delivered at one of its groups,
 over all whole-tick delays of packets. A scenario names overlapping groups, the
 multicasts to them with the ticks at which they are issued, and the message and
 the group of which the latency is asked.
+  convoy analyse < scenario.toml | convoy explain
+finds the greatest latency and tells why it is so late.
 
-The scenario is read from standard input, as TOML; the command `check` reads a
-certificate there. The answer goes to standard output. Without a command word
-the command is `first`.";
+The scenario is read from standard input, as TOML. The commands `check` and
+`explain` read a certificate there, which `analyse` writes; `simulate`,
+`timeline` and `packets` read either. The answer goes to standard output.
+Without a command word the command is `first`.";
 
 const AFTER: &str = "\
 Example of a scenario:
@@ -86,7 +92,8 @@ of each packet, in packet order.
 The schedule is the scenario's key `schedule`, an array with the delay of each
 packet in packet order, above the first table header:
   schedule = [1, 3, 1, 2]
-Without that key each packet takes its least delay.";
+Without that key each packet takes its least delay. In place of a scenario a
+certificate may be read: then the schedule is the certificate's.";
 
 const ABOUT_TIMELINE: &str = "Writes what happens at each group under a schedule";
 
@@ -98,6 +105,27 @@ KIND is 'propose', 'commit' or 'deliver'. The stamp at the end is the local one
 of a proposal, else the message's final one.
 
 The schedule is that of the command `simulate`.";
+
+const ABOUT_PACKETS: &str = "Writes the packets of a scenario, with their ranges";
+
+const LONG_ABOUT_PACKETS: &str = "\
+Reads a scenario from standard input and writes one line for each of its
+packets, in the order in which schedules list their delays:
+  packet 0: x from client to b, 1 to 3 ticks
+  packet 4: proposal of t from b to a, 1 to 3 ticks
+In place of a scenario a certificate may be read: then each line ends with the
+delay of the packet in the certificate's schedule, as ', takes 3'.";
+
+const ABOUT_EXPLAIN: &str = "Tells why the latency of a certificate is what it is";
+
+const LONG_ABOUT_EXPLAIN: &str = "\
+Reads a certificate from standard input, checks it as the command `check` does,
+and tells in a few lines why the greatest latency is what it is: when the target
+is committed, which message holds it back and until when, and which packets it
+waits for.
+  convoy analyse < scenario.toml | convoy explain
+
+A certificate that is refused is told in the line 'refused NUMBER TEXT'.";
 
 const ABOUT_CHECK: &str = "Checks a certificate of the greatest latency";
 
@@ -125,7 +153,8 @@ The command `check` checks it, and needs nothing of the search:
 Where the search spends all its tickets first, it writes two lines, and the exit
 status is 3: 'open LEAST MOST', the least and the most that the greatest latency
 may be, in ticks, and 'schedule', of a schedule that has the latency LEAST.
-LEAST is then most likely the greatest latency; MOST is safe to rely on.";
+LEAST is then most likely the greatest latency; MOST is safe to rely on. With
+`--bounds lead` the search mostly ends.";
 
 const ABOUT_LATENCY: &str = "Writes the greatest latency";
 
@@ -137,7 +166,8 @@ The command `analyse` runs the same search, and writes why it is so.
 
 Where the search spends all its tickets first, it writes 'open LEAST MOST', the
 least and the most that the greatest latency may be, and the exit status is 3.
-LEAST is then most likely the greatest latency; MOST is safe to rely on.";
+LEAST is then most likely the greatest latency; MOST is safe to rely on. With
+`--bounds lead` the search mostly ends.";
 
 const ABOUT_BATCH: &str = "Answers each of many scenarios as `latency` does";
 
@@ -157,6 +187,12 @@ looks at: from 1 to 4000000";
 const ABOUT_SEEK: &str = "\
 How many schedules are simulated at most to find a good one for the search to
 start from: from 0, for the schedule of the least delays, to 1000000";
+
+const ABOUT_BOUNDS: &str = "\
+By what the search closes sets of schedules: `plain` bounds, `stamp` bounds, or
+`lead`, which takes longest for each and mostly ends at once. A certificate of
+the form `convoy 2` or `convoy 3` may come of it, and with `lead` at most 100000
+tickets are spent";
 
 /// What is to be done for these words, the program's own name not among them.
 pub fn judge<S: AsStr>(alloc: Global, words: &[S]) -> Verdict
@@ -181,8 +217,21 @@ pub fn judge_bytes(alloc: Global) -> Verdict
     }
 }
 
-/// The command that the words ask for, or a batch.
+/// The command that the words ask for, or a batch. The word `help` asks for what `--help` does.
 fn verdict_of<S: AsStr>(alloc: Global, words: &[S]) -> Result<Verdict, Error>
+    ensures { IfOk result IsVerdict }
+{
+    match words {
+        [help] if help.as_str() == "help" => command_of(alloc, ["--help"].as_slice()),
+        [help, command] if help.as_str() == "help" => {
+            command_of(alloc, [command.as_str(), "--help"].as_slice())
+        }
+        _ => command_of(alloc, words),
+    }
+}
+
+/// The command that these words ask for, or a batch.
+fn command_of<S: AsStr>(alloc: Global, words: &[S]) -> Result<Verdict, Error>
     ensures { IfOk result IsVerdict }
 {
     let matches = parser(alloc)?.try_get_matches_from(words)?;
@@ -190,6 +239,8 @@ fn verdict_of<S: AsStr>(alloc: Global, words: &[S]) -> Result<Verdict, Error>
         Some(("batch", given)) => return Ok(Verdict::Batch(options_of(given))),
         Some(("simulate", _)) => Command::Simulate,
         Some(("timeline", _)) => Command::Timeline,
+        Some(("packets", _)) => Command::Packets,
+        Some(("explain", _)) => Command::Explain,
         Some(("check", _)) => Command::Check,
         Some(("analyse", given)) => Command::Analyse(options_of(given)),
         Some(("latency", given)) => Command::Latency(options_of(given)),
@@ -199,8 +250,8 @@ fn verdict_of<S: AsStr>(alloc: Global, words: &[S]) -> Result<Verdict, Error>
     Ok(Verdict::Run(command))
 }
 
-/// The options of a search: the numbers that are given, or else the usual ones. `clap` rejects a word
-/// that is no such number, or out of range.
+/// The options of a search: those that are given, or else the usual ones. `clap` rejects a word that
+/// is none of these, and a number out of range.
 fn options_of(given: &ArgMatches<'_>) -> Options
     ensures alone { result.workers ≡ 1 }
     ensures reads { result.most_reads ≡ MOST_READS }
@@ -208,8 +259,21 @@ fn options_of(given: &ArgMatches<'_>) -> Options
     let limit = given.get_one("limit").unwrap_or(DEFAULT_LIMIT);
     let simulations = given.get_one("seek").unwrap_or(DEFAULT_SIMULATIONS);
     match Options::new(1, limit.clamp(1, MOST_TICKETS), MOST_READS) {
-        Some(options) => options.seeking(simulations.min(MOST_SIMULATIONS)),
+        Some(options) => {
+            options
+                .seeking(simulations.min(MOST_SIMULATIONS))
+                .going_by(bounds_of(given))
+        }
         None => unreachable!(),
+    }
+}
+
+/// The bounds by which the search goes.
+fn bounds_of(given: &ArgMatches<'_>) -> Bounds {
+    match given.get_str("bounds") {
+        Some("stamp") => Bounds::Stamp,
+        Some("lead") => Bounds::Lead,
+        _ => Bounds::Plain,
     }
 }
 
@@ -225,22 +289,25 @@ fn parser<'a>(alloc: Global) -> Result<clap::Command<'a>, AllocError> {
 fn program<'a>(alloc: Global) -> Result<clap::Command<'a>, AllocError> {
     let program = command(alloc, "convoy", ABOUT, LONG_ABOUT)
         .bin_name("convoy")?
+        .version(VERSION)
         .no_binary_name(true)
         .disable_help_subcommand(true)
         .after_help(AFTER);
     Ok(program)
 }
 
-/// Adds the commands that search for the greatest latency.
+/// Adds the commands that search for the greatest latency, and the one that explains it.
 fn with_searches<'a>(
     alloc: Global,
     parser: clap::Command<'a>,
 ) -> Result<clap::Command<'a>, AllocError> {
     let analyse = search_command(alloc, "analyse", ABOUT_ANALYSE, LONG_ABOUT_ANALYSE)?;
+    let explain = command(alloc, "explain", ABOUT_EXPLAIN, LONG_ABOUT_EXPLAIN);
     let latency = search_command(alloc, "latency", ABOUT_LATENCY, LONG_ABOUT_LATENCY)?;
     let batch = search_command(alloc, "batch", ABOUT_BATCH, LONG_ABOUT_BATCH)?;
     parser
         .subcommand(analyse)?
+        .subcommand(explain)?
         .subcommand(latency)?
         .subcommand(batch)
 }
@@ -253,10 +320,12 @@ fn with_runs<'a>(
     let first = command(alloc, "first", ABOUT_FIRST, LONG_ABOUT_FIRST);
     let simulate = command(alloc, "simulate", ABOUT_SIMULATE, LONG_ABOUT_SIMULATE);
     let timeline = command(alloc, "timeline", ABOUT_TIMELINE, LONG_ABOUT_TIMELINE);
+    let packets = command(alloc, "packets", ABOUT_PACKETS, LONG_ABOUT_PACKETS);
     parser
         .subcommand(first)?
         .subcommand(simulate)?
-        .subcommand(timeline)
+        .subcommand(timeline)?
+        .subcommand(packets)
 }
 
 /// A command that takes the options of a search.
@@ -268,7 +337,8 @@ fn search_command<'a>(
 ) -> Result<clap::Command<'a>, AllocError> {
     command(alloc, name, about, long_about)
         .arg(limit_argument(alloc))?
-        .arg(seek_argument(alloc))
+        .arg(seek_argument(alloc))?
+        .arg(bounds_argument(alloc))
 }
 
 /// A command without options, with the two texts that help tells of it.
@@ -301,6 +371,16 @@ fn seek_argument<'a>(alloc: Global) -> Arg<'a> {
         .value_parser(value_parser!(u64).range(0..=1_000_000))
         .default_value("20000")
         .help(ABOUT_SEEK)
+}
+
+/// By which bounds a search goes.
+fn bounds_argument<'a>(alloc: Global) -> Arg<'a> {
+    Arg::new(alloc, "bounds")
+        .long("bounds")
+        .value_name("KIND")
+        .value_parser(["plain", "stamp", "lead"].as_slice())
+        .default_value("plain")
+        .help(ABOUT_BOUNDS)
 }
 
 /// What is to be done where no command was found: clap's own text is to be written.

@@ -1,5 +1,5 @@
 use super::{Verdict, judge, judge_bytes};
-use convoy_engine::Command;
+use convoy_engine::{Bounds, Command};
 use std::alloc::Global;
 
 /// The status with which a command line ends by itself; None where it runs a command.
@@ -27,9 +27,21 @@ fn told(command: &Command) -> (&'static str, u64, u64) {
         Command::First => ("first", 0, 0),
         Command::Simulate => ("simulate", 0, 0),
         Command::Timeline => ("timeline", 0, 0),
+        Command::Packets => ("packets", 0, 0),
         Command::Check => ("check", 0, 0),
+        Command::Explain => ("explain", 0, 0),
         Command::Analyse(options) => ("analyse", options.limit(), options.simulations()),
         Command::Latency(options) => ("latency", options.limit(), options.simulations()),
+    }
+}
+
+/// The bounds of the search that a command line asks for.
+fn bounds_run(alloc: Global, words: &[&str]) -> Option<Bounds> {
+    match &judge(alloc, words) {
+        Verdict::Run(Command::Analyse(options) | Command::Latency(options)) => {
+            Some(options.bounds())
+        }
+        _ => None,
     }
 }
 
@@ -40,7 +52,9 @@ fn commands(rt: HostRuntime) {
         (["first"].as_slice(), "first", 0, 0),
         (["simulate"].as_slice(), "simulate", 0, 0),
         (["timeline"].as_slice(), "timeline", 0, 0),
+        (["packets"].as_slice(), "packets", 0, 0),
         (["check"].as_slice(), "check", 0, 0),
+        (["explain"].as_slice(), "explain", 0, 0),
         (["analyse"].as_slice(), "analyse", 1_000_000, 20_000),
         (["latency"].as_slice(), "latency", 1_000_000, 20_000),
         (["batch", "--seek=0"].as_slice(), "batch", 1_000_000, 0),
@@ -77,15 +91,42 @@ fn command_lines(rt: HostRuntime) {
         (["latency", "--limit"].as_slice(), 2),
         (["latency", "--seek", "1000001"].as_slice(), 2),
         (["analyse", "--seek", "-1"].as_slice(), 2),
+        (["analyse", "--bounds", "leads"].as_slice(), 2),
+        (["latency", "--bounds", "Stamp"].as_slice(), 2),
+        (["check", "--bounds", "stamp"].as_slice(), 2),
         (["first", "--seek", "1"].as_slice(), 2),
         (["check", "--limit", "3"].as_slice(), 2),
         (["second"].as_slice(), 2),
         (["--limit", "3"].as_slice(), 2),
         (["first", "first"].as_slice(), 2),
         (["simulate", "first"].as_slice(), 2),
-        (["help"].as_slice(), 2),
+        (["help"].as_slice(), 0),
+        (["help", "explain"].as_slice(), 0),
+        (["help", "packets"].as_slice(), 0),
+        (["--version"].as_slice(), 0),
+        (["-V"].as_slice(), 0),
+        (["help", "second"].as_slice(), 2),
+        (["help", "first", "first"].as_slice(), 2),
+        (["first", "help"].as_slice(), 2),
+        (["explain", "--limit", "3"].as_slice(), 2),
     ] {
         assert_eq!(rt; status_of(rt.alloc(), words), Some(status), "at {words:?}");
+    }
+}
+
+#[test]
+fn bounds(rt: HostRuntime) {
+    for (words, want) in [
+        (["latency"].as_slice(), Bounds::Plain),
+        (["latency", "--bounds", "plain"].as_slice(), Bounds::Plain),
+        (["latency", "--bounds", "stamp"].as_slice(), Bounds::Stamp),
+        (["latency", "--bounds", "lead"].as_slice(), Bounds::Lead),
+        (
+            ["analyse", "--bounds=stamp", "--seek", "0"].as_slice(),
+            Bounds::Stamp,
+        ),
+    ] {
+        assert_eq!(rt; bounds_run(rt.alloc(), words), Some(want), "at {words:?}");
     }
 }
 
@@ -98,12 +139,15 @@ fn help(rt: HostRuntime) {
             "Usage: convoy",
             "  first  ",
             "  simulate  ",
+            "  packets  ",
             "  check  ",
             "  analyse  ",
+            "  explain  ",
             "  latency  ",
             "  batch  ",
             "standard input",
             "TOML",
+            "convoy analyse < scenario.toml | convoy explain",
             "convoy analyse < scenario.toml | convoy check",
             "Exit status:",
             "  4  a certificate that is refused",
