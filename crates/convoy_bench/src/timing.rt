@@ -4,15 +4,15 @@ ghost use Rattle.convoy_packets.specs.Table.{table_of};
 ghost use Rattle.convoy_intervals.specs.Boxes.{IsBox};
 
 use anyhow::{Result, bail};
-use convoy_branch::{Outcome, search_alone};
+use convoy_branch::{Bounds, Outcome, search_alone};
 use convoy_certificate::{read, write};
 use convoy_checker::check;
-use convoy_intervals::{DelayBox, bound};
+use convoy_intervals::{DelayBox, Tracked, bound};
 use convoy_packets::{Delays, PacketTable};
 use convoy_scenario::Scenario;
 use convoy_seek::seek;
 use convoy_sim::{Record, latency, simulate};
-use convoy_stamps::stamp_bound;
+use convoy_stamps::{stamp_bound, stamp_bound_of};
 use std::alloc::Global;
 use std::time::{Duration, Instant};
 
@@ -37,8 +37,8 @@ pub fn time_bound(
     Ok(())
 }
 
-/// Makes that many calls of `bound` and of `stamp_bound`, and tells what one of each answers and how
-/// long it takes.
+/// Makes that many calls of `bound`, of `stamp_bound` and of `stamp_bound_of`, and tells what one of
+/// each answers and how long it takes.
 pub fn time_stamps(
     rt: &HostRuntime,
     alloc: Global,
@@ -58,6 +58,13 @@ pub fn time_stamps(
     }
     tell(rt, "stamp_bound", turns, start.elapsed(rt)?)?;
     println!(rt; "stamp_bound {answer}")?;
+    let tracked = Tracked::over(alloc, scenario, table, delay_box.copy()?)?;
+    let start = Instant::now(rt)?;
+    for _ in 0..turns {
+        answer = stamp_bound_of(alloc, scenario, &tracked)?;
+    }
+    tell(rt, "stamp_bound_of", turns, start.elapsed(rt)?)?;
+    println!(rt; "stamp_bound_of {answer}")?;
     Ok(())
 }
 
@@ -161,7 +168,7 @@ pub fn time_search(
     requires packets { table.now ≡ table_of scenario.now }
 {
     let start = Instant::now(rt)?;
-    let outcome = search_alone(alloc, scenario, table, u64::from(limit))?;
+    let outcome = search_alone(alloc, scenario, table, u64::from(limit), Bounds::Plain)?;
     let elapsed = start.elapsed(rt)?;
     match outcome {
         Outcome::Proved {

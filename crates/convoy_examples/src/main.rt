@@ -7,21 +7,25 @@ ghost use Rattle.std.specs.Prelude.{◌≡◌};
 use anyhow::{Result, bail};
 use convoy_engine::{
     DEFAULT_SIMULATIONS, DeviceFailed, MOST_TICKETS, Options, SliceSource, StreamSink, VecSink,
-    run_analyse, run_check, run_first, run_latency, write_all,
+    run_analyse, run_check, run_explain, run_first, run_latency, write_all,
 };
 use std::alloc::Global;
 use std::fs;
 
 /// The scenarios in `examples/`, but for the one that takes a million nodes.
-const EXAMPLES: [&str; 7] = [
+const EXAMPLES: [&str; 8] = [
     "base.toml",
     "one-tick-earlier.toml",
     "swapped-groups.toml",
     "three-regions.toml",
     "linked-regions.toml",
+    "bank.toml",
     "three-shards.toml",
     "largest.toml",
 ];
+
+/// Those of which the documents tell what `explain` writes.
+const EXPLAINED: [&str; 3] = ["base.toml", "three-regions.toml", "bank.toml"];
 
 /// How many reads a run makes at most.
 const MOST_READS: u64 = 1_000_000;
@@ -37,7 +41,13 @@ fn main(rt: HostRuntime) -> Result<()> {
     }
     println!(rt; "certificate of base.toml")?;
     let text = fs::read_to_string(&rt, "base.toml")?;
-    print(&rt, &certificate(rt.alloc(), text.as_bytes())?)
+    print(&rt, &certificate(rt.alloc(), text.as_bytes())?)?;
+    for name in EXPLAINED {
+        println!(rt; "explanation of {name}")?;
+        let text = fs::read_to_string(&rt, name)?;
+        print(&rt, &explanation(rt.alloc(), text.as_bytes())?)?;
+    }
+    Ok(())
 }
 
 /// Prints what `first` and `latency` answer for a scenario, and what `check` answers for the
@@ -71,6 +81,15 @@ fn certificate(alloc: Global, text: &[u8]) -> Result<Vec<u8>> {
         &mut sink,
         &options(),
     )?;
+    Ok(Vec::from_slice(alloc, sink.bytes())?)
+}
+
+/// What `explain` writes for that.
+fn explanation(alloc: Global, text: &[u8]) -> Result<Vec<u8>> {
+    let certificate = certificate(alloc, text)?;
+    let mut source = SliceSource::new(&certificate, PIECE);
+    let mut sink = VecSink::new(alloc, PIECE);
+    run_explain(alloc, &mut source, &mut sink, MOST_READS)?;
     Ok(Vec::from_slice(alloc, sink.bytes())?)
 }
 

@@ -1,7 +1,7 @@
 ghost use Rattle.std.specs.Prelude.{IfOk};
 ghost use Rattle.convoy_uses.specs.Answers.{IsAnswer};
 
-use convoy_library::branch::{Outcome, search_alone};
+use convoy_library::branch::{Bounds, Outcome, search_alone};
 use convoy_library::packets::PacketTable;
 use convoy_library::scenario::Scenario;
 use std::alloc::{AllocError, Global};
@@ -25,7 +25,7 @@ pub fn greatest_latency(
     ensures { IfOk result (IsAnswer scenario.now) }
 {
     let table = PacketTable::of(alloc, scenario)?;
-    match search_alone(alloc, scenario, &table, limit)? {
+    match search_alone(alloc, scenario, &table, limit, Bounds::Plain)? {
         Outcome::Proved { certificate, .. } => Ok(Answer::Exactly(certificate.latency())),
         Outcome::Open { best, upper, .. } => Ok(Answer::Between {
             least: best.latency(),
