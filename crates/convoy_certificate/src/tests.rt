@@ -380,3 +380,19 @@ fn texts_of_values(rt: HostRuntime) -> Result<(), Fail> {
     }
     Ok(())
 }
+
+#[test]
+fn faults_tell_themselves(rt: HostRuntime) -> Result<(), Fail> {
+    let alloc = rt.alloc();
+    let line = format!(in alloc; "{}", TextFault::Line(9, Expected::Schedule))?;
+    assert_eq!(rt;
+        line.as_str(),
+        "line 9 is not a line `schedule`, or is not ended"
+    );
+    let scenario = format!(in alloc; "{}", TextFault::Scenario(ScenarioFault::LinkToItself))?;
+    assert_eq!(rt;
+        scenario.as_str(),
+        "the lines are no scenario: a link leads from a group to itself"
+    );
+    Ok(())
+}

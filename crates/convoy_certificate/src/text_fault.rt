@@ -1,23 +1,30 @@
 use convoy_scenario::{Expected, LineFault, ScenarioFault};
 use std::alloc::{AllocError, AllocFailed};
+use thiserror::Error;
 
 /// Why a text is no certificate. Where it has several faults, the first in the order of the lines is
 /// told (docs/FORMATS.md, "Certificate text").
-#[derive(Clone, Copy, Debug, PartialEq, Eq)]
+#[derive(Clone, Copy, Debug, PartialEq, Eq, Error)]
 pub enum TextFault {
     /// The line of that number, from 1, is absent, is not ended by byte 10, or has not the form that
     /// was expected there.
+    #[error("line {0} is not a line `{1}`, or is not ended")]
     Line(usize, Expected),
     /// The lines from `delay` to `target` have their form, but there is no such scenario.
+    #[error("the lines are no scenario: {0}")]
     Scenario(ScenarioFault),
     /// The line `schedule` has its form, but the number of delays is not the number of packets, or a
     /// delay is not in its packet's range.
+    #[error("the schedule has not one delay for each packet in its range")]
     Schedule,
     /// There are more than `MOST_NODES` nodes, or more than `MOST_LEADS` lead leaves among them.
+    #[error("there are too many nodes")]
     TreeCount,
     /// A byte follows the line `end`.
+    #[error("the text goes on after the line `end`")]
     AfterEnd,
     /// Memory ran out, which says nothing of the text.
+    #[error("out of memory")]
     Memory,
 }
 

@@ -4,13 +4,16 @@ ghost use Rattle.convoy_jobs.specs.Splitting.{EndsJob, Finishes, GoesOn, Holds, 
 
 use super::line::{Line, Step};
 use std::alloc::{AllocError, Global};
+use thiserror::Error;
 
 /// Why the text of a job is not at hand.
-#[derive(Clone, Copy, Debug, PartialEq, Eq)]
+#[derive(Clone, Copy, Debug, PartialEq, Eq, Error)]
 pub enum JobFault {
     /// It has more bytes than a job may have.
+    #[error("the job is too long")]
     TooLong,
     /// Memory ran out.
+    #[error("out of memory")]
     Memory,
 }
 

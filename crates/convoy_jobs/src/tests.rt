@@ -49,3 +49,13 @@ fn texts(rt: HostRuntime) -> Result<(), Fail> {
     }
     Ok(())
 }
+
+#[test]
+fn faults_tell_themselves(rt: HostRuntime) -> Result<(), Fail> {
+    let alloc = rt.alloc();
+    let too_long = format!(in alloc; "{}", JobFault::TooLong)?;
+    assert_eq!(rt; too_long.as_str(), "the job is too long");
+    let memory = format!(in alloc; "{}", JobFault::Memory)?;
+    assert_eq!(rt; memory.as_str(), "out of memory");
+    Ok(())
+}

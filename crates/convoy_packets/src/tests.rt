@@ -216,3 +216,19 @@ fn takes_the_greatest(rt: HostRuntime) -> Result<(), Fail> {
     assert_eq!(rt; given.delay(7), 3);
     Ok(())
 }
+
+#[test]
+fn faults_tell_themselves(rt: HostRuntime) -> Result<(), Fail> {
+    let alloc = rt.alloc();
+    let length = format!(in alloc; "{}", ListFault::Length)?;
+    assert_eq!(rt;
+        length.as_str(),
+        "the schedule has not one delay for each packet"
+    );
+    let range = format!(in alloc; "{}", ListFault::Range(7))?;
+    assert_eq!(rt;
+        range.as_str(),
+        "the schedule gives packet 7 a delay that it may not take"
+    );
+    Ok(())
+}

@@ -1,4 +1,9 @@
+use super::limits::{
+    GREATEST_AT, GREATEST_DELAY, LONGEST_NAME, MOST_GROUPS, MOST_LINKS, MOST_MULTICASTS,
+};
 use std::alloc::{AllocError, AllocFailed};
+use std::fmt;
+use thiserror::Error;
 
 /// What a fault of shape tells: a key of a scenario text, or that a key is unknown.
 #[derive(Clone, Copy, Debug, PartialEq, Eq)]
@@ -39,32 +44,44 @@ pub enum Limit {
 
 /// Why a text is no scenario. Where it has several faults, the first in the order of these variants
 /// is told (docs/FORMATS.md, "Scenario text").
-#[derive(Clone, Copy, Debug, PartialEq, Eq)]
+#[derive(Clone, Copy, Debug, PartialEq, Eq, Error)]
 pub enum ScenarioFault {
     /// The bytes are not UTF-8, or the text is not TOML 1.1.
+    #[error("the text is not TOML")]
     NotToml,
     /// A key is absent, its value is of another kind, or the key is unknown.
+    #[error("a key is absent, unknown, or its value is of another kind: {0}")]
     Shape(Key),
     /// A number is outside its limits.
+    #[error("over a limit: {0}")]
     OverLimit(Limit),
     /// A name is not of 1 to `LONGEST_NAME` bytes of `a` to `z`, `0` to `9`, `_` and `-` with a
     /// letter first, or a group is named `client`.
+    #[error("a name is not one of 1 to {longest} bytes a to z, 0 to 9, _ and -, with a letter first", longest = LONGEST_NAME)]
     BadName,
     /// Two groups, or two messages, have one name, or two links lead from one sender to one group.
+    #[error("two groups or two messages have one name, or two links lead from one sender to one group")]
     DoubleName,
     /// A sender, a destination, the target's group or an end of a link is no group.
+    #[error("a sender, a destination, the target's group or an end of a link is no group")]
     UnknownGroup,
     /// A message goes nowhere.
+    #[error("a message has no destination")]
     NoDestination,
     /// A message names a destination twice.
+    #[error("a message names a destination twice")]
     DoubleDestination,
     /// The target's message is no message.
+    #[error("the target's message is not known")]
     UnknownTarget,
     /// The target's message does not go to the target's group.
+    #[error("the target's message does not go to the target's group")]
     TargetNotAddressed,
     /// A link leads from a group to that group.
+    #[error("a link leads from a group to itself")]
     LinkToItself,
     /// Memory ran out, which says nothing of the text.
+    #[error("out of memory")]
     Memory,
 }
 
@@ -92,6 +109,27 @@ impl Key {
             Key::Most => "most",
             Key::Schedule => "schedule",
             Key::Unknown => "unknown",
+        }
+    }
+}
+
+impl fmt::Display for Key {
+    fn fmt<W: fmt::Write>(&self, f: &mut fmt::Formatter<W>) -> fmt::Result {
+        f.pad(self.word())
+    }
+}
+
+impl fmt::Display for Limit {
+    fn fmt<W: fmt::Write>(&self, f: &mut fmt::Formatter<W>) -> fmt::Result {
+        match self {
+            Limit::Delay => write!(f, "the greatest delay is 1 to {GREATEST_DELAY}"),
+            Limit::Groups => write!(f, "there are 1 to {MOST_GROUPS} groups"),
+            Limit::Multicasts => write!(f, "there are 1 to {MOST_MULTICASTS} multicasts"),
+            Limit::At => write!(f, "a message is issued at a tick from 0 to {GREATEST_AT}"),
+            Limit::Link => write!(
+                f,
+                "there are at most {MOST_LINKS} links, each with 1 <= least <= most <= delay"
+            ),
         }
     }
 }

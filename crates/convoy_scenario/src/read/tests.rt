@@ -251,3 +251,29 @@ fn copies(rt: HostRuntime) -> Result<(), Fail> {
     assert_messages(&rt, &copy);
     Ok(())
 }
+
+#[test]
+fn faults_tell_themselves(rt: HostRuntime) -> Result<(), Fail> {
+    let alloc = rt.alloc();
+    let shape = format!(in alloc; "{}", ScenarioFault::Shape(Key::At))?;
+    assert_eq!(rt;
+        shape.as_str(),
+        "a key is absent, unknown, or its value is of another kind: at"
+    );
+    let delay = format!(in alloc; "{}", ScenarioFault::OverLimit(Limit::Delay))?;
+    assert_eq!(rt;
+        delay.as_str(),
+        "over a limit: the greatest delay is 1 to 16"
+    );
+    let link = format!(in alloc; "{}", Limit::Link)?;
+    assert_eq!(rt;
+        link.as_str(),
+        "there are at most 72 links, each with 1 <= least <= most <= delay"
+    );
+    let name = format!(in alloc; "{}", ScenarioFault::BadName)?;
+    assert_eq!(rt;
+        name.as_str(),
+        "a name is not one of 1 to 16 bytes a to z, 0 to 9, _ and -, with a letter first"
+    );
+    Ok(())
+}
