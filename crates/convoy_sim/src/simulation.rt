@@ -47,7 +47,9 @@ pub fn simulate(
     runs_keep_the_laws();
     let (message, group) = (scenario.target_message(), scenario.target_group());
     let times = Timetable::of(Times::new(scenario, table, delays));
-    let stamps = Stamps::of(&Agenda::before(&times, &END));
+    let mut agenda = Agenda::new();
+    agenda.fill(&times, &END);
+    let stamps = Stamps::of(&agenda);
     let delivered = delivery_tick(&times, &stamps, message, group);
     let finals = stamps.finals(alloc, scenario.message_count())?;
     let progress = list_progress(alloc, &times, &stamps)?;

@@ -37,6 +37,8 @@ pub fn latency_by<T: Ticks>(times: &T) -> u32
         message,
         group,
     };
-    let stamps = Stamps::of(&Agenda::before(times, &commit));
+    let mut agenda = Agenda::new();
+    agenda.fill(times, &commit);
+    let stamps = Stamps::of(&agenda);
     delivery_tick(times, &stamps, message, group) - scenario.issue_tick(message)
 }

@@ -22,18 +22,18 @@ is_target c = record {
 pub of-stamps-requires : goal.of-stamps-requires
 of-stamps-requires c =
     let is = is_target (goal.at.of-stamps-requires c).After-of-times in
-    subst (λ ms. All (λ x. (x.message < 16) × (x.group < 8)) ms) (sym c.before-2.ensures)
+    subst (λ ms. All (λ x. (x.message < 16) × (x.group < 8)) ms) (sym c.fill.ensures)
     (all_within c.of-times.result.scenario (target_well _ _ _ _ _ is) c.of-times.result.delays end)
 
 pub delivery_tick-delivered-requires-clause-told : goal.delivery_tick-delivered-requires-clause-told
 delivery_tick-delivered-requires-clause-told c =
     let is = is_target (goal.at.delivery_tick-delivered-requires-clause-told c).After-of-times in
-    target_told _ _ _ _ _ is c.requires.assignment _ (stamps_are _ _ _ _ _ is c.requires.assignment _ _ c.of-stamps.ensures c.before-2.ensures)
+    target_told _ _ _ _ _ is c.requires.assignment _ (stamps_are _ _ _ _ _ is c.requires.assignment _ _ c.of-stamps.ensures c.fill.ensures)
 
 pub list_progress-requires : goal.list_progress-requires
 list_progress-requires c =
     let is = is_target (goal.at.list_progress-requires c).After-of-times in
-    all_told _ _ _ _ _ is c.requires.assignment _ (stamps_are _ _ _ _ _ is c.requires.assignment _ _ c.of-stamps.ensures c.before-2.ensures)
+    all_told _ _ _ _ _ is c.requires.assignment _ (stamps_are _ _ _ _ _ is c.requires.assignment _ _ c.of-stamps.ensures c.fill.ensures)
 
 pub overflow_sub-delivered : goal.overflow_sub-delivered
 overflow_sub-delivered c =
@@ -43,14 +43,14 @@ overflow_sub-delivered c =
 pub new-requires-2 : goal.new-requires-2
 new-requires-2 c =
     let is = is_target (goal.at.new-requires-2 c).After-of-times in
-    let read = stamps_are _ _ _ _ _ is c.requires.assignment _ _ c.of-stamps.ensures c.before-2.ensures in
+    let read = stamps_are _ _ _ _ _ is c.requires.assignment _ _ c.of-stamps.ensures c.fill.ensures in
     run_tabled _ _ _ _ _ is c.requires.assignment _ read c.in_ok-finals.finals.items c.in_ok-progress.progress.items c.message_count.result
     (record { number = c.message_count.ensures.value; finals_are = c.in_ok-finals.ensures; progress_is = c.in_ok-progress.ensures })
 
 pub returns-clause-run : goal.returns-clause-run
 returns-clause-run c =
     let is = is_target (goal.at.returns-clause-run c).After-of-times in
-    let read = stamps_are _ _ _ _ _ is c.requires.assignment _ _ c.of-stamps.ensures c.before-2.ensures in
+    let read = stamps_are _ _ _ _ _ is c.requires.assignment _ _ c.of-stamps.ensures c.fill.ensures in
     run_told _ _ _ _ _ is c.requires.assignment _ read c.in_ok-finals.finals.items c.in_ok-progress.progress.items c.message_count.result
     (record { number = c.message_count.ensures.value; finals_are = c.in_ok-finals.ensures; progress_is = c.in_ok-progress.ensures })
     (c.delivery_tick-delivered.result - c.issue_tick.result) c.new-2.result c.new-2.ensures

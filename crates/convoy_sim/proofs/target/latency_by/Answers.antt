@@ -15,7 +15,7 @@ use Rattle.convoy_sim.proofs.StampsTold.{told_enough, enough_by_commit, all_with
 use Rattle.convoy_sim.proofs.TargetOf.{IsTarget, target_well, target_goes, target_issued, target_latency}
 use Rattle.convoy_sim.proofs.target.latency_by.Given as given
 use Rattle.convoy_sim.proofs.target.latency_by.Goals as goal
-use Rattle.convoy_sim.proofs.target.latency_by.Goals.{After-target_group-group, After-before-2, After-issue_tick}
+use Rattle.convoy_sim.proofs.target.latency_by.Goals.{After-target_group-group, After-fill, After-issue_tick}
 
 is_target : (over : given.Over) (c : After-target_group-group over)
     → IsTarget (over.T.Ticks.scheduled c.args.times.now).scenario (over.T.Ticks.scheduled c.args.times.now).delays (over.T.Ticks.scheduled c.args.times.now) c.target_message-message.result c.target_group-group.result
@@ -27,14 +27,14 @@ is_target over c = record {
 }
 
 -- the moments that are read are those before the commit of the target
-agenda_is : (over : given.Over) (c : After-before-2 over)
-    → c.before-2.result
+agenda_is : (over : given.Over) (c : After-fill over)
+    → c.fill.new.self
     ≡ before (commit_of (over.T.Ticks.scheduled c.args.times.now).scenario (over.T.Ticks.scheduled c.args.times.now).delays c.target_message-message.result c.target_group-group.result)
     (moments_of (over.T.Ticks.scheduled c.args.times.now).scenario (over.T.Ticks.scheduled c.args.times.now).delays)
 agenda_is over c =
     let times : Scheduled = over.T.Ticks.scheduled c.args.times.now in
     let last : ℕ → Moment = λ t. record { tick = t; kind = Commit; message = c.target_message-message.result; group = c.target_group-group.result } in
-    c.before-2.ensures ∙ ap (λ t. before (last t) (moments_of times.scenario times.delays)) c.settling.ensures
+    c.fill.ensures ∙ ap (λ t. before (last t) (moments_of times.scenario times.delays)) c.settling.ensures
 
 issued : (over : given.Over) (c : After-issue_tick over) → c.issue_tick.result ≡ (message_at (over.T.Ticks.scheduled c.args.times.now).scenario c.target_message-message.result).at
 issued over c =
@@ -53,13 +53,13 @@ settling-requires-clause-group over c =
 pub of-stamps-requires : goal.of-stamps-requires
 of-stamps-requires over c =
     let is = is_target over (goal.at.of-stamps-requires over c).After-target_group-group in
-    subst (λ ms. All (λ x. (x.message < 16) × (x.group < 8)) ms) (sym (agenda_is over (goal.at.of-stamps-requires over c).After-before-2))
+    subst (λ ms. All (λ x. (x.message < 16) × (x.group < 8)) ms) (sym (agenda_is over (goal.at.of-stamps-requires over c).After-fill))
     (all_within _ (target_well _ _ _ _ _ is) _ _)
 
 pub delivery_tick-requires-clause-told : goal.delivery_tick-requires-clause-told
 delivery_tick-requires-clause-told over c =
     let is = is_target over (goal.at.delivery_tick-requires-clause-told over c).After-target_group-group in
-    let agenda = agenda_is over (goal.at.delivery_tick-requires-clause-told over c).After-before-2 in
+    let agenda = agenda_is over (goal.at.delivery_tick-requires-clause-told over c).After-fill in
     let well = target_well _ _ _ _ _ is in
     let goes = target_goes _ _ _ _ _ is in
     let times : Scheduled = over.T.Ticks.scheduled c.args.times.now in
