@@ -4,43 +4,26 @@ use Rattle.std.specs.Bool.{Decides}
 use Rattle.std.specs.Option.{option_or}
 use Rattle.std.proofs.Common.{refl}
 use Rattle.std.proofs.lemmas.Bool.{leb-true, le-leb}
-use Rattle.std.proofs.lemmas.Bool.Decides.{Decides-like, Decides-and, Decides-by_and, Decides-eqb, Decides-ltb}
+use Rattle.std.proofs.lemmas.Bool.Decides.{Decides-and, Decides-eqb}
 use Rattle.convoy_scenario.specs.Scenario.{Scenario}
 use Rattle.convoy_sim.specs.Delivery.{latency_of}
-use Rattle.convoy_intervals.specs.Boxes.{IsPoint, range_at, greatest_of, root_of}
+use Rattle.convoy_intervals.specs.Boxes.{Box, CanSplit, IsPoint, can_split, is_point, greatest_of, root_of}
 use Rattle.convoy_intervals.specs.Bounds.{plain_bound}
+use Rattle.convoy_intervals.proofs.BoxTests.{Decides-can_split, Decides-is_point}
 use Rattle.convoy_leads.specs.Closing.{closes_by_leads}
 use Rattle.convoy_stamps.specs.StampBounds.{stamp_bound}
-use Rattle.convoy_intervals.specs.Boxes.{CanSplit}
 use Rattle.convoy_certificate.specs.Certificate.{Certificate}
 use Rattle.convoy_certificate.specs.declared.node.Node.{Node}
 use Rattle.convoy_certificate.specs.declared.node.Node.TheVariants.{Split, Bound, Point, Stamp, Lead}
 use Rattle.convoy_checker.specs.declared.refused.Refused.{Refused}
 use Rattle.convoy_checker.specs.declared.refused.Refused.TheVariants as refused
-use Rattle.convoy_checker.specs.Checks.{unless, can_split, is_point, node_fault, first_fault, checked_tree, checked}
+use Rattle.convoy_checker.specs.Checks.{unless, node_fault, first_fault, checked_tree, checked}
 use Rattle.convoy_checker.specs.Leaves.{ClosesByLeads, IsRight}
 use Rattle.convoy_checker.specs.Trees.{AreTrees, boxes_below}
-use Rattle.convoy_intervals.specs.Boxes.{Box}
 use Rattle.convoy_checker.specs.Validity.{IsValid}
 
--- the tests say what the relations say
 Decides-le : (a b : ℕ) → Decides (nat_le a b) (a ≤ b)
 Decides-le a b = (leb-true a b, le-leb a b)
-
-Decides-can_split : (box : Box) (packet at : ℕ) → Decides (can_split box packet at) (CanSplit box packet at)
-Decides-can_split box packet at =
-    let range = range_at box packet in
-    let place = nat_lt packet (length box) in
-    let low = nat_le range.0 at in
-    let high = nat_lt at range.1 in
-    Decides-like (can_split box packet at)
-    (λ (all : ((packet < length box) × (range.0 ≤ at)) × (at < range.1)). record { place = all.0.0; low = all.0.1; high = all.1 })
-    (λ part. ((part.place, part.low), part.high))
-    (Decides-and (place && low) high (Decides-and place low (Decides-ltb packet (length box)) (Decides-le range.0 at)) (Decides-ltb at range.1))
-
-pub Decides-is_point : (box : Box) → Decides (is_point box) (IsPoint box)
-Decides-is_point box =
-    Decides-by_and (λ range. range.0 == range.1) (λ range. range.0 ≡ range.1) is_point (λ range. Decides-eqb range.0 range.1) refl (λ _ _. refl) box
 
 -- a test has no fault just where it says yes
 unless_none : (fault : Refused) (test : Bool) (Holds : Type 0) → Decides test Holds → (unless fault test ≡ None) ↔ Holds

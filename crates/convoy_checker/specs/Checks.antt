@@ -1,10 +1,9 @@
 -- What checking a certificate answers: its latency where it is valid, and else its first fault.
-use Rattle.std.specs.Prelude.{ℕ, ◌+◌, ◌==◌, nat_le, nat_lt, Bool, ◌&&◌, if◌then◌else◌, List, [], ◌∷◌, ◌++◌, length, Option, Some, None, Result, Ok, Err}
-use Rattle.std.specs.List.{list_all}
+use Rattle.std.specs.Prelude.{ℕ, ◌+◌, ◌==◌, nat_le, Bool, ◌&&◌, if◌then◌else◌, List, [], ◌∷◌, ◌++◌, Option, Some, None, Result, Ok, Err}
 use Rattle.std.specs.Option.{option_or}
 use Rattle.convoy_scenario.specs.Scenario.{Scenario}
 use Rattle.convoy_sim.specs.Delivery.{latency_of}
-use Rattle.convoy_intervals.specs.Boxes.{Box, root_of, range_at, greatest_of}
+use Rattle.convoy_intervals.specs.Boxes.{Box, can_split, is_point, root_of, greatest_of}
 use Rattle.convoy_intervals.specs.Bounds.{plain_bound}
 use Rattle.convoy_leads.specs.Closing.{closes_by_leads}
 use Rattle.convoy_stamps.specs.StampBounds.{stamp_bound}
@@ -18,15 +17,6 @@ use Rattle.convoy_checker.specs.Trees.{boxes_below}
 -- the fault, unless the test holds
 abbrev pub unless : Refused → Bool → Option Refused
 unless fault holds = if holds then None else Some fault
-
--- the packet has a place in the box, and delays on both sides of the split
-abbrev pub can_split : Box → ℕ → ℕ → Bool
-can_split box packet at =
-    nat_lt packet (length box) && nat_le (range_at box packet).0 at && nat_lt at (range_at box packet).1
-
--- each packet has one delay left
-abbrev pub is_point : Box → Bool
-is_point box = list_all (λ range. range.0 == range.1) box
 
 -- the fault of the node of that number over its box
 abbrev pub node_fault : Scenario → ℕ → ℕ → Node → Box → Option Refused

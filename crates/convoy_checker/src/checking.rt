@@ -2,9 +2,9 @@ ghost use Rattle.std.specs.Prelude.{◌≡◌, ◌&&◌, nat_le, [], ◌∷◌, 
 ghost use Rattle.convoy_scenario.specs.Memory.{IsUnlessMemory};
 ghost use Rattle.convoy_packets.specs.Table.{table_of};
 ghost use Rattle.convoy_sim.specs.Delivery.{latency_of};
-ghost use Rattle.convoy_intervals.specs.Boxes.{IsBox, root_of, greatest_of};
+ghost use Rattle.convoy_intervals.specs.Boxes.{IsBox, root_of, greatest_of, is_point};
 ghost use Rattle.convoy_certificate.specs.Certificate.{IsCertificate};
-ghost use Rattle.convoy_checker.specs.Checks.{can_split, checked, first_fault, is_point, node_fault};
+ghost use Rattle.convoy_checker.specs.Checks.{checked, first_fault, node_fault};
 ghost use Rattle.convoy_checker.specs.Validity.{IsValid};
 ghost use Rattle.convoy_sim.specs.Greatest.{IsGreatest};
 
@@ -13,7 +13,7 @@ use super::laws::{checked_is_valid, valid_is_greatest};
 use super::refused::Refused;
 use super::walk::Walk;
 use convoy_certificate::{Certificate, Node};
-use convoy_intervals::laws::{halves_are_boxes, members_are_assignments};
+use convoy_intervals::laws::halves_are_boxes;
 use convoy_intervals::{DelayBox, bound};
 use convoy_leads::Leads;
 use convoy_packets::PacketTable;
@@ -116,13 +116,16 @@ fn node_fault(
 {
     let (scenario, table, latency) = (claim.scenario, claim.table, claim.latency);
     let (holds, fault) = match node {
-        Node::Split { packet, at } => (can_split(delay_box, packet, at), Refused::Split(number)),
+        Node::Split { packet, at } => (
+            delay_box.can_split(usize::from(packet), at),
+            Refused::Split(number),
+        ),
         Node::Bound => {
             let bound = bound(scenario, table, delay_box);
             (bound <= latency, Refused::BoundLeaf(number, bound))
         }
         Node::Point => (
-            is_within(alloc, scenario, table, latency, delay_box)?,
+            is_within(scenario, table, latency, delay_box),
             Refused::PointLeaf(number),
         ),
         Node::Stamp => {
@@ -137,42 +140,12 @@ fn node_fault(
     Ok((!holds).then_some(fault))
 }
 
-/// Whether the packet has a place in the box, and delays on both sides of the split.
-fn can_split(delay_box: &DelayBox, packet: u16, at: u16) -> bool
-    ensures { result ≡ can_split delay_box.now packet at }
-{
-    let packet = usize::from(packet);
-    if packet >= delay_box.len() {
-        return false;
-    }
-    let (least, most) = delay_box.range(packet);
-    least <= at && at < most
-}
-
 /// Whether the box has one member, whose latency is at most that.
-fn is_within(
-    alloc: Global,
-    scenario: &Scenario,
-    table: &PacketTable,
-    latency: u32,
-    delay_box: &DelayBox,
-) -> Result<bool, AllocError>
+fn is_within(scenario: &Scenario, table: &PacketTable, latency: u32, delay_box: &DelayBox) -> bool
     requires packets { table.now ≡ table_of scenario.now }
     requires inside { IsBox scenario.now delay_box.now }
-    ensures { IfOk result (λ holds. holds ≡ (is_point delay_box.now
-        && nat_le (latency_of scenario.now (greatest_of delay_box.now)) latency)) }
+    ensures { result ≡ (is_point delay_box.now
+        && nat_le (latency_of scenario.now (greatest_of delay_box.now)) latency) }
 {
-    if !is_point(delay_box) {
-        return Ok(false);
-    }
-    members_are_assignments();
-    let delays = delay_box.greatest(alloc)?;
-    Ok(convoy_sim::latency(scenario, table, &delays) <= latency)
-}
-
-/// Whether each packet has one delay left.
-fn is_point(delay_box: &DelayBox) -> bool
-    ensures { result ≡ is_point delay_box.now }
-{
-    delay_box.is_point()
+    delay_box.is_point() && delay_box.greatest_latency(scenario, table) <= latency
 }

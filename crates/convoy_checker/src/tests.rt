@@ -218,3 +218,19 @@ fn four_million_nodes(rt: HostRuntime) -> Result<(), Fail> {
     assert_eq!(rt; answer(alloc, text.as_bytes())?, Ok(32));
     Ok(())
 }
+
+#[test]
+fn refusals_tell_themselves(rt: HostRuntime) -> Result<(), Fail> {
+    let alloc = rt.alloc();
+    let latency = format!(in alloc; "{}", Refused::Latency(12))?;
+    assert_eq!(rt;
+        latency.as_str(),
+        "the latency of the schedule is 12 ticks, and not the stated one"
+    );
+    let leaf = format!(in alloc; "{}", Refused::BoundLeaf(3, 14))?;
+    assert_eq!(rt;
+        leaf.as_str(),
+        "node 3 is a leaf whose plain bound is 14 ticks, above the stated latency"
+    );
+    Ok(())
+}

@@ -1,5 +1,6 @@
 pub mod Rows
 pub mod Members
+pub mod BoxTests
 pub mod Halves
 pub mod Enclosing
 pub mod PlainBound

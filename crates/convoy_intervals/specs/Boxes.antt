@@ -1,6 +1,6 @@
 -- Boxes of delays: a range for each packet, in packet order.
-use Rattle.std.specs.Prelude.{◌≡◌, ℕ, ◌+◌, ◌<◌, ◌≤◌, List, length, All, slice_index_or, slice_set}
-use Rattle.std.specs.List.{AllZip}
+use Rattle.std.specs.Prelude.{◌≡◌, ℕ, ◌+◌, ◌<◌, ◌≤◌, ◌==◌, nat_le, nat_lt, Bool, ◌&&◌, List, length, All, slice_index_or, slice_set}
+use Rattle.std.specs.List.{AllZip, list_all}
 use Rattle.convoy_scenario.specs.Scenario.{Scenario}
 use Rattle.convoy_packets.specs.Assignment.{Schedule, ranges_of, AreWithin}
 pub use Rattle.convoy_packets.specs.Table.{greatest_of}
@@ -39,6 +39,11 @@ pub record CanSplit (ranges : Box) (packet at : ℕ) : Type 0 where
   pub low : (range_at ranges packet).0 ≤ at
   pub high : at < (range_at ranges packet).1
 
+-- the test of it
+abbrev pub can_split : Box → ℕ → ℕ → Bool
+can_split ranges packet at =
+    nat_lt packet (length ranges) && nat_le (range_at ranges packet).0 at && nat_lt at (range_at ranges packet).1
+
 -- the lower half of the box, in which the packet takes at most so many ticks, and the upper half, in which it takes more
 abbrev pub lower_half : Box → ℕ → ℕ → Box
 lower_half ranges packet at = slice_set ranges packet ((range_at ranges packet).0, at)
@@ -49,3 +54,7 @@ upper_half ranges packet at = slice_set ranges packet (at + 1, (range_at ranges 
 -- each packet has one delay left
 abbrev pub IsPoint : Box → Type 0
 IsPoint ranges = All (λ range. range.0 ≡ range.1) ranges
+
+-- the test of it
+abbrev pub is_point : Box → Bool
+is_point ranges = list_all (λ range. range.0 == range.1) ranges

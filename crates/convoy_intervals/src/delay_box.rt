@@ -2,9 +2,14 @@ ghost use Rattle.std.specs.Prelude.{◌≡◌, ◌≤◌, ◌<◌, ◌↔◌, le
 ghost use Rattle.convoy_scenario.specs.Scenario.{Scenario};
 ghost use Rattle.convoy_packets.specs.Table.{table_of};
 ghost use Rattle.convoy_intervals.specs.Boxes.{AreRanges, CanSplit, IsBox, IsIn, IsPoint};
-ghost use Rattle.convoy_intervals.specs.Boxes.{range_at, lower_half, upper_half, greatest_of};
+ghost use Rattle.convoy_intervals.specs.Boxes.{can_split, is_point, range_at, lower_half, upper_half};
+ghost use Rattle.convoy_intervals.specs.Boxes.{greatest_of};
+ghost use Rattle.convoy_sim.specs.Delivery.{latency_of};
 
+use super::greatest_ticks::BoxTicks;
 use convoy_packets::{Delays, PacketTable};
+use convoy_scenario::Scenario;
+use convoy_sim::latency_by;
 use std::alloc::{AllocError, Global};
 use std::marker::Model;
 
@@ -66,9 +71,37 @@ impl DelayBox {
 
     /// Whether each packet has one delay left, so that the box has one member.
     pub fn is_point(&self) -> bool
-        ensures { IsTrue result ↔ IsPoint self.now }
+        ensures value { result ≡ is_point self.now }
+        ensures point { IsTrue result ↔ IsPoint self.now }
     {
         self.ranges.iter().all(|(least, most)| least == most)
+    }
+
+    /// Whether the box may be split at a packet: there is such a packet, and its range has delays of
+    /// at most `at` ticks and of more.
+    pub fn can_split(&self, packet: usize, at: u16) -> bool
+        ensures value { result ≡ can_split self.now packet at }
+        ensures splits { IsTrue result ↔ CanSplit self.now packet at }
+    {
+        if packet >= self.ranges.len() {
+            return false;
+        }
+        let (least, most) = self.ranges[packet];
+        least <= at && at < most
+    }
+
+    /// The latency of the scenario in ticks where each packet takes the greatest time of its range.
+    /// Takes no memory.
+    pub fn greatest_latency(&self, scenario: &Scenario, table: &PacketTable) -> u32
+        requires packets { table.now ≡ table_of scenario.now }
+        requires inside { IsBox scenario.now self.now }
+        ensures { result ≡ latency_of scenario.now (greatest_of self.now) }
+    {
+        latency_by(&BoxTicks {
+            scenario,
+            table,
+            delay_box: self,
+        })
     }
 
     /// The member of the box in which each packet takes the greatest time of its range.

@@ -1,9 +1,13 @@
 ghost use Rattle.std.specs.Prelude.{◌≡◌};
 
+use super::delay_box::DelayBox;
 use super::laws::{greatest_is_member, members_are_assignments};
+use super::times::{arrivals, settlings};
 use super::tracked::Tracked;
+use convoy_packets::PacketTable;
 use convoy_scenario::Scenario;
 use convoy_sim::Ticks;
+use std::marker::Model;
 
 /// When messages arrive and are committed under the schedule of the greatest delays of a box, as the
 /// box has it at hand.
@@ -38,5 +42,50 @@ impl<'a> Ticks for GreatestTicks<'a> {
     fn settling(&self, message: usize, group: usize) -> u32 {
         let span = self.tracked.span(self.scenario, message, group);
         span.settling.1
+    }
+}
+
+/// When messages arrive and are committed under the schedule of the greatest delays of a box, from its
+/// ranges.
+#[derive(Drop)]
+pub(crate) struct BoxTicks<'a> {
+    pub(crate) scenario: &'a Scenario,
+    pub(crate) table: &'a PacketTable,
+    pub(crate) delay_box: &'a DelayBox,
+}
+
+impl<'a> Model for BoxTicks<'a> {
+    ghost use Rattle.std.specs.Prelude.{◌≡◌};
+    ghost use Rattle.convoy_packets.specs.Table.{table_of};
+    ghost use Rattle.convoy_sim.specs.Scheduled.{Scheduled};
+    ghost use Rattle.convoy_intervals.specs.Boxes.{IsBox, greatest_of};
+
+    ghost Value = { Scheduled };
+
+    ghost view = { λ t. record {
+      scenario = t.scenario.now;
+      delays = greatest_of t.delay_box.now;
+    } };
+
+    ghost invariant = { λ t. (t.table.now ≡ table_of t.scenario.now)
+        × IsBox t.scenario.now t.delay_box.now };
+}
+
+impl<'a> Ticks for BoxTicks<'a> {
+    ghost scheduled = { λ t. t };
+
+    fn scenario(&self) -> &Scenario {
+        greatest_is_member();
+        members_are_assignments();
+        let _delay = self.scenario.delay();
+        self.scenario
+    }
+
+    fn arrival(&self, message: usize, group: usize) -> u32 {
+        arrivals(self.scenario, self.table, self.delay_box, message, group).1
+    }
+
+    fn settling(&self, message: usize, group: usize) -> u32 {
+        settlings(self.scenario, self.table, self.delay_box, message, group).1
     }
 }
