@@ -10,9 +10,11 @@ use Rattle.convoy_scenario.specs.Scenario.{Scenario}
 use Rattle.convoy_intervals.specs.Boxes.{Box}
 use Rattle.convoy_deque.specs.declared.rule.View.{View}
 use Rattle.convoy_deque.specs.declared.task.Task.{Task}
-use Rattle.convoy_deque.specs.Tasks.{whole_share, tasks_at, once_below, AreAllTaken, IsOf, IsPut}
+use Rattle.convoy_deque.specs.Tasks.{whole_share, tasks_at, AreAllTaken, IsOf, IsPut}
 use Rattle.convoy_deque.specs.Rule.{opener, nobody, kept_share, given_share, joined, after_put, after_take, IsRight, IsKept, Holds, HasPut, HasTaken, IsEmptied}
-use Rattle.convoy_deque.proofs.Totals.{sum_set, sum_push, sum_of_one, two_le_sum, tasks_at-append, once_more, none_below, get_last, put_more, none_put, All-parts}
+use Rattle.convoy_counts.specs.Counts.{once_below}
+use Rattle.convoy_counts.proofs.Sums.{sum_set, sum_push}
+use Rattle.convoy_deque.proofs.Totals.{all_of_one, two_le_sum, tasks_at-append, once_more, none_below, get_last, put_more, none_put, All-parts}
 
 abbrev Each : Scenario → ℕ → List Box → List View → Type 0
 Each scenario owner_seat put views = (seat : ℕ) (view : View) → get_elem? views seat ≡ some view → IsRight scenario owner_seat put seat view
@@ -180,5 +182,5 @@ finds port v views held at owns whole =
     let kept = held.3 in
     let f = kept.each port v at in
     let put = (f.owner owns).1 in
-    let one = λ (x : ℕ). sum_of_one (λ u. tasks_at x u.taken) (λ u. u.share) views port v refl refl at (kept.shares ∙ sym whole) (λ k u e z. ap (tasks_at x) ((kept.each k u e).empty z)) in
+    let one = λ (x : ℕ). all_of_one (λ u. tasks_at x u.taken) (λ u. u.share) views port v refl refl at (kept.shares ∙ sym whole) (λ k u e z. ap (tasks_at x) ((kept.each k u e).empty z)) in
     subst (λ (l : List Box). AreAllTaken l v.taken) (sym put) record { once = λ x. let a = one x in let b = kept.once x in omega arith; right = f.right }

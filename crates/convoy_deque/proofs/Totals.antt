@@ -1,4 +1,4 @@
--- Sums over all views, and lists of tasks.
+-- Sums over several views, and lists of tasks.
 use Rattle.std.proofs.Common.{◌≡◌, ℕ, zero, suc, ◌+◌, ◌<◌, ◌≤◌, List, [], ◌∷◌, ◌++◌, length, get_or, set, refl, sym, ◌∙◌, subst, arith, Some}
 use Rattle.std.specs.Prelude.{slice_get}
 use Rattle.std.specs.List.{All, sum_by}
@@ -8,31 +8,18 @@ use Rattle.std.proofs.lemmas.List.Sums.{sum_by-set, sum_by_push, sum_by-append, 
 use mathlib.Core.Option.{some, some-ne-none, some-injective}
 use lib.ListN.{get_elem?}
 use Rattle.atomic_table.proofs.Lists.{set_else}
+use Rattle.convoy_counts.specs.Counts.{once_below}
+use Rattle.convoy_counts.proofs.Sums.{sum_set, part_le_sum, sum_of_one}
 use Rattle.convoy_intervals.specs.Boxes.{Box}
 use Rattle.convoy_deque.specs.declared.rule.View.{View}
 use Rattle.convoy_deque.specs.declared.task.Task.{Task}
-use Rattle.convoy_deque.specs.Tasks.{tasks_at, once_below, IsPut}
+use Rattle.convoy_deque.specs.Tasks.{tasks_at, IsPut}
 use Rattle.convoy_deque.specs.Rule.{nobody}
-
--- what stands at a place of a list, read in two ways
-read : {A : Type 0} (l : List A) (k : ℕ) (a : A) → get_elem? l k ≡ some a → (k < length l) × ((d : A) → get_or l k d ≡ a)
-read [] k a e = absurd (some-ne-none a (sym e))
-read (x ∷ xs) zero a e = (omega arith, λ d. some-injective x a e)
-read (x ∷ xs) (suc k) a e = let r = read xs k a e in (omega (arith, r.0), r.1)
 
 stands : {A : Type 0} (l : List A) (k : ℕ) (d : A) → k < length l → get_elem? l k ≡ some (get_or l k d)
 stands [] k d lt = absurd (omega arith)
 stands (x ∷ xs) zero d lt = refl
 stands (x ∷ xs) (suc k) d lt = stands xs k d (omega arith)
-
-pub sum_set : (f : View → ℕ) (views : List View) (k : ℕ) (v w : View) → get_elem? views k ≡ some v → sum_by f (set views k w) + f v ≡ sum_by f views + f w
-sum_set f views k v w e = let r = read views k v e in subst (λ u. sum_by f (set views k w) + f u ≡ sum_by f views + f w) (r.1 v) (sum_by-set f views k w v r.0)
-
-pub sum_push : (f : View → ℕ) (views : List View) (w : View) → sum_by f (views ++ w ∷ []) ≡ sum_by f views + f w
-sum_push f views w = sum_by_push f views w
-
-part_le_sum : (f : View → ℕ) (views : List View) (k : ℕ) (v : View) → get_elem? views k ≡ some v → f v ≤ sum_by f views
-part_le_sum f views k v e = let r = read views k v e in subst (λ u. f u ≤ sum_by f views) (r.1 v) (get_or-le-sum_by f views k v r.0)
 
 -- two views have at most what all have together
 pub two_le_sum : (f : View → ℕ) (views : List View) (k j : ℕ) (v u : View) → f nobody ≡ 0 → get_elem? views k ≡ some v → get_elem? views j ≡ some u → (j ≡ k → ⊥) → f v + f u ≤ sum_by f views
@@ -42,19 +29,9 @@ two_le_sum f views k j v u none here there apart =
     omega (arith, other, none, sum_set f views k v nobody here)
 
 -- where one view has all of g, and f is 0 wherever g is, that view has all of f
-pub sum_of_one : (f g : View → ℕ) (views : List View) (k : ℕ) (v : View) → f nobody ≡ 0 → g nobody ≡ 0 → get_elem? views k ≡ some v → sum_by g views ≡ g v → ((j : ℕ) (u : View) → get_elem? views j ≡ some u → g u ≡ 0 → f u ≡ 0) → sum_by f views ≡ f v
-sum_of_one f g views k v f0 g0 e whole empty =
-    let rest = set views k nobody in
-    let each : All (λ u. g u ≡ 0 → f u ≡ 0) views = λ j d lt. empty j (get_or views j d) (stands views j d lt) in
-    let nothing : All (λ u. f u ≤ 0) rest = λ j d lt.
-    let part = get_or-le-sum_by g rest j d lt in
-    let others = sum_set g views k v nobody e in
-    let zero_there = All-set (λ u. g u ≡ 0 → f u ≡ 0) views k nobody (λ _. f0) each j d lt (omega arith) in
-    omega arith
-    in
-    let sum = sum_by-le f 0 rest nothing in
-    let one = sum_set f views k v nobody e in
-    omega arith
+pub all_of_one : (f g : View → ℕ) (views : List View) (k : ℕ) (v : View) → f nobody ≡ 0 → g nobody ≡ 0 → get_elem? views k ≡ some v → sum_by g views ≡ g v → ((j : ℕ) (u : View) → get_elem? views j ≡ some u → g u ≡ 0 → f u ≡ 0) → sum_by f views ≡ f v
+all_of_one f g views k v f0 g0 e whole empty =
+    sum_of_one f g nobody views k v f0 g0 e whole (λ j d lt. empty j (get_or views j d) (stands views j d lt))
 
 pub tasks_at-append : (x : ℕ) (xs ys : List Task) → tasks_at x (xs ++ ys) ≡ tasks_at x xs + tasks_at x ys
 tasks_at-append x xs ys = sum_by-append _ xs ys

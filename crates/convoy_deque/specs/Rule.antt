@@ -3,11 +3,12 @@ use Rattle.std.specs.Prelude.{◌≡◌, ℕ, ◌+◌, ◌-◌, ◌<◌, List, [
 use Rattle.std.specs.List.{All, sum_by}
 use mathlib.Core.Option.{some}
 use lib.ListN.{get_elem?}
+use Rattle.convoy_counts.specs.Counts.{once_below}
 use Rattle.convoy_scenario.specs.Scenario.{Scenario}
 use Rattle.convoy_intervals.specs.Boxes.{Box}
 use Rattle.convoy_deque.specs.declared.rule.View.{View}
 use Rattle.convoy_deque.specs.declared.task.Task.{Task}
-use Rattle.convoy_deque.specs.Tasks.{whole_share, tasks_at, once_below, AreAllTaken, IsOf, IsPut}
+use Rattle.convoy_deque.specs.Tasks.{whole_share, tasks_at, AreAllTaken, IsOf, IsPut}
 
 -- no scenario, until the first branch is put
 abbrev pub no_scenario : Scenario

@@ -1,8 +1,9 @@
 -- What contracts see of a deque of branches: its owner's end, a thief's end, and the tasks.
-use Rattle.std.specs.Prelude.{◌≡◌, ℕ, List, Some, length, slice_get, ◌==◌, nat_lt, if◌then◌else◌}
+use Rattle.std.specs.Prelude.{◌≡◌, ℕ, List, Some, length, slice_get, ◌==◌}
 use Rattle.std.specs.List.{All, count_by}
 use Rattle.std.specs.declared.alloc.Global.{Global}
 use Rattle.atomic_blocks.specs.Lent.{RowsId}
+use Rattle.convoy_counts.specs.Counts.{once_below}
 use Rattle.convoy_scenario.specs.Scenario.{Scenario}
 use Rattle.convoy_intervals.specs.Boxes.{Box}
 use Rattle.convoy_deque.specs.declared.rule.View.{View}
@@ -57,10 +58,6 @@ IsPut put task = slice_get put task.number ≡ Some task.branch.space
 -- how many of the tasks have that number
 abbrev pub tasks_at : ℕ → List Task → ℕ
 tasks_at x tasks = count_by (λ task. task.number == x) tasks
-
--- once where the number is below n, and else never
-abbrev pub once_below : ℕ → ℕ → ℕ
-once_below x n = if nat_lt x n then 1 else 0
 
 -- each branch that was put was taken, once
 pub record AreAllTaken (put : List Box) (taken : List Task) : Type 0 where

@@ -16,7 +16,8 @@ use Rattle.convoy_incumbent.specs.declared.rule.Store.{Store}
 use Rattle.convoy_incumbent.specs.declared.rule.View.{View}
 use Rattle.convoy_incumbent.specs.Boards.{whole, places}
 use Rattle.convoy_incumbent.specs.Rule.{latency_in, pair_in, first_view, spent, kept_half, given_half, joined, IsRight, WasPut, IsKept, Holds, Looked, Published, Weighed}
-use Rattle.convoy_incumbent.proofs.Totals.{read, all_at, put_at, was_put, put_set, put_longer, sum_set, sum_push, part_le_sum, alone}
+use Rattle.convoy_counts.proofs.Sums.{read, all_at, sum_set, sum_push, part_le_sum}
+use Rattle.convoy_incumbent.proofs.Totals.{put_at, was_put, put_set, put_longer, alone}
 
 -- a view is right also at a word of a greater latency
 right_above : (store : Store) (n m : ℕ) (view : View) → latency_in n ≤ latency_in m → IsRight store n view → IsRight store m view

@@ -1,24 +1,15 @@
--- Sums over all views, and what stands at a place of a list.
+-- Pairs that views have put.
 use Rattle.std.proofs.Common.{◌≡◌, ◌≢◌, ℕ, zero, suc, ◌+◌, ◌<◌, ◌≤◌, List, [], ◌∷◌, ◌++◌, length, get_or, set, sym, ap, ◌∙◌, subst, arith}
 use Rattle.std.specs.List.{All, Any, Contains, sum_by}
 use Rattle.std.proofs.Math.Decide.{ℕ_discrete}
 use Rattle.std.proofs.lemmas.List.Sums.{sum_by-set, sum_by_push, get_or-le-sum_by}
 use mathlib.Core.Option.{some, some-ne-none, some-injective}
 use lib.ListN.{get_elem?}
+use Rattle.convoy_counts.proofs.Sums.{read, sum_set, part_le_sum}
 use Rattle.atomic_table.proofs.Lists.{at_index, set_here, set_else, at_longer}
 use Rattle.convoy_incumbent.specs.declared.rule.Pair.{Pair}
 use Rattle.convoy_incumbent.specs.declared.rule.View.{View}
 use Rattle.convoy_incumbent.specs.Rule.{spent, WasPut}
-
--- what stands at a place of a list, read in two ways
-pub read : {A : Type 0} (l : List A) (k : ℕ) (a : A) → get_elem? l k ≡ some a → (k < length l) × ((d : A) → get_or l k d ≡ a)
-read [] k a e = absurd (some-ne-none a (sym e))
-read (x ∷ xs) zero a e = (omega arith, λ d. some-injective x a e)
-read (x ∷ xs) (suc k) a e = let r = read xs k a e in (omega (arith, r.0), r.1)
-
--- what holds of each element holds of the one at a place
-pub all_at : {A : Type 0} (P : A → Type 0) (l : List A) (k : ℕ) (a : A) → get_elem? l k ≡ some a → All P l → P a
-all_at P l k a e all = let r = read l k a e in subst P (r.1 a) (all k a r.0)
 
 any_at : {A : Type 0} (P : A → Type 0) (l : List A) (k : ℕ) (a : A) → get_elem? l k ≡ some a → P a → Any P l
 any_at P l k a e p = let r = read l k a e in (k, a, r.0, r.1 a, p)
@@ -41,15 +32,6 @@ put_set pair views id v w at more put =
 
 pub put_longer : (pair : Pair) (views more : List View) → WasPut pair views → WasPut pair (views ++ more)
 put_longer pair views more put = was_put pair (views ++ more) put.0 put.1 (at_longer views more put.0 put.1 (put_at pair views put)) put.4
-
-pub sum_set : (f : View → ℕ) (views : List View) (k : ℕ) (v w : View) → get_elem? views k ≡ some v → sum_by f (set views k w) + f v ≡ sum_by f views + f w
-sum_set f views k v w e = let r = read views k v e in subst (λ u. sum_by f (set views k w) + f u ≡ sum_by f views + f w) (r.1 v) (sum_by-set f views k w v r.0)
-
-pub sum_push : (f : View → ℕ) (views : List View) (w : View) → sum_by f (views ++ w ∷ []) ≡ sum_by f views + f w
-sum_push f views w = sum_by_push f views w
-
-pub part_le_sum : (f : View → ℕ) (views : List View) (k : ℕ) (v : View) → get_elem? views k ≡ some v → f v ≤ sum_by f views
-part_le_sum f views k v e = let r = read views k v e in subst (λ u. f u ≤ sum_by f views) (r.1 v) (get_or-le-sum_by f views k v r.0)
 
 -- where one view has the whole share, the others have none
 pub alone : (views : List View) (id k : ℕ) (v u : View) → get_elem? views id ≡ some v → sum_by (λ x. x.share) views ≡ v.share → k ≢ id → get_elem? views k ≡ some u → u.share ≡ 0

@@ -14,6 +14,7 @@ use super::rule::{Halve, KeepsGreatest, Look, Publish, Store, View, Weigh};
 use atomic_table::{Seat, Table};
 use convoy_sim::Record;
 use std::alloc::{AllocError, Global};
+use std::fmt;
 use std::marker::Model;
 use std::sync::Wait;
 
@@ -264,5 +265,19 @@ impl Hand {
         ensures { result ≡ self.now.share }
     {
         self.share
+    }
+}
+
+impl fmt::Debug for Board {
+    fn fmt<W: fmt::Write>(&self, f: &mut fmt::Formatter<W>) -> fmt::Result {
+        f.debug_struct("Board").finish_non_exhaustive()
+    }
+}
+
+impl fmt::Debug for Hand {
+    fn fmt<W: fmt::Write>(&self, f: &mut fmt::Formatter<W>) -> fmt::Result {
+        f.debug_struct("Hand")
+            .field("share", &self.share)
+            .finish_non_exhaustive()
     }
 }

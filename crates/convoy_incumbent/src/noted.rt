@@ -8,6 +8,7 @@ ghost use Rattle.convoy_incumbent.specs.Boards.{IsBetterOf, places};
 use super::rule::Pair;
 use boxcar::Pushed;
 use convoy_sim::Record;
+use std::fmt;
 use std::marker::Model;
 
 /// The number of places that a word can name: a word is a latency times this, and a place.
@@ -58,6 +59,22 @@ impl Late {
         ensures { places ≤ result }
     {
         self.pushed.index() as u64
+    }
+}
+
+impl fmt::Debug for Late {
+    fn fmt<W: fmt::Write>(&self, f: &mut fmt::Formatter<W>) -> fmt::Result {
+        f.debug_struct("Late")
+            .field("place", &self.place())
+            .finish_non_exhaustive()
+    }
+}
+
+impl fmt::Debug for Noted {
+    fn fmt<W: fmt::Write>(&self, f: &mut fmt::Formatter<W>) -> fmt::Result {
+        f.debug_struct("Noted")
+            .field("latency", &self.latency)
+            .finish_non_exhaustive()
     }
 }
 

@@ -11,7 +11,8 @@ use Rattle.atomic_table.proofs.Lists.{set_else, set_again}
 use Rattle.convoy_ledger.specs.declared.rule.View.{View}
 use Rattle.convoy_ledger.specs.Tickets.{Account, whole, times, AreAllBelow, HasAll}
 use Rattle.convoy_ledger.specs.Rule.{spent, kept_half, given_half, joined, with_ticket, with_miss, active_share, IsRight, IsKept, Holds, Weighed, Drew}
-use Rattle.convoy_ledger.proofs.Totals.{all_at, sum_set, sum_push, part_le_sum, sum_of_one, times-append, times_one}
+use Rattle.convoy_counts.proofs.Sums.{all_at, sum_set, sum_push, part_le_sum, sum_of_one}
+use Rattle.convoy_ledger.proofs.Totals.{times-append, times_one}
 
 -- a view is right also once a ticket more is drawn
 right_later : (most drawn : ℕ) (view : View) → drawn < most → IsRight most drawn view → IsRight most (drawn + 1) view

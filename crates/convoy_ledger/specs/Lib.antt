@@ -1,2 +1,3 @@
+pub use Rattle.convoy_counts.specs.Counts
 pub mod Tickets
 pub mod Rule

@@ -2,7 +2,8 @@
 use Rattle.std.specs.Prelude.{◌≡◌, ℕ, ◌+◌, ◌-◌, ◌/◌, ◌<◌, ◌≤◌, List, [], ◌∷◌, ◌++◌, true, false, ◌||◌, length, if◌then◌else◌}
 use Rattle.std.specs.List.{All, sum_by}
 use Rattle.atomic_table.specs.Table.{State, Me, Step}
-use Rattle.convoy_ledger.specs.Tickets.{whole, times, once_below}
+use Rattle.convoy_counts.specs.Counts.{once_below}
+use Rattle.convoy_ledger.specs.Tickets.{whole, times}
 use Rattle.convoy_ledger.specs.declared.rule.View.{View}
 
 -- the view of the one clerk of a new ledger

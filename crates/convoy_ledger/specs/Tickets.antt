@@ -1,7 +1,8 @@
 -- What contracts see of a ledger and of a clerk.
-use Rattle.std.specs.Prelude.{ℕ, ◌≡◌, ◌≤◌, List, Bool, true, length, ◌==◌, nat_lt, if◌then◌else◌}
+use Rattle.std.specs.Prelude.{ℕ, ◌≡◌, ◌≤◌, List, Bool, true, length, ◌==◌}
 use Rattle.std.specs.List.{count_by}
 use Rattle.atomic_table.specs.Seated.{TableId}
+use Rattle.convoy_counts.specs.Counts.{once_below}
 
 -- which ledger it is, and how many tickets it has
 pub record LedgerId : Type 0 where
@@ -29,10 +30,6 @@ list_length numbers = length numbers
 -- how often the number stands in the list
 abbrev pub times : ℕ → List ℕ → ℕ
 times x numbers = count_by (λ number. number == x) numbers
-
--- once where the number is below n, and else never
-abbrev pub once_below : ℕ → ℕ → ℕ
-once_below x n = if nat_lt x n then 1 else 0
 
 -- they are the numbers below n, each once
 abbrev pub AreAllBelow : ℕ → List ℕ → Type 0

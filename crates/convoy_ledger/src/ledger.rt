@@ -8,6 +8,7 @@ use super::fault::{ClerksOut, ShareTooSmall};
 use super::rule::{CountsDraws, Draw, Halve, View, Weigh};
 use atomic_table::{Seat, Table};
 use std::alloc::{AllocError, Global};
+use std::fmt;
 use std::marker::Model;
 
 /// The share of the one clerk of a new ledger, and of all clerks of a ledger together.
@@ -195,5 +196,23 @@ impl Clerk {
         ensures { result ≡ self.now.done }
     {
         self.done
+    }
+}
+
+impl fmt::Debug for Ledger {
+    fn fmt<W: fmt::Write>(&self, f: &mut fmt::Formatter<W>) -> fmt::Result {
+        f.debug_struct("Ledger")
+            .field("most", &self.most)
+            .finish_non_exhaustive()
+    }
+}
+
+impl fmt::Debug for Clerk {
+    fn fmt<W: fmt::Write>(&self, f: &mut fmt::Formatter<W>) -> fmt::Result {
+        f.debug_struct("Clerk")
+            .field("share", &self.share)
+            .field("drawn", &self.drawn)
+            .field("done", &self.done)
+            .finish_non_exhaustive()
     }
 }

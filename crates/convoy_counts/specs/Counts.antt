@@ -1,0 +1,6 @@
+-- How often a number is there.
+use Rattle.std.specs.Prelude.{ℕ, nat_lt, if◌then◌else◌}
+
+-- once where the number is below n, and else never
+abbrev pub once_below : ℕ → ℕ → ℕ
+once_below x n = if nat_lt x n then 1 else 0
