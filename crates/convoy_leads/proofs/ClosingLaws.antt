@@ -1,6 +1,6 @@
 -- Boxes that leads close: a rival that is shown to be behind is none that keeps the target back.
-use Rattle.std.proofs.Common.{◌≡◌, ℕ, ◌+◌, ◌-◌, ◌<◌, ◌≤◌, Bool, true, false, ◌||◌, nat_lt, nat_le, inl, inr, List, [], ◌∷◌, map, refl, sym, ap, subst, ◌∙◌, arith}
-use Rattle.std.specs.List.{filter, list_all}
+use Rattle.std.proofs.Common.{◌≡◌, ℕ, ◌+◌, ◌-◌, ◌<◌, ◌≤◌, Bool, true, false, ◌||◌, nat_lt, nat_le, inl, inr, List, [], ◌∷◌, map, refl, subst, arith}
+use Rattle.std.specs.List.{list_all}
 use Rattle.std.proofs.lemmas.Bool.{cases_lt, and_parts, and_from, or_left, lt-ltb, or_cases, ltb-true, le-leb, leb-true}
 use Rattle.convoy_scenario.specs.Scenario.{Scenario, message_at, GoesTo}
 use Rattle.convoy_scenario.specs.WellFormed.{IsScenario}
@@ -12,13 +12,12 @@ use Rattle.convoy_sim.specs.Delivery.{addressed_to, latency_at, latency_of}
 use Rattle.convoy_sim.specs.Laws.{ahead_of}
 use Rattle.convoy_sim.proofs.Membership.{IsIn, in-filter, in_of_filter, in_greatest, greatest_most}
 use Rattle.convoy_sim.proofs.Addressed.{in_of_goes, goes_from_in, in-addressed, goes_of_addressed}
-use Rattle.convoy_intervals.specs.Boxes.{Box, IsIn as IsMember}
-use Rattle.convoy_intervals.specs.Bounds.{Tables, rivals, tables_of, plain_bound_over, plain_bound}
+use Rattle.convoy_intervals.specs.Bounds.{Tables, rivals, tables_of, plain_bound}
 use Rattle.convoy_intervals.specs.Laws.{MembersAreEnclosed}
 use Rattle.convoy_leads.specs.Below.{LawsBelow}
 use Rattle.convoy_leads.specs.Windows.{LeadTables, EnclosesAll, Windows, tables_by, windows_of, with_arrival}
 use Rattle.convoy_leads.specs.Leads.{is_led}
-use Rattle.convoy_leads.specs.Closing.{is_behind, is_behind_by, is_behind_target, is_behind_after, is_behind_late, closes_over, closes_by_leads}
+use Rattle.convoy_leads.specs.Closing.{is_behind, is_behind_by, is_behind_target, is_behind_after, is_behind_late, closes_by_leads}
 use Rattle.convoy_leads.specs.Laws.{ClosedHoldsOverWindows, LeadsHold, ClosesAtPlain}
 use Rattle.convoy_leads.proofs.LedLaw.{list_all_in, led_is_behind}
 use Rattle.convoy_leads.proofs.WindowLaws.{entry_is, windows_enclose, arrival_cut}

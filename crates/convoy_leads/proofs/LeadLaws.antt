@@ -1,10 +1,10 @@
 -- The law of leads: no stamp exceeds that of a message at the target's group by more than the starts say.
-use Rattle.std.proofs.Common.{Bool, ◌++◌, ◌⊎◌, ◌≡◌, ◌≢◌, ℕ, ◌+◌, ◌-◌, ◌<◌, ◌≤◌, zero, suc, max, min, true, false, not, ◌==◌, ◌||◌, ◌&&◌, nat_lt, nat_le, inl, inr, List, [], ◌∷◌, length, map, filter, fold, get_or, refl, sym, ap, subst, ◌∙◌, arith}
+use Rattle.std.proofs.Common.{Bool, ◌++◌, ◌⊎◌, ◌≡◌, ◌≢◌, ℕ, ◌+◌, ◌-◌, ◌<◌, ◌≤◌, zero, suc, max, min, true, false, not, ◌==◌, ◌&&◌, nat_lt, nat_le, inl, inr, List, [], ◌∷◌, length, map, filter, fold, get_or, refl, sym, ap, subst, ◌∙◌, arith}
 use Rattle.std.specs.List.{list_any, range_with_len}
 use Rattle.std.proofs.lemmas.List.{get_or_past}
 use Rattle.std.proofs.lemmas.List.FromFn.{length-map-range_with_len, get_or-map-range_with_len}
-use Rattle.std.proofs.lemmas.Bool.{cases_Bool, cond-true, cond-false, cases_lt, and_from, and_parts, leb-true, or_cases, or_left, or_right, eq-eqb, eqb-true, lt-ltb, le-leb, not_from_false, false_from_ne_true, false≢true}
-use Rattle.convoy_scenario.specs.Scenario.{Scenario, message_at, message_numbers, GoesTo}
+use Rattle.std.proofs.lemmas.Bool.{cases_Bool, cond-true, cond-false, cases_lt, and_from, and_parts, leb-true, or_left, or_right, eq-eqb, eqb-true, lt-ltb, le-leb, not_from_false, false_from_ne_true, false≢true}
+use Rattle.convoy_scenario.specs.Scenario.{Scenario, message_at, GoesTo}
 use Rattle.convoy_scenario.specs.WellFormed.{IsScenario}
 use Rattle.convoy_packets.specs.Assignment.{Schedule}
 use Rattle.convoy_sim.specs.Times.{greatest, arrive, settle, propose_arrive}
@@ -19,7 +19,7 @@ use Rattle.convoy_stamps.proofs.Pairs.{in-pairs}
 use Rattle.convoy_leads.specs.Below.{LawsBelow}
 use Rattle.convoy_leads.specs.Windows.{LeadTables, EnclosesAll}
 use Rattle.convoy_leads.specs.SureLeads.{Sure, is_earlier, sure_after, sure_later, lead_at, top_of}
-use Rattle.convoy_leads.specs.Leads.{window, may_arrive, arrivals_since, Start, barred_at, value_for, clock_alone, clock_since, clock_from, clock_high, lead_by, may_start, stamp_high, arrives_by, stamp_for, raise_high, may_commit, covers_all, covers, start_of, with_start, add_start, starts_before}
+use Rattle.convoy_leads.specs.Leads.{window, may_arrive, arrivals_since, Start, barred_at, value_for, clock_since, clock_from, may_start, stamp_high, stamp_for, raise_high, may_commit, covers_all, covers, start_of, with_start, add_start, starts_before}
 use Rattle.convoy_leads.proofs.Times.{tick_of_commit, parts_of_arrivals, within_all}
 use Rattle.convoy_leads.proofs.SureLaws.{own, AreSure, top_sure, after_rises, later_rises}
 use Rattle.convoy_leads.proofs.Tops.{within_cap, within_window}

@@ -13,3 +13,5 @@ pub mod Rivals
 pub mod Loops
 pub mod Cut
 pub mod Known
+pub mod IdleTicks
+pub mod MostLaws

@@ -14,7 +14,7 @@ fold_range_more op a f zero from = ap (λ k. op a (f k)) (omega arith)
 fold_range_more op a f (suc n) from =
     fold_range_more op (op a (f from)) f n (from + 1) ∙ ap (λ k. op (fold op (op a (f from)) (map f (range_with_len (from + 1) n))) (f k)) (omega arith)
 
-range_push : (from n : ℕ) → range_with_len from (suc n) ≡ range_with_len from n ++ (from + n) ∷ []
+pub range_push : (from n : ℕ) → range_with_len from (suc n) ≡ range_with_len from n ++ (from + n) ∷ []
 range_push from zero = ap (λ k. k ∷ []) (omega arith)
 range_push from (suc n) =
     ap (λ ks. from ∷ ks) (range_push (from + 1) n ∙ ap (λ k. range_with_len (from + 1) n ++ k ∷ []) (omega arith))

@@ -1,5 +1,5 @@
 -- The delay of each packet in a member of a box lies between those of the box's least and greatest delays.
-use Rattle.std.proofs.Common.{ℕ, zero, suc, ◌≤◌, List, [], ◌∷◌, Option, Some, None, get_or, arith}
+use Rattle.std.proofs.Common.{ℕ, zero, suc, ◌≤◌, [], ◌∷◌, Option, Some, None, get_or, arith}
 use Rattle.std.specs.Option.{option_map_or}
 use Rattle.convoy_scenario.specs.Scenario.{Scenario}
 use Rattle.convoy_packets.specs.declared.packet.Packet.{Packet}

@@ -1,5 +1,5 @@
 -- The law of sure leads: the stamp of a message at the target's group exceeds each other one by what its table of leads says.
-use Rattle.std.proofs.Common.{◌≡◌, ℕ, ◌+◌, ◌-◌, ◌*◌, ◌<◌, ◌≤◌, zero, suc, max, min, Bool, true, ◌==◌, ◌⊎◌, nat_lt, inl, inr, List, [], ◌∷◌, length, map, replicate, get_or, slice_set, fold, refl, sym, ap, ap₂, subst, arith}
+use Rattle.std.proofs.Common.{◌≡◌, ℕ, ◌+◌, ◌-◌, ◌*◌, ◌<◌, ◌≤◌, zero, suc, max, Bool, true, ◌==◌, ◌⊎◌, nat_lt, inl, inr, List, [], ◌∷◌, length, map, replicate, get_or, slice_set, fold, refl, sym, ap, ap₂, subst, arith}
 use Rattle.std.proofs.lemmas.Bool.{cases_Bool, cases_eq, cond-true, cond-false, ltb-true, eqb-true}
 use Rattle.std.specs.List.{filter, range_with_len}
 use Rattle.std.proofs.lemmas.Bool.Decides.{nat_tests}
@@ -18,8 +18,8 @@ use Rattle.convoy_stamps.specs.declared.pair.Pair.{Pair}
 use Rattle.convoy_stamps.specs.Reach.{IsPair, pairs_of}
 use Rattle.convoy_stamps.proofs.Counting.{once-filter}
 use Rattle.convoy_stamps.proofs.Pairs.{goes_of_pair}
-use Rattle.convoy_leads.specs.SureLeads.{pair_count, is_earlier, sure_after, sure_later, sure_behind, lead_at, top_of, top_behind, next_lead, with_lead, is_later, insert_pair, last_first, first_leads, leads_of, sure_time}
-use Rattle.convoy_leads.specs.Laws.{HasLeads, SureLeadsHold}
+use Rattle.convoy_leads.specs.SureLeads.{is_earlier, sure_after, sure_later, sure_behind, lead_at, top_of, top_behind, next_lead, with_lead, is_later, insert_pair, last_first, first_leads, leads_of, sure_time}
+use Rattle.convoy_leads.specs.Laws.{SureLeadsHold}
 use Rattle.convoy_leads.specs.Below.{LawsBelow}
 use Rattle.convoy_leads.proofs.Times.{arrivals_from, commit_from_tick, time_of_not_less, one_time, stamp_positive, once-addressed}
 use Rattle.convoy_leads.proofs.Tops.{top_within}

@@ -1,5 +1,5 @@
 -- The order of arrivals and commits, and the times of stamps, as the laws of the crates below have them.
-use Rattle.std.proofs.Common.{◌≡◌, ◌≢◌, ℕ, ◌+◌, ◌<◌, ◌≤◌, zero, suc, Bool, true, false, ◌⊎◌, inl, inr, List, [], ◌∷◌, length, filter, refl, ap, arith}
+use Rattle.std.proofs.Common.{◌≡◌, ◌≢◌, ℕ, ◌<◌, ◌≤◌, Bool, true, false, ◌⊎◌, inl, inr, List, [], ◌∷◌, length, filter, ap, arith}
 use Rattle.std.proofs.lemmas.Bool.{cases_Bool, cases_lt, cases_eq}
 use Rattle.std.proofs.lemmas.Bool.Decides.{nat_tests}
 use Rattle.convoy_scenario.specs.Scenario.{Scenario, message_at, message_numbers, is_addressed, GoesTo}
@@ -9,7 +9,7 @@ use Rattle.convoy_sim.specs.declared.moment.MomentKind.TheVariants.{Arrival, Com
 use Rattle.convoy_sim.specs.declared.timestamp.Timestamp.{Timestamp}
 use Rattle.convoy_sim.specs.Times.{arrive, settle}
 use Rattle.convoy_sim.specs.Moments.{is_before, arrival_of, commit_of}
-use Rattle.convoy_sim.specs.Stamps.{is_less, local_stamp, final_stamp}
+use Rattle.convoy_sim.specs.Stamps.{is_less, local_stamp}
 use Rattle.convoy_sim.specs.Delivery.{addressed_to}
 use Rattle.convoy_sim.proofs.Membership.{IsOnce, once-range, filter_keeps, filter_drops}
 use Rattle.convoy_intervals.specs.Bounds.{Tables, Encloses}

@@ -1,6 +1,5 @@
 -- The windows of a box enclose its members, and those that are cut enclose the ones for which they are.
-use Rattle.std.proofs.Common.{◌≡◌, ℕ, ◌+◌, ◌*◌, ◌/◌, ◌%◌, ◌<◌, ◌≤◌, max, Bool, true, ◌&&◌, ◌⊎◌, inl, inr, List, [], ◌∷◌, length, map, get_or, slice_set, fold, refl, sym, ap, ap₂, subst, ◌∙◌, arith, cond}
-use Rattle.std.specs.List.{range_with_len}
+use Rattle.std.proofs.Common.{◌≡◌, ℕ, ◌+◌, ◌*◌, ◌/◌, ◌%◌, ◌≤◌, max, ◌&&◌, inl, inr, List, [], ◌∷◌, length, slice_set, fold, refl, sym, ap₂, subst, ◌∙◌, arith, cond}
 use Rattle.std.proofs.lemmas.Bool.{and_from, cond-true}
 use Rattle.std.proofs.lemmas.List.FromFn.{get_or-map-range_with_len}
 use Rattle.convoy_scenario.specs.declared.limits.TheConstants.{MOST_GROUPS}
@@ -9,12 +8,12 @@ use Rattle.convoy_scenario.specs.WellFormed.{IsScenario}
 use Rattle.convoy_packets.specs.declared.packet.Packet.TheVariants.{Propose}
 use Rattle.convoy_packets.specs.Assignment.{Schedule, delay_of}
 use Rattle.convoy_packets.specs.Table.{least_of}
-use Rattle.convoy_sim.specs.Times.{greatest, arrive, settle, propose_arrive}
+use Rattle.convoy_sim.specs.Times.{arrive, settle, propose_arrive}
 use Rattle.convoy_sim.specs.Places.{place}
 use Rattle.convoy_sim.proofs.Membership.{IsIn, in_greatest}
 use Rattle.convoy_sim.proofs.Addressed.{in_of_goes, goes_from_in, number_of_goes}
-use Rattle.convoy_intervals.specs.Boxes.{Box, greatest_of, IsIn as IsMember}
-use Rattle.convoy_intervals.specs.Bounds.{Tables, Encloses, tables_of}
+use Rattle.convoy_intervals.specs.Boxes.{Box, greatest_of}
+use Rattle.convoy_intervals.specs.Bounds.{Encloses, tables_of}
 use Rattle.convoy_leads.specs.Windows.{EnclosesAll, Windows, entry_at, tables_by, entries_of, proposal_delay, proposals_of, windows_of, with_settling, with_arrival}
 use Rattle.convoy_leads.proofs.SureLaws.{set_cases, same_place, group_is_low}
 

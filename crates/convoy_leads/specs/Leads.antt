@@ -2,7 +2,6 @@
 use Rattle.std.specs.Prelude.{ℕ, zero, suc, ◌+◌, ◌-◌, ◌==◌, nat_lt, nat_le, max, min, Bool, true, false, ◌&&◌, ◌||◌, not, List, [], ◌∷◌, ◌++◌, length, map, slice_index_or, if◌then◌else◌}
 use Rattle.std.specs.List.{fold, filter, list_all, list_any, range_with_len}
 use Rattle.convoy_scenario.specs.Scenario.{Scenario, message_at, message_numbers}
-use Rattle.convoy_sim.specs.declared.timestamp.Timestamp.{Timestamp}
 use Rattle.convoy_sim.specs.Times.{Tick, greatest}
 use Rattle.convoy_sim.specs.Stamps.{is_less}
 use Rattle.convoy_sim.specs.Delivery.{addressed_to}

@@ -19,4 +19,5 @@ pub mod Closing
 pub mod Laws
 -- Words of the crate's own parts: no promise rests on them.
 pub mod Below
+pub mod Mosts
 pub mod Tests

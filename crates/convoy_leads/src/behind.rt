@@ -17,6 +17,7 @@ use super::stamps::destinations;
 use super::start::Start;
 use super::sure::Sure;
 use super::sure_arrivals::is_earlier;
+use super::told::Told;
 use super::windows::{LAST_ARRIVAL, Windows};
 use convoy_scenario::{MOST_GROUPS, MOST_MULTICASTS};
 use std::alloc::{AllocError, Global};
@@ -26,6 +27,7 @@ use std::alloc::{AllocError, Global};
 pub(crate) struct Memory {
     pub(crate) alloc: Global,
     pub(crate) starts: Vec<Start>,
+    pub(crate) told: Vec<Told>,
 }
 
 impl Memory {
@@ -34,6 +36,7 @@ impl Memory {
         Memory {
             alloc,
             starts: Vec::new(alloc),
+            told: Vec::new(alloc),
         }
     }
 }
@@ -80,8 +83,8 @@ impl<'a> Case<'a> {
         ensures { IfOk result (λ less. less
             ≡ is_less_elsewhere self.now.scenario.now (tables_by windows.now) sure.now barring) }
     {
-        let setting = self.setting(windows, sure);
-        setting.is_led(barring, &self.pairs, &mut memory.starts)
+        let setting = self.setting(windows, sure, barring);
+        setting.is_led(&self.pairs, &mut memory.starts, &mut memory.told)
     }
 
     /// The same at first with no message barred, and then with each.

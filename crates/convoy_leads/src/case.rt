@@ -1,10 +1,12 @@
-ghost use Rattle.std.specs.Prelude.{◌≡◌, ◌*◌, ◌<◌, ◌≤◌, length, map, All, IfOk};
+ghost use Rattle.std.specs.Prelude.{◌≡◌, ◌*◌, ◌<◌, ◌≤◌, [], ◌∷◌, length, map, All, IfOk};
 ghost use Rattle.std.specs.List.{range_with_len};
 ghost use Rattle.convoy_scenario.specs.declared.limits.TheConstants.{MOST_GROUPS, MOST_MULTICASTS};
+ghost use Rattle.convoy_scenario.specs.Scenario.{message_numbers};
 ghost use Rattle.convoy_sim.specs.Delivery.{addressed_to};
 ghost use Rattle.convoy_stamps.specs.Reach.{pairs_of};
+ghost use Rattle.convoy_leads.specs.Mosts.{bars_of};
 
-use super::messages::{Messages, audiences};
+use super::messages::{Messages, all_messages, audiences, one_message};
 use super::pairs::list_pairs;
 use super::setting::Setting;
 use super::sure::Sure;
@@ -15,12 +17,14 @@ use convoy_stamps::Pair;
 use std::alloc::{AllocError, Global};
 
 /// A scenario with what follows from it alone, whatever the box: the messages that go to each group,
-/// and the pairs.
+/// the pairs, all messages, and the target as the only one.
 #[derive(Drop)]
 pub(crate) struct Case<'a> {
     pub(crate) scenario: &'a Scenario,
     pub(crate) audiences: Vec<Messages>,
     pub(crate) pairs: Vec<Pair>,
+    pub(crate) each_message: Messages,
+    pub(crate) target_alone: Messages,
     ghost groups: { audiences.items
         ≡ map (addressed_to scenario.now) (range_with_len 0 MOST_GROUPS) },
     ghost stamps: { pairs.items ≡ pairs_of scenario.now },
@@ -28,6 +32,8 @@ pub(crate) struct Case<'a> {
     ghost low: { All (λ p. p.group < MOST_GROUPS) pairs.items },
     ghost known: { length scenario.now.multicasts ≤ MOST_MULTICASTS },
     ghost few: { length pairs.items ≤ MOST_MULTICASTS * MOST_GROUPS },
+    ghost each: { each_message ≡ message_numbers scenario.now },
+    ghost one: { target_alone ≡ scenario.now.target_message ∷ [] },
 }
 
 impl<'a> Case<'a> {
@@ -42,6 +48,8 @@ impl<'a> Case<'a> {
             scenario,
             audiences,
             pairs,
+            each_message: all_messages(scenario),
+            target_alone: one_message(scenario.target_message()),
         })
     }
 
@@ -63,6 +71,18 @@ impl<'a> Case<'a> {
         self.audiences[group].numbers()
     }
 
+    /// The messages that are barred, each in turn.
+    fn bars(&self, barring: bool) -> &[usize]
+        ensures value { result.now ≡ bars_of self.now.scenario.now barring }
+        ensures few { length result.now ≤ MOST_MULTICASTS }
+    {
+        if barring {
+            self.each_message.numbers()
+        } else {
+            self.target_alone.numbers()
+        }
+    }
+
     /// The case with windows.
     pub(crate) fn scene(&'a self, windows: &'a Windows) -> Scene<'a>
         ensures scenario { result.scenario.now ≡ self.now.scenario.now }
@@ -76,8 +96,15 @@ impl<'a> Case<'a> {
         }
     }
 
-    /// The case with windows and what is sure of a message.
-    pub(crate) fn setting(&'a self, windows: &'a Windows, sure: &'a Sure) -> Setting<'a>
+    /// The case with windows and what is sure of a message, with no message barred but the target, or
+    /// with each.
+    pub(crate) fn setting(
+        &'a self,
+        windows: &'a Windows,
+        sure: &'a Sure,
+        barring: bool,
+    ) -> Setting<'a>
+        ensures barring { result.barring ≡ barring }
         ensures scenario { result.scenario.now ≡ self.now.scenario.now }
         ensures windows { result.windows.now ≡ windows.now }
         ensures sure { result.sure.now ≡ sure.now }
@@ -88,6 +115,8 @@ impl<'a> Case<'a> {
             windows,
             sure,
             stamps: self.pairs.len() as u32,
+            barring,
+            bars: self.bars(barring),
         }
     }
 }

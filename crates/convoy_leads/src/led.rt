@@ -8,6 +8,7 @@ ghost use Rattle.convoy_leads.specs.Tests.{is_less_by, is_less_elsewhere};
 use super::setting::Setting;
 use super::stamps::{destinations, greater};
 use super::start::Start;
+use super::told::Told;
 use convoy_scenario::{MOST_GROUPS, MOST_MULTICASTS};
 use convoy_sim::Timestamp;
 use convoy_stamps::Pair;
@@ -36,9 +37,9 @@ impl<'a> Setting<'a> {
     {
         let target = self.target();
         let by = self.windows.greatest_arrival(target, group);
-        let most = self.stamp_high(starts, target, target, group, by);
+        let mosts = self.stamps_high(starts, target, group, by);
         let highest = Timestamp {
-            time: u64::from(most),
+            time: u64::from(mosts[self.bar_of_target()]),
             group,
         };
         let lowest = Timestamp {
@@ -79,20 +80,20 @@ impl<'a> Setting<'a> {
         true
     }
 
-    /// The same, with the starts that are to be had, with no message barred or with each.
+    /// The same, with the starts that are to be had.
     pub(crate) fn is_led(
         &self,
-        barring: bool,
         pairs: &[Pair],
         starts: &mut Vec<Start>,
+        told: &mut Vec<Told>,
     ) -> Result<bool, AllocError>
         requires pairs { pairs.now ≡ pairs_of self.now.scenario.now }
         requires messages { All (λ p. p.message < length self.now.scenario.now.multicasts) pairs.now }
         requires groups { All (λ p. p.group < MOST_GROUPS) pairs.now }
         ensures { IfOk result (λ led. led ≡ is_less_elsewhere self.now.scenario.now
-            (tables_by self.now.windows.now) self.now.sure.now barring) }
+            (tables_by self.now.windows.now) self.now.sure.now self.now.barring) }
     {
-        self.write_starts(barring, pairs, self.last_arrival(), starts)?;
+        self.write_starts(pairs, self.last_arrival(), starts, told)?;
         Ok(self.is_less_elsewhere(starts))
     }
 }

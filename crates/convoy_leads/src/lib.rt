@@ -12,6 +12,7 @@ mod filling;
 pub mod laws;
 mod led;
 mod messages;
+mod mosts;
 mod pairs;
 mod ranks;
 mod setting;
@@ -23,5 +24,6 @@ mod sure_arrivals;
 mod sure_leads;
 #[cfg(test)]
 mod tests;
+mod told;
 mod window;
 mod windows;

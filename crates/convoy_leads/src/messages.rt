@@ -1,6 +1,6 @@
 ghost use Rattle.std.specs.Prelude.{◌≡◌, ℕ, ◌<◌, ◌≤◌, [], ◌∷◌, ◌++◌, length, map, All, IfOk};
 ghost use Rattle.std.specs.List.{range_with_len};
-ghost use Rattle.convoy_scenario.specs.Scenario.{message_at, is_addressed};
+ghost use Rattle.convoy_scenario.specs.Scenario.{message_at, message_numbers, is_addressed};
 ghost use Rattle.convoy_sim.specs.Delivery.{addressed_to};
 
 use arrayvec::ArrayVec;
@@ -63,6 +63,27 @@ fn addressed_to(scenario: &Scenario, group: usize) -> Messages
             messages.push(message);
         }
     }
+    messages
+}
+
+/// All messages.
+pub(crate) fn all_messages(scenario: &Scenario) -> Messages
+    ensures { result ≡ message_numbers scenario.now }
+{
+    let mut messages = Messages::new();
+    for message in 0..scenario.message_count() {
+        messages.push(message);
+    }
+    messages
+}
+
+/// One message alone.
+pub(crate) fn one_message(message: usize) -> Messages
+    requires { message < MOST_MULTICASTS }
+    ensures { result ≡ message ∷ [] }
+{
+    let mut messages = Messages::new();
+    messages.push(message);
     messages
 }
 

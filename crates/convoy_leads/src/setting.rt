@@ -1,10 +1,11 @@
-ghost use Rattle.std.specs.Prelude.{◌≡◌, ℕ, ◌*◌, ◌<◌, ◌≤◌, ◌==◌, length, map, All, not};
+ghost use Rattle.std.specs.Prelude.{◌≡◌, ℕ, ◌*◌, ◌<◌, ◌≤◌, ◌==◌, length, map, slice_index, All, not};
 ghost use Rattle.std.specs.List.{filter, range_with_len};
 ghost use Rattle.convoy_scenario.specs.declared.limits.TheConstants.{MOST_GROUPS, MOST_MULTICASTS};
 ghost use Rattle.convoy_sim.specs.Delivery.{addressed_to};
 ghost use Rattle.convoy_leads.specs.SureLeads.{pair_count, sure_after, sure_later};
 ghost use Rattle.convoy_leads.specs.Windows.{tables_by};
 ghost use Rattle.convoy_leads.specs.Leads.{arrivals_since, may_arrive};
+ghost use Rattle.convoy_leads.specs.Mosts.{bars_of};
 
 use super::messages::Messages;
 use super::sure::Sure;
@@ -13,7 +14,8 @@ use super::windows::Windows;
 use convoy_scenario::{MOST_GROUPS, MOST_MULTICASTS, Scenario};
 
 /// What the most of stamps is told from: a scenario, with the messages that go to each group and how
-/// many local stamps there are; the windows of a box; and what is sure of one message.
+/// many local stamps there are; the windows of a box; what is sure of one message; and the messages that
+/// are barred, each in turn: all, or the target alone.
 #[derive(Drop)]
 pub(crate) struct Setting<'a> {
     pub(crate) scenario: &'a Scenario,
@@ -21,12 +23,28 @@ pub(crate) struct Setting<'a> {
     pub(crate) windows: &'a Windows,
     pub(crate) sure: &'a Sure,
     pub(crate) stamps: u32,
+    pub(crate) barring: bool,
+    pub(crate) bars: &'a [usize],
     ghost groups: { audiences.now ≡ map (addressed_to scenario.now) (range_with_len 0 MOST_GROUPS) },
     ghost count: { stamps ≡ pair_count scenario.now },
     ghost few: { stamps ≤ MOST_MULTICASTS * MOST_GROUPS },
+    ghost barred: { bars.now ≡ bars_of scenario.now barring },
+    ghost barred_few: { length bars.now ≤ MOST_MULTICASTS },
 }
 
 impl<'a> Setting<'a> {
+    /// The place of the target among the bars.
+    pub(crate) fn bar_of_target(&self) -> usize
+        ensures within { result < length self.now.bars.now }
+        ensures value { slice_index self.now.bars.now result ≡ self.now.scenario.now.target_message }
+    {
+        if self.barring {
+            self.scenario.target_message()
+        } else {
+            0
+        }
+    }
+
     /// The messages that go to a group.
     fn addressed_to(&self, group: usize) -> &[usize]
         requires { group < MOST_GROUPS }

@@ -1,25 +1,36 @@
-ghost use Rattle.std.specs.Prelude.{◌≡◌, ℕ, ◌+◌, ◌*◌, ◌<◌, ◌≤◌, max, length, map, All};
+ghost use Rattle.std.specs.Prelude.{◌≡◌, ℕ, ◌+◌, ◌*◌, ◌<◌, ◌≤◌, ◌==◌, not, max, min, length, map, slice_index, All};
+ghost use Rattle.std.specs.List.{filter};
 ghost use Rattle.convoy_scenario.specs.declared.limits.TheConstants.{MOST_GROUPS, MOST_MULTICASTS};
 ghost use Rattle.convoy_scenario.specs.Scenario.{message_at};
-ghost use Rattle.convoy_sim.specs.Times.{greatest};
 ghost use Rattle.convoy_leads.specs.SureLeads.{lead_at, sure_later, top_of};
 ghost use Rattle.convoy_leads.specs.Windows.{tables_by};
-ghost use Rattle.convoy_leads.specs.Leads.{arrives_by, clock_alone, clock_from, clock_high, clock_since};
-ghost use Rattle.convoy_leads.specs.Leads.{lead_by, may_start, raise_high, stamp_for, stamp_high, window};
+ghost use Rattle.convoy_leads.specs.Leads.{arrivals_since, arrives_by, capped, clock_alone, clock_from};
+ghost use Rattle.convoy_leads.specs.Leads.{clock_high, lead_by, raise_high, stamp_high, value_for, window};
+ghost use Rattle.convoy_leads.specs.Mosts.{AreFor, AreTold, may_precede};
 
 use super::messages::Messages;
+use super::mosts::{Mosts, cap_all, level, raise_all};
 use super::ranks::top_of;
 use super::setting::{Setting, without};
 use super::start::Start;
+use super::told::Told;
 use super::window::{capped, lead_at, window};
 use convoy_scenario::{MOST_GROUPS, MOST_MULTICASTS, Scenario};
 
-/// Whether a start may come before message `q` arrives at a group by that tick, where message `x` is
-/// committed nowhere before.
-fn may_start(x: usize, q: usize, group: usize, tick: u32, start: &Start) -> bool
-    ensures { result ≡ may_start x q group tick start.now }
+/// Whether a start may come before message `q` arrives at a group by that tick.
+fn may_precede(q: usize, group: usize, tick: u32, start: &Start) -> bool
+    ensures { result ≡ may_precede q group tick start.now }
 {
-    start.group() == group && start.at() < tick && start.message() != q && start.message() != x
+    start.group() == group && start.at() < tick && start.message() != q
+}
+
+/// How a group's clock may rise by a start until a message arrives there: by the arrivals of these
+/// others, from that value to that clock, where no message that lowers the value is barred.
+#[derive(Drop)]
+struct Rise {
+    others: Messages,
+    value: u32,
+    clock: u32,
 }
 
 /// The greater of two numbers.
@@ -73,44 +84,94 @@ impl<'a> Setting<'a> {
         self.window(group, &arrivals, 0)
     }
 
-    /// The same, where that start gave it its last rise, and message `x` is committed nowhere before.
-    fn clock_since(&self, x: usize, q: usize, group: usize, tick: u32, start: &Start) -> u32
+    /// The messages that may arrive at a group after a start, and before message `q`, which arrives
+    /// there by that tick.
+    fn arrivals_after(&self, q: usize, group: usize, tick: u32, start: &Start) -> Messages
         requires group { group < MOST_GROUPS }
-        ensures small { result ≤ u16.MAX + MOST_MULTICASTS }
-        ensures value { result ≡ clock_since self.now.scenario.now
-            (tables_by self.now.windows.now).times self.now.sure.now x q group tick start.now }
+        ensures { result ≡ filter (λ z. not (z == start.now.message))
+            (arrivals_since self.now.scenario.now
+            (tables_by self.now.windows.now).times tick q group (start.now.at + 1)) }
     {
         let arrivals = self.arrivals_since(tick, q, group, start.at() + 1);
-        let others = without(&arrivals, start.message());
-        self.window(group, &others, start.value_for(x, q))
+        without(&arrivals, start.message())
     }
 
-    /// The clock by a start that may come before, 0 by one that may not.
-    fn clock_from(&self, x: usize, q: usize, group: usize, tick: u32, start: &Start) -> u32
+    /// How the clock of a group may rise by a start until message `q` arrives there by that tick.
+    fn rise(&self, q: usize, group: usize, tick: u32, start: &Start) -> Rise
         requires group { group < MOST_GROUPS }
-        ensures small { result ≤ u16.MAX + MOST_MULTICASTS }
-        ensures value { result ≡ clock_from self.now.scenario.now
-            (tables_by self.now.windows.now).times self.now.sure.now x q group tick start.now }
+        ensures others { result.others ≡ filter (λ z. not (z == start.now.message))
+            (arrivals_since self.now.scenario.now
+            (tables_by self.now.windows.now).times tick q group (start.now.at + 1)) }
+        ensures clock { result.clock ≡ window self.now.sure.now.time
+            (λ z. lead_at self.now.sure.now.leads z group) result.others result.value }
+        ensures small { result.clock ≤ u16.MAX + MOST_MULTICASTS }
     {
-        if may_start(x, q, group, tick, start) {
-            self.clock_since(x, q, group, tick, start)
+        let others = self.arrivals_after(q, group, tick, start);
+        let value = start.value_for(q, q);
+        let clock = self.window(group, &others, value);
+        Rise {
+            others,
+            value,
+            clock,
+        }
+    }
+
+    /// The clock of a group as message `q` arrives there, after such a rise by a start, where message
+    /// `x` is barred.
+    fn clock_by(&self, x: usize, q: usize, group: usize, start: &Start, rise: &Rise) -> u32
+        requires group { group < MOST_GROUPS }
+        requires clock { rise.now.clock ≡ window self.now.sure.now.time
+            (λ z. lead_at self.now.sure.now.leads z group) rise.now.others rise.now.value }
+        requires small { rise.now.clock ≤ u16.MAX + MOST_MULTICASTS }
+        ensures value { result ≡ window self.now.sure.now.time
+            (λ z. lead_at self.now.sure.now.leads z group) rise.now.others (value_for start.now x q) }
+        ensures small { result ≤ u16.MAX + MOST_MULTICASTS }
+    {
+        let value = start.value_for(x, q);
+        if value == rise.value {
+            rise.clock
         } else {
-            0
+            self.window(group, &rise.others, value)
         }
     }
 
-    /// The clock, by no start or by any.
-    fn clock_high(&self, starts: &[Start], x: usize, q: usize, group: usize, tick: u32) -> u32
+    /// Raises the clocks of a group as message `q` arrives there by that tick, one for each of the
+    /// bars, to what they may be by a start.
+    fn raise_clocks(&self, clocks: &mut [u32], q: usize, group: usize, tick: u32, start: &Start)
         requires group { group < MOST_GROUPS }
-        ensures small { result ≤ u16.MAX + MOST_MULTICASTS }
-        ensures value { result ≡ clock_high self.now.scenario.now
-            (tables_by self.now.windows.now).times self.now.sure.now starts.now x q group tick }
+        requires long { length clocks.old ≡ length self.now.bars.now }
+        requires small { All (λ clock. clock ≤ u16.MAX + MOST_MULTICASTS) clocks.old }
+        ensures small { All (λ clock. clock ≤ u16.MAX + MOST_MULTICASTS) clocks.new }
+        ensures value { (k : ℕ) → k < length clocks.old → slice_index clocks.new k
+            ≡ max (slice_index clocks.old k) (clock_from self.now.scenario.now
+            (tables_by self.now.windows.now).times self.now.sure.now
+            (slice_index self.now.bars.now k) q group tick start.now) }
     {
-        let mut most = self.clock_alone(q, group, tick);
-        for start in starts {
-            most = most.max(self.clock_from(x, q, group, tick, start));
+        if !may_precede(q, group, tick, start) {
+            return;
         }
-        most
+        let rise = self.rise(q, group, tick, start);
+        for k in 0..clocks.len() {
+            if self.bars[k] != start.message() {
+                let clock = self.clock_by(self.bars[k], q, group, start, &rise);
+                clocks[k] = clocks[k].max(clock);
+            }
+        }
+    }
+
+    /// The clocks, for each of the bars, by no start or by any.
+    fn clocks_high(&self, starts: &[Start], q: usize, group: usize, tick: u32) -> Mosts
+        requires group { group < MOST_GROUPS }
+        ensures small { All (λ clock. clock ≤ u16.MAX + MOST_MULTICASTS) result.items }
+        ensures value { AreFor (λ x. clock_high self.now.scenario.now
+            (tables_by self.now.windows.now).times self.now.sure.now starts.now x q group tick)
+            self.now.bars.now result.items }
+    {
+        let mut clocks = level(self.bars, self.clock_alone(q, group, tick));
+        for start in starts {
+            self.raise_clocks(clocks.as_mut_slice(), q, group, tick, start);
+        }
+        clocks
     }
 
     /// The lead over message `q` at a group, and over those that surely arrive there after it, if it
@@ -128,50 +189,31 @@ impl<'a> Setting<'a> {
         )
     }
 
-    /// The most that the stamp of message `q` at a group can be, if it arrives there by that tick, and
-    /// message `x` is committed nowhere before.
-    pub(crate) fn stamp_high(
-        &self,
-        starts: &[Start],
-        x: usize,
-        q: usize,
-        group: usize,
-        tick: u32,
-    ) -> u32
-        requires message { q < MOST_MULTICASTS }
-        requires group { group < MOST_GROUPS }
-        ensures small { result ≤ MOST_MULTICASTS * MOST_GROUPS }
-        ensures value { result ≡ stamp_high self.now.scenario.now
-            (tables_by self.now.windows.now).times self.now.sure.now starts.now x q group tick }
+    /// Turns the most of clocks into that of the stamps that they give, over which there is such a lead.
+    fn turn_into_stamps(&self, clocks: &mut [u32], lead: u32)
+        requires { All (λ clock. clock ≤ u16.MAX + MOST_MULTICASTS) clocks.old }
+        ensures { (k : ℕ) → k < length clocks.old → slice_index clocks.new k
+            ≡ min self.now.stamps (capped self.now.sure.now.time lead (slice_index clocks.old k + 1)) }
     {
-        let lead = self.lead_by(q, group, tick);
-        let clock = self.clock_high(starts, x, q, group, tick);
-        self.stamps.min(capped(self.sure.time(), lead, clock + 1))
+        let sure = self.sure.time();
+        for k in 0..clocks.len() {
+            clocks[k] = self.stamps.min(capped(sure, lead, clocks[k] + 1));
+        }
     }
 
-    /// The most that the stamp of message `c` at group `from` can be, if it is committed at a group at
-    /// that tick; 0 for the group itself, whose own stamp raises no clock there.
-    fn stamp_for(
-        &self,
-        starts: &[Start],
-        tick: u32,
-        x: usize,
-        c: usize,
-        group: usize,
-        from: usize,
-    ) -> u32
-        requires message { c < MOST_MULTICASTS }
+    /// The most that the stamp of message `q` at a group can be, if it arrives there by that tick, for
+    /// each of the bars.
+    pub(crate) fn stamps_high(&self, starts: &[Start], q: usize, group: usize, tick: u32) -> Mosts
+        requires message { q < MOST_MULTICASTS }
         requires group { group < MOST_GROUPS }
-        requires from { from < MOST_GROUPS }
-        ensures small { result ≤ MOST_MULTICASTS * MOST_GROUPS }
-        ensures value { result ≡ stamp_for self.now.scenario.now
-            (tables_by self.now.windows.now) self.now.sure.now starts.now tick x c group from }
+        ensures { AreFor (λ x. stamp_high self.now.scenario.now
+            (tables_by self.now.windows.now).times self.now.sure.now starts.now x q group tick)
+            self.now.bars.now result.items }
     {
-        if from == group {
-            return 0;
-        }
-        let by = self.arrives_by(tick, c, group, from);
-        self.stamp_high(starts, x, c, from, by)
+        let lead = self.lead_by(q, group, tick);
+        let mut stamps = self.clocks_high(starts, q, group, tick);
+        self.turn_into_stamps(stamps.as_mut_slice(), lead);
+        stamps
     }
 
     /// The last tick by which message `c` arrives at group `from`, if it is committed at a group at
@@ -186,20 +228,40 @@ impl<'a> Setting<'a> {
         self.windows.greatest_arrival(c, from).min(sent)
     }
 
-    /// The greatest of these over the groups that message `c` goes to.
-    fn stamps_for(&self, starts: &[Start], tick: u32, x: usize, c: usize, group: usize) -> u32
+    /// Raises numbers, one for each of the bars, to the most that the stamp of message `c` at a group
+    /// can be, if it arrives there by that tick. What was told is told again, and else it is kept.
+    fn raise_by_stamps(
+        &self,
+        mosts: &mut [u32],
+        told: &mut [Told],
+        starts: &[Start],
+        c: usize,
+        group: usize,
+        by: u32,
+    )
         requires message { c < length self.now.scenario.now.multicasts }
+        requires known { c < MOST_MULTICASTS }
         requires group { group < MOST_GROUPS }
-        ensures small { result ≤ MOST_MULTICASTS * MOST_GROUPS }
-        ensures value { result ≡ greatest (map (stamp_for self.now.scenario.now
-            (tables_by self.now.windows.now) self.now.sure.now starts.now tick x c group)
-            (message_at self.now.scenario.now c).destinations) }
+        requires long { length mosts.old ≡ length self.now.bars.now }
+        requires places { length told.old ≡ length self.now.scenario.now.multicasts * MOST_GROUPS }
+        ensures told { (tick : ℕ) → by ≤ tick
+            → AreTold self.now.scenario.now (tables_by self.now.windows.now).times self.now.sure.now
+            self.now.bars.now starts.now tick told.old
+            → AreTold self.now.scenario.now (tables_by self.now.windows.now).times self.now.sure.now
+            self.now.bars.now starts.now tick told.new }
+        ensures value { (tick : ℕ) → by ≤ tick
+            → AreTold self.now.scenario.now (tables_by self.now.windows.now).times self.now.sure.now
+            self.now.bars.now starts.now tick told.old
+            → (k : ℕ) → k < length mosts.old → slice_index mosts.new k
+            ≡ max (slice_index mosts.old k) (stamp_high self.now.scenario.now
+            (tables_by self.now.windows.now).times self.now.sure.now starts.now
+            (slice_index self.now.bars.now k) c group by) }
     {
-        let mut most = 0;
-        for from in destinations(self.scenario, c) {
-            most = greater(most, self.stamp_for(starts, tick, x, c, group, *from));
+        let place = c * MOST_GROUPS + group;
+        if !told[place].is_of(c, group, by) || told[place].stamps().len() != mosts.len() {
+            told[place] = Told::new(c, group, by, self.stamps_high(starts, c, group, by));
         }
-        most
+        raise_all(mosts, told[place].stamps());
     }
 
     /// The lead over those that surely arrive at a group after that tick.
@@ -213,23 +275,38 @@ impl<'a> Setting<'a> {
     }
 
     /// The most that the commit of message `c` at a group at that tick can raise the clock there to,
-    /// where message `x` is committed nowhere before.
-    pub(crate) fn raise_high(
+    /// for each of the bars.
+    pub(crate) fn raises_high(
         &self,
+        told: &mut [Told],
         starts: &[Start],
         tick: u32,
-        x: usize,
         c: usize,
         group: usize,
-    ) -> u32
+    ) -> Mosts
         requires message { c < length self.now.scenario.now.multicasts }
         requires group { group < MOST_GROUPS }
-        ensures small { result ≤ MOST_MULTICASTS * MOST_GROUPS }
-        ensures value { result ≡ raise_high self.now.scenario.now
-            (tables_by self.now.windows.now) self.now.sure.now starts.now tick x c group }
+        requires places { length told.old ≡ length self.now.scenario.now.multicasts * MOST_GROUPS }
+        requires told { AreTold self.now.scenario.now (tables_by self.now.windows.now).times
+            self.now.sure.now self.now.bars.now starts.now tick told.old }
+        ensures told { AreTold self.now.scenario.now (tables_by self.now.windows.now).times
+            self.now.sure.now self.now.bars.now starts.now tick told.new }
+        ensures value { AreFor (λ x. raise_high self.now.scenario.now
+            (tables_by self.now.windows.now) self.now.sure.now starts.now tick x c group)
+            self.now.bars.now result.items }
     {
-        let lead = self.later_lead(tick, group);
-        let most = self.stamps_for(starts, tick, x, c, group);
-        capped(self.sure.time(), lead, most)
+        let mut mosts = level(self.bars, 0);
+        for from in destinations(self.scenario, c) {
+            if *from != group {
+                let by = self.arrives_by(tick, c, group, *from);
+                self.raise_by_stamps(mosts.as_mut_slice(), told, starts, c, *from, by);
+            }
+        }
+        cap_all(
+            mosts.as_mut_slice(),
+            self.sure.time(),
+            self.later_lead(tick, group),
+        );
+        mosts
     }
 }

@@ -2,12 +2,8 @@ ghost use Rattle.std.specs.Prelude.{◌≡◌, ◌<◌, ◌≤◌, nat_le};
 ghost use Rattle.std.specs.List.{list_any};
 ghost use Rattle.convoy_leads.specs.Leads.{barred_at, value_for, covers, covers_all};
 
-use arrayvec::ArrayVec;
-use convoy_scenario::MOST_MULTICASTS;
+use super::mosts::Mosts;
 use std::marker::Model;
-
-/// For each message the most where it is committed nowhere before, or nothing.
-pub(crate) type Barred = ArrayVec<u32, MOST_MULTICASTS>;
 
 /// A start: the commit of a message at a group at a tick, the most that it can raise the clock there
 /// to, and the same for each message that might be committed nowhere before.
@@ -17,7 +13,7 @@ pub(crate) struct Start {
     message: usize,
     group: usize,
     base: u32,
-    barred: Barred,
+    barred: Mosts,
 }
 
 impl Model for Start {
@@ -39,7 +35,7 @@ impl Model for Start {
 
 impl Start {
     /// Such a start.
-    pub(crate) fn new(at: u32, message: usize, group: usize, base: u32, barred: Barred) -> Start
+    pub(crate) fn new(at: u32, message: usize, group: usize, base: u32, barred: Mosts) -> Start
         requires at { at < u32.MAX }
         requires base { base ≤ u16.MAX }
         ensures { result ≡ record {

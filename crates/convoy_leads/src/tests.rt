@@ -36,8 +36,7 @@ group = \"a\"
 }
 
 /// Two messages may raise the clock of a twice before t arrives there.
-fn raised_twice(alloc: Global) -> Result<Scenario, Fail> {
-    let text = "delay = 3
+const RAISED_TWICE: &str = "delay = 3
 groups = [\"c\", \"a\", \"b\"]
 
 [[multicast]]
@@ -77,8 +76,6 @@ at = 10
 message = \"t\"
 group = \"c\"
 ";
-    Ok(read_toml(alloc, text.as_bytes())?.scenario)
-}
 
 /// Whether leads close the whole box for a latency.
 fn closes_root(alloc: Global, scenario: &Scenario, latency: u32) -> Result<bool, AllocError> {
@@ -100,8 +97,35 @@ fn roots_are_closed(rt: HostRuntime) -> Result<(), Fail> {
         closes_root(alloc, &swapped, 4_294_967_295)?,
         "swapped groups, most"
     );
-    let raised = raised_twice(alloc)?;
+    let raised = read_toml(alloc, RAISED_TWICE.as_bytes())?.scenario;
     assert!(rt; closes_root(alloc, &raised, 11)?, "raised twice, 11");
     assert!(rt; !closes_root(alloc, &raised, 10)?, "raised twice, 10");
     Ok(())
+}
+
+/// Whether each of some tests of one box, one after the other, gives the right answer or lacks memory.
+fn tests_are_right(alloc: Global, scenario: &Scenario) -> Result<bool, AllocError> {
+    let table = PacketTable::of(alloc, scenario)?;
+    let root = DelayBox::root(alloc, &table)?;
+    let mut leads = Leads::new(alloc);
+    for latency in [11, 10, 11, 10, 11, 10] {
+        if let Ok(closed) = leads.closes(scenario, &table, &root, latency) {
+            if closed != (latency == 11) {
+                return Ok(false);
+            }
+        }
+    }
+    Ok(true)
+}
+
+/// For each allocation that fails in turn (`rt try --test --fail-alloc 1..`): the tests after one that
+/// lacks memory are as good as those before it.
+#[test]
+fn memory_or_the_answer(rt: HostRuntime) {
+    let alloc = rt.alloc();
+    if let Ok(input) = read_toml(alloc, RAISED_TWICE.as_bytes()) {
+        if let Ok(right) = tests_are_right(alloc, &input.scenario) {
+            assert!(rt; right, "a wrong answer");
+        }
+    }
 }

@@ -10,8 +10,11 @@ no_pair = record { message = 0; group = 0 }
 
 pub loop-pair-preserved : goal.loop-pair-preserved
 loop-pair-preserved c =
-    let add : List Start → Pair → List Start = add_start c.args.self.now.scenario.now (tables_by c.args.self.now.windows.now) c.args.self.now.sure.now c.args.barring c.args.tick in
+    let add : List Start → Pair → List Start = add_start c.args.self.now.scenario.now (tables_by c.args.self.now.windows.now) c.args.self.now.sure.now c.args.self.now.barring c.args.tick in
     let i = c.loop-pair.pair-index in
-    c.in_ok-add_start.ensures
-    ∙ ap (λ (l : List Start). add l (get_or c.args.pairs.now i no_pair)) c.loop-pair.invariant
-    ∙ sym (fold_more add c.args.starts.now.items c.args.pairs.now i no_pair c.loop-pair-test.true)
+    record {
+      told = c.in_ok-add_start.ensures.told;
+      so_far = c.in_ok-add_start.ensures.value
+          ∙ ap (λ (l : List Start). add l (get_or c.args.pairs.now i no_pair)) c.loop-pair.invariant.so_far
+          ∙ sym (fold_more add c.args.starts.now.items c.args.pairs.now i no_pair c.loop-pair-test.true);
+    }

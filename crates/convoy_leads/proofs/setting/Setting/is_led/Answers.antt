@@ -11,4 +11,4 @@ returns c =
     let sure = c.args.self.now.sure.now in
     c.is_less_elsewhere.ensures
     ∙ ap (is_less_by scenario tables.times sure)
-    (c.deref.ensures.value ∙ c.in_ok-write_starts.ensures ∙ ap (starts_before scenario tables sure c.args.barring) c.last_arrival.ensures)
+    (c.deref.ensures.value ∙ c.in_ok-write_starts.ensures ∙ ap (starts_before scenario tables sure c.args.self.now.barring) c.last_arrival.ensures)

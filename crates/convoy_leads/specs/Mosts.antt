@@ -1,0 +1,37 @@
+-- Words of the program's own parts: numbers that are told for some messages at once, for each where that message is barred, that is, committed nowhere before.
+use Rattle.std.specs.Prelude.{ℕ, ◌≡◌, ◌≤◌, ◌<◌, ◌==◌, nat_lt, Bool, ◌&&◌, not, List, [], ◌∷◌, length, All, slice_index, if◌then◌else◌}
+use Rattle.convoy_scenario.specs.Scenario.{Scenario, message_numbers}
+use Rattle.convoy_sim.specs.Times.{Tick}
+use Rattle.convoy_intervals.specs.Bounds.{Tables}
+use Rattle.convoy_leads.specs.SureLeads.{Sure}
+use Rattle.convoy_leads.specs.Leads.{Start, stamp_high}
+
+-- the messages that are barred, each in turn: all, or the target alone
+abbrev pub bars_of : Scenario → Bool → List ℕ
+bars_of scenario barring = if barring then message_numbers scenario else scenario.target_message ∷ []
+
+-- there is one number for each of the bars, which is what that is for it
+pub record AreFor (what : ℕ → ℕ) (bars numbers : List ℕ) : Type 0 where
+  pub long : length numbers ≡ length bars
+  pub each : (k : ℕ) → k < length bars → slice_index numbers k ≡ what (slice_index bars k)
+
+-- the start may come before message q arrives at group h by that tick
+abbrev pub may_precede : ℕ → ℕ → Tick → Start → Bool
+may_precede q h tick start = (start.group == h) && nat_lt start.at tick && not (start.message == q)
+
+-- what was told of the stamp of a message at a group, where it arrives there by a tick: the most that it can be, for each of the bars
+pub record Told : Type 0 where
+  pub message : ℕ
+  pub group : ℕ
+  pub by : Tick
+  pub stamps : List ℕ
+
+-- it holds by these starts, and by those that are added at that tick or later
+pub record IsTold (scenario : Scenario) (tables : Tables) (sure : Sure) (bars : List ℕ) (starts : List Start) (tick : Tick) (told : Told) : Type 0 where
+  pub soon : told.by ≤ tick
+  pub each : (k : ℕ) → k < length told.stamps
+      → slice_index told.stamps k ≡ stamp_high scenario tables sure starts (slice_index bars k) told.message told.group told.by
+
+-- all that was told does so
+abbrev pub AreTold : Scenario → Tables → Sure → List ℕ → List Start → Tick → List Told → Type 0
+AreTold scenario tables sure bars starts tick told = All (IsTold scenario tables sure bars starts tick) told
