@@ -1,15 +1,13 @@
 -- What a lawful event tells of the state in which it is lawful.
 use Rattle.std.specs.Prelude.{◌≡◌, ℕ, ◌<◌, ◌≤◌, ◌==◌, nat_le, nat_lt, Bool, true, ◌&&◌, ◌||◌, List, length}
-use Rattle.std.specs.Bool.{Decides}
 use Rattle.std.proofs.Common.{arith, refl, sym, subst, ◌∙◌, inl, inr}
 use Rattle.std.proofs.lemmas.Bool.{and_parts, or_cases, leb-true, ltb-true}
-use Rattle.std.proofs.lemmas.Bool.Decides.{Decides-by_and, Decides-eqb}
 use Rattle.convoy_scenario.specs.Scenario.{Scenario}
 use Rattle.convoy_scenario.specs.WellFormed.{IsScenario}
 use Rattle.convoy_sim.specs.Delivery.{latency_of}
 use Rattle.convoy_intervals.specs.Bounds.{plain_bound}
-use Rattle.convoy_intervals.specs.Boxes.{Box, CanSplit, IsBox, IsIn, IsPoint, greatest_of, range_at}
-use Rattle.convoy_checker.specs.Checks.{can_split, is_point}
+use Rattle.convoy_intervals.specs.Boxes.{Box, CanSplit, IsBox, IsIn, can_split, is_point, greatest_of}
+use Rattle.convoy_intervals.proofs.BoxTests.{Decides-can_split, Decides-is_point}
 use Rattle.convoy_checker.specs.Laws.{BoundLeavesCover, PointLeavesCover}
 use Rattle.convoy_branch.specs.declared.parts.TheConstants.{WORKERS}
 use Rattle.convoy_branch.specs.declared.parts.Branch.{Branch}
@@ -17,20 +15,6 @@ use Rattle.convoy_branch.specs.declared.event.Event.{Event}
 use Rattle.convoy_branch.specs.declared.event.Event.TheVariants.{Look, Publish, Draw, Put, Take, Split, Close}
 use Rattle.convoy_branch.specs.Machine.{Core, HasBranch, allows, branch_at, closes, has_ticket, is_free, is_lawful, is_left, is_with, stands, worker_at, worker_of}
 use Rattle.convoy_branch.proofs.BranchLists.{left_since_free, left_since_with, stands_told}
-
--- the tests say what the relations say
-pub can_split_told : (box : Box) (packet at : ℕ) → can_split box packet at ≡ true → CanSplit box packet at
-can_split_told box packet at test =
-    let range = range_at box packet in
-    let place = nat_lt packet (length box) in
-    let low = nat_le range.0 at in
-    let first = and_parts (place && low) (nat_lt at range.1) test in
-    let second = and_parts place low first.0 in
-    record { place = ltb-true packet (length box) second.0; low = leb-true range.0 at second.1; high = ltb-true at range.1 first.1 }
-
-pub Decides-is_point : (box : Box) → Decides (is_point box) (IsPoint box)
-Decides-is_point box =
-    Decides-by_and (λ range. range.0 == range.1) (λ range. range.0 ≡ range.1) is_point (λ range. Decides-eqb range.0 range.1) refl (λ _ _. refl) box
 
 -- the branch is there, and is left
 pub record IsOpen (branches : List Branch) (number : ℕ) : Type 0 where
@@ -63,7 +47,7 @@ split_told plan core worker branch packet at allowed =
     record {
       is_open = held_is_open worker core.branches branch inner.0;
       ticket = ltb-true doer.spent doer.drawn inner.1;
-      part = can_split_told box packet at outer.1;
+      part = (Decides-can_split box packet at).0 outer.1;
     }
 
 -- a close

@@ -7,8 +7,7 @@ use Rattle.convoy_packets.specs.Table.{least_of}
 use Rattle.convoy_sim.specs.Delivery.{latency_of}
 use Rattle.convoy_sim.specs.Record.{Record, attained_by}
 use Rattle.convoy_intervals.specs.Bounds.{plain_bound}
-use Rattle.convoy_intervals.specs.Boxes.{Box, CanSplit, root_of, lower_half, upper_half, greatest_of}
-use Rattle.convoy_checker.specs.Checks.{can_split, is_point}
+use Rattle.convoy_intervals.specs.Boxes.{Box, CanSplit, can_split, is_point, root_of, lower_half, upper_half, greatest_of}
 use Rattle.convoy_branch.specs.declared.parts.TheConstants.{WORKERS}
 use Rattle.convoy_branch.specs.declared.parts.Worker.{Worker}
 use Rattle.convoy_branch.specs.declared.parts.Branch.{Branch}

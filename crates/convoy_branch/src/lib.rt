@@ -4,6 +4,7 @@
 pub use bounds::Bounds;
 pub use closer::Closer;
 pub use event::Event;
+pub use gate::{Gate, NoGate};
 pub use machine::Core;
 pub use outcome::Outcome;
 pub use parts::WORKERS;
@@ -14,6 +15,7 @@ pub use step::{Step, Turn, step_branch};
 mod bounds;
 mod closer;
 mod event;
+mod gate;
 pub mod laws;
 mod machine;
 mod outcome;

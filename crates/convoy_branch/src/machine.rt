@@ -8,7 +8,6 @@ ghost use Rattle.convoy_scenario.specs.Scenario.{Scenario};
 ghost use Rattle.convoy_packets.specs.Table.{table_of};
 ghost use Rattle.convoy_sim.specs.Record.{IsAttained};
 ghost use Rattle.convoy_intervals.specs.Boxes.{CanSplit, IsBox, lower_half, upper_half};
-ghost use Rattle.convoy_checker.specs.Checks.{can_split, is_point};
 ghost use Rattle.convoy_branch.specs.Machine.{after, allows, best_after, branch_at, branches_after};
 ghost use Rattle.convoy_branch.specs.Machine.{closes, is_free, is_lawful, taken, HasBranch};
 ghost use Rattle.convoy_branch.specs.Machine.{is_with, stands, start, worker_after, worker_at};
@@ -17,7 +16,6 @@ ghost use Rattle.convoy_branch.specs.Replays.{IsFound, left_of};
 
 use super::event::Event;
 use super::parts::{Branch, BranchState, WORKERS, Worker};
-use convoy_intervals::laws::members_are_assignments;
 use convoy_intervals::{DelayBox, bound};
 use convoy_packets::{Delays, PacketTable};
 use convoy_scenario::Scenario;
@@ -117,42 +115,29 @@ impl Core {
     }
 
     /// Whether the state allows an event.
-    pub(crate) fn is_lawful(
-        &self,
-        alloc: Global,
-        scenario: &Scenario,
-        table: &PacketTable,
-        event: &Event,
-    ) -> Result<bool, AllocError>
+    pub(crate) fn is_lawful(&self, scenario: &Scenario, table: &PacketTable, event: &Event) -> bool
         requires packets { table.now ≡ table_of scenario.now }
         requires boxes { All (λ branch. IsBox scenario.now branch.delay_box) self.now.branches }
-        ensures { IfOk result (λ lawful. lawful ≡ is_lawful scenario.now self.now event.now) }
+        ensures { result ≡ is_lawful scenario.now self.now event.now }
     {
         let worker = event.worker();
         if worker >= WORKERS {
-            return Ok(false);
+            return false;
         }
-        self.allows(alloc, scenario, table, &self.workers[worker], event)
+        self.allows(scenario, table, &self.workers[worker], event)
     }
 
     /// Whether the state allows an event of that worker.
-    fn allows(
-        &self,
-        alloc: Global,
-        scenario: &Scenario,
-        table: &PacketTable,
-        doer: &Worker,
-        event: &Event,
-    ) -> Result<bool, AllocError>
+    fn allows(&self, scenario: &Scenario, table: &PacketTable, doer: &Worker, event: &Event) -> bool
         requires packets { table.now ≡ table_of scenario.now }
         requires boxes { All (λ branch. IsBox scenario.now branch.delay_box) self.now.branches }
         requires doer { doer.now ≡ worker_at self.now.workers (worker_of event.now) }
-        ensures { IfOk result (λ allowed. allowed ≡ allows scenario.now self.now event.now) }
+        ensures { result ≡ allows scenario.now self.now event.now }
     {
         match event {
-            Event::Look { .. } | Event::Publish { .. } | Event::Draw { .. } => Ok(true),
-            Event::Put { worker, branch } => Ok(self.held_by(*worker, *branch).is_some()),
-            Event::Take { branch, .. } => Ok(self.is_free(*branch)),
+            Event::Look { .. } | Event::Publish { .. } | Event::Draw { .. } => true,
+            Event::Put { worker, branch } => self.held_by(*worker, *branch).is_some(),
+            Event::Take { branch, .. } => self.is_free(*branch),
             Event::Split {
                 worker,
                 branch,
@@ -160,21 +145,17 @@ impl Core {
                 at,
             } => {
                 match self.held_by(*worker, *branch) {
-                    None => Ok(false),
+                    None => false,
                     Some(delay_box) => {
-                        Ok(doer.has_ticket() && can_split(delay_box, *packet, *at))
+                        doer.has_ticket() && delay_box.can_split(usize::from(*packet), *at)
                     }
                 }
             }
             Event::Close { worker, branch } => {
                 match self.held_by(*worker, *branch) {
-                    None => Ok(false),
+                    None => false,
                     Some(delay_box) => {
-                        if doer.has_ticket() {
-                            closes(alloc, scenario, table, doer.seen, delay_box)
-                        } else {
-                            Ok(false)
-                        }
+                        doer.has_ticket() && closes(scenario, table, doer.seen, delay_box)
                     }
                 }
             }
@@ -283,45 +264,13 @@ fn halves_of(delay_box: &DelayBox, packet: u16, at: u16) -> Result<(DelayBox, De
     }
 }
 
-/// Whether the packet has a place in the box, and delays on both sides of the split.
-fn can_split(delay_box: &DelayBox, packet: u16, at: u16) -> bool
-    ensures { result ≡ can_split delay_box.now packet at }
-{
-    let packet = usize::from(packet);
-    if packet >= delay_box.len() {
-        return false;
-    }
-    let (least, most) = delay_box.range(packet);
-    least <= at && at < most
-}
-
 /// Whether the bound of the box, or the latency of its only member, is at most that latency, in
 /// ticks.
-fn closes(
-    alloc: Global,
-    scenario: &Scenario,
-    table: &PacketTable,
-    latency: u32,
-    delay_box: &DelayBox,
-) -> Result<bool, AllocError>
+fn closes(scenario: &Scenario, table: &PacketTable, latency: u32, delay_box: &DelayBox) -> bool
     requires packets { table.now ≡ table_of scenario.now }
     requires inside { IsBox scenario.now delay_box.now }
-    ensures { IfOk result (λ answer. answer ≡ closes scenario.now latency delay_box.now) }
+    ensures { result ≡ closes scenario.now latency delay_box.now }
 {
-    if bound(scenario, table, delay_box) <= latency {
-        return Ok(true);
-    }
-    if !is_point(delay_box) {
-        return Ok(false);
-    }
-    members_are_assignments();
-    let delays = delay_box.greatest(alloc)?;
-    Ok(convoy_sim::latency(scenario, table, &delays) <= latency)
-}
-
-/// Whether each packet has one delay left.
-fn is_point(delay_box: &DelayBox) -> bool
-    ensures { result ≡ is_point delay_box.now }
-{
-    delay_box.is_point()
+    bound(scenario, table, delay_box) <= latency
+        || delay_box.is_point() && delay_box.greatest_latency(scenario, table) <= latency
 }

@@ -12,17 +12,20 @@ use convoy_intervals::laws::{halves_are_boxes, halves_partition, root_holds_all,
 use convoy_packets::PacketTable;
 use convoy_scenario::Scenario;
 use std::alloc::{AllocError, Global};
+use thiserror::Error;
 
 #[cfg(test)]
 mod tests;
 
 /// Why a list of events was not replayed.
-#[derive(Clone, Copy, Debug, PartialEq, Eq)]
+#[derive(Clone, Copy, Debug, PartialEq, Eq, Error)]
 pub enum ReplayFault {
     /// An event is not lawful in the state that those before it lead to: the place of the first one,
     /// from 0. Its number is 35 (docs/FORMATS.md).
+    #[error("event {0} is not lawful")]
     Unlawful(usize),
     /// Memory ran out, which says nothing of the events.
+    #[error("out of memory")]
     Memory,
 }
 
@@ -62,7 +65,7 @@ pub fn replay(
     point_leaves_cover();
     let mut core = Core::start(alloc, scenario, table)?;
     for (place, event) in events.iter().enumerate() {
-        if !core.is_lawful(alloc, scenario, table, event)? {
+        if !core.is_lawful(scenario, table, event) {
             return Err(ReplayFault::Unlawful(place));
         }
         core.follow(event)?;

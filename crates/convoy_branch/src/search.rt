@@ -14,6 +14,7 @@ ghost use Rattle.convoy_branch.specs.Uppers.{IsUpperOf};
 
 use super::bounds::Bounds;
 use super::closer::Closer;
+use super::gate::{Gate, NoGate};
 use super::laws::{fronts_bound, uppers_begin, uppers_raised};
 use super::outcome::Outcome;
 use super::step::{Turn, step_branch};
@@ -48,18 +49,20 @@ pub fn search_alone(
 {
     let delays = Delays::least(alloc, table)?;
     let opening = Record::of(scenario, table, delays);
-    search_from(alloc, scenario, table, opening, limit, bounds)
+    search_from(alloc, scenario, table, opening, limit, bounds, &NoGate)
 }
 
 /// The search of [`search_alone`] from an opening record of the scenario. Its latency is at least
 /// that of the least delays, and the latency that the search finds is at least that of the record.
-pub fn search_from(
+/// The gate is called before each box that is taken up, by worker 0.
+pub fn search_from<G: Gate>(
     alloc: Global,
     scenario: &Scenario,
     table: &PacketTable,
     opening: Record,
     limit: u64,
     bounds: Bounds,
+    gate: &G,
 ) -> Result<Outcome, AllocError>
     requires packets { table.now ≡ table_of scenario.now }
     requires of_scenario { opening.scenario ≡ scenario.now }
@@ -73,6 +76,7 @@ pub fn search_from(
         match work {
             Work::Write(node) => search.nodes.push(node)?,
             Work::Branch { branch, tried } if search.tickets < limit => {
+                gate.before_branch(0, search.tickets + 1);
                 search.take_up(alloc, scenario, table, branch, tried, &mut closer)?;
             }
             Work::Branch { branch, tried } => {

@@ -1,12 +1,15 @@
 use convoy_incumbent::{BoardFault, Late, NoteFault};
 use std::alloc::AllocError;
+use thiserror::Error;
 
 /// Why a search gave no outcome.
-#[derive(Drop)]
+#[derive(Debug, Drop, Error)]
 pub enum SearchFault {
     /// Memory ran out.
+    #[error("out of memory")]
     Memory,
     /// The place of a record is larger than the board's word can name.
+    #[error("a record has place {}, and a board can name those below 4294967296", .0.place())]
     PlaceTooLarge(Late),
 }
 

@@ -11,12 +11,11 @@ ghost use Rattle.convoy_share.specs.Turns.{pieces_of};
 
 use super::fault::SearchFault;
 use super::filling::Filling;
-use super::gate::Gate;
 use super::means::{Means, TakenUp, take_up};
 use super::piece::Piece;
 use super::shared::Shared;
-use convoy_branch::Turn;
 use convoy_branch::laws::fronts_better;
+use convoy_branch::{Gate, Turn};
 use convoy_certificate::Node;
 use convoy_intervals::Tracked;
 use std::alloc::AllocError;

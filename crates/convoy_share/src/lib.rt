@@ -1,8 +1,8 @@
 //! Branch and bound by several workers, who share one board, one ledger and one deque.
 #![tactic(auto)]
 
+pub use convoy_branch::{Gate, NoGate};
 pub use fault::SearchFault;
-pub use gate::{Gate, NoGate};
 pub use piece::Piece;
 pub use searching::{search, search_from};
 
@@ -10,7 +10,6 @@ mod ending;
 mod fault;
 mod filling;
 mod finishing;
-mod gate;
 mod gathering;
 mod growing;
 pub mod laws;

@@ -6,10 +6,9 @@ ghost use Rattle.convoy_branch.specs.Steps.{known_after, IsTriedIf};
 ghost use Rattle.convoy_share.specs.Means.{IsTakenUp};
 
 use super::fault::SearchFault;
-use super::gate::Gate;
 use super::shared::Shared;
 use convoy_branch::laws::{fronts_better, turns_are_fronts, turns_are_nodes};
-use convoy_branch::{Closer, Step, Turn, step_branch};
+use convoy_branch::{Closer, Gate, Step, Turn, step_branch};
 use convoy_incumbent::{Board, Hand};
 use convoy_intervals::Tracked;
 use convoy_intervals::laws::upper_keeps_greatest;

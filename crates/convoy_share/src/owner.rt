@@ -11,15 +11,14 @@ ghost use Rattle.convoy_share.specs.Offers.{IsOffered};
 ghost use Rattle.convoy_share.specs.Workers.{StaysOwner};
 
 use super::fault::SearchFault;
-use super::gate::Gate;
 use super::growing::Growing;
 use super::means::{Means, TakenUp, take_up};
 use super::piece::Piece;
 use super::shared::Shared;
 use super::tree::{Tree, keep};
 use super::worker::search_branch;
-use convoy_branch::Turn;
 use convoy_branch::laws::fronts_better;
+use convoy_branch::{Gate, Turn};
 use convoy_deque::Owner;
 use convoy_intervals::Tracked;
 use std::sync::Wait;

@@ -8,11 +8,11 @@ ghost use Rattle.convoy_share.specs.Common.{common_by, common_of};
 ghost use Rattle.convoy_share.specs.Workers.{HasJoined, IsThiefOf, StaysOwner, StaysThief};
 
 use super::fault::SearchFault;
-use super::gate::Gate;
 use super::gathering::gather;
 use super::owner::{OwnerWorker, work};
 use super::shared::Shared;
 use super::thief::{ThiefWorker, rob};
+use convoy_branch::Gate;
 use std::sync::Wait;
 use std::sync::atomic::Ordering;
 use std::thread::{Threads, join};

@@ -13,7 +13,6 @@ ghost use Rattle.convoy_share.specs.Pieces.{is_left};
 
 use super::ending::{Ended, finish};
 use super::fault::SearchFault;
-use super::gate::Gate;
 use super::opening::open_workers;
 use super::piece::Piece;
 use super::running::run;
@@ -23,7 +22,7 @@ use convoy_branch::laws::{
     fronts_better, fronts_bound, only_leads_have_lead_leaves, plain_fronts_have_no_stamps,
     whole_fronts_are_readable, whole_fronts_are_trees,
 };
-use convoy_branch::{Bounds, Outcome};
+use convoy_branch::{Bounds, Gate, Outcome};
 use convoy_certificate::Certificate;
 use convoy_checker::laws::trees_cover;
 use convoy_incumbent::{Board, CloseFault, Hand};

@@ -5,11 +5,11 @@ ghost use Rattle.convoy_share.specs.Common.{common_of};
 ghost use Rattle.convoy_share.specs.Workers.{StaysThief};
 
 use super::fault::SearchFault;
-use super::gate::Gate;
 use super::means::Means;
 use super::shared::Shared;
 use super::tree::{Tree, keep};
 use super::worker::search_branch;
+use convoy_branch::Gate;
 use convoy_branch::laws::fronts_better;
 use convoy_deque::Thief;
 use crossbeam_deque::Steal;

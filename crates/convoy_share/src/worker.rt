@@ -8,11 +8,11 @@ ghost use Rattle.convoy_share.specs.Growing.{pieces_in};
 ghost use Rattle.convoy_share.specs.Means.{IsGrown, drawn};
 
 use super::fault::SearchFault;
-use super::gate::Gate;
 use super::growing::Growing;
 use super::means::{Means, TakenUp, take_up};
 use super::piece::Piece;
 use super::shared::Shared;
+use convoy_branch::Gate;
 use convoy_branch::laws::fronts_better;
 use convoy_intervals::Tracked;
 use std::sync::Wait;

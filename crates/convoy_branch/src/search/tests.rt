@@ -5,6 +5,7 @@ ghost use Rattle.convoy_sim.specs.Record.{attained_by};
 
 use super::{search_alone, search_from};
 use crate::bounds::Bounds;
+use crate::gate::{Gate, NoGate};
 use crate::outcome::Outcome;
 use crate::scenarios::base;
 use convoy_certificate::Node;
@@ -13,6 +14,7 @@ use convoy_scenario::Scenario;
 use convoy_sim::Record;
 use std::alloc::{AllocError, Global};
 use std::process::Abort;
+use std::sync::atomic::{AtomicBool, AtomicU64, Ordering};
 use std::test::Fail;
 
 /// How a search ended.
@@ -49,7 +51,15 @@ fn outcome_from_greatest(
     let least = Record::of(scenario, &table, Delays::least(alloc, &table)?);
     let opening = Record::of(scenario, &table, Delays::greatest(alloc, &table)?);
     assert!(rt; least.latency() <= opening.latency());
-    Ok(search_from(alloc, scenario, &table, opening, limit, Bounds::Plain)?)
+    Ok(search_from(
+        alloc,
+        scenario,
+        &table,
+        opening,
+        limit,
+        Bounds::Plain,
+        &NoGate,
+    )?)
 }
 
 fn ending_of(outcome: &Outcome) -> Ending {
@@ -184,5 +194,39 @@ fn opens_with_a_record(rt: HostRuntime) -> Result<(), Fail> {
     let swapped = base(alloc, 3, "\"b\", \"a\"", 6)?;
     let outcome = outcome_from_greatest(&rt, alloc, &swapped, 1_469)?;
     assert_eq!(rt; ending_of(&outcome), Ending::Proved(6, 1_469, 1_469));
+    Ok(())
+}
+
+/// A gate that counts its calls, and looks whether they are those of worker 0, one after the other.
+#[derive(Drop)]
+struct Counting {
+    calls: AtomicU64,
+    in_turn: AtomicBool,
+}
+
+impl Gate for Counting {
+    fn before_branch(&self, worker: u32, nth: u64) {
+        let before = self.calls.fetch_add(1, Ordering::Relaxed);
+        if worker != 0 || before.checked_add(1) != Some(nth) {
+            self.in_turn.store(false, Ordering::Relaxed);
+        }
+    }
+}
+
+/// The gate is called once for each ticket, before the box is taken up.
+#[test]
+fn calls_its_gate(rt: HostRuntime) -> Result<(), Fail> {
+    let alloc = rt.alloc();
+    let scenario = base(alloc, 3, "\"b\", \"a\"", 6)?;
+    let table = PacketTable::of(alloc, &scenario)?;
+    let opening = Record::of(&scenario, &table, Delays::least(alloc, &table)?);
+    let gate = Counting {
+        calls: AtomicU64::new(0),
+        in_turn: AtomicBool::new(true),
+    };
+    let outcome = search_from(alloc, &scenario, &table, opening, 10, Bounds::Plain, &gate)?;
+    assert_eq!(rt; ending_of(&outcome), Ending::Open(6, 12, 10));
+    assert_eq!(rt; gate.calls.load(Ordering::Relaxed), 10);
+    assert!(rt; gate.in_turn.load(Ordering::Relaxed));
     Ok(())
 }

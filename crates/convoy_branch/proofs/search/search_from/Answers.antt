@@ -4,7 +4,7 @@ use Rattle.convoy_branch.proofs.SearchSteps.{IsSearching-popped}
 use Rattle.convoy_branch.proofs.search.search_from.Goals as goal
 
 pub loop-work-init : goal.loop-work-init
-loop-work-init c = record {
+loop-work-init g c = record {
   closer = c.new-closer.ensures;
   searching = c.in_ok-search.ensures.searching c.args.bounds;
   few = omega (arith, c.in_ok-search.ensures.tickets);
@@ -12,7 +12,7 @@ loop-work-init c = record {
 }
 
 pub loop-work-preserved-in-Continue-branch-2 : goal.loop-work-preserved-in-Continue-branch-2
-loop-work-preserved-in-Continue-branch-2 c = record {
+loop-work-preserved-in-Continue-branch-2 g c = record {
   closer = c.loop-work.invariant.closer;
   searching = IsSearching-popped c.args.bounds c.args.scenario.now c.loop-work.search.best c.loop-work.search.work.items c.pop.new.self.items c.loop-work.search.nodes.items c.push.new.self.items c.loop-work.search.tickets c.in-Some.work c.in-Write.node c.in-Some.ensures.items c.in-Write.is c.in_ok-push-in-Write.ensures.items c.loop-work.invariant.searching;
   few = c.loop-work.invariant.few;
@@ -20,4 +20,4 @@ loop-work-preserved-in-Continue-branch-2 c = record {
 }
 
 pub returns-clause-value : goal.returns-clause-value
-returns-clause-value c = c.into_proved.ensures.value c.args.limit c.loop-work.invariant.few
+returns-clause-value g c = c.into_proved.ensures.value c.args.limit c.loop-work.invariant.few

@@ -3,7 +3,7 @@ use Rattle.convoy_branch.specs.Searching.{IsSearching}
 use Rattle.convoy_branch.proofs.search.search_from.Given as goal
 
 abbrev pub invariant-loop-work : goal.invariant-loop-work
-invariant-loop-work l = record {
+invariant-loop-work g l = record {
   closer : l.closer ≡ l.bounds;
   searching : IsSearching l.bounds l.scenario l.search.best l.search.work.items l.search.nodes.items l.search.tickets;
   few : l.search.tickets ≤ l.limit;
@@ -11,4 +11,4 @@ invariant-loop-work l = record {
 }
 
 abbrev pub decreases-loop-work : goal.decreases-loop-work
-decreases-loop-work l = 3 * (l.limit - l.search.tickets) + length l.search.work.items
+decreases-loop-work g l = 3 * (l.limit - l.search.tickets) + length l.search.work.items
