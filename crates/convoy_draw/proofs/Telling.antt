@@ -1,0 +1,114 @@
+-- What texts and layers tell that are put together of parts.
+use Rattle.std.proofs.Common.{◌≡◌, ℕ, List, [], ◌∷◌, ◌++◌, append_assoc, refl, codes}
+use Rattle.std.proofs.lemmas.List.{append-nil}
+use Rattle.std.proofs.lemmas.List.Elements.{All-weaker}
+use Rattle.std.specs.List.{All}
+use Rattle.convoy_scenario.specs.Scenario.{Scenario}
+use Rattle.convoy_draw.specs.Drawings.{IsDrawing, Tells, answer_text, entry_text, flight_text}
+use Rattle.convoy_draw.specs.Layers.{IsToldIn, Layers, element_text, layer_of, with_element}
+use Rattle.convoy_draw.specs.Pictures.{Picture}
+use Rattle.convoy_draw.specs.declared.role.Role.{Role}
+use Rattle.convoy_draw.specs.declared.role.Role.TheVariants.{Target, Holder, Other}
+
+-- a text tells what a part of it tells
+pub tells_within : (piece part front back text : List ℕ) → Tells piece part → text ≡ front ++ (part ++ back) → Tells piece text
+tells_within piece part front back text told whole = record {
+  before = front ++ told.before;
+  after = told.after ++ back;
+  whole = rw (whole, told.whole) (simp append_assoc);
+}
+
+-- a layer tells what it told before more was put into it, and what that tells
+tells_before : (piece layer element : List ℕ) → Tells piece layer → Tells piece (layer ++ element)
+tells_before piece layer element told = tells_within piece layer [] element (layer ++ element) told refl
+
+tells_after : (piece layer element : List ℕ) → Tells piece element → Tells piece (layer ++ element)
+tells_after piece layer element told =
+    tells_within piece element layer [] (layer ++ element) told (rw append-nil refl)
+
+still_told : (layers : Layers) (piece element : List ℕ) (role more : Role)
+    → Tells piece (layer_of layers role) → Tells piece (layer_of (with_element layers more element) role)
+still_told layers piece element Target Target told = tells_before piece layers.target element told
+still_told layers piece element Holder Holder told = tells_before piece layers.holder element told
+still_told layers piece element Other Other told = tells_before piece layers.others element told
+still_told layers piece element Target Holder told = told
+still_told layers piece element Target Other told = told
+still_told layers piece element Holder Target told = told
+still_told layers piece element Holder Other told = told
+still_told layers piece element Other Target told = told
+still_told layers piece element Other Holder told = told
+
+now_told : (layers : Layers) (piece element : List ℕ) (role : Role)
+    → Tells piece element → Tells piece (layer_of (with_element layers role element) role)
+now_told layers piece element Target told = tells_after piece layers.target element told
+now_told layers piece element Holder told = tells_after piece layers.holder element told
+now_told layers piece element Other told = tells_after piece layers.others element told
+
+-- layers tell what they told before an element was put into one of them
+pub told_before : (layers : Layers) (role : Role) (element piece : List ℕ)
+    → IsToldIn layers piece → IsToldIn (with_element layers role element) piece
+told_before layers role element piece told =
+    record { role = told.role; told = still_told layers piece element told.role role told.told }
+
+-- layers tell what the element tells that was put into one of them
+pub told_after : (layers : Layers) (role : Role) (element piece : List ℕ)
+    → Tells piece element → IsToldIn (with_element layers role element) piece
+told_after layers role element piece told = record { role = role; told = now_told layers piece element role told }
+
+-- what an element tells
+pub element_tells : (told drawn : List ℕ) → Tells told (element_text told drawn)
+element_tells told drawn = record { before = codes "<g><title>"; after = codes "</title>" ++ (drawn ++ (codes "</g>" ++ 10 ∷ [])); whole = refl }
+
+-- what stands in a text tells itself
+pub tells_itself : (piece first second back text : List ℕ) → text ≡ first ++ (second ++ (piece ++ back)) → Tells piece text
+tells_itself piece first second back text whole = record {
+  before = first ++ second;
+  after = back;
+  whole = rw whole (simp append_assoc);
+}
+
+-- three layers in their groups
+abbrev pub joined : Layers → List ℕ → List ℕ → List ℕ → List ℕ
+joined layers first second third =
+    codes "<g " ++ (first ++ (codes ">" ++ (layers.others
+    ++ (codes "</g><g " ++ (second ++ (codes ">" ++ (layers.holder
+    ++ (codes "</g><g " ++ (third ++ (codes ">" ++ (layers.target ++ codes "</g>")))))))))))
+
+joined_tells_of : (layers : Layers) (first second third piece text : List ℕ) → text ≡ joined layers first second third
+    → (role : Role) → Tells piece (layer_of layers role) → Tells piece text
+joined_tells_of layers first second third piece text whole Other told =
+    tells_within piece layers.others (codes "<g " ++ (first ++ codes ">"))
+    (codes "</g><g " ++ (second ++ (codes ">" ++ (layers.holder ++ (codes "</g><g " ++ (third ++ (codes ">" ++ (layers.target ++ codes "</g>"))))))))
+    text told (rw whole (simp append_assoc))
+joined_tells_of layers first second third piece text whole Holder told =
+    tells_within piece layers.holder
+    (codes "<g " ++ (first ++ (codes ">" ++ (layers.others ++ (codes "</g><g " ++ (second ++ codes ">"))))))
+    (codes "</g><g " ++ (third ++ (codes ">" ++ (layers.target ++ codes "</g>"))))
+    text told (rw whole (simp append_assoc))
+joined_tells_of layers first second third piece text whole Target told =
+    tells_within piece layers.target
+    (codes "<g " ++ (first ++ (codes ">" ++ (layers.others ++ (codes "</g><g " ++ (second ++ (codes ">" ++ (layers.holder ++ (codes "</g><g " ++ (third ++ codes ">"))))))))))
+    (codes "</g>") text told (rw whole (simp append_assoc))
+
+-- layers that are joined tell what they tell one by one
+pub joined_tells : (layers : Layers) (first second third text : List ℕ) → text ≡ joined layers first second third
+    → (piece : List ℕ) → IsToldIn layers piece → Tells piece text
+joined_tells layers first second third text whole piece told =
+    joined_tells_of layers first second third piece text whole told.role told.told
+
+-- an image tells what its parts tell
+pub drawing_tells : (scenario : Scenario) (picture : Picture) (head ground packets signs labels foot text : List ℕ)
+    → text ≡ head ++ (ground ++ (packets ++ (signs ++ (labels ++ foot))))
+    → Tells (answer_text scenario picture.why) head
+    → All (λ flight. Tells (flight_text scenario flight) packets) picture.flights
+    → All (λ entry. Tells (entry_text scenario entry) signs) picture.entries
+    → IsDrawing scenario picture text
+drawing_tells scenario picture head ground packets signs labels foot text whole answer flights entries = record {
+  answer = tells_within _ head [] (ground ++ (packets ++ (signs ++ (labels ++ foot)))) text answer whole;
+  flights = All-weaker (λ flight. Tells (flight_text scenario flight) packets) (λ flight. Tells (flight_text scenario flight) text)
+      (λ flight told. tells_within _ packets (head ++ ground) (signs ++ (labels ++ foot)) text told (rw whole (simp append_assoc)))
+      picture.flights flights;
+  entries = All-weaker (λ entry. Tells (entry_text scenario entry) signs) (λ entry. Tells (entry_text scenario entry) text)
+      (λ entry told. tells_within _ signs (head ++ (ground ++ packets)) (labels ++ foot) text told (rw whole (simp append_assoc)))
+      picture.entries entries;
+}

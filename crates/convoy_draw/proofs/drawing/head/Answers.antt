@@ -1,0 +1,14 @@
+use Rattle.std.proofs.Common.{◌≡◌, ◌++◌, IfOk, codes, rules, string_bytes}
+use Rattle.std.proofs.lemmas.Result.{IfOk-weaker}
+use Rattle.convoy_draw.specs.Drawings.{Tells, answer_text}
+use Rattle.convoy_draw.proofs.Telling.{tells_itself}
+use Rattle.convoy_draw.proofs.drawing.head.Goals as goal
+
+pub returns : goal.returns
+returns c =
+    let answer = answer_text c.args.scenario.now c.args.picture.now.why in
+    let start = string_bytes c.in_ok-start.start in
+    let heading = string_bytes c.in_ok-heading.heading in
+    let whole : IfOk c.format.result (λ text. string_bytes text ≡ start ++ (codes "<title>" ++ (answer ++ (codes "</title>" ++ heading)))) = search rules in
+    IfOk-weaker c.format.result _ (λ text. Tells answer (string_bytes text))
+    (λ text is. tells_itself answer start (codes "<title>") (codes "</title>" ++ heading) (string_bytes text) is) whole

@@ -1,0 +1,10 @@
+use Rattle.std.proofs.Common.{◌≡◌, ◌++◌, drop, map}
+use Rattle.std.specs.List.{enumerate_from}
+use Rattle.convoy_draw.specs.Pictures.{flight_of, flights_of}
+use Rattle.convoy_draw.proofs.picture.list_flights.Given as goal
+
+-- the flights so far and those of the packets that are left are the flights of all packets
+abbrev pub invariant-loop-number : goal.invariant-loop-number
+invariant-loop-number l =
+    l.flights.items ++ map (λ p. flight_of l.scenario l.delays p.0 p.1) (enumerate_from l.number (drop l.number l.table.packets))
+    ≡ flights_of l.scenario l.delays

@@ -1,0 +1,117 @@
+ghost use Rattle.std.specs.Prelude.{◌≡◌, ◌+◌, ◌≤◌};
+ghost use Rattle.convoy_draw.specs.Pictures.{flight_of, sent_at};
+ghost use Rattle.convoy_packets.specs.Assignment.{delay_of, sender_of};
+ghost use Rattle.convoy_packets.specs.Table.{table_of};
+ghost use Rattle.convoy_packets.specs.declared.packet.Packet.TheVariants.{Multicast};
+ghost use Rattle.convoy_scenario.specs.Scenario.{message_at};
+ghost use Rattle.convoy_sim.specs.Times.{arrive};
+
+use convoy_packets::{Delays, Packet, PacketTable};
+use convoy_scenario::{GREATEST_AT, Scenario, Sender};
+
+/// A packet of a run on its way. Ticks are counted from the start of the run.
+#[derive(Clone, Copy, Debug, PartialEq, Eq)]
+pub struct Flight {
+    /// Its number: its place in the packet order (docs/PROTOCOL.md).
+    pub number: usize,
+    /// What it is, and where it goes.
+    pub packet: Packet,
+    /// The place that sends it.
+    pub from: Sender,
+    /// The tick at which it is sent: of a message its issue, and of a proposal the arrival of the message
+    /// at the group that proposes.
+    pub sent: u32,
+    /// The tick at which it comes.
+    pub arrival: u32,
+}
+
+/// The packet of that number on its way, in the run of the scenario under a schedule.
+pub(crate) fn flight_of(
+    scenario: &Scenario,
+    table: &PacketTable,
+    delays: &Delays,
+    number: usize,
+    packet: Packet,
+) -> Flight
+    requires { table.now ≡ table_of scenario.now }
+    ensures { result ≡ flight_of scenario.now delays.now number packet }
+{
+    let sent = sent_tick(scenario, table, delays, packet);
+    Flight {
+        number,
+        packet,
+        from: sender(scenario, packet),
+        sent,
+        arrival: sent + delay(table, delays, packet),
+    }
+}
+
+/// The tick at which a packet is sent.
+fn sent_tick(scenario: &Scenario, table: &PacketTable, delays: &Delays, packet: Packet) -> u32
+    requires { table.now ≡ table_of scenario.now }
+    ensures value { result ≡ sent_at scenario.now delays.now packet }
+    ensures soon { result ≤ GREATEST_AT + u16.MAX }
+{
+    match packet {
+        Packet::Multicast { message, .. } => issue_tick(scenario, message),
+        Packet::Propose { message, from, .. } => arrival(scenario, table, delays, message, from),
+    }
+}
+
+/// The tick at which a message arrives at a group.
+#[tactic(auto, unfolding(convoy_sim::specs::Times::arrive, convoy_packets::specs::Assignment::delay_of))]
+fn arrival(
+    scenario: &Scenario,
+    table: &PacketTable,
+    delays: &Delays,
+    message: usize,
+    group: usize,
+) -> u32
+    requires { table.now ≡ table_of scenario.now }
+    ensures tick { result ≡ arrive scenario.now delays.now message group }
+    ensures soon { result ≤ GREATEST_AT + u16.MAX }
+{
+    let delay = table.multicast_delay(delays, message, group);
+    issue_tick(scenario, message) + u32::from(delay)
+}
+
+/// The delay of a packet in a schedule, in ticks.
+#[tactic(auto, unfolding(convoy_packets::specs::Assignment::delay_of))]
+fn delay(table: &PacketTable, delays: &Delays, packet: Packet) -> u32
+    ensures value { (scenario : Scenario) → table.now ≡ table_of scenario → result ≡ delay_of scenario delays.now packet }
+    ensures short { result ≤ u16.MAX }
+{
+    match packet {
+        Packet::Multicast { message, to } => {
+            u32::from(table.multicast_delay(delays, message, to))
+        }
+        Packet::Propose { message, from, to } => {
+            u32::from(table.propose_delay(delays, message, from, to))
+        }
+    }
+}
+
+/// Who sends a packet; a client where the scenario has no such message.
+fn sender(scenario: &Scenario, packet: Packet) -> Sender
+    ensures { result ≡ sender_of scenario.now packet }
+{
+    match packet {
+        Packet::Multicast { message, .. } if message < scenario.message_count() => {
+            scenario.sender(message)
+        }
+        Packet::Multicast { .. } => Sender::Client,
+        Packet::Propose { from, .. } => Sender::Group(from),
+    }
+}
+
+/// The tick at which a message is issued; 0 where the scenario has no such message.
+fn issue_tick(scenario: &Scenario, message: usize) -> u32
+    ensures value { result ≡ (message_at scenario.now message).at }
+    ensures soon { result ≤ GREATEST_AT }
+{
+    if message < scenario.message_count() {
+        scenario.issue_tick(message)
+    } else {
+        0
+    }
+}

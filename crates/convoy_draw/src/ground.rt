@@ -1,0 +1,180 @@
+use super::mark::wait_mark;
+use super::picture::Picture;
+use super::scale::Stretch;
+use super::sheet::{AXIS, LEFT, Sheet, lane_of};
+use super::signs::WAIT_COLOR;
+use super::words::{group_name, width_of};
+use convoy_scenario::{Scenario, Sender};
+use std::alloc::{AllocError, Global};
+
+/// How wide a digit is.
+const DIGIT: u32 = 70;
+
+/// How far what stands beside the lanes is from the first tick.
+const ASIDE: u32 = 150;
+
+/// How wide the name of a lane may be with no need to squeeze it.
+const WIDEST_NAME: u32 = 1_250;
+
+/// How a name is drawn that is wider.
+const SQUEEZED: &str = r#" textLength="1450" lengthAdjust="spacingAndGlyphs""#;
+
+/// What all else is drawn on: the ticks, the lanes, and the time that the target waits at its group.
+pub(crate) fn ground(
+    alloc: Global,
+    scenario: &Scenario,
+    picture: &Picture,
+    sheet: &Sheet,
+) -> Result<String, AllocError> {
+    let mut text = String::new(alloc);
+    write_ticks(sheet, &mut text)?;
+    write_lanes(scenario, sheet, &mut text)?;
+    write_wait(scenario, picture, sheet, &mut text)?;
+    Ok(text)
+}
+
+/// The ticks: their numbers, and a line down all lanes at each number.
+fn write_ticks(sheet: &Sheet, text: &mut String) -> Result<(), AllocError> {
+    let left = LEFT - ASIDE;
+    write!(
+        text,
+        "<g fill=\"#444444\" text-anchor=\"middle\" stroke-width=\"6\">\n<text x=\"{left}\" y=\"{AXIS}\" text-anchor=\"end\">tick</text>\n"
+    )?;
+    let step = tick_step(sheet.scale.tick_width());
+    let mut free = 0;
+    for stretch in sheet.scale.stretches() {
+        free = write_numbers(sheet, stretch, step, free, text)?;
+    }
+    text.push_str("</g>\n")
+}
+
+/// How many ticks of that width there are from one number to the next, so that they have room.
+fn tick_step(width: u32) -> u32 {
+    for step in [1, 2, 5, 10, 20, 50] {
+        if width.saturating_mul(step) >= 300 {
+            return step;
+        }
+    }
+    100
+}
+
+/// The numbers of a stretch, from a free place on; answers the place that is free after them.
+fn write_numbers(
+    sheet: &Sheet,
+    stretch: &Stretch,
+    step: u32,
+    free: u32,
+    text: &mut String,
+) -> Result<u32, AllocError> {
+    let (top, bottom) = (AXIS + 60, sheet.bottom);
+    let mut free = free;
+    for tick in stretch.first..=stretch.last {
+        let x = sheet.scale.x_of(tick);
+        let half = number_width(tick) / 2;
+        if is_numbered(stretch, step, tick) && free <= x.saturating_sub(half) {
+            write!(
+                text,
+                "<text x=\"{x}\" y=\"{AXIS}\">{tick}</text><path d=\"M{x} {top}V{bottom}\" stroke=\"#dddddd\"/>\n"
+            )?;
+            free = x.saturating_add(half).saturating_add(DIGIT);
+        }
+    }
+    Ok(free)
+}
+
+/// Whether a tick of a stretch is to have its number: the first one, and each that so many go into.
+fn is_numbered(stretch: &Stretch, step: u32, tick: u32) -> bool {
+    tick == stretch.first || tick % step.max(1) == 0
+}
+
+/// How wide a number is.
+fn number_width(number: u32) -> u32 {
+    let mut width = DIGIT;
+    for limit in [10, 100, 1_000, 10_000, 100_000, 1_000_000] {
+        if number >= limit {
+            width = width.saturating_add(DIGIT);
+        }
+    }
+    width
+}
+
+/// The lanes.
+fn write_lanes(scenario: &Scenario, sheet: &Sheet, text: &mut String) -> Result<(), AllocError> {
+    text.push_str("<g stroke=\"#444444\" stroke-width=\"12\">\n")?;
+    for lane in 0..sheet.lane_count() {
+        write_name(scenario, sheet, lane, text)?;
+        write_lane(sheet, sheet.y_of(lane), text)?;
+    }
+    text.push_str("</g>\n")
+}
+
+/// The name of a lane; bold where it is that of the target's group.
+fn write_name(
+    scenario: &Scenario,
+    sheet: &Sheet,
+    lane: usize,
+    text: &mut String,
+) -> Result<(), AllocError> {
+    let (x, y) = (LEFT - ASIDE, sheet.y_of(lane).saturating_add(40));
+    let name = match lane.checked_sub(1) {
+        Some(group) => group_name(scenario, group),
+        None => "clients",
+    };
+    let weight = if lane == lane_of(Sender::Group(scenario.target_group())) {
+        "bold"
+    } else {
+        "normal"
+    };
+    let squeezed = if width_of(name) > WIDEST_NAME {
+        SQUEEZED
+    } else {
+        ""
+    };
+    write!(
+        text,
+        "<text x=\"{x}\" y=\"{y}\" font-size=\"120\" font-weight=\"{weight}\" text-anchor=\"end\" stroke=\"none\"{squeezed}>{name}</text>\n"
+    )
+}
+
+/// A lane: a line through each stretch, and two strokes in the middle of each cut.
+fn write_lane(sheet: &Sheet, y: u32, text: &mut String) -> Result<(), AllocError> {
+    let low = y.saturating_add(60);
+    let mut end: Option<u32> = None;
+    for stretch in sheet.scale.stretches() {
+        let left = stretch.left.saturating_sub(80);
+        if let Some(end) = end {
+            let middle = (end / 2).saturating_add(left / 2);
+            let (first, second) = (middle.saturating_sub(55), middle.saturating_sub(5));
+            write!(
+                text,
+                "<path d=\"M{first} {low}l60 -120M{second} {low}l60 -120\"/>\n"
+            )?;
+        }
+        let right = sheet.scale.right_of(stretch).saturating_add(80);
+        write!(text, "<path d=\"M{left} {y}H{right}\"/>\n")?;
+        end = Some(right);
+    }
+    Ok(())
+}
+
+/// The time from the commit of the target to its delivery, at its group.
+fn write_wait(
+    scenario: &Scenario,
+    picture: &Picture,
+    sheet: &Sheet,
+    text: &mut String,
+) -> Result<(), AllocError> {
+    let Some(mark) = wait_mark(scenario, picture) else {
+        return Ok(());
+    };
+    let left = sheet.x_of(&mark);
+    let right = sheet.scale.place(picture.why().delivered, mark.message);
+    let (top, width) = (
+        sheet.y_of(mark.lane).saturating_sub(50),
+        right.saturating_sub(left),
+    );
+    write!(
+        text,
+        "<rect x=\"{left}\" y=\"{top}\" width=\"{width}\" height=\"100\" fill=\"{WAIT_COLOR}\" fill-opacity=\"0.7\"/>\n"
+    )
+}

@@ -1,0 +1,116 @@
+use super::mark::MarkKind;
+use super::picture::Picture;
+use super::role::Role;
+use super::sheet::{MARGIN, Sheet};
+use super::signs::sign;
+use super::words::{message_name, width_of};
+use convoy_scenario::Scenario;
+use std::alloc::{AllocError, Global};
+
+/// How wide a sample is, with the gap after it.
+const SAMPLE: u32 = 350;
+
+/// How high a line of the legend is.
+const LINE: u32 = 220;
+
+/// How a plain line is drawn.
+const PLAIN: &str = r#"stroke-width="16""#;
+
+/// How the line of a proposal is drawn.
+const DASHED: &str = r#"stroke-width="16" stroke-dasharray="60 40""#;
+
+/// How the line is drawn of what the delivery waits for.
+const THICK: &str = r#"stroke-width="40""#;
+
+/// The legend: the colours of messages, the lines of packets, and the signs of what happens.
+pub(crate) fn legend(
+    alloc: Global,
+    scenario: &Scenario,
+    picture: &Picture,
+    sheet: &Sheet,
+) -> Result<String, AllocError> {
+    let mut text = String::new(alloc);
+    let y = sheet.bottom.saturating_add(400);
+    write_colors(alloc, scenario, picture, y, &mut text)?;
+    write_lines(y.saturating_add(LINE), &mut text)?;
+    write_signs(alloc, sheet, y.saturating_add(LINE + LINE), &mut text)?;
+    Ok(text)
+}
+
+/// The colours of the messages.
+fn write_colors(
+    alloc: Global,
+    scenario: &Scenario,
+    picture: &Picture,
+    y: u32,
+    text: &mut String,
+) -> Result<(), AllocError> {
+    let target = message_name(scenario, scenario.target_message());
+    let words = format!(in alloc; "{target}, whose delivery it is about")?;
+    let mut x = write_line(MARGIN, y, (Role::Target.color(), PLAIN), &words, text)?;
+    if let Some(holder) = &picture.why().holder {
+        let name = message_name(scenario, holder.message);
+        let words = format!(in alloc; "{name}, which holds it back")?;
+        x = write_line(x, y, (Role::Holder.color(), PLAIN), &words, text)?;
+    }
+    let _ = write_line(x, y, (Role::Other.color(), PLAIN), "other messages", text)?;
+    Ok(())
+}
+
+/// The lines of packets.
+fn write_lines(y: u32, text: &mut String) -> Result<(), AllocError> {
+    let mut x = MARGIN;
+    for (style, words) in [
+        (PLAIN, "a message on its way"),
+        (DASHED, "a proposal on its way"),
+        (THICK, "what the delivery waits for"),
+    ] {
+        x = write_line(x, y, ("#000000", style), words, text)?;
+    }
+    Ok(())
+}
+
+/// A line of that colour and style, with words; answers where the next sample stands.
+fn write_line(
+    x: u32,
+    y: u32,
+    (color, style): (&str, &str),
+    words: &str,
+    text: &mut String,
+) -> Result<u32, AllocError> {
+    let middle = y.saturating_sub(40);
+    write!(
+        text,
+        "<path d=\"M{x} {middle}h280\" stroke=\"{color}\" {style}/>"
+    )?;
+    write_words(x, y, words, text)
+}
+
+/// Words after a sample; answers where the next sample stands.
+fn write_words(x: u32, y: u32, words: &str, text: &mut String) -> Result<u32, AllocError> {
+    let left = x.saturating_add(SAMPLE);
+    write!(text, "<text x=\"{left}\" y=\"{y}\">{words}</text>\n")?;
+    Ok(left.saturating_add(width_of(words)).saturating_add(200))
+}
+
+/// The signs of what happens.
+fn write_signs(alloc: Global, sheet: &Sheet, y: u32, text: &mut String) -> Result<(), AllocError> {
+    let mut x = MARGIN;
+    for (kind, words) in [
+        (MarkKind::Arrival, "arrival, with the local stamp"),
+        (MarkKind::Commit, "commit, with the final stamp"),
+        (MarkKind::Delivery, "delivery"),
+    ] {
+        let sign = sign(alloc, kind, x.saturating_add(240), y.saturating_sub(40))?;
+        text.push_str(&sign)?;
+        x = write_words(x, y, words, text)?;
+    }
+    let wordless = sheet.wordless();
+    if wordless > 0 {
+        write!(
+            text,
+            "<text x=\"{x}\" y=\"{y}\">signs without room for words: {wordless}</text>\n"
+        )?;
+    }
+    Ok(())
+}

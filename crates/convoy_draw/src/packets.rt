@@ -1,0 +1,133 @@
+ghost use Rattle.std.specs.Prelude.{IfOk, List, OnOk, string_bytes, ℕ};
+ghost use Rattle.std.specs.List.{All};
+ghost use Rattle.convoy_draw.specs.Drawings.{Tells, flight_text};
+ghost use Rattle.convoy_draw.specs.Layers.{IsToldIn};
+
+use super::flight::Flight;
+use super::layers::Layers;
+use super::picture::Picture;
+use super::role::Role;
+use super::sheet::{Sheet, lane_of};
+use super::told::{flight_words, receiver_of};
+use convoy_explain::LastProposal;
+use convoy_packets::Packet;
+use convoy_scenario::{Scenario, Sender};
+use std::alloc::{AllocError, Global};
+
+/// How a packet is drawn for which the delivery of the target waits.
+const THICK: &str = r#" stroke-width="40""#;
+
+/// The packets on their way from lane to lane: messages straight and solid, proposals bent and dashed.
+pub(crate) fn packets(
+    alloc: Global,
+    scenario: &Scenario,
+    picture: &Picture,
+    sheet: &Sheet,
+) -> Result<String, AllocError>
+    ensures { IfOk result (λ text.
+        All (λ flight. Tells (flight_text scenario.now flight) (string_bytes text)) picture.now.flights) }
+{
+    let layers = flight_layers(alloc, scenario, picture, sheet)?;
+    let count = picture.flights().len();
+    let others = attributes(alloc, Role::Other, count)?;
+    let holder = attributes(alloc, Role::Holder, count)?;
+    let target = attributes(alloc, Role::Target, count)?;
+    layers.joined(alloc, &others, &holder, &target)
+}
+
+/// How the packets of a role are drawn among so many.
+fn attributes(alloc: Global, role: Role, count: usize) -> Result<String, AllocError> {
+    let (color, stroke) = (role.color(), role.stroke(count));
+    format!(in alloc; r#"fill="none" stroke="{color}" {stroke}"#)
+}
+
+/// The packets, those of each role in a layer.
+fn flight_layers(
+    alloc: Global,
+    scenario: &Scenario,
+    picture: &Picture,
+    sheet: &Sheet,
+) -> Result<Layers, AllocError>
+    ensures { IfOk result (λ layers.
+        All (λ flight. IsToldIn layers (flight_text scenario.now flight)) picture.now.flights) }
+{
+    let mut layers = Layers::new(alloc);
+    for flight in picture.flights() {
+        push_flight(&mut layers, alloc, scenario, picture, sheet, flight)?;
+    }
+    Ok(layers)
+}
+
+/// Puts a packet into the layer of its message.
+fn push_flight(
+    layers: &mut Layers,
+    alloc: Global,
+    scenario: &Scenario,
+    picture: &Picture,
+    sheet: &Sheet,
+    flight: &Flight,
+) -> Result<(), AllocError>
+    ensures told { OnOk result (IsToldIn layers.new (flight_text scenario.now flight.now)) }
+    ensures still { OnOk result ((piece : List ℕ) → IsToldIn layers.old piece → IsToldIn layers.new piece) }
+{
+    let told = flight_words(alloc, scenario, flight)?;
+    let drawn = line(alloc, sheet, &picture.why().last, flight)?;
+    let role = Role::of(scenario, picture, message_of(flight.packet));
+    layers.push_telling(role, &told, &drawn)
+}
+
+/// The line of a packet; thick where the delivery of the target waits for it.
+fn line(
+    alloc: Global,
+    sheet: &Sheet,
+    last: &LastProposal,
+    flight: &Flight,
+) -> Result<String, AllocError> {
+    let message = message_of(flight.packet);
+    let (left, from) = (
+        sheet.scale.place(flight.sent, message),
+        sheet.y_of(lane_of(flight.from)),
+    );
+    let (right, to) = (
+        sheet.scale.place(flight.arrival, message),
+        sheet.y_of(lane_of(Sender::Group(receiver_of(flight.packet)))),
+    );
+    let width = if is_awaited(last, flight.number) {
+        THICK
+    } else {
+        ""
+    };
+    match flight.packet {
+        Packet::Multicast { .. } => {
+            format!(in alloc; r#"<path d="M{left} {from}L{right} {to}"{width}/>"#)
+        }
+        Packet::Propose { .. } => {
+            let bend = (left / 2).saturating_add(right / 2).saturating_add(160);
+            let middle = (from / 2).saturating_add(to / 2);
+            format!(in alloc;
+                r#"<path d="M{left} {from}Q{bend} {middle} {right} {to}" stroke-dasharray="60 40"{width}/>"#
+            )
+        }
+    }
+}
+
+/// Whether the delivery of the target waits for the packet of that number.
+fn is_awaited(last: &LastProposal, number: usize) -> bool {
+    is_numbered(&last.sent, number) || is_numbered(&last.answered, number)
+}
+
+/// Whether it is the packet of that number.
+fn is_numbered(flight: &Option<convoy_explain::Flight>, number: usize) -> bool {
+    match flight {
+        Some(flight) => usize::from(flight.packet) == number,
+        None => false,
+    }
+}
+
+/// The message that a packet is of.
+fn message_of(packet: Packet) -> usize {
+    match packet {
+        Packet::Multicast { message, .. } => message,
+        Packet::Propose { message, .. } => message,
+    }
+}

@@ -1,0 +1,93 @@
+ghost use Rattle.std.specs.Prelude.{◌≡◌, IfOk};
+ghost use Rattle.convoy_draw.specs.Pictures.{flights_of, picture_of};
+ghost use Rattle.convoy_packets.specs.Assignment.{IsAssignment};
+ghost use Rattle.convoy_packets.specs.Table.{table_of};
+ghost use Rattle.convoy_sim.specs.Run.{IsRunOf};
+
+use super::flight::{Flight, flight_of};
+use convoy_explain::{Explanation, explain};
+use convoy_packets::{Delays, PacketTable};
+use convoy_scenario::Scenario;
+use convoy_sim::Run;
+use convoy_timeline::{Entry, entries_of};
+use std::alloc::{AllocError, Global};
+use std::marker::Model;
+
+/// What is drawn of a run of a scenario, as plain numbers: messages and groups go by their numbers in
+/// the scenario, times are in ticks from the start of the run.
+#[derive(Debug, Drop)]
+pub struct Picture {
+    flights: Vec<Flight>,
+    entries: Vec<Entry>,
+    why: Explanation,
+}
+
+impl Model for Picture {
+    ghost use Rattle.convoy_draw.specs.Pictures.{Picture};
+
+    ghost Value = { Picture };
+
+    ghost view = { λ p. record { flights = p.flights.items; entries = p.entries.items; why = p.why } };
+}
+
+impl Picture {
+    /// The picture of the run of a scenario under a schedule; with the packet table of the scenario.
+    pub fn of(
+        alloc: Global,
+        scenario: &Scenario,
+        table: &PacketTable,
+        delays: &Delays,
+        run: &Run,
+    ) -> Result<Picture, AllocError>
+        requires table { table.now ≡ table_of scenario.now }
+        requires assignment { IsAssignment scenario.now delays.now }
+        requires run { IsRunOf scenario.now delays.now run.now }
+        ensures { IfOk result (λ picture. picture ≡ picture_of scenario.now delays.now) }
+    {
+        Ok(Picture {
+            flights: list_flights(alloc, scenario, table, delays)?,
+            entries: entries_of(alloc, scenario, run)?,
+            why: explain(scenario, table, delays, run),
+        })
+    }
+
+    /// Each packet on its way, in packet order.
+    pub fn flights(&self) -> &[Flight]
+        ensures { result.now ≡ self.now.flights }
+    {
+        self.flights.as_slice()
+    }
+
+    /// What happens at each group, in the order of the timeline.
+    pub fn entries(&self) -> &[Entry]
+        ensures { result.now ≡ self.now.entries }
+    {
+        self.entries.as_slice()
+    }
+
+    /// Why the target is delivered when it is: the ticks of its commit and its delivery, and the message
+    /// that holds it back.
+    pub fn why(&self) -> &Explanation
+        ensures { result.now ≡ self.now.why }
+    {
+        &self.why
+    }
+}
+
+/// The flights of all packets.
+fn list_flights(
+    alloc: Global,
+    scenario: &Scenario,
+    table: &PacketTable,
+    delays: &Delays,
+) -> Result<Vec<Flight>, AllocError>
+    requires { table.now ≡ table_of scenario.now }
+    ensures { IfOk result (λ flights. flights.items ≡ flights_of scenario.now delays.now) }
+{
+    let mut flights = Vec::with_capacity(alloc, table.len())?;
+    for number in 0..table.len() {
+        let packet = table.packet(number);
+        flights.push(flight_of(scenario, table, delays, number, packet))?;
+    }
+    Ok(flights)
+}

@@ -1,0 +1,220 @@
+ghost use Rattle.std.specs.Prelude.{IfOk, List, OnOk, string_bytes, ℕ};
+ghost use Rattle.std.specs.List.{All};
+ghost use Rattle.convoy_draw.specs.Drawings.{Tells, entry_text};
+ghost use Rattle.convoy_draw.specs.Layers.{IsToldIn};
+
+use super::layers::Layers;
+use super::mark::{
+    Mark, MarkKind, entry_label, entry_mark, issue_label, issue_mark, wait_label, wait_mark,
+};
+use super::picture::Picture;
+use super::role::Role;
+use super::sheet::{GAP, Sheet, is_turned};
+use super::told::entry_words;
+use convoy_scenario::Scenario;
+use convoy_timeline::Entry;
+use std::alloc::{AllocError, Global};
+
+/// The colour of the time that the target waits.
+pub(crate) const WAIT_COLOR: &str = "#f0c000";
+
+/// The signs of all marks, each with a line to its words.
+pub(crate) fn signs(
+    alloc: Global,
+    scenario: &Scenario,
+    picture: &Picture,
+    sheet: &Sheet,
+) -> Result<String, AllocError>
+    ensures { IfOk result (λ text.
+        All (λ entry. Tells (entry_text scenario.now entry) (string_bytes text)) picture.now.entries) }
+{
+    let mut layers = Layers::new(alloc);
+    push_issue_signs(&mut layers, alloc, scenario, picture, sheet)?;
+    push_wait_sign(&mut layers, alloc, scenario, picture, sheet)?;
+    push_entry_signs(&mut layers, alloc, scenario, picture, sheet)?;
+    layers.joined(
+        alloc,
+        r##"fill="#767676" stroke="#767676" stroke-width="6""##,
+        r##"fill="#d55e00" stroke="#d55e00" stroke-width="6""##,
+        r##"fill="#0072b2" stroke="#0072b2" stroke-width="6""##,
+    )
+}
+
+/// The signs of what happens at groups.
+fn push_entry_signs(
+    layers: &mut Layers,
+    alloc: Global,
+    scenario: &Scenario,
+    picture: &Picture,
+    sheet: &Sheet,
+) -> Result<(), AllocError>
+    ensures { OnOk result
+        (All (λ entry. IsToldIn layers.new (entry_text scenario.now entry)) picture.now.entries) }
+{
+    for (i, entry) in picture.entries().iter().enumerate() {
+        push_entry_sign(layers, alloc, scenario, picture, sheet, i, entry)?;
+    }
+    Ok(())
+}
+
+/// The sign of what happens at a group, the entry of that place in the picture.
+fn push_entry_sign(
+    layers: &mut Layers,
+    alloc: Global,
+    scenario: &Scenario,
+    picture: &Picture,
+    sheet: &Sheet,
+    i: usize,
+    entry: &Entry,
+) -> Result<(), AllocError>
+    ensures told { OnOk result (IsToldIn layers.new (entry_text scenario.now entry.now)) }
+    ensures still { OnOk result ((piece : List ℕ) → IsToldIn layers.old piece → IsToldIn layers.new piece) }
+{
+    let told = entry_words(alloc, scenario, entry)?;
+    let drawn = sign_at(alloc, sheet, &entry_mark(entry), sheet.entry_row(i))?;
+    let role = Role::of(scenario, picture, entry.message);
+    layers.push_telling(role, &told, &drawn)
+}
+
+/// The signs of messages where they are issued.
+fn push_issue_signs(
+    layers: &mut Layers,
+    alloc: Global,
+    scenario: &Scenario,
+    picture: &Picture,
+    sheet: &Sheet,
+) -> Result<(), AllocError> {
+    for message in 0..scenario.message_count() {
+        let mark = issue_mark(scenario, message);
+        let drawn = sign_at(alloc, sheet, &mark, sheet.issue_row(message))?;
+        layers.push(Role::of(scenario, picture, message), &drawn)?;
+    }
+    Ok(())
+}
+
+/// The sign at the words that tell how long the target waits.
+fn push_wait_sign(
+    layers: &mut Layers,
+    alloc: Global,
+    scenario: &Scenario,
+    picture: &Picture,
+    sheet: &Sheet,
+) -> Result<(), AllocError> {
+    match wait_mark(scenario, picture) {
+        Some(mark) => {
+            let drawn = sign_at(alloc, sheet, &mark, sheet.wait_row())?;
+            layers.push(Role::Target, &drawn)
+        }
+        None => Ok(()),
+    }
+}
+
+/// The sign of a mark: at its words below the lane, or else on the lane, with a line to its words.
+fn sign_at(
+    alloc: Global,
+    sheet: &Sheet,
+    mark: &Mark,
+    row: Option<usize>,
+) -> Result<String, AllocError> {
+    let (x, lane) = (sheet.x_of(mark), sheet.y_of(mark.lane));
+    let Some(row) = row else {
+        return sign(alloc, mark.kind, x, lane);
+    };
+    let end = sheet.row_of(mark, row).saturating_sub(40);
+    let y = if mark.kind.is_above() { lane } else { end };
+    let sign = sign(alloc, mark.kind, x, y)?;
+    format!(in alloc; r#"<path d="M{x} {lane}V{end}" stroke-opacity="0.5"/>{sign}"#)
+}
+
+/// The sign of a kind of mark.
+pub(crate) fn sign(alloc: Global, kind: MarkKind, x: u32, y: u32) -> Result<String, AllocError> {
+    let (left, top) = (x.saturating_sub(35), y.saturating_sub(35));
+    match kind {
+        MarkKind::Issue => {
+            format!(in alloc;
+                r##"<circle cx="{x}" cy="{y}" r="38" fill="#ffffff" stroke-width="14"/>"##
+            )
+        }
+        MarkKind::Arrival => format!(in alloc; r#"<circle cx="{x}" cy="{y}" r="38"/>"#),
+        MarkKind::Commit => {
+            format!(in alloc; r#"<rect x="{left}" y="{top}" width="70" height="70"/>"#)
+        }
+        MarkKind::Wait => {
+            format!(in alloc;
+                r#"<rect x="{left}" y="{top}" width="70" height="70" fill="{WAIT_COLOR}" stroke="none"/>"#
+            )
+        }
+        MarkKind::Delivery => {
+            let left = x.saturating_sub(45);
+            format!(in alloc; r#"<path d="M{left} {top}h90l-45 80z"/>"#)
+        }
+    }
+}
+
+/// The words beside all marks.
+pub(crate) fn labels(
+    alloc: Global,
+    scenario: &Scenario,
+    picture: &Picture,
+    sheet: &Sheet,
+) -> Result<String, AllocError> {
+    let mut layers = Layers::new(alloc);
+    for message in 0..scenario.message_count() {
+        let label = issue_label(alloc, scenario, message)?;
+        let mark = issue_mark(scenario, message);
+        let words = words_at(alloc, sheet, &mark, sheet.issue_row(message), &label)?;
+        layers.push(Role::of(scenario, picture, message), &words)?;
+    }
+    push_entry_labels(&mut layers, alloc, scenario, picture, sheet)?;
+    if let Some(mark) = wait_mark(scenario, picture) {
+        let label = wait_label(alloc, scenario, picture)?;
+        let words = words_at(alloc, sheet, &mark, sheet.wait_row(), &label)?;
+        layers.push(Role::Target, &words)?;
+    }
+    let text = layers.joined(
+        alloc,
+        r##"fill="#767676""##,
+        r##"fill="#d55e00""##,
+        r##"fill="#0072b2""##,
+    )?;
+    format!(in alloc;
+        r##"<g stroke="#ffffff" stroke-width="36" stroke-linejoin="round" paint-order="stroke">{text}</g>"##
+    )
+}
+
+/// The words on what happens at groups.
+fn push_entry_labels(
+    layers: &mut Layers,
+    alloc: Global,
+    scenario: &Scenario,
+    picture: &Picture,
+    sheet: &Sheet,
+) -> Result<(), AllocError> {
+    for (i, entry) in picture.entries().iter().enumerate() {
+        let label = entry_label(alloc, scenario, entry)?;
+        let words = words_at(alloc, sheet, &entry_mark(entry), sheet.entry_row(i), &label)?;
+        layers.push(Role::of(scenario, picture, entry.message), &words)?;
+    }
+    Ok(())
+}
+
+/// The words beside a mark in a row, if they have one.
+fn words_at(
+    alloc: Global,
+    sheet: &Sheet,
+    mark: &Mark,
+    row: Option<usize>,
+    label: &str,
+) -> Result<String, AllocError> {
+    let Some(row) = row else {
+        return Ok(String::new(alloc));
+    };
+    let (x, y) = (sheet.x_of(mark), sheet.row_of(mark, row));
+    if is_turned(x, label) {
+        let end = x.saturating_sub(GAP);
+        format!(in alloc; "<text x=\"{end}\" y=\"{y}\" text-anchor=\"end\">{label}</text>\n")
+    } else {
+        let start = x.saturating_add(GAP);
+        format!(in alloc; "<text x=\"{start}\" y=\"{y}\">{label}</text>\n")
+    }
+}

@@ -1,0 +1,99 @@
+ghost use Rattle.std.specs.Prelude.{◌≡◌, IfOk, string_bytes};
+ghost use Rattle.convoy_draw.specs.Drawings.{answer_text, doing_text, entry_text, flight_text, load_text};
+ghost use Rattle.convoy_packets.specs.Assignment.{receiver_of};
+
+use super::flight::Flight;
+use super::words::{group_name, message_name, sender_name, stamp_text, tick_word};
+use convoy_explain::Explanation;
+use convoy_packets::Packet;
+use convoy_scenario::Scenario;
+use convoy_timeline::{Entry, EntryKind};
+use std::alloc::{AllocError, Global};
+
+/// How late the target is at worst.
+#[tactic(auto, unfolding(crate::specs::Drawings::answer_text))]
+pub(crate) fn answer_words(
+    alloc: Global,
+    scenario: &Scenario,
+    why: &Explanation,
+) -> Result<String, AllocError>
+    ensures { IfOk result (λ words. string_bytes words ≡ answer_text scenario.now why.now) }
+{
+    let message = message_name(scenario, scenario.target_message());
+    let group = group_name(scenario, scenario.target_group());
+    let word = tick_word(why.latency);
+    format!(in alloc; "{message} at {group}: at worst {} {word}", why.latency)
+}
+
+/// A packet on its way.
+#[tactic(auto, unfolding(crate::specs::Drawings::flight_text))]
+pub(crate) fn flight_words(
+    alloc: Global,
+    scenario: &Scenario,
+    flight: &Flight,
+) -> Result<String, AllocError>
+    ensures { IfOk result (λ words. string_bytes words ≡ flight_text scenario.now flight.now) }
+{
+    let load = load_words(alloc, scenario, flight.packet)?;
+    let from = sender_name(scenario, flight.from);
+    let to = group_name(scenario, receiver_of(flight.packet));
+    format!(in alloc;
+        "packet {}: {load} from {from} to {to}, sent at tick {}, there at tick {}",
+        flight.number, flight.sent, flight.arrival,
+    )
+}
+
+/// What a packet brings.
+fn load_words(alloc: Global, scenario: &Scenario, packet: Packet) -> Result<String, AllocError>
+    ensures { IfOk result (λ words. string_bytes words ≡ load_text scenario.now packet) }
+{
+    match packet {
+        Packet::Multicast { message, .. } => {
+            String::from_str(alloc, message_name(scenario, message))
+        }
+        Packet::Propose { message, .. } => {
+            let name = message_name(scenario, message);
+            format!(in alloc; "proposal of {name}")
+        }
+    }
+}
+
+/// What happens to a message at a group.
+#[tactic(auto, unfolding(crate::specs::Drawings::entry_text))]
+pub(crate) fn entry_words(
+    alloc: Global,
+    scenario: &Scenario,
+    entry: &Entry,
+) -> Result<String, AllocError>
+    ensures { IfOk result (λ words. string_bytes words ≡ entry_text scenario.now entry.now) }
+{
+    let name = message_name(scenario, entry.message);
+    let doing = doing_word(entry.kind);
+    let group = group_name(scenario, entry.group);
+    let stamp = stamp_text(alloc, scenario, entry.stamp)?;
+    format!(in alloc;
+        "{name} {doing} at {group} at tick {} with stamp {stamp}",
+        entry.tick
+    )
+}
+
+/// What becomes of a message.
+fn doing_word(kind: EntryKind) -> &'static str
+    ensures { result.now ≡ doing_text kind }
+{
+    match kind {
+        EntryKind::Propose => "arrives",
+        EntryKind::Commit => "is committed",
+        EntryKind::Deliver => "is delivered",
+    }
+}
+
+/// The group to which a packet goes.
+pub(crate) fn receiver_of(packet: Packet) -> usize
+    ensures { result ≡ receiver_of packet }
+{
+    match packet {
+        Packet::Multicast { to, .. } => to,
+        Packet::Propose { to, .. } => to,
+    }
+}
