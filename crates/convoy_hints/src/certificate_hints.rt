@@ -1,0 +1,210 @@
+use super::damage::hint_for_damage;
+use super::lines::{delays_of, sketch_of_lines};
+use super::quoting::Quoted;
+use super::scenario_hints::{hint_for_bytes, hint_for_sketch, with_label};
+use super::schedules::hint_for_schedule;
+use convoy_certificate::{TextFault, read};
+use convoy_lines::LineReader;
+use convoy_scenario::{Expected, ScenarioFault, Version, read_lines};
+use std::alloc::{AllocError, Global};
+
+/// Why a text is refused as a certificate, in one line `hint: ..`. The text may have been cut, where it
+/// is not `whole`. None where it is the text of a certificate, or where nothing can be said beyond the
+/// refusal.
+pub fn hint_for_certificate(
+    alloc: Global,
+    text: &[u8],
+    whole: bool,
+) -> Result<Option<String>, AllocError> {
+    let hint = match hint_for_damage(alloc, text)? {
+        Some(hint) => Some(hint),
+        None if text.starts_with(b"convoy ") => hint_for_lines(alloc, text, whole)?,
+        None => Some(hint_for_other_text(alloc, text)?),
+    };
+    with_label(alloc, hint)
+}
+
+/// What the text is, where it does not begin as a certificate does.
+fn hint_for_other_text(alloc: Global, text: &[u8]) -> Result<String, AllocError> {
+    if text.is_empty() {
+        return String::from_str(
+            alloc,
+            "the input is empty: a certificate is read here, which 'convoy analyse' writes",
+        );
+    }
+    if text.starts_with(b"open ") {
+        return String::from_str(
+            alloc,
+            "the input is the answer of a search that did not end, which has no certificate: ask 'convoy analyse' with --bounds lead",
+        );
+    }
+    if text.starts_with(b"fault ") {
+        return String::from_str(
+            alloc,
+            "the input is a fault of the command before, and no certificate",
+        );
+    }
+    if is_scenario(alloc, text) {
+        return String::from_str(
+            alloc,
+            "the input is a scenario, and a certificate is read here: convoy analyse < scenario.toml | convoy check",
+        );
+    }
+    String::from_str(
+        alloc,
+        "the input does not begin as a certificate, with the line 'convoy 1', 'convoy 2' or 'convoy 3'",
+    )
+}
+
+/// Whether the text is TOML with a key of a scenario.
+fn is_scenario(alloc: Global, text: &[u8]) -> bool {
+    match toml::table_from_slice(alloc, text) {
+        Ok(table) => table.contains_key("groups") || table.contains_key("multicast"),
+        Err(_) => false,
+    }
+}
+
+/// What is wrong with a text that begins as a certificate does.
+fn hint_for_lines(alloc: Global, text: &[u8], whole: bool) -> Result<Option<String>, AllocError> {
+    let words = match std::str::from_utf8(text) {
+        Ok(words) => words,
+        Err(error) => return hint_for_cut_bytes(alloc, text, whole, error.valid_up_to()),
+    };
+    match read(alloc, text) {
+        Ok(_) | Err(TextFault::Memory) => Ok(None),
+        Err(TextFault::Line(number, expected)) => {
+            if whole || is_ended(words, number) {
+                Ok(Some(hint_for_line(alloc, words, number, expected)?))
+            } else {
+                Ok(None)
+            }
+        }
+        Err(TextFault::Scenario(fault)) => hint_for_scenario_lines(alloc, words, fault),
+        Err(TextFault::Schedule) => hint_for_schedule_line(alloc, text),
+        Err(TextFault::TreeCount) => Ok(None),
+        Err(TextFault::AfterEnd) => Ok(Some(String::from_str(
+            alloc,
+            "something follows the line 'end': cut the text after that line",
+        )?)),
+    }
+}
+
+/// How many bytes a character has at most.
+const LONGEST_CHARACTER: usize = 4;
+
+/// Where the bytes are not UTF-8, unless the text was cut in the middle of a character.
+fn hint_for_cut_bytes(
+    alloc: Global,
+    text: &[u8],
+    whole: bool,
+    offset: usize,
+) -> Result<Option<String>, AllocError> {
+    if !whole && text.len().saturating_sub(offset) < LONGEST_CHARACTER {
+        return Ok(None);
+    }
+    Ok(Some(hint_for_bytes(alloc, text, offset)?))
+}
+
+/// Whether the text has the end of its line of that number, from 1.
+fn is_ended(text: &str, number: usize) -> bool {
+    text.bytes().filter(|byte| *byte == b'\n').count() >= number
+}
+
+/// The line of that number, from 1, without the byte 10 that ends it; None where the text ends before it.
+fn line_at(text: &str, number: usize) -> Option<&str> {
+    let line = text.split('\n').nth(number.saturating_sub(1))?;
+    if line.is_empty() && !is_ended(text, number) {
+        return None;
+    }
+    Some(line)
+}
+
+/// What is wrong with the scenario in a certificate.
+fn hint_for_scenario_lines(
+    alloc: Global,
+    text: &str,
+    fault: ScenarioFault,
+) -> Result<Option<String>, AllocError> {
+    hint_for_sketch(alloc, &sketch_of_lines(alloc, text)?, fault)
+}
+
+/// What is wrong with the schedule in a certificate.
+fn hint_for_schedule_line(alloc: Global, text: &[u8]) -> Result<Option<String>, AllocError> {
+    let version = if text.starts_with(b"convoy 1") {
+        Version::One
+    } else {
+        Version::Two
+    };
+    let mut reader = LineReader::over(text);
+    let _ = reader.line();
+    let Ok(scenario) = read_lines(alloc, version, &mut reader) else {
+        return Ok(None);
+    };
+    let _ = reader.line();
+    let delays = delays_of(alloc, reader.line().unwrap_or(b""))?;
+    hint_for_schedule(alloc, &scenario, &delays)
+}
+
+/// What is wrong with a line.
+fn hint_for_line(
+    alloc: Global,
+    text: &str,
+    number: usize,
+    expected: Expected,
+) -> Result<String, AllocError> {
+    let form = form_of(expected);
+    let Some(line) = line_at(text, number) else {
+        return format!(in alloc;
+            "the text ends before line {number}, which is to be {form}: a part of it is missing"
+        );
+    };
+    let shown = Quoted(line);
+    if !is_ended(text, number) {
+        return format!(in alloc;
+            "line {number}, {shown}, is not ended by byte 10: a part of the text is missing"
+        );
+    }
+    if expected == Expected::Convoy && ["convoy 1", "convoy 2", "convoy 3"].contains(&line) {
+        return format!(in alloc;
+            "line {number}, {shown}, is another version than the lines below need"
+        );
+    }
+    match flaw_of(line) {
+        Some(flaw) => format!(in alloc; "line {number}, {shown}, {flaw}, and is to be {form}"),
+        None => format!(in alloc; "line {number} is {shown}, and is to be {form}"),
+    }
+}
+
+/// What no line of a certificate has.
+fn flaw_of(line: &str) -> Option<&'static str> {
+    if line.ends_with('\r') {
+        Some("ends with a carriage return")
+    } else if line.starts_with(' ') {
+        Some("begins with a space")
+    } else if line.ends_with(' ') {
+        Some("ends with a space")
+    } else if line.contains("  ") {
+        Some("has two spaces side by side")
+    } else if line.contains('\t') {
+        Some("has a tab")
+    } else {
+        None
+    }
+}
+
+/// The form of a line (docs/FORMATS.md, "Certificate text").
+fn form_of(expected: Expected) -> &'static str {
+    match expected {
+        Expected::Convoy => "'convoy 1', 'convoy 2' or 'convoy 3'",
+        Expected::Delay => "'delay D'",
+        Expected::Groups => "'groups G ..'",
+        Expected::Link =>
+            "'link FROM TO LEAST MOST', in ascending order, and not with the range 1 to D",
+        Expected::Multicast =>
+            "'multicast NAME FROM AT TO ..', with the destinations in the order of the groups",
+        Expected::Target => "'target MESSAGE GROUP'",
+        Expected::Latency => "'latency L'",
+        Expected::Schedule => "'schedule C ..'",
+        Expected::Node => "'s P A', 'b', 'p', 't', 'c N' or 'end'",
+    }
+}

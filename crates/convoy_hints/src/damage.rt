@@ -1,0 +1,24 @@
+use std::alloc::{AllocError, Global};
+
+/// What has happened to a text on its way: a byte order mark, the marks of a mail, or carriage returns
+/// in a certificate. None where none of these is there.
+pub(crate) fn hint_for_damage(alloc: Global, text: &[u8]) -> Result<Option<String>, AllocError> {
+    let hint = if text.starts_with(&[0xEF, 0xBB, 0xBF]) {
+        "the input begins with a byte order mark: take its first three bytes away"
+    } else if text.starts_with(b"> ") || text.starts_with(b">convoy") {
+        "the input begins with '>', the mark of a mail that is answered: take the marks away"
+    } else if text.starts_with(b"convoy ") && has_carriage_returns(text) {
+        "the lines of the certificate end with a carriage return, as a mail or an editor writes them: each is to end with byte 10 alone"
+    } else {
+        return Ok(None);
+    };
+    Ok(Some(String::from_str(alloc, hint)?))
+}
+
+/// Whether the first line ends with a carriage return.
+fn has_carriage_returns(text: &[u8]) -> bool {
+    match text.iter().position(|byte| *byte == b'\n') {
+        Some(end) => text.iter().take(end).last() == Some(&b'\r'),
+        None => text.ends_with(b"\r"),
+    }
+}

@@ -1,0 +1,44 @@
+use super::scenario_hints::begins_as_certificate;
+use std::alloc::{AllocError, Global};
+use std::io::Error;
+
+/// Why standard input could not be read, in one line `hint: ..`.
+pub fn hint_for_reading(alloc: Global, error: &Error) -> Result<String, AllocError> {
+    format!(in alloc; "hint: standard input could not be read: {error}\n")
+}
+
+/// Why standard output could not be written, in one line `hint: ..`.
+pub fn hint_for_writing(alloc: Global, error: &Error) -> Result<String, AllocError> {
+    format!(in alloc; "hint: standard output could not be written: {error}\n")
+}
+
+/// What to do with a text that begins so and has more bytes than the `most` that its command reads, in
+/// one line `hint: ..`.
+pub fn hint_for_length(alloc: Global, text: &[u8], most: usize) -> Result<String, AllocError> {
+    if begins_as_certificate(text) {
+        return format!(in alloc;
+            "hint: the input has more than {most} bytes and begins as a certificate: 'convoy check' reads certificates\n"
+        );
+    }
+    if has_divider(text) {
+        return format!(in alloc;
+            "hint: the input has more than {most} bytes and lines '---', as between scenarios: 'convoy batch' reads several\n"
+        );
+    }
+    format!(in alloc;
+        "hint: the input has more than {most} bytes, which is the most that is read\n"
+    )
+}
+
+/// Whether a line of the text is the one between two scenarios.
+fn has_divider(text: &[u8]) -> bool {
+    text.split(|byte| *byte == b'\n')
+        .any(|line| line == b"---".as_slice())
+}
+
+/// What to do with too many jobs, in one line `hint: ..`.
+pub fn hint_for_jobs(alloc: Global, most: u32) -> Result<String, AllocError> {
+    format!(in alloc;
+        "hint: a batch has at most {most} jobs: cut the input in two at a line '---'\n"
+    )
+}

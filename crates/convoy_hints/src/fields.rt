@@ -1,0 +1,148 @@
+/// What a key's value has to be.
+#[derive(Clone, Copy, Debug, PartialEq, Eq)]
+pub(crate) enum Kind {
+    Integer,
+    Text,
+    Texts,
+    Integers,
+    Table,
+    Tables,
+}
+
+/// A key that a table may have, or has to have.
+#[derive(Clone, Copy, Debug)]
+pub(crate) struct Field {
+    pub(crate) key: &'static str,
+    pub(crate) kind: Kind,
+    pub(crate) is_needed: bool,
+    /// How it is written.
+    pub(crate) sample: &'static str,
+}
+
+/// The keys at the top that are asked for first.
+pub(crate) const HEAD: [Field; 3] = [
+    Field {
+        key: "delay",
+        kind: Kind::Integer,
+        is_needed: true,
+        sample: "delay = 3",
+    },
+    Field {
+        key: "groups",
+        kind: Kind::Texts,
+        is_needed: true,
+        sample: "groups = [\"a\", \"b\"]",
+    },
+    Field {
+        key: "multicast",
+        kind: Kind::Tables,
+        is_needed: true,
+        sample: "[[multicast]]",
+    },
+];
+
+/// The keys of a multicast.
+pub(crate) const MULTICAST_KEYS: [Field; 4] = [
+    Field {
+        key: "name",
+        kind: Kind::Text,
+        is_needed: true,
+        sample: "name = \"x\"",
+    },
+    Field {
+        key: "from",
+        kind: Kind::Text,
+        is_needed: false,
+        sample: "from = \"a\"",
+    },
+    Field {
+        key: "to",
+        kind: Kind::Texts,
+        is_needed: true,
+        sample: "to = [\"a\", \"b\"]",
+    },
+    Field {
+        key: "at",
+        kind: Kind::Integer,
+        is_needed: true,
+        sample: "at = 0",
+    },
+];
+
+/// The key of the target.
+pub(crate) const TARGET: [Field; 1] = [Field {
+    key: "target",
+    kind: Kind::Table,
+    is_needed: true,
+    sample: "[target]",
+}];
+
+/// The keys of the target.
+pub(crate) const TARGET_KEYS: [Field; 2] = [
+    Field {
+        key: "message",
+        kind: Kind::Text,
+        is_needed: true,
+        sample: "message = \"x\"",
+    },
+    Field {
+        key: "group",
+        kind: Kind::Text,
+        is_needed: true,
+        sample: "group = \"a\"",
+    },
+];
+
+/// The key of the links.
+pub(crate) const LINKS: [Field; 1] = [Field {
+    key: "link",
+    kind: Kind::Tables,
+    is_needed: false,
+    sample: "[[link]]",
+}];
+
+/// The keys of a link.
+pub(crate) const LINK_KEYS: [Field; 4] = [
+    Field {
+        key: "from",
+        kind: Kind::Text,
+        is_needed: false,
+        sample: "from = \"a\"",
+    },
+    Field {
+        key: "to",
+        kind: Kind::Text,
+        is_needed: true,
+        sample: "to = \"b\"",
+    },
+    Field {
+        key: "least",
+        kind: Kind::Integer,
+        is_needed: true,
+        sample: "least = 1",
+    },
+    Field {
+        key: "most",
+        kind: Kind::Integer,
+        is_needed: true,
+        sample: "most = 2",
+    },
+];
+
+/// The key of the schedule.
+pub(crate) const SCHEDULE: [Field; 1] = [Field {
+    key: "schedule",
+    kind: Kind::Integers,
+    is_needed: false,
+    sample: "schedule = [1, 3, 1, 2]",
+}];
+
+/// The words of the keys at the top.
+pub(crate) const TOP_WORDS: [&str; 6] = [
+    "delay",
+    "groups",
+    "multicast",
+    "target",
+    "link",
+    "schedule",
+];

@@ -1,0 +1,21 @@
+/// The line, from 1, of a table of an array by its place among `count`: that of its header. None where
+/// the text has not one such header for each table, as where tables are written inline.
+pub(crate) fn header_line(text: &str, header: &str, place: usize, count: usize) -> Option<usize> {
+    if text.lines().filter(|line| is_header(line, header)).count() != count {
+        return None;
+    }
+    let (before, _) = text
+        .lines()
+        .enumerate()
+        .filter(|(_, line)| is_header(line, header))
+        .nth(place)?;
+    Some(before.saturating_add(1))
+}
+
+/// Whether a line is that header, with a comment or without.
+fn is_header(line: &str, header: &str) -> bool {
+    match line.trim().strip_prefix(header) {
+        Some(rest) => rest.is_empty() || rest.trim_start().starts_with('#'),
+        None => false,
+    }
+}

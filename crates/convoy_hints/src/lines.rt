@@ -1,0 +1,94 @@
+use super::part::Part;
+use super::sketch::{Link, Multicast, Sketch};
+use std::alloc::{AllocError, Global};
+
+/// The scenario that stands in the lines of a certificate; what is not of its form is left out.
+pub(crate) fn sketch_of_lines(alloc: Global, text: &str) -> Result<Sketch<'_>, AllocError> {
+    let mut sketch = Sketch {
+        delay: 0,
+        groups: Vec::new(alloc),
+        multicasts: Vec::new(alloc),
+        links: Vec::new(alloc),
+        target_message: "",
+        target_group: "",
+    };
+    for (before, line) in text.lines().enumerate() {
+        let words: Vec<&str> = line.split(' ').collect(alloc)?;
+        let number = before.saturating_add(1);
+        add_line(alloc, &mut sketch, number, words.as_slice())?;
+        if words.first() == Some(&"target") {
+            break;
+        }
+    }
+    Ok(sketch)
+}
+
+/// The delays in a line `schedule`; none where its bytes are not UTF-8.
+pub(crate) fn delays_of(alloc: Global, line: &[u8]) -> Result<Vec<i64>, AllocError> {
+    match std::str::from_utf8(line) {
+        Ok(line) => line
+            .split(' ')
+            .skip(1)
+            .map(|word| number_of(word))
+            .collect(alloc),
+        Err(_) => Ok(Vec::new(alloc)),
+    }
+}
+
+/// Adds what a line says.
+fn add_line<'a>(
+    alloc: Global,
+    sketch: &mut Sketch<'a>,
+    number: usize,
+    words: &[&'a str],
+) -> Result<(), AllocError> {
+    match words {
+        ["delay", delay] => sketch.delay = number_of(delay),
+        ["groups", groups @ ..] => sketch.groups = Vec::from_slice(alloc, groups)?,
+        ["link", sender, to, least, most] => {
+            let place = sketch.links.len();
+            sketch.links.push(Link {
+                part: part_at("link", place, None, number),
+                sender: sender_of(sender),
+                to,
+                least: number_of(least),
+                most: number_of(most),
+            })?;
+        }
+        ["multicast", name, sender, at, to @ ..] => {
+            let place = sketch.multicasts.len();
+            sketch.multicasts.push(Multicast {
+                part: part_at("multicast", place, Some(name), number),
+                name,
+                sender: sender_of(sender),
+                to: Vec::from_slice(alloc, to)?,
+                at: number_of(at),
+            })?;
+        }
+        ["target", message, group] => {
+            sketch.target_message = message;
+            sketch.target_group = group;
+        }
+        _ => {}
+    }
+    Ok(())
+}
+
+fn part_at<'a>(kind: &'static str, place: usize, name: Option<&'a str>, line: usize) -> Part<'a> {
+    Part {
+        kind,
+        place: Some(place),
+        name,
+        line: Some(line),
+    }
+}
+
+/// The sender that a word names; None is a client.
+fn sender_of(word: &str) -> Option<&str> {
+    if word == "client" { None } else { Some(word) }
+}
+
+/// The number that a word is; 0 where it is none.
+fn number_of(word: &str) -> i64 {
+    word.parse().unwrap_or(0)
+}

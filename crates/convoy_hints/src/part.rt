@@ -1,0 +1,40 @@
+use super::quoting::{Ordinal, Quoted};
+use std::fmt;
+
+/// A table of a scenario, or a line of a certificate, as a person finds it: `the 2nd multicast ("t",
+/// line 9)`.
+#[derive(Clone, Copy, Drop)]
+pub(crate) struct Part<'a> {
+    /// What it is: `multicast`, `link` or `target`.
+    pub(crate) kind: &'static str,
+    /// Its place among those of its kind, from 0.
+    pub(crate) place: Option<usize>,
+    pub(crate) name: Option<&'a str>,
+    /// The line at which it begins, from 1.
+    pub(crate) line: Option<usize>,
+}
+
+impl fmt::Display for Part<'_> {
+    fn fmt<W: fmt::Write>(&self, f: &mut fmt::Formatter<W>) -> fmt::Result {
+        let kind = self.kind;
+        match self.place {
+            Some(place) => {
+                let place = Ordinal(place.saturating_add(1));
+                write!(f, "the {place} {kind}")?;
+            }
+            None => write!(f, "the {kind}")?,
+        }
+        match (self.name, self.line) {
+            (Some(name), Some(line)) => {
+                let name = Quoted(name);
+                write!(f, " ({name}, line {line})")
+            }
+            (Some(name), None) => {
+                let name = Quoted(name);
+                write!(f, " ({name})")
+            }
+            (None, Some(line)) => write!(f, " (line {line})"),
+            (None, None) => Ok(()),
+        }
+    }
+}

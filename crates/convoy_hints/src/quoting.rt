@@ -1,0 +1,88 @@
+use std::fmt;
+
+/// How many characters of a text are shown at most.
+const MOST_SHOWN: usize = 40;
+
+/// How many names of a list are shown at most.
+const MOST_NAMES: usize = 16;
+
+/// A text between double quotes: its first characters, those that are no letters, digits or signs of
+/// ASCII as escapes, and dots for the rest.
+#[derive(Clone, Copy, Drop)]
+pub(crate) struct Quoted<'a>(pub(crate) &'a str);
+
+impl fmt::Display for Quoted<'_> {
+    fn fmt<W: fmt::Write>(&self, f: &mut fmt::Formatter<W>) -> fmt::Result {
+        f.write_str("\"")?;
+        for c in self.0.chars().take(MOST_SHOWN) {
+            show(f, c)?;
+        }
+        if self.0.chars().nth(MOST_SHOWN).is_some() {
+            f.write_str("...")?;
+        }
+        f.write_str("\"")
+    }
+}
+
+/// Writes a character, or its escape.
+fn show<W: fmt::Write>(f: &mut fmt::Formatter<W>, c: char) -> fmt::Result {
+    if c.is_alphanumeric() || ((' '..='~').contains(&c) && c != '"' && c != '\\') {
+        return f.write_char(c);
+    }
+    let code = u32::from(c);
+    write!(f, "\\u{code:04x}")
+}
+
+/// Names in double quotes, with commas between them.
+#[derive(Clone, Copy, Drop)]
+pub(crate) struct Names<'a>(pub(crate) &'a [&'a str]);
+
+impl fmt::Display for Names<'_> {
+    fn fmt<W: fmt::Write>(&self, f: &mut fmt::Formatter<W>) -> fmt::Result {
+        for (place, name) in self.0.iter().take(MOST_NAMES).enumerate() {
+            if place > 0 {
+                f.write_str(", ")?;
+            }
+            let name = Quoted(name);
+            write!(f, "{name}")?;
+        }
+        if self.0.len() > MOST_NAMES {
+            f.write_str(", ...")?;
+        }
+        Ok(())
+    }
+}
+
+/// A number that tells a place from 1 on, as 1st, 2nd, 3rd.
+#[derive(Clone, Copy, Drop)]
+pub(crate) struct Ordinal(pub(crate) usize);
+
+impl fmt::Display for Ordinal {
+    fn fmt<W: fmt::Write>(&self, f: &mut fmt::Formatter<W>) -> fmt::Result {
+        let number = self.0;
+        let ending = match (number % 100, number % 10) {
+            (11..=13, _) => "th",
+            (_, 1) => "st",
+            (_, 2) => "nd",
+            (_, 3) => "rd",
+            _ => "th",
+        };
+        write!(f, "{number}{ending}")
+    }
+}
+
+/// Words in single quotes, with commas between them.
+#[derive(Clone, Copy, Drop)]
+pub(crate) struct Words<'a>(pub(crate) &'a [&'a str]);
+
+impl fmt::Display for Words<'_> {
+    fn fmt<W: fmt::Write>(&self, f: &mut fmt::Formatter<W>) -> fmt::Result {
+        for (place, word) in self.0.iter().enumerate() {
+            if place > 0 {
+                f.write_str(", ")?;
+            }
+            write!(f, "'{word}'")?;
+        }
+        Ok(())
+    }
+}

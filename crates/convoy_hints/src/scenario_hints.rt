@@ -1,0 +1,160 @@
+use super::damage::hint_for_damage;
+use super::names::{hint_for_bad_name, hint_for_double_name};
+use super::numbers::hint_for_limit;
+use super::quoting::Quoted;
+use super::references::{
+    hint_for_double_destination, hint_for_link_to_itself, hint_for_no_destination,
+    hint_for_target_not_addressed, hint_for_unknown_group, hint_for_unknown_target,
+};
+use super::schedules::hint_for_schedule;
+use super::shape::hint_for_shape;
+use super::sketch::{Sketch, sketch_of_table};
+use super::spot::spot_at;
+use convoy_scenario::{Input, ScenarioFault, read_toml};
+use std::alloc::{AllocError, Global};
+use toml::de::Error;
+
+/// What is wrong with the text of a scenario, in one line `hint: ..`: with the fault that it has, or
+/// else with its schedule. None where nothing is, or where nothing can be said beyond the fault.
+pub fn hint_for_scenario(alloc: Global, text: &[u8]) -> Result<Option<String>, AllocError> {
+    let hint = match read_toml(alloc, text) {
+        Ok(input) => hint_for_input(alloc, input)?,
+        Err(ScenarioFault::Memory) => None,
+        Err(ScenarioFault::NotToml) => hint_for_text(alloc, text)?,
+        Err(fault) => hint_for_table(alloc, text, fault)?,
+    };
+    with_label(alloc, hint)
+}
+
+/// What is wrong with the schedule of a scenario without a fault.
+fn hint_for_input(alloc: Global, input: Input) -> Result<Option<String>, AllocError> {
+    let Input { scenario, schedule } = input;
+    match schedule {
+        Some(delays) => hint_for_schedule(alloc, &scenario, &delays),
+        None => Ok(None),
+    }
+}
+
+/// A hint as a line of its own.
+pub(crate) fn with_label(
+    alloc: Global,
+    hint: Option<String>,
+) -> Result<Option<String>, AllocError> {
+    match hint {
+        Some(hint) => Ok(Some(format!(in alloc; "hint: {hint}\n")?)),
+        None => Ok(None),
+    }
+}
+
+/// Why a text is not TOML.
+fn hint_for_text(alloc: Global, text: &[u8]) -> Result<Option<String>, AllocError> {
+    if let Some(hint) = hint_for_damage(alloc, text)? {
+        return Ok(Some(hint));
+    }
+    if text.starts_with(b"convoy") {
+        return Ok(Some(hint_for_given_certificate(alloc, text)?));
+    }
+    match std::str::from_utf8(text) {
+        Ok(words) => hint_for_grammar(alloc, words),
+        Err(error) => Ok(Some(hint_for_bytes(alloc, text, error.valid_up_to())?)),
+    }
+}
+
+/// A certificate was given where a scenario is read, or its first line is not of its form.
+fn hint_for_given_certificate(alloc: Global, text: &[u8]) -> Result<String, AllocError> {
+    let hint = if begins_as_certificate(text) {
+        "the input is a certificate, and a scenario is read here: 'convoy check' reads certificates"
+    } else {
+        "the input begins as a certificate, but its first line is not 'convoy 1', 'convoy 2' or 'convoy 3'"
+    };
+    String::from_str(alloc, hint)
+}
+
+/// Whether the first line is that of a certificate.
+pub(crate) fn begins_as_certificate(text: &[u8]) -> bool {
+    text.starts_with(b"convoy 1\n")
+        || text.starts_with(b"convoy 2\n")
+        || text.starts_with(b"convoy 3\n")
+}
+
+/// Where the bytes are not UTF-8.
+pub(crate) fn hint_for_bytes(
+    alloc: Global,
+    text: &[u8],
+    offset: usize,
+) -> Result<String, AllocError> {
+    if text.starts_with(&[0xFF, 0xFE]) || text.starts_with(&[0xFE, 0xFF]) {
+        return String::from_str(
+            alloc,
+            "the input is UTF-16, as some editors write it: save it as UTF-8",
+        );
+    }
+    let line = spot_at(text, offset).line;
+    format!(in alloc; "the input is not UTF-8 after its first {offset} bytes, in line {line}")
+}
+
+/// Where a text of UTF-8 is not TOML.
+fn hint_for_grammar(alloc: Global, text: &str) -> Result<Option<String>, AllocError> {
+    if let Some(before) = text.lines().position(|line| line == "---") {
+        let line = before.saturating_add(1);
+        let hint = format!(in alloc;
+            "line {line} is '---', which stands between scenarios: 'convoy batch' reads several"
+        )?;
+        return Ok(Some(hint));
+    }
+    match toml::table_from_str(alloc, text) {
+        Ok(_) => Ok(None),
+        Err(error) => hint_for_error(alloc, text, &error),
+    }
+}
+
+/// What the TOML reader says, with the line.
+fn hint_for_error(alloc: Global, text: &str, error: &Error) -> Result<Option<String>, AllocError> {
+    let Some(span) = error.span() else {
+        return Ok(None);
+    };
+    let spot = spot_at(text.as_bytes(), span.start);
+    let (line, column) = (spot.line, spot.column);
+    let words = Quoted(text.lines().nth(line.saturating_sub(1)).unwrap_or(""));
+    let message = error.message();
+    let hint = format!(in alloc; "line {line}, column {column}, in {words}: {message}")?;
+    Ok(Some(hint))
+}
+
+/// What is wrong with the table of a scenario.
+fn hint_for_table(
+    alloc: Global,
+    text: &[u8],
+    fault: ScenarioFault,
+) -> Result<Option<String>, AllocError> {
+    let Ok(text) = std::str::from_utf8(text) else {
+        return Ok(None);
+    };
+    let Ok(table) = toml::table_from_str(alloc, text) else {
+        return Ok(None);
+    };
+    if let ScenarioFault::Shape(_) = fault {
+        return hint_for_shape(alloc, text, &table);
+    }
+    hint_for_sketch(alloc, &sketch_of_table(alloc, text, &table)?, fault)
+}
+
+/// What is wrong with the numbers and the names of a scenario.
+pub(crate) fn hint_for_sketch(
+    alloc: Global,
+    sketch: &Sketch<'_>,
+    fault: ScenarioFault,
+) -> Result<Option<String>, AllocError> {
+    match fault {
+        ScenarioFault::OverLimit(limit) => hint_for_limit(alloc, sketch, limit),
+        ScenarioFault::BadName => hint_for_bad_name(alloc, sketch),
+        ScenarioFault::DoubleName => hint_for_double_name(alloc, sketch),
+        ScenarioFault::UnknownGroup => hint_for_unknown_group(alloc, sketch),
+        ScenarioFault::NoDestination => hint_for_no_destination(alloc, sketch),
+        ScenarioFault::DoubleDestination => hint_for_double_destination(alloc, sketch),
+        ScenarioFault::UnknownTarget => hint_for_unknown_target(alloc, sketch),
+        ScenarioFault::TargetNotAddressed => hint_for_target_not_addressed(alloc, sketch),
+        ScenarioFault::LinkToItself => hint_for_link_to_itself(alloc, sketch),
+        ScenarioFault::NotToml | ScenarioFault::Shape(_) | ScenarioFault::Memory => Ok(None),
+    }
+}

@@ -1,0 +1,124 @@
+use super::part::Part;
+use super::shape::part_of;
+use std::alloc::{AllocError, Global};
+use toml::{Table, Value};
+
+/// A scenario as it is written: numbers and names, whatever they are.
+#[derive(Drop)]
+pub(crate) struct Sketch<'a> {
+    pub(crate) delay: i64,
+    pub(crate) groups: Vec<&'a str>,
+    pub(crate) multicasts: Vec<Multicast<'a>>,
+    pub(crate) links: Vec<Link<'a>>,
+    pub(crate) target_message: &'a str,
+    pub(crate) target_group: &'a str,
+}
+
+/// A multicast as it is written.
+#[derive(Drop)]
+pub(crate) struct Multicast<'a> {
+    pub(crate) part: Part<'a>,
+    pub(crate) name: &'a str,
+    /// None is a client.
+    pub(crate) sender: Option<&'a str>,
+    pub(crate) to: Vec<&'a str>,
+    pub(crate) at: i64,
+}
+
+/// A link as it is written.
+#[derive(Drop)]
+pub(crate) struct Link<'a> {
+    pub(crate) part: Part<'a>,
+    /// None are the clients.
+    pub(crate) sender: Option<&'a str>,
+    pub(crate) to: &'a str,
+    pub(crate) least: i64,
+    pub(crate) most: i64,
+}
+
+/// The scenario that is written in a table; what is not of its kind is left out.
+pub(crate) fn sketch_of_table<'a>(
+    alloc: Global,
+    text: &str,
+    table: &'a Table,
+) -> Result<Sketch<'a>, AllocError> {
+    let mut multicasts = Vec::new(alloc);
+    let items = array_at(table, "multicast");
+    for (place, item) in items.iter().enumerate() {
+        if let Value::Table(inner) = item {
+            let part = part_of(text, "multicast", place, items.len(), inner);
+            multicasts.push(multicast_of_table(alloc, inner, part)?)?;
+        }
+    }
+    let mut links = Vec::new(alloc);
+    let items = array_at(table, "link");
+    for (place, item) in items.iter().enumerate() {
+        if let Value::Table(inner) = item {
+            let part = part_of(text, "link", place, items.len(), inner);
+            links.push(link_of_table(inner, part))?;
+        }
+    }
+    let target = table.get("target").and_then(Value::as_table);
+    Ok(Sketch {
+        delay: integer_at(table, "delay"),
+        groups: texts_of(alloc, array_at(table, "groups"))?,
+        multicasts,
+        links,
+        target_message: target
+            .and_then(|inner| text_at(inner, "message"))
+            .unwrap_or(""),
+        target_group: target
+            .and_then(|inner| text_at(inner, "group"))
+            .unwrap_or(""),
+    })
+}
+
+fn multicast_of_table<'a>(
+    alloc: Global,
+    table: &'a Table,
+    part: Part<'a>,
+) -> Result<Multicast<'a>, AllocError> {
+    Ok(Multicast {
+        part,
+        name: text_at(table, "name").unwrap_or(""),
+        sender: text_at(table, "from"),
+        to: texts_of(alloc, array_at(table, "to"))?,
+        at: integer_at(table, "at"),
+    })
+}
+
+fn link_of_table<'a>(table: &'a Table, part: Part<'a>) -> Link<'a> {
+    Link {
+        part,
+        sender: text_at(table, "from"),
+        to: text_at(table, "to").unwrap_or(""),
+        least: integer_at(table, "least"),
+        most: integer_at(table, "most"),
+    }
+}
+
+fn text_at<'a>(table: &'a Table, key: &str) -> Option<&'a str> {
+    table.get(key).and_then(Value::as_str)
+}
+
+fn integer_at(table: &Table, key: &str) -> i64 {
+    table.get(key).and_then(Value::as_integer).unwrap_or(0)
+}
+
+/// The items of the array at a key; none where there is no array.
+fn array_at<'a>(table: &'a Table, key: &str) -> &'a [Value] {
+    match table.get(key).and_then(Value::as_array) {
+        Some(items) => items.as_slice(),
+        None => &[],
+    }
+}
+
+fn texts_of<'a>(alloc: Global, items: &'a [Value]) -> Result<Vec<&'a str>, AllocError> {
+    let mut texts = Vec::new(alloc);
+    for item in items {
+        if let Some(text) = item.as_str() {
+            texts.push(text)?;
+        }
+    }
+    Ok(texts)
+}
