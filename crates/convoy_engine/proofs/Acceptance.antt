@@ -35,7 +35,7 @@ module _ (settings : Settings) (text out : List ℕ) where
       IsSearchOf settings text (Proved certificate tickets by_worker) → settings.limit ≤ most_nodes settings.bounds →
       out ≡ certificate_text certificate → IsProof settings text out
   proof_written are_read are_short is_valid is_greatest certificate tickets by_worker lawful search few written =
-      let proved = search.ended in
+      let proved = search.ended.found in
       let nodes_few : length certificate.nodes ≤ settings.limit = omega (arith, proved.nodes, proved.few) in
       let readable : AreReadable certificate.nodes = proved.readable few in
       record {
@@ -60,9 +60,9 @@ module _ (settings : Settings) (text out : List ℕ) where
   open_between bound best upper tickets by_worker search = record {
     read = search.read;
     lawful = search.lawful;
-    reached = search.ended.front.reached;
-    upper = bound settings.bounds search.scenario best.latency upper tickets search.lawful search.ended.front;
-    front = rw search.ended.all at search.ended.front;
+    reached = search.ended.found.front.reached;
+    upper = bound settings.bounds search.scenario best.latency upper tickets search.lawful search.ended.found.front;
+    front = rw search.ended.found.all at search.ended.found.front;
   }
 
   -- the bounds of an open outcome
@@ -82,7 +82,7 @@ module _ (settings : Settings) (text out : List ℕ) where
       IsSearchOf settings text (Open best upper tickets by_worker) →
       out ≡ open_line best.latency upper ++ ended (schedule_line best.delays) → IsOpenProof settings text out
   open_written bound best upper tickets by_worker attained search written =
-      let of_scenario = search.ended.of_scenario in
+      let of_scenario = search.ended.found.of_scenario in
       let same : best.latency ≡ latency_of search.scenario best.delays = rw of_scenario at attained.latency in
       record {
         scenario = search.scenario;

@@ -1,11 +1,11 @@
 -- How the run of a batch ends, from what was read so far and the blocks that went out.
-use Rattle.std.proofs.Common.{◌≡◌, inl, inr, ℕ, ◌+◌, ◌<◌, ◌≤◌, List, [], ◌∷◌, ◌++◌, length, get_or, take, drop, Result, Ok, Err, refl, ap, sym, ◌∙◌, append_assoc, arith, length-append, take-append-drop}
-use Rattle.std.specs.List.{FoldsTo, All}
+use Rattle.std.proofs.Common.{◌≡◌, inl, inr, ℕ, ◌+◌, ◌<◌, ◌≤◌, List, [], ◌∷◌, ◌++◌, length, get_or, take, drop, Ok, Err, refl, ap, sym, ◌∙◌, append_assoc, arith, length-append, take-append-drop}
+use Rattle.std.specs.List.{FoldsTo}
 use Rattle.std.proofs.lemmas.Grind.{flat_map-append}
 use Rattle.std.proofs.lemmas.List.{append-nil, take_more}
 use Rattle.std.proofs.lemmas.List.Elements.{All-nil, All-push}
 use Rattle.std.proofs.lemmas.Fn.{FoldsTo-push}
-use Rattle.convoy_jobs.specs.Jobs.{ended_jobs, jobs_of}
+use Rattle.convoy_jobs.specs.Jobs.{ended_jobs}
 use Rattle.convoy_jobs.specs.Laws.{EndedJobsStay}
 use Rattle.convoy_engine.specs.Options.{Settings}
 use Rattle.convoy_engine.specs.declared.batch.Batch.{Batch}
@@ -14,7 +14,7 @@ use Rattle.convoy_engine.specs.declared.fault.Fault.{Fault}
 use Rattle.convoy_engine.specs.declared.fault.Fault.TheVariants.{Read, Write, TooManyJobs, TooManyReads}
 use Rattle.convoy_engine.specs.Batches.{AnswersAll, IsBatchRun, ReadsAll, ReadsOn}
 use Rattle.convoy_engine.specs.BatchSteps.{EndsBatch, IsUnderWay, StopsAnswering}
-use Rattle.convoy_engine.specs.Devices.{Answer, Moved, Failed, HasRun, IsPiece, bytes_of, joined}
+use Rattle.convoy_engine.specs.Devices.{Answer, Moved, Failed, HasRun, IsPiece, joined}
 use Rattle.convoy_engine.proofs.Blocks.{stops_among}
 use Rattle.convoy_engine.proofs.Pieces.{MovesPieces}
 

@@ -1,6 +1,6 @@
 -- Blocks, one after another, and how they go out.
-use Rattle.std.proofs.Common.{◌≡◌, ◌⊎◌, inl, inr, ℕ, ◌+◌, ◌<◌, ◌≤◌, suc, Bool, true, false, List, [], ◌∷◌, ◌++◌, length, Result, Ok, Err, MatchResult, refl, ap, sym, subst, ◌∙◌, append_assoc, arith, length-append, codes, decimal}
-use Rattle.std.specs.List.{FoldsTo, All}
+use Rattle.std.proofs.Common.{◌≡◌, ◌⊎◌, inl, inr, ℕ, ◌+◌, ◌<◌, ◌≤◌, suc, true, false, List, [], ◌∷◌, ◌++◌, length, Result, Ok, Err, MatchResult, refl, ap, sym, subst, ◌∙◌, append_assoc, arith, length-append, codes, decimal}
+use Rattle.std.specs.List.{FoldsTo}
 use Rattle.std.specs.Result.{IsOk, OnOk, OnErr, is_err}
 use Rattle.std.proofs.lemmas.Grind.{flat_map-append}
 use Rattle.std.proofs.lemmas.List.{append-nil}
@@ -9,7 +9,6 @@ use Rattle.convoy_engine.specs.Options.{Settings}
 use Rattle.convoy_engine.specs.declared.done.Done.{Done}
 use Rattle.convoy_engine.specs.declared.fault.Fault.{Fault}
 use Rattle.convoy_engine.specs.declared.fault.Fault.TheVariants.{Memory, Write, TooLong, TooManyJobs}
-use Rattle.convoy_engine.specs.declared.reading.TheConstants.{LONGEST_JOB}
 use Rattle.convoy_jobs.specs.Jobs.{ended_jobs, jobs_of}
 use Rattle.convoy_jobs.specs.Splitting.{IsJobStart}
 use Rattle.convoy_engine.specs.declared.batch.Batch.{Batch}

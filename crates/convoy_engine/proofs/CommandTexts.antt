@@ -1,7 +1,7 @@
 -- The faults that a command's rule allows for a text.
-use Rattle.std.proofs.Common.{◌≡◌, ◌≢◌, ◌≤◌, ℕ, Bool, true, false, cond, nat_le, List, Result, Ok, Err, length, lit≤, arith}
+use Rattle.std.proofs.Common.{◌≡◌, ◌≢◌, ◌≤◌, inl, inr, ℕ, Bool, true, false, cond, nat_le, List, Result, Ok, Err, length, lit≤, arith}
 use Rattle.convoy_engine.specs.declared.command.Command.{Command}
-use Rattle.convoy_engine.specs.declared.command.Command.TheVariants.{First, Simulate, Timeline, Packets, Check, Explain, Analyse, Latency}
+use Rattle.convoy_engine.specs.declared.command.Command.TheVariants.{First, Simulate, Timeline, Packets, Check, Explain, Draw, Analyse, Latency}
 use Rattle.convoy_certificate.specs.Certificate.{Certificate}
 use Rattle.convoy_certificate.specs.Reading.{certificate_of}
 use Rattle.convoy_certificate.specs.declared.text_fault.TextFault.{TextFault}
@@ -14,11 +14,13 @@ use Rattle.convoy_engine.specs.First.{first_text}
 use Rattle.convoy_engine.specs.Inputs.{is_certificate_text, reply_of_job, reply_of_reading}
 use Rattle.convoy_engine.specs.PacketsTold.{certificate_packets, packets_of_text}
 use Rattle.convoy_engine.specs.Replies.{fine}
-use Rattle.convoy_engine.specs.Searches.{IsFaulty}
+use Rattle.convoy_engine.specs.Options.{Settings}
+use Rattle.convoy_engine.specs.Searches.{IsFaulty, IsSearchFault}
 use Rattle.convoy_engine.specs.Simulate.{certificate_simulated, simulate_text}
 use Rattle.convoy_engine.specs.Timelines.{certificate_timeline, timeline_of_text}
 use Rattle.convoy_engine.proofs.CaseTexts.{made_number}
 use Rattle.convoy_engine.proofs.CheckTexts.{check_number, text_fault}
+use Rattle.convoy_engine.proofs.DrawTexts.{draw_number}
 use Rattle.convoy_engine.proofs.ExplainTexts.{explain_number}
 use Rattle.convoy_engine.proofs.FirstTexts.{first_number, told_number}
 use Rattle.convoy_engine.proofs.PacketsTexts.{packets_number}
@@ -64,6 +66,11 @@ form_number : (made : Certificate → List ℕ) (answer : List ℕ → Result (L
 form_number made answer text fault low true is = reading_number made (certificate_of text) fault is
 form_number made answer text fault low false is = job_number (answer text) fault low (nat_le (length text) LONGEST_JOB) is
 
+-- a search's fault is one of its text, or that its board was full
+search_number : (settings : Settings) (text : List ℕ) (fault : Fault) → IsSearchFault settings text fault → IsNoDevice (row_of fault).0
+search_number settings text fault (inl faulty) = low_is_none _ (faulty_number text fault faulty)
+search_number settings text fault (inr full) = rw full.told (record { no_read = λ is. omega arith; no_write = λ is. omega arith })
+
 -- none is a device's, by its number
 pub says_number : (command : Command) (text : List ℕ) (fault : Fault) →
     says_for command text (Err fault) → IsNoDevice (row_of fault).0
@@ -78,5 +85,6 @@ says_number Packets text fault says =
     form_number certificate_packets packets_of_text text fault (λ refused is. packets_number text refused is) (is_certificate_text text) says
 says_number Check text fault says = low_is_none _ (check_number text fault says)
 says_number Explain text fault says = low_is_none _ (explain_number text fault says)
-says_number (Analyse options) text fault says = low_is_none _ (faulty_number text fault says)
-says_number (Latency options) text fault says = low_is_none _ (faulty_number text fault says)
+says_number Draw text fault says = low_is_none _ (draw_number text fault says)
+says_number (Analyse options) text fault says = search_number options text fault says
+says_number (Latency options) text fault says = search_number options text fault says

@@ -13,7 +13,7 @@ use Rattle.convoy_checker.specs.declared.refused.Refused.TheVariants as checks
 use Rattle.convoy_engine.specs.declared.fault.Fault.{Fault}
 use Rattle.convoy_engine.specs.declared.fault.Fault.TheVariants.{Memory}
 use Rattle.convoy_engine.specs.Checks.{reply_of_check, reply_of_text}
-use Rattle.convoy_engine.specs.Explains.{ExplainSays, IsExplained, MeansValid, certificate_explained, explain_reply, explained, in_place_of_yes}
+use Rattle.convoy_engine.specs.Explains.{ExplainSays, MeansValid, explain_reply, explained, in_place_of_yes}
 use Rattle.convoy_engine.specs.Faults.{row_of}
 use Rattle.convoy_engine.specs.Replies.{IsReply, Reply, SaysUnlessMemory}
 

@@ -1,5 +1,5 @@
 -- How many failures a list of answers has.
-use Rattle.std.proofs.Common.{◌⊎◌, ◌∙◌, ◌≤◌, ◌≡◌, ℕ, List, [], ◌∷◌, ◌++◌, Ok, Err, refl, inl, inr, arith}
+use Rattle.std.proofs.Common.{◌⊎◌, ◌∙◌, ◌≡◌, ℕ, List, [], ◌∷◌, ◌++◌, Ok, Err, refl, inl, inr}
 use Rattle.std.specs.List.{All}
 use Rattle.std.proofs.lemmas.List.Elements.{All-head, All-tail}
 use Rattle.convoy_engine.specs.declared.fault.Fault.{Fault}

@@ -4,9 +4,11 @@ pub mod Blocks
 pub mod CaseTexts
 pub mod CheckTexts
 pub mod CommandTexts
+pub mod DrawTexts
 pub mod ExplainTexts
 pub mod Failures
 pub mod FirstTexts
 pub mod PacketsTexts
 pub mod Pieces
 pub mod Refusals
+pub mod Starts

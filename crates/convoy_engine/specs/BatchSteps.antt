@@ -1,5 +1,5 @@
 -- What holds of a batch between two bytes, and how it ends early.
-use Rattle.std.specs.Prelude.{◌≡◌, ◌⊎◌, ℕ, ◌+◌, ◌<◌, List, [], ◌∷◌, ◌++◌, length, Result, Ok, Err, MatchResult, IsOk}
+use Rattle.std.specs.Prelude.{◌≡◌, ◌⊎◌, ℕ, ◌+◌, ◌<◌, List, [], length, Result, Ok, Err, MatchResult, IsOk}
 use Rattle.convoy_jobs.specs.Jobs.{ended_jobs, jobs_of}
 use Rattle.convoy_jobs.specs.Splitting.{Holds, IsAfter, IsJobStart}
 use Rattle.convoy_jobs.specs.declared.splitter.Splitter.{Splitter}

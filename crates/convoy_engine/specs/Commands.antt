@@ -1,9 +1,10 @@
 -- The commands: what each may answer for a text, and how long the text may be.
-use Rattle.std.specs.Prelude.{◌≡◌, ℕ}
+use Rattle.std.specs.Prelude.{ℕ}
 use Rattle.convoy_engine.specs.declared.command.Command.{Command}
-use Rattle.convoy_engine.specs.declared.command.Command.TheVariants.{First, Simulate, Timeline, Packets, Check, Explain, Analyse, Latency}
+use Rattle.convoy_engine.specs.declared.command.Command.TheVariants.{First, Simulate, Timeline, Packets, Check, Explain, Draw, Analyse, Latency}
 use Rattle.convoy_engine.specs.declared.reading.TheConstants.{LONGEST_CERTIFICATE, LONGEST_JOB}
 use Rattle.convoy_engine.specs.Checks.{CheckSays}
+use Rattle.convoy_engine.specs.Draws.{DrawSays}
 use Rattle.convoy_engine.specs.Explains.{ExplainSays}
 use Rattle.convoy_engine.specs.First.{FirstSays}
 use Rattle.convoy_engine.specs.PacketsTold.{PacketsSays}
@@ -20,6 +21,7 @@ says_for Timeline = TimelineSays
 says_for Packets = PacketsSays
 says_for Check = CheckSays
 says_for Explain = ExplainSays
+says_for Draw = DrawSays
 says_for (Analyse options) = AnalyseSays options
 says_for (Latency options) = LatencySays options
 
@@ -30,8 +32,8 @@ longest_for (Analyse options) = LONGEST_JOB
 longest_for (Latency options) = LONGEST_JOB
 longest_for other = LONGEST_CERTIFICATE
 
--- where the command searches, one worker does
-abbrev pub IsAlone : Command → Type 0
-IsAlone (Analyse options) = options.workers ≡ 1
-IsAlone (Latency options) = options.workers ≡ 1
-IsAlone other = Unit {0}
+-- the command searches for nothing
+abbrev pub IsWithoutSearch : Command → Type 0
+IsWithoutSearch (Analyse options) = ⊥
+IsWithoutSearch (Latency options) = ⊥
+IsWithoutSearch other = Unit {0}

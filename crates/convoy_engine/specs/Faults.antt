@@ -7,10 +7,12 @@ use Rattle.convoy_scenario.specs.declared.fault.Limit.{Limit}
 use Rattle.convoy_scenario.specs.declared.fault.Limit.TheVariants as limits
 use Rattle.convoy_scenario.specs.declared.fault.ScenarioFault.{ScenarioFault}
 use Rattle.convoy_scenario.specs.declared.fault.ScenarioFault.TheVariants as scenario
+use Rattle.convoy_share.specs.declared.fault.SearchFault.{SearchFault}
+use Rattle.convoy_share.specs.declared.fault.SearchFault.TheVariants as searches
 use Rattle.convoy_engine.specs.declared.fault.Ending.{Ending}
 use Rattle.convoy_engine.specs.declared.fault.Ending.TheVariants as endings
 use Rattle.convoy_engine.specs.declared.fault.Fault.{Fault}
-use Rattle.convoy_engine.specs.declared.fault.Fault.TheVariants.{NotToml, Shape, OverLimit, BadName, DoubleName, UnknownGroup, NoDestination, DoubleDestination, UnknownTarget, TargetNotAddressed, LinkToItself, ScheduleLength, DelayOutOfRange, Memory, Read, Write, TooLong, TooManyJobs, TooManyReads}
+use Rattle.convoy_engine.specs.declared.fault.Fault.TheVariants.{NotToml, Shape, OverLimit, BadName, DoubleName, UnknownGroup, NoDestination, DoubleDestination, UnknownTarget, TargetNotAddressed, LinkToItself, ScheduleLength, DelayOutOfRange, Memory, PlaceTooLarge, Read, Write, TooLong, TooManyJobs, TooManyReads}
 
 -- a limit's word
 abbrev pub limit_word : Limit → List ℕ
@@ -36,6 +38,7 @@ row_of LinkToItself = (14, codes "link to itself")
 row_of ScheduleLength = (12, codes "schedule length")
 row_of (DelayOutOfRange packet) = (13, codes "delay out of range " ++ decimal packet)
 row_of Memory = (11, codes "out of memory")
+row_of PlaceTooLarge = (30, codes "place too large")
 row_of Read = (40, codes "read failed")
 row_of Write = (41, codes "write failed")
 row_of TooLong = (42, codes "job too long")
@@ -76,3 +79,8 @@ abbrev pub told_of_list : ListFault → Fault
 told_of_list lists.Length = ScheduleLength
 told_of_list (lists.Range packet) = DelayOutOfRange packet
 told_of_list lists.Memory = Memory
+
+-- why a search of several workers gave no answer, as the engine tells it
+abbrev pub told_of_search : SearchFault → Fault
+told_of_search searches.Memory = Memory
+told_of_search (searches.PlaceTooLarge late) = PlaceTooLarge

@@ -15,6 +15,8 @@ pub use Rattle.convoy_timeline.specs.Timeline
 pub use Rattle.convoy_explain.specs.Causes
 pub use Rattle.convoy_explain.specs.Explanations
 pub use Rattle.convoy_explain.specs.PacketLists
+pub use Rattle.convoy_draw.specs.Pictures
+pub use Rattle.convoy_draw.specs.Drawings
 pub use Rattle.convoy_certificate.specs.Certificate
 pub use Rattle.convoy_certificate.specs.Reading as CertificateReading
 pub use Rattle.convoy_certificate.specs.Text as CertificateText
@@ -36,6 +38,7 @@ pub mod Simulate
 pub mod Timelines
 pub mod PacketsTold
 pub mod Explains
+pub mod Draws
 pub mod Searches
 pub mod Options
 pub mod Commands

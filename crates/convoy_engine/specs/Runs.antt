@@ -31,6 +31,12 @@ RunsTo longest says most_reads reads writes (Err Memory) =
 RunsTo longest says most_reads reads writes (Err fault) =
     (StopsReading longest most_reads reads fault ⊎ Replied longest says reads (Err fault)) × (writes ≡ [])
 
+-- what becomes of a reply at the sink: all of its text goes out, or a front of it and then the sink fails, or, where it is a fault, nothing
+abbrev pub WritesReply : Reply → List Answer → Result Done Fault → Type 0
+WritesReply (Ok (done, out)) writes (Ok ended) = (ended ≡ done) × WritesAll out writes
+WritesReply (Ok (done, out)) writes (Err fault) = (fault ≡ Write) × FailsWithin out writes
+WritesReply (Err refused) writes result = (result ≡ Err refused) × (writes ≡ [])
+
 -- Over a source and a sink that may answer so, from their old states to their new ones, there is
 -- a run that gives this result.
 pub record IsRun {S K : Type 0} (longest : ℕ) (says : Rule) (most_reads : ℕ)

@@ -18,7 +18,7 @@ use Rattle.convoy_branch.specs.Outcomes.{IsOutcome}
 use Rattle.convoy_branch.specs.declared.outcome.Outcome.{Outcome}
 use Rattle.convoy_engine.specs.declared.done.Done.TheVariants.{Fine, Open, Refused}
 use Rattle.convoy_engine.specs.declared.fault.Fault.{Fault}
-use Rattle.convoy_engine.specs.declared.fault.Fault.TheVariants.{Memory}
+use Rattle.convoy_engine.specs.declared.fault.Fault.TheVariants.{Memory, PlaceTooLarge}
 use Rattle.convoy_engine.specs.declared.reading.TheConstants.{LONGEST_CERTIFICATE}
 use Rattle.convoy_engine.specs.Checks.{check_reply}
 use Rattle.convoy_engine.specs.Faults.{told_of}
@@ -32,17 +32,36 @@ pub record IsFaulty (text : List ℕ) (fault : Fault) : Type 0 where
   pub found : scenario_of_text text ≡ Err cause
   pub told : fault ≡ told_of cause
 
+-- A search with these settings for the scenario ended so. It had as many workers as they say, or one where its first ticket was enough.
+pub record IsEnd (settings : Settings) (scenario : Scenario) (outcome : Outcome) : Type 0 where
+  pub workers : ℕ
+  pub few : workers ≤ settings.workers
+  pub found : IsOutcome settings.bounds scenario workers settings.limit outcome
+
+-- A search of several workers found more records than their board can name.
+pub record IsBoardFull (settings : Settings) (fault : Fault) : Type 0 where
+  pub several : 2 ≤ settings.workers
+  pub told : fault ≡ PlaceTooLarge
+
+-- a search gave no answer: memory ran out, or the board of its workers was full
+abbrev pub IsUnanswered : Settings → Fault → Type 0
+IsUnanswered settings fault = (fault ≡ Memory) ⊎ IsBoardFull settings fault
+
 -- A search with these settings for the scenario of the text ended so.
 pub record IsSearchOf (settings : Settings) (text : List ℕ) (outcome : Outcome) : Type 0 where
   pub scenario : Scenario
   pub read : scenario_of_text text ≡ Ok scenario
   pub lawful : IsScenario scenario
-  pub ended : IsOutcome settings.bounds scenario 1 settings.limit outcome
+  pub ended : IsEnd settings scenario outcome
 
--- what a search for the scenario of a text gives; or the scenario's fault, or memory ran out
+-- what is told where a search has no answer, but for want of memory: the text's fault, or that the board was full
+abbrev pub IsSearchFault : Settings → List ℕ → Fault → Type 0
+IsSearchFault settings text fault = IsFaulty text fault ⊎ IsBoardFull settings fault
+
+-- what a search for the scenario of a text gives; or why there is no answer
 abbrev pub SearchGives : Settings → List ℕ → Result Outcome Fault → Type 0
 SearchGives settings text (Ok outcome) = IsSearchOf settings text outcome
-SearchGives settings text (Err fault) = IsFaulty text fault ⊎ (fault ≡ Memory)
+SearchGives settings text (Err fault) = IsSearchFault settings text fault ⊎ (fault ≡ Memory)
 
 -- THE HEADLINE. What is written is a certificate of the scenario that was read, with a node for each ticket that was spent; its schedule has the stated latency; no assignment has a greater one; and the checker accepts what is written.
 pub record IsProof (settings : Settings) (text out : List ℕ) : Type 0 where
@@ -83,7 +102,7 @@ abbrev pub AnalyseSays : Settings → Rule
 AnalyseSays settings text (Ok (Fine, out)) = IsProof settings text out
 AnalyseSays settings text (Ok (Open, out)) = IsOpenProof settings text out
 AnalyseSays settings text (Ok (Refused, out)) = ⊥
-AnalyseSays settings text (Err fault) = IsFaulty text fault
+AnalyseSays settings text (Err fault) = IsSearchFault settings text fault
 
 -- The greatest latency of the scenario that was read is written.
 pub record IsGreatestTold (text out : List ℕ) : Type 0 where
@@ -107,4 +126,4 @@ abbrev pub LatencySays : Settings → Rule
 LatencySays settings text (Ok (Fine, out)) = IsGreatestTold text out
 LatencySays settings text (Ok (Open, out)) = IsFrontTold settings text out
 LatencySays settings text (Ok (Refused, out)) = ⊥
-LatencySays settings text (Err fault) = IsFaulty text fault
+LatencySays settings text (Err fault) = IsSearchFault settings text fault

@@ -14,13 +14,16 @@ use super::fault::Fault;
 use super::lines::append_open;
 use super::options::Options;
 use super::search::search_text;
-use convoy_branch::Outcome;
+use super::watch::Watch;
 use convoy_branch::laws::fronts_bound;
+use convoy_branch::{NoGate, Outcome};
 use convoy_certificate::laws::{texts_are_read, texts_are_short};
 use convoy_certificate::{Certificate, push_schedule, write};
 use convoy_checker::laws::{checked_is_valid, valid_is_greatest};
 use convoy_sim::Record;
 use std::alloc::{AllocError, Global};
+use std::sync::Wait;
+use std::thread::Threads;
 
 /// The command `analyse`: reads a scenario to the end of the source, and writes the certificate of its
 /// greatest latency (docs/FORMATS.md, "What `analyse` writes").
@@ -33,26 +36,37 @@ use std::alloc::{AllocError, Global};
 /// latency LEAST.
 ///
 /// At most `options.most_reads()` reads are made. Nothing is written before the answer is known. The
-/// faults are those of [`run_first`](super::run_first). The search has one worker.
-pub fn run_analyse<S: Source, K: Sink>(
+/// faults are those of [`run_first`](super::run_first), and with several workers
+/// `Fault::PlaceTooLarge`, where they found more records than can be told apart.
+pub fn run_analyse<R: Threads + Wait + Sync, S: Source, K: Sink>(
+    rt: &R,
     alloc: Global,
     source: &mut S,
     sink: &mut K,
     options: &Options,
 ) -> Result<Done, Fault>
-    requires alone { options.now.workers ≡ 1 }
     ensures { IsRun LONGEST_JOB (AnalyseSays options.now) options.now.most_reads
         S.reads K.writes source.old source.new sink.old sink.new result }
 {
     let most_reads = options.most_reads();
-    run_command(alloc, Command::Analyse(*options), source, sink, most_reads)
+    run_command(
+        rt,
+        alloc,
+        Command::Analyse(*options),
+        source,
+        sink,
+        most_reads,
+        &NoGate,
+    )
 }
 
 /// What is written for a text, and how the command ends.
-pub(crate) fn analyse_answer(
+pub(crate) fn analyse_answer<R: Threads + Wait + Sync, W: Watch + Sync>(
+    rt: &R,
     alloc: Global,
     text: &[u8],
     options: &Options,
+    watch: &W,
 ) -> Result<(Done, Vec<u8>), Fault>
     ensures { SaysUnlessMemory (AnalyseSays options.now) text.now (reply_of result) }
 {
@@ -62,7 +76,7 @@ pub(crate) fn analyse_answer(
     valid_is_greatest();
     fronts_bound();
     let _limit = options.limit();
-    match search_text(alloc, text, options)? {
+    match search_text(rt, alloc, text, options, watch)? {
         Outcome::Proved { certificate, .. } => Ok((Done::Fine, proof_text(alloc, &certificate)?)),
         Outcome::Open { best, upper, .. } => Ok((Done::Open, open_text(alloc, &best, upper)?)),
     }

@@ -14,9 +14,12 @@ use super::latency::latency_answer;
 use super::options::Options;
 use super::reading::{BUFFER_LENGTH, LONGEST_JOB, read_piece};
 use super::writing::write_all;
+use convoy_branch::NoGate;
 use convoy_jobs::laws::ended_jobs_stay;
 use convoy_jobs::{JobFault, Splitter};
 use std::alloc::{AllocError, Global};
+use std::sync::Wait;
+use std::thread::Threads;
 
 /// How many jobs a batch has at most.
 pub const MOST_JOBS: u32 = 1_000;
@@ -27,21 +30,22 @@ pub const MOST_JOBS: u32 = 1_000;
 ///
 /// Blocks go out as their jobs end, and memory is that of one job. A job with a fault gets the fault
 /// as its block, and so does one of more than [`LONGEST_JOB`](super::LONGEST_JOB) bytes
-/// (`Fault::TooLong`), and one for which memory runs out (`Fault::Memory`).
+/// (`Fault::TooLong`), one for which memory runs out (`Fault::Memory`), and one for which several
+/// workers find more records than can be told apart (`Fault::PlaceTooLarge`).
 ///
 /// At most `options.most_reads()` reads are made. The run ends early with `Fault::Read` where the
 /// source fails, and with `Fault::TooManyReads` where so many reads give bytes and none the end, each
 /// after the blocks of the jobs whose divider line had ended; with `Fault::TooManyJobs` once the
 /// divider after the [`MOST_JOBS`]th job has ended, after that job's block; with `Fault::Write` where
 /// the sink fails, after a front of the blocks; and with `Fault::Memory`, before all else, where there
-/// is no memory for a block. The search has one worker.
-pub fn run_batch<S: Source, K: Sink>(
+/// is no memory for a block.
+pub fn run_batch<R: Threads + Wait + Sync, S: Source, K: Sink>(
+    rt: &R,
     alloc: Global,
     source: &mut S,
     sink: &mut K,
     options: &Options,
 ) -> Result<Done, Fault>
-    requires alone { options.now.workers ≡ 1 }
     ensures { IsBatchRun options.now options.now.most_reads
         S.reads K.writes source.old source.new sink.old sink.new result }
 {
@@ -53,10 +57,10 @@ pub fn run_batch<S: Source, K: Sink>(
             return Err(Fault::Read);
         };
         if piece.is_empty() {
-            batch.finish(alloc, sink, options)?;
+            batch.finish(rt, alloc, sink, options)?;
             return Ok(Done::Fine);
         }
-        batch.take_piece(alloc, piece, sink, options)?;
+        batch.take_piece(rt, alloc, piece, sink, options)?;
     }
     Err(Fault::TooManyReads)
 }
@@ -83,8 +87,9 @@ impl Batch {
     }
 
     /// Takes the next piece of the text.
-    fn take_piece<K: Sink>(
+    fn take_piece<R: Threads + Wait + Sync, K: Sink>(
         &mut self,
+        rt: &R,
         alloc: Global,
         piece: &[u8],
         sink: &mut K,
@@ -98,14 +103,15 @@ impl Batch {
     {
         ended_jobs_stay();
         for byte in piece {
-            self.take(alloc, *byte, sink, options)?;
+            self.take(rt, alloc, *byte, sink, options)?;
         }
         Ok(())
     }
 
     /// Takes the next byte of the text.
-    fn take<K: Sink>(
+    fn take<R: Threads + Wait + Sync, K: Sink>(
         &mut self,
+        rt: &R,
         alloc: Global,
         byte: u8,
         sink: &mut K,
@@ -118,15 +124,16 @@ impl Batch {
             (StopsAnswering options.now K.writes start sink.new (ended_jobs (text ++ byte ∷ []))) }
     {
         if self.splitter.take(byte) {
-            self.end_job(alloc, sink, options)
+            self.end_job(rt, alloc, sink, options)
         } else {
             Ok(())
         }
     }
 
     /// The text is over.
-    fn finish<K: Sink>(
+    fn finish<R: Threads + Wait + Sync, K: Sink>(
         &mut self,
+        rt: &R,
         alloc: Global,
         sink: &mut K,
         options: &Options,
@@ -136,15 +143,16 @@ impl Batch {
             EndsBatch options.now K.writes start sink.new text result }
     {
         if !self.splitter.finish() {
-            return self.answer(alloc, sink, options);
+            return self.answer(rt, alloc, sink, options);
         }
-        self.end_job(alloc, sink, options)?;
-        self.answer(alloc, sink, options)
+        self.end_job(rt, alloc, sink, options)?;
+        self.answer(rt, alloc, sink, options)
     }
 
     /// Answers the job that ended at a divider, and starts the next one.
-    fn end_job<K: Sink>(
+    fn end_job<R: Threads + Wait + Sync, K: Sink>(
         &mut self,
+        rt: &R,
         alloc: Global,
         sink: &mut K,
         options: &Options,
@@ -157,7 +165,7 @@ impl Batch {
             × IsFresh self.new.splitter)
             (StopsAnswering options.now K.writes start sink.new (jobs ++ job ∷ [])) }
     {
-        self.answer(alloc, sink, options)?;
+        self.answer(rt, alloc, sink, options)?;
         if self.number >= MOST_JOBS {
             return Err(Fault::TooManyJobs);
         }
@@ -167,8 +175,9 @@ impl Batch {
     }
 
     /// Writes the block of the job that ended.
-    fn answer<K: Sink>(
+    fn answer<R: Threads + Wait + Sync, K: Sink>(
         &mut self,
+        rt: &R,
         alloc: Global,
         sink: &mut K,
         options: &Options,
@@ -178,7 +187,7 @@ impl Batch {
         ensures splitter { self.new.splitter ≡ self.old.splitter }
         ensures number { self.new.number ≡ self.old.number }
     {
-        let answer = job_answer(alloc, &self.splitter, options);
+        let answer = job_answer(rt, alloc, &self.splitter, options);
         self.block.fill(self.number, answer);
         if write_all(sink, self.block.bytes()).is_err() {
             return Err(Fault::Write);
@@ -188,7 +197,8 @@ impl Batch {
 }
 
 /// What is answered for the job that ended.
-fn job_answer(
+fn job_answer<R: Threads + Wait + Sync>(
+    rt: &R,
     alloc: Global,
     splitter: &Splitter,
     options: &Options,
@@ -197,7 +207,7 @@ fn job_answer(
         JobSays options.now job (reply_of result) }
 {
     match splitter.job() {
-        Ok(text) => latency_answer(alloc, text, options),
+        Ok(text) => latency_answer(rt, alloc, text, options, &NoGate),
         Err(JobFault::TooLong) => Err(Fault::TooLong),
         Err(JobFault::Memory) => Err(Fault::Memory),
     }

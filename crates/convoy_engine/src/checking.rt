@@ -7,7 +7,7 @@ ghost use Rattle.convoy_engine.specs.Refusals.{refused_line, row_of_refusal};
 ghost use Rattle.convoy_engine.specs.Replies.{IsReply, SaysUnlessMemory, reply_of};
 ghost use Rattle.convoy_engine.specs.Runs.{IsRun};
 
-use super::command::{Command, run_command};
+use super::command::{Command, run_without_search};
 use super::device::{Sink, Source};
 use super::done::Done;
 use super::fault::Fault;
@@ -38,7 +38,7 @@ pub fn run_check<S: Source, K: Sink>(
     ensures { IsRun LONGEST_CERTIFICATE CheckSays most_reads
         S.reads K.writes source.old source.new sink.old sink.new result }
 {
-    run_command(alloc, Command::Check, source, sink, most_reads)
+    run_without_search(alloc, Command::Check, source, sink, most_reads)
 }
 
 /// How `check` ends for a text, and what is written for it.

@@ -2,8 +2,11 @@ ghost use Rattle.std.specs.Prelude.{◌<◌, ◌≤◌, length, IfOk};
 ghost use Rattle.std.specs.Io.{ReadsAtMost};
 ghost use Rattle.convoy_engine.specs.Devices.{Answer, read_answer, write_answer};
 
+use thiserror::Error;
+
 /// A device could not be read from or written to.
-#[derive(Clone, Copy, Debug, PartialEq, Eq)]
+#[derive(Clone, Copy, Debug, PartialEq, Eq, Error)]
+#[error("a device could not be read from or written to")]
 pub struct DeviceFailed;
 
 /// Where an engine reads its input. An implementation says by `reads` what one call may do: from

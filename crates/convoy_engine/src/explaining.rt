@@ -6,7 +6,7 @@ ghost use Rattle.convoy_engine.specs.Replies.{IsReply, SaysUnlessMemory, reply_o
 ghost use Rattle.convoy_engine.specs.Runs.{IsRun};
 
 use super::checking::{answer_to_fault, refuse};
-use super::command::{Command, run_command};
+use super::command::{Command, run_without_search};
 use super::device::{Sink, Source};
 use super::done::Done;
 use super::fault::Fault;
@@ -34,7 +34,7 @@ pub fn run_explain<S: Source, K: Sink>(
     ensures { IsRun LONGEST_CERTIFICATE ExplainSays most_reads
         S.reads K.writes source.old source.new sink.old sink.new result }
 {
-    run_command(alloc, Command::Explain, source, sink, most_reads)
+    run_without_search(alloc, Command::Explain, source, sink, most_reads)
 }
 
 /// How `explain` ends for a text, and what is written for it.

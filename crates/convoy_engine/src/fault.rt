@@ -3,6 +3,7 @@ ghost use Rattle.convoy_engine.specs.Faults.{IsShortEnding, limit_word, ending_t
 
 use convoy_packets::ListFault;
 use convoy_scenario::{Key, Limit, ScenarioFault};
+use convoy_share::SearchFault;
 use std::alloc::{AllocError, Global};
 use thiserror::Error;
 
@@ -12,9 +13,9 @@ use thiserror::Error;
 pub enum Fault {
     #[error("the text is not TOML")]
     NotToml,
-    #[error("a key is absent, unknown or of another kind: {0:?}")]
+    #[error("a key is absent, unknown or of another kind: {0}")]
     Shape(Key),
-    #[error("a number is over its limit: {0:?}")]
+    #[error("over a limit: {0}")]
     OverLimit(Limit),
     #[error("a name is not a name")]
     BadName,
@@ -42,6 +43,9 @@ pub enum Fault {
     /// Memory ran out, which says nothing of the input.
     #[error("out of memory")]
     Memory,
+    /// A search of several workers found more records than their board can name: 4,294,967,296.
+    #[error("a search found more records than its board can name")]
+    PlaceTooLarge,
     /// The source failed in its last read.
     #[error("the input could not be read")]
     Read,
@@ -110,6 +114,20 @@ impl From<ListFault> for Fault {
     }
 }
 
+impl From<SearchFault> for Fault {
+    ghost use Rattle.std.specs.Prelude.{◌≡◌};
+    ghost use Rattle.convoy_engine.specs.Faults.{told_of_search};
+
+    ghost from_gives = { λ cause fault. fault ≡ told_of_search cause };
+
+    fn from(cause: SearchFault) -> Self {
+        match cause {
+            SearchFault::Memory => Fault::Memory,
+            SearchFault::PlaceTooLarge(_) => Fault::PlaceTooLarge,
+        }
+    }
+}
+
 /// What ends a fault's text, after its phrase.
 pub(crate) enum Ending {
     Word(&'static str),
@@ -160,6 +178,7 @@ pub(crate) fn row(fault: &Fault) -> (u8, &'static str, Ending)
         Fault::ScheduleLength => (12, "schedule length", NOTHING),
         Fault::DelayOutOfRange(packet) => (13, "delay out of range ", Ending::Number(*packet)),
         Fault::Memory => (11, "out of memory", NOTHING),
+        Fault::PlaceTooLarge => (30, "place too large", NOTHING),
         Fault::Read => (40, "read failed", NOTHING),
         Fault::Write => (41, "write failed", NOTHING),
         Fault::TooLong => (42, "job too long", NOTHING),

@@ -6,7 +6,7 @@ ghost use Rattle.convoy_engine.specs.Memory.{IsUnlessMemory};
 ghost use Rattle.convoy_engine.specs.First.{FirstSays, attained_text, first_text, least_delays};
 ghost use Rattle.convoy_engine.specs.Runs.{IsRun};
 
-use super::command::{Command, run_command};
+use super::command::{Command, run_without_search};
 use super::device::{Sink, Source};
 use super::done::Done;
 use super::fault::Fault;
@@ -34,7 +34,7 @@ pub fn run_first<S: Source, K: Sink>(
 ) -> Result<Done, Fault>
     ensures { IsRun LONGEST_JOB FirstSays most_reads S.reads K.writes source.old source.new sink.old sink.new result }
 {
-    run_command(alloc, Command::First, source, sink, most_reads)
+    run_without_search(alloc, Command::First, source, sink, most_reads)
 }
 
 /// What is written for a text.

@@ -12,11 +12,14 @@ use super::fault::Fault;
 use super::lines::append_open;
 use super::options::Options;
 use super::search::search_text;
-use convoy_branch::Outcome;
+use super::watch::Watch;
 use convoy_branch::laws::fronts_bound;
+use convoy_branch::{NoGate, Outcome};
 use convoy_checker::laws::valid_is_greatest;
 use convoy_lines::push_number_line;
 use std::alloc::{AllocError, Global};
+use std::sync::Wait;
+use std::thread::Threads;
 
 /// The command `latency`: reads a scenario to the end of the source, and writes its greatest latency
 /// (docs/FORMATS.md, "What `latency` writes").
@@ -27,32 +30,43 @@ use std::alloc::{AllocError, Global};
 /// where the greatest latency is at least LEAST ticks and at most MOST.
 ///
 /// At most `options.most_reads()` reads are made. Nothing is written before the answer is known. The
-/// faults are those of [`run_first`](super::run_first). The search has one worker.
-pub fn run_latency<S: Source, K: Sink>(
+/// faults are those of [`run_first`](super::run_first), and with several workers
+/// `Fault::PlaceTooLarge`, where they found more records than can be told apart.
+pub fn run_latency<R: Threads + Wait + Sync, S: Source, K: Sink>(
+    rt: &R,
     alloc: Global,
     source: &mut S,
     sink: &mut K,
     options: &Options,
 ) -> Result<Done, Fault>
-    requires alone { options.now.workers ≡ 1 }
     ensures { IsRun LONGEST_JOB (LatencySays options.now) options.now.most_reads
         S.reads K.writes source.old source.new sink.old sink.new result }
 {
     let most_reads = options.most_reads();
-    run_command(alloc, Command::Latency(*options), source, sink, most_reads)
+    run_command(
+        rt,
+        alloc,
+        Command::Latency(*options),
+        source,
+        sink,
+        most_reads,
+        &NoGate,
+    )
 }
 
 /// What is written for a text, and how the command ends.
-pub(crate) fn latency_answer(
+pub(crate) fn latency_answer<R: Threads + Wait + Sync, W: Watch + Sync>(
+    rt: &R,
     alloc: Global,
     text: &[u8],
     options: &Options,
+    watch: &W,
 ) -> Result<(Done, Vec<u8>), Fault>
     ensures { SaysUnlessMemory (LatencySays options.now) text.now (reply_of result) }
 {
     valid_is_greatest();
     fronts_bound();
-    match search_text(alloc, text, options)? {
+    match search_text(rt, alloc, text, options, watch)? {
         Outcome::Proved { certificate, .. } => {
             Ok((Done::Fine, greatest_text(alloc, certificate.latency())?))
         }

@@ -152,7 +152,8 @@ impl Options {
 
     /// By what the search closes boxes.
     pub fn bounds(&self) -> Bounds
-        ensures { result ≡ self.now.bounds }
+        ensures value { result ≡ self.now.bounds }
+        ensures lawful { AreSettings self.now }
     {
         self.bounds
     }

@@ -15,7 +15,7 @@ ghost use Rattle.convoy_explain.specs.PacketLists.{scheduled_packets_text};
 
 use super::case::Case;
 use super::checking::answer_to_fault;
-use super::command::{Command, run_command};
+use super::command::{Command, run_without_search};
 use super::device::{Sink, Source};
 use super::done::Done;
 use super::fault::Fault;
@@ -45,7 +45,7 @@ pub fn run_packets<S: Source, K: Sink>(
     ensures { IsRun LONGEST_CERTIFICATE PacketsSays most_reads
         S.reads K.writes source.old source.new sink.old sink.new result }
 {
-    run_command(alloc, Command::Packets, source, sink, most_reads)
+    run_without_search(alloc, Command::Packets, source, sink, most_reads)
 }
 
 /// How `packets` ends for a text, and what is written for it.

@@ -13,7 +13,7 @@ ghost use Rattle.convoy_engine.specs.Simulate.{SimulateSays, certificate_simulat
 
 use super::case::{Case, read_case};
 use super::checking::answer_to_fault;
-use super::command::{Command, run_command};
+use super::command::{Command, run_without_search};
 use super::device::{Sink, Source};
 use super::done::Done;
 use super::fault::Fault;
@@ -43,7 +43,7 @@ pub fn run_simulate<S: Source, K: Sink>(
 ) -> Result<Done, Fault>
     ensures { IsRun LONGEST_CERTIFICATE SimulateSays most_reads S.reads K.writes source.old source.new sink.old sink.new result }
 {
-    run_command(alloc, Command::Simulate, source, sink, most_reads)
+    run_without_search(alloc, Command::Simulate, source, sink, most_reads)
 }
 
 /// How `simulate` ends for a text, and what is written for it.

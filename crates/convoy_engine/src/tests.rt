@@ -2,6 +2,7 @@
 
 mod batches;
 mod devices;
+mod draws;
 mod explains;
 mod fixture;
 mod hostile;
@@ -9,3 +10,5 @@ mod options;
 mod rows;
 mod stamps;
 mod texts;
+mod watches;
+mod workers;

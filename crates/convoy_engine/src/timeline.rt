@@ -13,7 +13,7 @@ ghost use Rattle.convoy_engine.specs.Timelines.{TimelineSays, case_timeline, cer
 
 use super::case::{Case, read_case};
 use super::checking::answer_to_fault;
-use super::command::{Command, run_command};
+use super::command::{Command, run_without_search};
 use super::device::{Sink, Source};
 use super::done::Done;
 use super::fault::Fault;
@@ -39,7 +39,7 @@ pub fn run_timeline<S: Source, K: Sink>(
 ) -> Result<Done, Fault>
     ensures { IsRun LONGEST_CERTIFICATE TimelineSays most_reads S.reads K.writes source.old source.new sink.old sink.new result }
 {
-    run_command(alloc, Command::Timeline, source, sink, most_reads)
+    run_without_search(alloc, Command::Timeline, source, sink, most_reads)
 }
 
 /// How `timeline` ends for a text, and what is written for it.

@@ -1,8 +1,12 @@
 ghost use Rattle.std.specs.Prelude.{◌<◌, length, MatchResult};
 ghost use Rattle.convoy_engine.specs.Devices.{Failed, HasRun};
+ghost use Rattle.convoy_engine.specs.Replies.{reply_of};
+ghost use Rattle.convoy_engine.specs.Runs.{WritesReply};
 ghost use Rattle.convoy_engine.specs.Writes.{WritesAll, FailsWithin, WritesPiece};
 
 use super::device::{DeviceFailed, Sink};
+use super::done::Done;
+use super::fault::Fault;
 
 /// Writes a text, in as many calls as the sink needs. Where the sink fails, or takes none of the
 /// bytes offered, a front of the text has gone out.
@@ -15,6 +19,22 @@ pub fn write_all<K: Sink>(sink: &mut K, text: &[u8]) -> Result<(), DeviceFailed>
         rest = write_piece(sink, rest)?;
     }
     Ok(())
+}
+
+/// Writes what a command answers. Where that is a fault nothing is written; `Fault::Write` where the
+/// sink fails.
+pub(crate) fn write_reply<K: Sink>(
+    sink: &mut K,
+    answer: Result<(Done, Vec<u8>), Fault>,
+) -> Result<Done, Fault>
+    ensures { HasRun K.writes sink.old sink.new
+        (λ answers. WritesReply (reply_of answer) answers result) }
+{
+    let (done, text) = answer?;
+    match write_all(sink, &text) {
+        Ok(()) => Ok(done),
+        Err(DeviceFailed) => Err(Fault::Write),
+    }
 }
 
 /// One write. It answers the bytes that are left.

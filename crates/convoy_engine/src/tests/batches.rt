@@ -8,15 +8,23 @@ use crate::{
     run_batch,
 };
 use std::alloc::{AllocError, Global};
+use std::sync::Wait;
 use std::test::Fail;
+use std::thread::Threads;
 
 /// As many reads as each run here may make, unless a test says otherwise.
 const READS: u64 = 100_000;
 
 /// What a batch tells for a source, in at most so many reads: its blocks, and the line of its fault.
-fn told<S: Source>(alloc: Global, source: &mut S, reads: u64) -> Result<Vec<u8>, AllocError> {
+fn told<R: Threads + Wait + Sync, S: Source>(
+    rt: &R,
+    alloc: Global,
+    source: &mut S,
+    reads: u64,
+) -> Result<Vec<u8>, AllocError> {
     let mut sink = VecSink::new(alloc, 7);
-    let ended = run_batch(alloc, source, &mut sink, &options(DEFAULT_LIMIT, reads));
+    let options = options(DEFAULT_LIMIT, reads);
+    let ended = run_batch(rt, alloc, source, &mut sink, &options);
     let mut told = Vec::from_slice(alloc, sink.bytes())?;
     if let Err(fault) = ended {
         fault_line(&fault, &mut told)?;
@@ -25,9 +33,14 @@ fn told<S: Source>(alloc: Global, source: &mut S, reads: u64) -> Result<Vec<u8>,
 }
 
 /// Whether a batch of a text, which comes in pieces of each of three lengths, tells this.
-fn tells(alloc: Global, text: &[u8], want: &[u8]) -> Result<bool, AllocError> {
+fn tells<R: Threads + Wait + Sync>(
+    rt: &R,
+    alloc: Global,
+    text: &[u8],
+    want: &[u8],
+) -> Result<bool, AllocError> {
     for piece in [1, 7, 4_096] {
-        if told(alloc, &mut SliceSource::new(text, piece), READS)?.as_slice() != want {
+        if told(rt, alloc, &mut SliceSource::new(text, piece), READS)?.as_slice() != want {
             return Ok(false);
         }
     }
@@ -51,7 +64,7 @@ fn batch_of_three(rt: HostRuntime) -> Result<(), Fail> {
     let alloc = rt.alloc();
     let batch = batch_of(alloc, &[BASE, "delay =\n", LONE])?;
     let want = b"job 1\ngreatest 12\njob 2\nfault 1 not TOML\njob 3\ngreatest 0\n";
-    assert!(rt; tells(alloc, batch.as_bytes(), want)?);
+    assert!(rt; tells(&rt, alloc, batch.as_bytes(), want)?);
     Ok(())
 }
 
@@ -68,13 +81,13 @@ fn dividers(rt: HostRuntime) -> Result<(), Fail> {
     ] {
         let want = blocks_of(rt.alloc(), EMPTY, jobs)?;
         assert!(rt;
-            tells(rt.alloc(), text.as_bytes(), want.as_bytes())?,
+            tells(&rt, rt.alloc(), text.as_bytes(), want.as_bytes())?,
             "{text:?}"
         );
     }
     for text in ["---\r\n", "----", " ---\n", "--- \n", "--\n-", "-"] {
         let want = b"job 1\nfault 1 not TOML\n";
-        assert!(rt; tells(rt.alloc(), text.as_bytes(), want)?, "{text:?}");
+        assert!(rt; tells(&rt, rt.alloc(), text.as_bytes(), want)?, "{text:?}");
     }
     Ok(())
 }
@@ -98,17 +111,17 @@ fn batch_limits(rt: HostRuntime) -> Result<(), Fail> {
     text.extend_from_slice(b"\n---\n")?;
     text.extend_from_slice(BASE.as_bytes())?;
     let want = b"job 1\ngreatest 12\njob 2\nfault 42 job too long\njob 3\ngreatest 12\n";
-    assert!(rt; tells(alloc, &text, want)?);
+    assert!(rt; tells(&rt, alloc, &text, want)?);
     // A job may have that many bytes, and a divider counts for none.
     let mut longest = vec![in alloc; b'#'; LONGEST_JOB - 1]?;
     longest.extend_from_slice(b"\n---\n")?;
     let want = b"job 1\nfault 2 shape of delay\njob 2\nfault 2 shape of delay\n";
-    assert!(rt; tells(alloc, &longest, want)?);
+    assert!(rt; tells(&rt, alloc, &longest, want)?);
     // Dashes that are no divider count.
     let mut longer = vec![in alloc; b'#'; LONGEST_JOB - 3]?;
     longer.extend_from_slice(b"\n--\n---")?;
     let want = b"job 1\nfault 42 job too long\njob 2\nfault 2 shape of delay\n";
-    assert!(rt; tells(alloc, &longer, want)?);
+    assert!(rt; tells(&rt, alloc, &longer, want)?);
     Ok(())
 }
 
@@ -121,15 +134,16 @@ fn too_many_jobs(rt: HostRuntime) -> Result<(), Fail> {
         text.push_str("---\n")?;
     }
     let mut want = blocks_of(alloc, EMPTY, MOST_JOBS)?;
-    assert!(rt; tells(alloc, text.as_bytes(), want.as_bytes())?);
+    assert!(rt; tells(&rt, alloc, text.as_bytes(), want.as_bytes())?);
     want.push_str("fault 43 too many jobs\n")?;
     text.push_str("---")?;
-    assert!(rt; tells(alloc, text.as_bytes(), want.as_bytes())?);
+    assert!(rt; tells(&rt, alloc, text.as_bytes(), want.as_bytes())?);
     text.push_str("\n")?;
-    assert!(rt; tells(alloc, text.as_bytes(), want.as_bytes())?);
+    assert!(rt; tells(&rt, alloc, text.as_bytes(), want.as_bytes())?);
     // The last read that is allowed shows it.
     let length = text.as_bytes().len();
     let told = told(
+        &rt,
         alloc,
         &mut SliceSource::new(text.as_bytes(), length.max(1)),
         1,
@@ -157,6 +171,7 @@ fn batch_reads_fail(rt: HostRuntime) -> Result<(), Fail> {
         let inner = SliceSource::new(batch.as_bytes(), 1);
         let mut sink = VecSink::new(alloc, 4_096);
         let ended = run_batch(
+            &rt,
             alloc,
             &mut FailingSource { inner, good },
             &mut sink,
@@ -166,7 +181,7 @@ fn batch_reads_fail(rt: HostRuntime) -> Result<(), Fail> {
         assert_eq!(rt; sink.bytes(), want, "at {good}");
         let mut source = SliceSource::new(batch.as_bytes(), 1);
         let mut sink = VecSink::new(alloc, 4_096);
-        let ended = run_batch(alloc, &mut source, &mut sink, &options(1, good));
+        let ended = run_batch(&rt, alloc, &mut source, &mut sink, &options(1, good));
         assert!(rt; matches!(ended, Err(Fault::TooManyReads)));
         assert_eq!(rt; sink.bytes(), want, "at {good}");
     }
@@ -184,6 +199,7 @@ fn batch_writes_fail(rt: HostRuntime) -> Result<(), Fail> {
         let inner = VecSink::new(alloc, 1);
         let mut sink = FailingSink { inner, good };
         let ended = run_batch(
+            &rt,
             alloc,
             &mut source,
             &mut sink,
@@ -203,7 +219,7 @@ fn batch_memory(rt: HostRuntime) -> Result<(), Fail> {
     let batch = "---\ndelay =\n";
     let mut source = SliceSource::new(batch.as_bytes(), 4_096);
     let mut sink = VecSink::new(alloc, 4_096);
-    match run_batch(alloc, &mut source, &mut sink, &options(1, READS)) {
+    match run_batch(&rt, alloc, &mut source, &mut sink, &options(1, READS)) {
         Ok(Done::Fine) => {
             assert!(rt; sink.bytes().starts_with(b"job 1\nfault "));
             assert!(rt; sink.bytes().ends_with(b"\n"));

@@ -9,7 +9,9 @@ use crate::{
 use std::alloc::{AllocError, Global};
 use std::io;
 use std::io::{ErrorKind, Read};
+use std::sync::Wait;
 use std::test::Fail;
+use std::thread::Threads;
 
 /// A source in memory that gives 64 bytes a read, and fails after some reads.
 #[derive(Drop)]
@@ -67,21 +69,22 @@ impl<'a> Read for InterruptedReader<'a> {
 }
 
 /// What `first` tells for a text that arrives in pieces of one byte or more.
-fn told_in_pieces(
+fn told_in_pieces<R: Threads + Wait + Sync>(
+    rt: &R,
     alloc: Global,
     text: &[u8],
     piece: usize,
     reads: u64,
 ) -> Result<Vec<u8>, AllocError> {
     let mut source = SliceSource::new(text, piece.max(1));
-    let (_, told) = told_of(alloc, Asked::First, &mut source, reads)?;
+    let (_, told) = told_of(rt, alloc, Asked::First, &mut source, reads)?;
     Ok(told)
 }
 
 #[test]
 fn base_first(rt: HostRuntime) -> Result<(), Fail> {
     for piece in [1, 16, 65_536] {
-        let told = told_in_pieces(rt.alloc(), BASE.as_bytes(), piece, READS)?;
+        let told = told_in_pieces(&rt, rt.alloc(), BASE.as_bytes(), piece, READS)?;
         assert_eq!(rt; told.as_slice(), FIRST_OF_BASE.as_bytes(), "at {piece}");
     }
     Ok(())
@@ -97,7 +100,7 @@ fn stopped_reading(rt: HostRuntime) -> Result<(), Fail> {
         (long.as_slice(), 4_096, READS, "fault 42 job too long\n"),
         (&long[1..], 4_096, READS, "fault 2 shape of delay\n"),
     ] {
-        let told = told_in_pieces(alloc, text, piece, reads)?;
+        let told = told_in_pieces(&rt, alloc, text, piece, reads)?;
         assert_eq!(rt; told.as_slice(), line.as_bytes());
     }
     Ok(())
@@ -105,11 +108,11 @@ fn stopped_reading(rt: HostRuntime) -> Result<(), Fail> {
 
 /// Whether a run of the command over the base scenario ends with the source's failure, and nothing
 /// is written, where so many reads are good.
-fn fails_reading(alloc: Global, asked: Asked, good: u64) -> bool {
+fn fails_reading<R: Threads + Wait + Sync>(rt: &R, alloc: Global, asked: Asked, good: u64) -> bool {
     let inner = SliceSource::new(BASE.as_bytes(), 64);
     let mut source = FailingSource { inner, good };
     let mut sink = VecSink::new(alloc, 4_096);
-    let ended = run(alloc, asked, &mut source, &mut sink, READS);
+    let ended = run(rt, alloc, asked, &mut source, &mut sink, READS);
     matches!(ended, Err(Fault::Read)) && sink.bytes().is_empty()
 }
 
@@ -118,7 +121,7 @@ fn failing_reads(rt: HostRuntime) {
     for good in 0..4 {
         for asked in [Asked::First, Asked::Analyse(DEFAULT_LIMIT)] {
             assert!(rt;
-                fails_reading(rt.alloc(), asked, good),
+                fails_reading(&rt, rt.alloc(), asked, good),
                 "{asked:?} at {good}"
             );
         }
@@ -127,11 +130,17 @@ fn failing_reads(rt: HostRuntime) {
 
 /// Whether a run of the command over the base scenario ends with the sink's failure, and just the
 /// front of the answer is written, where so many writes are good.
-fn fails_writing(alloc: Global, asked: Asked, answer: &[u8], good: usize) -> bool {
+fn fails_writing<R: Threads + Wait + Sync>(
+    rt: &R,
+    alloc: Global,
+    asked: Asked,
+    answer: &[u8],
+    good: usize,
+) -> bool {
     let mut source = SliceSource::new(BASE.as_bytes(), 4_096);
     let inner = VecSink::new(alloc, 1);
     let mut sink = FailingSink { inner, good };
-    let ended = run(alloc, asked, &mut source, &mut sink, READS);
+    let ended = run(rt, alloc, asked, &mut source, &mut sink, READS);
     matches!(ended, Err(Fault::Write)) && Some(sink.inner.bytes()) == answer.get(..good)
 }
 
@@ -142,7 +151,7 @@ fn failing_devices(rt: HostRuntime) {
         (Asked::Analyse(DEFAULT_LIMIT), CERTIFICATE_OF_BASE),
     ] {
         for good in 0..answer.len() {
-            let failed = fails_writing(rt.alloc(), asked, answer.as_bytes(), good);
+            let failed = fails_writing(&rt, rt.alloc(), asked, answer.as_bytes(), good);
             assert!(rt; failed, "{asked:?} at {good}");
         }
     }
@@ -155,7 +164,13 @@ fn interrupted_reads(rt: HostRuntime) -> Result<(), Fail> {
         rest: BASE.as_bytes(),
         interrupts: 2,
     };
-    let (done, told) = told_of(rt.alloc(), Asked::First, &mut StreamSource { reader }, 2)?;
+    let (done, told) = told_of(
+        &rt,
+        rt.alloc(),
+        Asked::First,
+        &mut StreamSource { reader },
+        2,
+    )?;
     assert_eq!(rt; done, Some(Done::Fine));
     assert_eq!(rt; told.as_slice(), FIRST_OF_BASE.as_bytes());
     Ok(())
@@ -170,7 +185,7 @@ fn good_streams(rt: HostRuntime) -> Result<(), Fail> {
     let mut sink = StreamSink {
         writer: Vec::new(rt.alloc()),
     };
-    let ended = run(rt.alloc(), Asked::First, &mut source, &mut sink, READS);
+    let ended = run(&rt, rt.alloc(), Asked::First, &mut source, &mut sink, READS);
     assert!(rt; matches!(ended, Ok(Done::Fine)));
     assert_eq!(rt; sink.writer.as_slice(), FIRST_OF_BASE.as_bytes());
     Ok(())
@@ -186,7 +201,7 @@ fn memory_or_the_answer(rt: HostRuntime) {
     ] {
         let mut source = SliceSource::new(text.as_bytes(), 4_096);
         let mut sink = VecSink::new(alloc, 4_096);
-        match run(alloc, asked, &mut source, &mut sink, READS) {
+        match run(&rt, alloc, asked, &mut source, &mut sink, READS) {
             Ok(Done::Fine) => assert_eq!(rt; sink.bytes(), answer.as_bytes()),
             // A sink in memory fails where memory runs out in it.
             Err(Fault::Memory | Fault::Write) => assert!(rt; sink.bytes().is_empty()),

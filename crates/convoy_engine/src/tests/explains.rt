@@ -1,18 +1,18 @@
 //! What `explain` and `packets` write, and what `timeline` and `simulate` write for certificates.
 
-ghost use Rattle.convoy_engine.specs.Commands.{IsAlone};
-
 use super::devices::FailingSource;
 use super::fixture::{Asked, READS, changed, told};
 use super::texts::{
     BASE, CERTIFICATE_OF_BASE, CERTIFICATE_OF_LINKED, CERTIFICATE_OF_LONE, STAMPS_OF_SWAPPED,
 };
 use crate::{
-    Command, Done, Fault, SliceSource, Source, VecSink, fault_line, run_command, run_explain,
-    run_packets,
+    Command, Done, Fault, NoGate, SliceSource, Source, VecSink, fault_line, run_command,
+    run_explain, run_packets,
 };
 use std::alloc::{AllocError, Global};
+use std::sync::Wait;
 use std::test::Fail;
+use std::thread::Threads;
 
 const WHY_BASE: &str = "\
 t at a: at worst 12 ticks, from its issue at tick 0 to its delivery at tick 12
@@ -77,16 +77,21 @@ packet 7: proposal of y from b to a, 1 to 1 ticks, takes 1
 ";
 
 /// What a command tells for a text, with the line of its fault.
-fn says(alloc: Global, command: Command, text: &[u8]) -> Result<(Option<Done>, Vec<u8>), AllocError>
-    requires { IsAlone command }
-{
+fn says<R: Threads + Wait + Sync>(
+    rt: &R,
+    alloc: Global,
+    command: Command,
+    text: &[u8],
+) -> Result<(Option<Done>, Vec<u8>), AllocError> {
     let mut sink = VecSink::new(alloc, 7);
     let ended = run_command(
+        rt,
         alloc,
         command,
         &mut SliceSource::new(text, 4_096),
         &mut sink,
         READS,
+        &NoGate,
     );
     let mut told = Vec::from_slice(alloc, sink.bytes())?;
     match ended {
@@ -106,7 +111,7 @@ fn explanations(rt: HostRuntime) -> Result<(), Fail> {
         (CERTIFICATE_OF_LINKED, WHY_LINKED),
         (CERTIFICATE_OF_LONE, WHY_LONE),
     ] {
-        let (done, out) = says(rt.alloc(), Command::Explain, text.as_bytes())?;
+        let (done, out) = says(&rt, rt.alloc(), Command::Explain, text.as_bytes())?;
         assert_eq!(rt; done, Some(Done::Fine));
         assert_eq!(rt; out.as_slice(), want.as_bytes());
     }
@@ -125,7 +130,7 @@ fn refusals(rt: HostRuntime) -> Result<(), Fail> {
         ("convoy 1\n", "", "refused 20 line 1 expected convoy\n"),
     ] {
         let text = changed(alloc, CERTIFICATE_OF_BASE, part, other)?;
-        let (done, out) = says(alloc, Command::Explain, text.as_bytes())?;
+        let (done, out) = says(&rt, alloc, Command::Explain, text.as_bytes())?;
         assert_eq!(rt; done, Some(Done::Refused));
         assert_eq!(rt; out.as_slice(), want.as_bytes());
     }
@@ -139,13 +144,13 @@ fn packets(rt: HostRuntime) -> Result<(), Fail> {
         (BASE, PACKETS_OF_BASE),
         (CERTIFICATE_OF_LINKED, PACKETS_OF_LINKED),
     ] {
-        let (done, out) = says(alloc, Command::Packets, text.as_bytes())?;
+        let (done, out) = says(&rt, alloc, Command::Packets, text.as_bytes())?;
         assert_eq!(rt; done, Some(Done::Fine));
         assert_eq!(rt; out.as_slice(), want.as_bytes());
     }
     // The list tells how many delays a schedule needs: one that has too few is no fault here.
     let text = changed(alloc, BASE, "delay = 3", "delay = 3\nschedule = [1]")?;
-    let (_, out) = says(alloc, Command::Packets, text.as_bytes())?;
+    let (_, out) = says(&rt, alloc, Command::Packets, text.as_bytes())?;
     assert_eq!(rt; out.as_slice(), PACKETS_OF_BASE.as_bytes());
     Ok(())
 }
@@ -161,12 +166,12 @@ fn certificates_are_run(rt: HostRuntime) -> Result<(), Fail> {
         "delay = 3\nschedule = [3, 3, 3, 3, 3, 3, 3, 3]",
     )?;
     let invalid = changed(alloc, CERTIFICATE_OF_BASE, "latency 12", "latency 11")?;
-    let (_, want) = told(alloc, Asked::Timeline, scheduled.as_bytes())?;
-    let (_, out) = told(alloc, Asked::Timeline, CERTIFICATE_OF_BASE.as_bytes())?;
+    let (_, want) = told(&rt, alloc, Asked::Timeline, scheduled.as_bytes())?;
+    let (_, out) = told(&rt, alloc, Asked::Timeline, CERTIFICATE_OF_BASE.as_bytes())?;
     assert_eq!(rt; out.as_slice(), want.as_slice());
-    let (_, out) = told(alloc, Asked::Timeline, invalid.as_bytes())?;
+    let (_, out) = told(&rt, alloc, Asked::Timeline, invalid.as_bytes())?;
     assert_eq!(rt; out.as_slice(), want.as_slice());
-    let (_, out) = told(alloc, Asked::Simulate, CERTIFICATE_OF_BASE.as_bytes())?;
+    let (_, out) = told(&rt, alloc, Asked::Simulate, CERTIFICATE_OF_BASE.as_bytes())?;
     assert_eq!(rt;
         out.as_slice(),
         b"latency 12\nschedule 3 3 3 3 3 3 3 3\n".as_slice()
@@ -188,7 +193,7 @@ fn first_lines(rt: HostRuntime) -> Result<(), Fail> {
         ("", "fault 2 shape of delay\n"),
     ] {
         for command in [Command::Timeline, Command::Simulate, Command::Packets] {
-            let (_, out) = says(rt.alloc(), command, text.as_bytes())?;
+            let (_, out) = says(&rt, rt.alloc(), command, text.as_bytes())?;
             assert_eq!(rt; out.as_slice(), want.as_bytes(), "at {text}");
         }
     }
@@ -204,12 +209,12 @@ fn lengths(rt: HostRuntime) -> Result<(), Fail> {
         text.push_str("#")?;
     }
     for command in [Command::Timeline, Command::Simulate, Command::Packets] {
-        let (done, _) = says(alloc, command, text.as_bytes())?;
+        let (done, _) = says(&rt, alloc, command, text.as_bytes())?;
         assert_eq!(rt; done, Some(Done::Fine));
     }
     text.push_str("#")?;
     for command in [Command::Timeline, Command::Simulate, Command::Packets] {
-        let (done, out) = says(alloc, command, text.as_bytes())?;
+        let (done, out) = says(&rt, alloc, command, text.as_bytes())?;
         assert_eq!(rt; done, None);
         assert_eq!(rt; out.as_slice(), b"fault 42 job too long\n".as_slice());
     }

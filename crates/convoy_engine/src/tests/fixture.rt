@@ -1,13 +1,13 @@
 //! One run of a command in memory, and what it tells.
 
-ghost use Rattle.std.specs.Prelude.{◌≡◌};
-
 use crate::{
-    Bounds, DEFAULT_SIMULATIONS, Done, Fault, MOST_TICKETS, Options, Sink, SliceSource, Source,
-    VecSink, fault_line, run_analyse, run_check, run_first, run_latency, run_simulate,
-    run_timeline,
+    Bounds, DEFAULT_SIMULATIONS, Done, Fault, MOST_TICKETS, MOST_WORKERS, Options, Sink,
+    SliceSource, Source, VecSink, fault_line, run_analyse, run_check, run_first, run_latency,
+    run_simulate, run_timeline,
 };
 use std::alloc::{AllocError, Global};
+use std::sync::Wait;
+use std::thread::Threads;
 
 /// As many reads as each run here may make, unless a test says otherwise.
 pub(super) const READS: u64 = 1_000;
@@ -29,7 +29,8 @@ pub(super) enum Asked {
 pub(super) type Told = (Option<Done>, Vec<u8>);
 
 /// A run of a command.
-pub(super) fn run<S: Source, K: Sink>(
+pub(super) fn run<R: Threads + Wait + Sync, S: Source, K: Sink>(
+    rt: &R,
     alloc: Global,
     asked: Asked,
     source: &mut S,
@@ -41,41 +42,49 @@ pub(super) fn run<S: Source, K: Sink>(
         Asked::Simulate => run_simulate(alloc, source, sink, reads),
         Asked::Timeline => run_timeline(alloc, source, sink, reads),
         Asked::Check => run_check(alloc, source, sink, reads),
-        Asked::Analyse(limit) => run_analyse(alloc, source, sink, &options(limit, reads)),
+        Asked::Analyse(limit) => run_analyse(rt, alloc, source, sink, &options(limit, reads)),
         Asked::Latency(limit) => {
             let options = options(limit, reads).seeking(DEFAULT_SIMULATIONS);
-            run_latency(alloc, source, sink, &options)
+            run_latency(rt, alloc, source, sink, &options)
         }
         Asked::AnalyseBy(bounds, limit) => {
             let options = options(limit, reads).going_by(bounds);
-            run_analyse(alloc, source, sink, &options)
+            run_analyse(rt, alloc, source, sink, &options)
         }
         Asked::LatencyBy(bounds, limit) => {
             let options = options(limit, reads).going_by(bounds);
-            run_latency(alloc, source, sink, &options)
+            run_latency(rt, alloc, source, sink, &options)
         }
     }
 }
 
-/// Options of one worker; a limit out of range is brought into it.
-pub(super) fn options(limit: u64, reads: u64) -> Options
-    ensures { result.workers ≡ 1 }
-{
-    match Options::new(1, limit.clamp(1, MOST_TICKETS), reads) {
+/// Options of one worker.
+pub(super) fn options(limit: u64, reads: u64) -> Options {
+    options_of(1, limit, reads)
+}
+
+/// Options of so many workers; numbers out of range are brought into it.
+pub(super) fn options_of(workers: u32, limit: u64, reads: u64) -> Options {
+    match Options::new(
+        workers.clamp(1, MOST_WORKERS),
+        limit.clamp(1, MOST_TICKETS),
+        reads,
+    ) {
         Some(options) => options,
         None => unreachable!(),
     }
 }
 
 /// What a run of a command tells for a source, in at most so many reads.
-pub(super) fn told_of<S: Source>(
+pub(super) fn told_of<R: Threads + Wait + Sync, S: Source>(
+    rt: &R,
     alloc: Global,
     asked: Asked,
     source: &mut S,
     reads: u64,
 ) -> Result<Told, AllocError> {
     let mut sink = VecSink::new(alloc, 7);
-    let ended = run(alloc, asked, source, &mut sink, reads);
+    let ended = run(rt, alloc, asked, source, &mut sink, reads);
     let mut told = Vec::from_slice(alloc, sink.bytes())?;
     match ended {
         Ok(done) => Ok((Some(done), told)),
@@ -87,8 +96,13 @@ pub(super) fn told_of<S: Source>(
 }
 
 /// The same for a text.
-pub(super) fn told(alloc: Global, asked: Asked, text: &[u8]) -> Result<Told, AllocError> {
-    told_of(alloc, asked, &mut SliceSource::new(text, 4_096), READS)
+pub(super) fn told<R: Threads + Wait + Sync>(
+    rt: &R,
+    alloc: Global,
+    asked: Asked,
+    text: &[u8],
+) -> Result<Told, AllocError> {
+    told_of(rt, alloc, asked, &mut SliceSource::new(text, 4_096), READS)
 }
 
 /// A text with a part of it replaced.

@@ -8,7 +8,9 @@ use super::texts::{
 };
 use crate::{DEFAULT_LIMIT, Done, Fault, SliceSource, VecSink};
 use std::alloc::{AllocError, Global};
+use std::sync::Wait;
 use std::test::Fail;
+use std::thread::Threads;
 
 /// What `check` says of the first bytes of the base's certificate, which end in the middle of a line or
 /// between two.
@@ -47,12 +49,12 @@ fn is_checked(done: &Option<Done>, line: &[u8]) -> bool {
 fn cut_certificates(rt: HostRuntime) -> Result<(), Fail> {
     let text = CERTIFICATE_OF_BASE.as_bytes();
     for (length, line) in CUTS {
-        let (done, told) = told(rt.alloc(), Asked::Check, front(text, length))?;
+        let (done, told) = told(&rt, rt.alloc(), Asked::Check, front(text, length))?;
         assert_eq!(rt; told.as_slice(), line.as_bytes(), "{length} bytes");
         assert_eq!(rt; done, Some(Done::Refused));
     }
     for length in 0..text.len() {
-        let (_, told) = told(rt.alloc(), Asked::Check, front(text, length))?;
+        let (_, told) = told(&rt, rt.alloc(), Asked::Check, front(text, length))?;
         let refused = told.as_slice().starts_with(b"refused 20 line ");
         assert!(rt; refused, "{length} bytes");
     }
@@ -65,12 +67,12 @@ fn cut_scenarios(rt: HostRuntime) -> Result<(), Fail> {
     let text = BASE.as_bytes();
     let whole = text.len().saturating_sub(1);
     for length in 0..whole {
-        let (done, told) = told(rt.alloc(), Asked::First, front(text, length))?;
+        let (done, told) = told(&rt, rt.alloc(), Asked::First, front(text, length))?;
         assert_eq!(rt; done, None, "{length} bytes");
         let faulty = told.as_slice().starts_with(b"fault ");
         assert!(rt; faulty, "{length} bytes");
     }
-    let (_, told) = told(rt.alloc(), Asked::First, front(text, whole))?;
+    let (_, told) = told(&rt, rt.alloc(), Asked::First, front(text, whole))?;
     assert_eq!(rt; told.as_slice(), FIRST_OF_BASE.as_bytes());
     Ok(())
 }
@@ -93,7 +95,7 @@ fn bent_certificates(rt: HostRuntime) -> Result<(), Fail> {
     for place in 0..text.len() {
         for byte in TELLING {
             let bent = bent(rt.alloc(), text, place, byte)?;
-            let (done, told) = told(rt.alloc(), Asked::Check, &bent)?;
+            let (done, told) = told(&rt, rt.alloc(), Asked::Check, &bent)?;
             assert!(rt; is_checked(&done, &told), "{byte} at {place}");
         }
     }
@@ -112,11 +114,11 @@ fn texts_that_are_not_utf8(rt: HostRuntime) -> Result<(), Fail> {
     ] {
         let mut text = Vec::from_slice(rt.alloc(), bytes)?;
         text.extend_from_slice(BASE.as_bytes())?;
-        let (_, before) = told(rt.alloc(), Asked::First, &text)?;
+        let (_, before) = told(&rt, rt.alloc(), Asked::First, &text)?;
         assert_eq!(rt; before.as_slice(), want);
         let mut text = Vec::from_slice(rt.alloc(), BASE.as_bytes())?;
         text.extend_from_slice(bytes)?;
-        let (_, after) = told(rt.alloc(), Asked::First, &text)?;
+        let (_, after) = told(&rt, rt.alloc(), Asked::First, &text)?;
         assert_eq!(rt; after.as_slice(), want);
     }
     Ok(())
@@ -170,22 +172,27 @@ const COMMANDS: [Case; 7] = [
 
 /// Whether a run ends with the sink's failure, and just the front of the answer has gone out, where so
 /// many writes of one byte are good.
-fn stops_writing(alloc: Global, case: &Case, good: usize) -> bool {
+fn stops_writing<R: Threads + Wait + Sync>(
+    rt: &R,
+    alloc: Global,
+    case: &Case,
+    good: usize,
+) -> bool {
     let mut source = SliceSource::new(case.text.as_bytes(), 4_096);
     let inner = VecSink::new(alloc, 1);
     let mut sink = FailingSink { inner, good };
-    let ended = run(alloc, case.asked, &mut source, &mut sink, READS);
+    let ended = run(rt, alloc, case.asked, &mut source, &mut sink, READS);
     matches!(ended, Err(Fault::Write))
         && Some(sink.inner.bytes()) == case.told.as_bytes().get(..good)
 }
 
 /// Whether a run ends with the source's failure, and nothing is written, where so many reads of 64 bytes
 /// are good.
-fn stops_reading(alloc: Global, case: &Case, good: u64) -> bool {
+fn stops_reading<R: Threads + Wait + Sync>(rt: &R, alloc: Global, case: &Case, good: u64) -> bool {
     let inner = SliceSource::new(case.text.as_bytes(), 64);
     let mut source = FailingSource { inner, good };
     let mut sink = VecSink::new(alloc, 4_096);
-    let ended = run(alloc, case.asked, &mut source, &mut sink, READS);
+    let ended = run(rt, alloc, case.asked, &mut source, &mut sink, READS);
     matches!(ended, Err(Fault::Read)) && sink.bytes().is_empty()
 }
 
@@ -194,21 +201,21 @@ fn commands_stop(rt: HostRuntime) {
     for case in &COMMANDS {
         let length = case.told.len();
         for good in [0, 1, length / 2, length.saturating_sub(1)] {
-            let stops = stops_writing(rt.alloc(), case, good);
+            let stops = stops_writing(&rt, rt.alloc(), case, good);
             assert!(rt; stops, "{:?} at write {good}", case.asked);
         }
         for good in 0..3 {
-            let stops = stops_reading(rt.alloc(), case, good);
+            let stops = stops_reading(&rt, rt.alloc(), case, good);
             assert!(rt; stops, "{:?} at read {good}", case.asked);
         }
     }
 }
 
 /// Whether a run tells its answer, or that memory ran out and nothing else.
-fn tells_or_lacks_memory(alloc: Global, case: &Case) -> bool {
+fn tells_or_lacks_memory<R: Threads + Wait + Sync>(rt: &R, alloc: Global, case: &Case) -> bool {
     let mut source = SliceSource::new(case.text.as_bytes(), 4_096);
     let mut sink = VecSink::new(alloc, 4_096);
-    match run(alloc, case.asked, &mut source, &mut sink, READS) {
+    match run(rt, alloc, case.asked, &mut source, &mut sink, READS) {
         Ok(_) => sink.bytes() == case.told.as_bytes(),
         // A sink in memory fails where memory runs out in it.
         Err(Fault::Memory | Fault::Write) => sink.bytes().is_empty(),
@@ -220,7 +227,7 @@ fn tells_or_lacks_memory(alloc: Global, case: &Case) -> bool {
 #[test]
 fn commands_lack_memory(rt: HostRuntime) {
     for case in &COMMANDS {
-        let holds = tells_or_lacks_memory(rt.alloc(), case);
+        let holds = tells_or_lacks_memory(&rt, rt.alloc(), case);
         assert!(rt; holds, "{:?}", case.asked);
     }
 }

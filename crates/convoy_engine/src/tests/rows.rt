@@ -9,7 +9,9 @@ use super::texts::{
 };
 use crate::{DEFAULT_LIMIT, Done};
 use std::alloc::{AllocError, Global};
+use std::sync::Wait;
 use std::test::Fail;
+use std::thread::Threads;
 
 /// A command is asked of a text in which a part is replaced: what it tells, and how it ends, or None
 /// for a fault.
@@ -718,16 +720,16 @@ const LEADS_TESTED: [Row; 2] = [
 ];
 
 /// Whether a run of the row's command tells what it is to tell, and ends so.
-fn holds(alloc: Global, row: &Row) -> Result<bool, AllocError> {
+fn holds<R: Threads + Wait + Sync>(rt: &R, alloc: Global, row: &Row) -> Result<bool, AllocError> {
     let text = changed(alloc, row.text, row.part, row.other)?;
-    let (done, out) = told(alloc, row.asked, text.as_bytes())?;
+    let (done, out) = told(rt, alloc, row.asked, text.as_bytes())?;
     Ok(done == row.done && out.as_slice() == row.told.as_bytes())
 }
 
 #[test]
 fn runs(rt: HostRuntime) -> Result<(), Fail> {
     for row in &RUNS {
-        assert!(rt; holds(rt.alloc(), row)?, "{} {}", row.name, row.told);
+        assert!(rt; holds(&rt, rt.alloc(), row)?, "{} {}", row.name, row.told);
     }
     Ok(())
 }
@@ -735,7 +737,7 @@ fn runs(rt: HostRuntime) -> Result<(), Fail> {
 #[test]
 fn searches(rt: HostRuntime) -> Result<(), Fail> {
     for row in &SEARCHES {
-        assert!(rt; holds(rt.alloc(), row)?, "{} {}", row.name, row.told);
+        assert!(rt; holds(&rt, rt.alloc(), row)?, "{} {}", row.name, row.told);
     }
     Ok(())
 }
@@ -743,7 +745,7 @@ fn searches(rt: HostRuntime) -> Result<(), Fail> {
 #[test]
 fn links(rt: HostRuntime) -> Result<(), Fail> {
     for row in &LINKS {
-        assert!(rt; holds(rt.alloc(), row)?, "{} {}", row.name, row.told);
+        assert!(rt; holds(&rt, rt.alloc(), row)?, "{} {}", row.name, row.told);
     }
     Ok(())
 }
@@ -751,7 +753,7 @@ fn links(rt: HostRuntime) -> Result<(), Fail> {
 #[test]
 fn stamps(rt: HostRuntime) -> Result<(), Fail> {
     for row in &STAMPS {
-        assert!(rt; holds(rt.alloc(), row)?, "{} {}", row.name, row.told);
+        assert!(rt; holds(&rt, rt.alloc(), row)?, "{} {}", row.name, row.told);
     }
     Ok(())
 }
@@ -759,7 +761,7 @@ fn stamps(rt: HostRuntime) -> Result<(), Fail> {
 #[test]
 fn leads(rt: HostRuntime) -> Result<(), Fail> {
     for row in &LEADS {
-        assert!(rt; holds(rt.alloc(), row)?, "{} {}", row.name, row.told);
+        assert!(rt; holds(&rt, rt.alloc(), row)?, "{} {}", row.name, row.told);
     }
     Ok(())
 }
@@ -767,7 +769,7 @@ fn leads(rt: HostRuntime) -> Result<(), Fail> {
 #[test]
 fn tested_leads(rt: HostRuntime) -> Result<(), Fail> {
     for row in &LEADS_TESTED {
-        assert!(rt; holds(rt.alloc(), row)?, "{} {}", row.name, row.told);
+        assert!(rt; holds(&rt, rt.alloc(), row)?, "{} {}", row.name, row.told);
     }
     Ok(())
 }
@@ -775,7 +777,7 @@ fn tested_leads(rt: HostRuntime) -> Result<(), Fail> {
 #[test]
 fn checks(rt: HostRuntime) -> Result<(), Fail> {
     for row in &CHECKS {
-        assert!(rt; holds(rt.alloc(), row)?, "{} {}", row.name, row.told);
+        assert!(rt; holds(&rt, rt.alloc(), row)?, "{} {}", row.name, row.told);
     }
     Ok(())
 }
@@ -794,17 +796,23 @@ fn certificates_are_accepted(rt: HostRuntime) -> Result<(), Fail> {
         (LONE_TO_TWO, "", "", "accepted 10\n"),
         (BASE, "[\"a\", \"b\"]", "[\"b\", \"a\"]", "accepted 6\n"),
     ] {
-        let out = checked(rt.alloc(), text, part, other)?;
+        let out = checked(&rt, rt.alloc(), text, part, other)?;
         assert_eq!(rt; out.as_slice(), yes.as_bytes(), "at {text}");
     }
     Ok(())
 }
 
 /// What `check` writes for what `analyse` writes.
-fn checked(alloc: Global, text: &str, part: &str, other: &str) -> Result<Vec<u8>, AllocError> {
+fn checked<R: Threads + Wait + Sync>(
+    rt: &R,
+    alloc: Global,
+    text: &str,
+    part: &str,
+    other: &str,
+) -> Result<Vec<u8>, AllocError> {
     let text = changed(alloc, text, part, other)?;
-    let (_, certificate) = told(alloc, Asked::Analyse(DEFAULT_LIMIT), text.as_bytes())?;
-    let (_, out) = told(alloc, Asked::Check, &certificate)?;
+    let (_, certificate) = told(rt, alloc, Asked::Analyse(DEFAULT_LIMIT), text.as_bytes())?;
+    let (_, out) = told(rt, alloc, Asked::Check, &certificate)?;
     Ok(out)
 }
 
@@ -823,11 +831,11 @@ fn lengths_of_certificates(rt: HostRuntime) {
 fn swapped_groups(rt: HostRuntime) -> Result<(), Fail> {
     let alloc = rt.alloc();
     let text = changed(alloc, BASE, "[\"a\", \"b\"]", "[\"b\", \"a\"]")?;
-    let (done, out) = told(alloc, Asked::Analyse(DEFAULT_LIMIT), text.as_bytes())?;
+    let (done, out) = told(&rt, alloc, Asked::Analyse(DEFAULT_LIMIT), text.as_bytes())?;
     assert_eq!(rt; done, Some(Done::Fine));
     let lines = out.iter().filter(|byte| **byte == b'\n').count();
     assert_eq!(rt; lines, 1_479);
-    let (done, out) = told(alloc, Asked::Analyse(10), text.as_bytes())?;
+    let (done, out) = told(&rt, alloc, Asked::Analyse(10), text.as_bytes())?;
     assert_eq!(rt; done, Some(Done::Open));
     assert!(rt; out.starts_with(b"open 6 12\nschedule "));
     Ok(())
@@ -842,7 +850,7 @@ fn long_certificate(rt: HostRuntime) -> Result<(), Fail> {
         nodes.push_str("s 0 1\n")?;
     }
     let text = changed(alloc, CERTIFICATE_OF_BASE, "\nb\n", nodes.as_str())?;
-    let (done, out) = told(alloc, Asked::Check, text.as_bytes())?;
+    let (done, out) = told(&rt, alloc, Asked::Check, text.as_bytes())?;
     assert_eq!(rt; done, Some(Done::Refused));
     assert_eq!(rt; out.as_slice(), b"refused 24 split node 1\n".as_slice());
     Ok(())

@@ -1,4 +1,4 @@
-use Rattle.std.proofs.Common.{[], ◌++◌, arith, lit<, refl}
+use Rattle.std.proofs.Common.{[], arith, lit<, refl}
 use Rattle.std.proofs.lemmas.Bool.{eqb-true}
 use Rattle.std.proofs.lemmas.Result.{err_from_is_err_and}
 use Rattle.convoy_engine.proofs.BatchRuns.{by_end, by_failure, by_fault, by_reads, in_piece, no_blocks}

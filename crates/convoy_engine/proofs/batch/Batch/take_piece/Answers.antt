@@ -1,4 +1,4 @@
-use Rattle.std.proofs.Common.{List, ℕ, take, ◌++◌, ap, sym, subst, arith}
+use Rattle.std.proofs.Common.{List, ℕ, take, ◌++◌, ap, sym, subst}
 use Rattle.std.proofs.lemmas.List.{append-nil, take_all}
 use Rattle.std.proofs.lemmas.Result.{err_from_is_err_and}
 use Rattle.convoy_engine.specs.BatchSteps.{IsUnderWay}

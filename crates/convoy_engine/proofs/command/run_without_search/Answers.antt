@@ -1,0 +1,19 @@
+use Rattle.std.proofs.Common.{refl}
+use Rattle.convoy_engine.specs.declared.fault.Fault.TheVariants.{Write}
+use Rattle.convoy_engine.proofs.CommandTexts.{says_number}
+use Rattle.convoy_engine.proofs.Refusals.{replied_run}
+use Rattle.convoy_engine.proofs.command.run_without_search.Goals as goal
+
+pub returns : goal.returns
+returns g c =
+    let read = c.in_ok-text.ensures in
+    let wrote = c.write_reply.ensures in
+    record {
+      reads = read.answers;
+      writes = wrote.answers;
+      read = read.calls;
+      few = read.says.0;
+      wrote = wrote.calls;
+      outcome = replied_run _ _ _ _ _ _ _ _ (λ allowed. (says_number _ _ Write allowed).no_write refl)
+          (rw c.longest_of.ensures at read.says.1) (rw c.deref.ensures.value at c.answer_without_search.ensures) wrote.says;
+    }
