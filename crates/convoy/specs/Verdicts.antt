@@ -6,7 +6,7 @@ use Rattle.convoy_engine.specs.declared.done.Done.TheVariants.{Fine, Open, Refus
 use Rattle.convoy_engine.specs.declared.fault.Fault.{Fault}
 use Rattle.convoy_engine.specs.declared.fault.Fault.TheVariants as faults
 use Rattle.convoy_engine.specs.Batches.{IsBatchRun}
-use Rattle.convoy_engine.specs.Commands.{IsAlone, longest_for, says_for}
+use Rattle.convoy_engine.specs.Commands.{longest_for, says_for}
 use Rattle.convoy_engine.specs.Devices.{Answer, HasRun}
 use Rattle.convoy_engine.specs.Faults.{fault_line_of}
 use Rattle.convoy_engine.specs.Runs.{IsRun}
@@ -23,10 +23,10 @@ EndsAtOnce (Batch options) = ⊥
 EndsAtOnce (Text text status) = (status ≡ 0) ⊎ (status ≡ 2)
 EndsAtOnce Memory = Unit {0}
 
--- a command or a batch that searches with one worker at most, or an end at once
+-- a command, a batch with as many reads as a command has, or an end at once
 abbrev pub IsVerdict : Verdict → Type 0
-IsVerdict (Run command) = IsAlone command
-IsVerdict (Batch options) = (options.workers ≡ 1) × (options.most_reads ≡ MOST_READS)
+IsVerdict (Run command) = Unit {0}
+IsVerdict (Batch options) = options.most_reads ≡ MOST_READS
 IsVerdict (Text text status) = EndsAtOnce (Text text status)
 IsVerdict Memory = Unit {0}
 

@@ -3,11 +3,12 @@
 ghost use Rattle.std.specs.Prelude.{◌≡◌, IfOk};
 ghost use Rattle.convoy.specs.Verdicts.{EndsAtOnce, IsVerdict};
 
-use super::MOST_READS;
+use super::{MOST_READS, REJECTED};
 use clap::error::ErrorKind;
-use clap::{Arg, ArgMatches, Error, value_parser};
+use clap::{Arg, ArgAction, ArgMatches, Error, value_parser};
 use convoy_engine::{
-    Bounds, Command, DEFAULT_LIMIT, DEFAULT_SIMULATIONS, MOST_SIMULATIONS, MOST_TICKETS, Options,
+    Bounds, Command, DEFAULT_LIMIT, DEFAULT_SIMULATIONS, MOST_SIMULATIONS, MOST_TICKETS,
+    MOST_WORKERS, Options,
 };
 use std::alloc::{AllocError, Global};
 use std::convert::AsStr;
@@ -31,9 +32,6 @@ const VERSION: &str = "0.1.0";
 /// The status of a command line that asked for help.
 const HELP: u8 = 0;
 
-/// The status of a command line that is rejected.
-const REJECTED: u8 = 2;
-
 const ABOUT: &str = "The greatest latency of Skeen's genuine atomic multicast, exact and proved";
 
 const LONG_ABOUT: &str = "\
@@ -42,11 +40,13 @@ over all whole-tick delays of packets. A scenario names overlapping groups, the
 multicasts to them with the ticks at which they are issued, and the message and
 the group of which the latency is asked.
   convoy analyse < scenario.toml | convoy explain
-finds the greatest latency and tells why it is so late.
+finds the greatest latency and tells why it is so late, and
+  convoy analyse < scenario.toml | convoy draw > run.svg
+draws it.
 
-The scenario is read from standard input, as TOML. The commands `check` and
-`explain` read a certificate there, which `analyse` writes; `simulate`,
-`timeline` and `packets` read either. The answer goes to standard output.
+The scenario is read from standard input, as TOML. The commands `check`,
+`explain` and `draw` read a certificate there, which `analyse` writes;
+`simulate`, `timeline` and `packets` read either. The answer goes to standard output.
 Without a command word the command is `first`.";
 
 const AFTER: &str = "\
@@ -127,6 +127,17 @@ waits for.
 
 A certificate that is refused is told in the line 'refused NUMBER TEXT'.";
 
+const ABOUT_DRAW: &str = "Draws the run of a certificate as an SVG image";
+
+const LONG_ABOUT_DRAW: &str = "\
+Reads a certificate from standard input, checks it as the command `check` does,
+and writes an SVG image of the run that has the greatest latency: the packets on
+their way from group to group, what each group does with each message, and what
+the target waits for.
+  convoy analyse < scenario.toml | convoy draw > run.svg
+
+A certificate that is refused is told in the line 'refused NUMBER TEXT'.";
+
 const ABOUT_CHECK: &str = "Checks a certificate of the greatest latency";
 
 const LONG_ABOUT_CHECK: &str = "\
@@ -194,6 +205,17 @@ By what the search closes sets of schedules: `plain` bounds, `stamp` bounds, or
 the form `convoy 2` or `convoy 3` may come of it, and with `lead` at most 100000
 tickets are spent";
 
+const ABOUT_WORKERS: &str = "\
+How many workers share the search, each in a thread of its own: from 1 to 16. The
+latency does not depend on it; which schedule has it, and which tree shows it,
+may, and with several workers they may be others each time";
+
+const ABOUT_PROGRESS: &str = "\
+Tells on standard error, once a second, how far the search has come. Where that
+is a terminal it is told anyway";
+
+const ABOUT_QUIET: &str = "Writes no hints to standard error, and no progress";
+
 /// What is to be done for these words, the program's own name not among them.
 pub fn judge<S: AsStr>(alloc: Global, words: &[S]) -> Verdict
     ensures { IsVerdict result }
@@ -241,6 +263,7 @@ fn command_of<S: AsStr>(alloc: Global, words: &[S]) -> Result<Verdict, Error>
         Some(("timeline", _)) => Command::Timeline,
         Some(("packets", _)) => Command::Packets,
         Some(("explain", _)) => Command::Explain,
+        Some(("draw", _)) => Command::Draw,
         Some(("check", _)) => Command::Check,
         Some(("analyse", given)) => Command::Analyse(options_of(given)),
         Some(("latency", given)) => Command::Latency(options_of(given)),
@@ -253,12 +276,16 @@ fn command_of<S: AsStr>(alloc: Global, words: &[S]) -> Result<Verdict, Error>
 /// The options of a search: those that are given, or else the usual ones. `clap` rejects a word that
 /// is none of these, and a number out of range.
 fn options_of(given: &ArgMatches<'_>) -> Options
-    ensures alone { result.workers ≡ 1 }
-    ensures reads { result.most_reads ≡ MOST_READS }
+    ensures { result.most_reads ≡ MOST_READS }
 {
+    let workers = given.get_one("workers").unwrap_or(1);
     let limit = given.get_one("limit").unwrap_or(DEFAULT_LIMIT);
     let simulations = given.get_one("seek").unwrap_or(DEFAULT_SIMULATIONS);
-    match Options::new(1, limit.clamp(1, MOST_TICKETS), MOST_READS) {
+    match Options::new(
+        workers.clamp(1, MOST_WORKERS),
+        limit.clamp(1, MOST_TICKETS),
+        MOST_READS,
+    ) {
         Some(options) => {
             options
                 .seeking(simulations.min(MOST_SIMULATIONS))
@@ -293,21 +320,23 @@ fn program<'a>(alloc: Global) -> Result<clap::Command<'a>, AllocError> {
         .no_binary_name(true)
         .disable_help_subcommand(true)
         .after_help(AFTER);
-    Ok(program)
+    program.arg(quiet_argument(alloc))
 }
 
-/// Adds the commands that search for the greatest latency, and the one that explains it.
+/// Adds the commands that search for the greatest latency, and those that explain and draw it.
 fn with_searches<'a>(
     alloc: Global,
     parser: clap::Command<'a>,
 ) -> Result<clap::Command<'a>, AllocError> {
     let analyse = search_command(alloc, "analyse", ABOUT_ANALYSE, LONG_ABOUT_ANALYSE)?;
     let explain = command(alloc, "explain", ABOUT_EXPLAIN, LONG_ABOUT_EXPLAIN);
+    let draw = command(alloc, "draw", ABOUT_DRAW, LONG_ABOUT_DRAW);
     let latency = search_command(alloc, "latency", ABOUT_LATENCY, LONG_ABOUT_LATENCY)?;
     let batch = search_command(alloc, "batch", ABOUT_BATCH, LONG_ABOUT_BATCH)?;
     parser
         .subcommand(analyse)?
         .subcommand(explain)?
+        .subcommand(draw)?
         .subcommand(latency)?
         .subcommand(batch)
 }
@@ -338,7 +367,9 @@ fn search_command<'a>(
     command(alloc, name, about, long_about)
         .arg(limit_argument(alloc))?
         .arg(seek_argument(alloc))?
-        .arg(bounds_argument(alloc))
+        .arg(bounds_argument(alloc))?
+        .arg(workers_argument(alloc))?
+        .arg(progress_argument(alloc))
 }
 
 /// A command without options, with the two texts that help tells of it.
@@ -351,6 +382,15 @@ fn command<'a>(
     clap::Command::new(alloc, name)
         .about(about)
         .long_about(long_about)
+}
+
+/// Whether hints are left out. It may stand after a command too.
+fn quiet_argument<'a>(alloc: Global) -> Arg<'a> {
+    Arg::new(alloc, "quiet")
+        .long("quiet")
+        .action(ArgAction::SetTrue)
+        .global(true)
+        .help(ABOUT_QUIET)
 }
 
 /// The limit of a search.
@@ -381,6 +421,24 @@ fn bounds_argument<'a>(alloc: Global) -> Arg<'a> {
         .value_parser(["plain", "stamp", "lead"].as_slice())
         .default_value("plain")
         .help(ABOUT_BOUNDS)
+}
+
+/// How many workers share a search.
+fn workers_argument<'a>(alloc: Global) -> Arg<'a> {
+    Arg::new(alloc, "workers")
+        .long("workers")
+        .value_name("N")
+        .value_parser(value_parser!(u32).range(1..=16))
+        .default_value("1")
+        .help(ABOUT_WORKERS)
+}
+
+/// Whether a search tells how far it has come.
+fn progress_argument<'a>(alloc: Global) -> Arg<'a> {
+    Arg::new(alloc, "progress")
+        .long("progress")
+        .action(ArgAction::SetTrue)
+        .help(ABOUT_PROGRESS)
 }
 
 /// What is to be done where no command was found: clap's own text is to be written.

@@ -5,17 +5,25 @@
 ghost use Rattle.std.specs.Prelude.{◌≡◌};
 ghost use Rattle.convoy.specs.Verdicts.{IsVerdict, Obeys, Tells, status_of};
 
+mod hinting;
 mod judge;
+mod kept;
+mod progress;
 
 use convoy_engine::{
-    DeviceFailed, Done, Fault, Sink, Source, StreamSink, StreamSource, fault_line, run_batch,
-    run_command, write_all,
+    DeviceFailed, Done, Fault, Sink, Source, StreamSink, StreamSource, Watch, fault_line,
+    run_batch, run_command, write_all,
 };
+use hinting::{Ended, greeting, hint_for, is_quiet, write_line};
 use judge::{Verdict, judge, judge_bytes};
+use kept::{KeptReader, KeptWriter};
+use progress::{Progress, bounds_of, screen_for};
 use std::alloc::Global;
-use std::io::ErrorKind;
+use std::io::{ErrorKind, IsTerminal};
 use std::process::ExitCode;
 use std::rt::Env;
+use std::sync::Wait;
+use std::thread::Threads;
 use std::{env, io};
 
 /// How many reads of standard input one run makes at most.
@@ -27,6 +35,9 @@ const FINE: u8 = 0;
 /// The status of a run that ended with a fault.
 const FAULT: u8 = 1;
 
+/// The status of a command line that is rejected.
+const REJECTED: u8 = 2;
+
 /// The status of a search that did not end within its limit.
 const OPEN: u8 = 3;
 
@@ -35,28 +46,50 @@ const NOT_VALID: u8 = 4;
 
 fn main(rt: HostRuntime) -> ExitCode {
     let alloc = rt.alloc();
-    let mut source = StreamSource { reader: rt.stdin() };
-    let mut sink = StreamSink {
-        writer: rt.stdout(),
+    let words = words(&rt);
+    let verdict = verdict(alloc, &words);
+    let words = words.unwrap_or(Vec::new(alloc));
+    let is_quiet = is_quiet(&words);
+    if !is_quiet && rt.stdin().is_terminal() {
+        write_line(&mut rt.stderr(), greeting(alloc, &verdict));
+    }
+    let mut source = StreamSource {
+        reader: KeptReader::new(alloc, rt.stdin()),
     };
-    let status = match obey(alloc, &verdict(&rt), &mut source, &mut sink) {
-        Ok(status) => status,
+    let mut sink = StreamSink {
+        writer: KeptWriter::new(rt.stdout()),
+    };
+    let screen = screen_for(&words, rt.stderr().is_terminal());
+    let progress = Progress::new(&rt, alloc, rt.stderr(), screen, bounds_of(&verdict));
+    let result = obey(&rt, alloc, &verdict, &mut source, &mut sink, &progress);
+    let status = match &result {
+        Ok(status) => *status,
         Err(fault) => {
-            tell(alloc, &fault, &mut sink);
+            tell(alloc, fault, &mut sink);
             FAULT
         }
     };
+    if !is_quiet {
+        let ended = Ended {
+            verdict: &verdict,
+            words: &words,
+            result: &result,
+            reader: &source.reader,
+            writer: &sink.writer,
+        };
+        write_line(&mut rt.stderr(), hint_for(alloc, &ended));
+    }
     ExitCode::from(status)
 }
 
-/// What is to be done, by the command line.
-fn verdict<R: Env + AllocGlobal>(rt: &R) -> Verdict
+/// What is to be done, by the words of the command line.
+fn verdict(alloc: Global, words: &io::Result<Vec<String>>) -> Verdict
     ensures { IsVerdict result }
 {
-    match words(rt) {
-        Ok(words) => judge(rt.alloc(), &words),
+    match words {
+        Ok(words) => judge(alloc, words),
         Err(error) if error.kind() == ErrorKind::OutOfMemory => Verdict::Memory,
-        Err(_) => judge_bytes(rt.alloc()),
+        Err(_) => judge_bytes(alloc),
     }
 }
 
@@ -68,22 +101,24 @@ fn words<R: Env + AllocGlobal>(rt: &R) -> io::Result<Vec<String>> {
 }
 
 /// Does what the command line asks for, and answers the exit status.
-fn obey<S: Source, K: Sink>(
+fn obey<R: Threads + Wait + Sync, S: Source, K: Sink, W: Watch + Sync>(
+    rt: &R,
     alloc: Global,
     verdict: &Verdict,
     source: &mut S,
     sink: &mut K,
+    watch: &W,
 ) -> Result<u8, Fault>
     requires { IsVerdict verdict.now }
     ensures { Obeys S.reads K.writes verdict.now source.old source.new sink.old sink.new result }
 {
     match verdict {
         Verdict::Run(command) => {
-            let done = run_command(alloc, *command, source, sink, MOST_READS)?;
+            let done = run_command(rt, alloc, *command, source, sink, MOST_READS, watch)?;
             Ok(status_of(done))
         }
         Verdict::Batch(options) => {
-            let done = run_batch(alloc, source, sink, options)?;
+            let done = run_batch(rt, alloc, source, sink, options)?;
             Ok(status_of(done))
         }
         Verdict::Text { text, status } => match write_all(sink, text.as_bytes()) {

@@ -30,6 +30,7 @@ fn told(command: &Command) -> (&'static str, u64, u64) {
         Command::Packets => ("packets", 0, 0),
         Command::Check => ("check", 0, 0),
         Command::Explain => ("explain", 0, 0),
+        Command::Draw => ("draw", 0, 0),
         Command::Analyse(options) => ("analyse", options.limit(), options.simulations()),
         Command::Latency(options) => ("latency", options.limit(), options.simulations()),
     }
@@ -55,9 +56,12 @@ fn commands(rt: HostRuntime) {
         (["packets"].as_slice(), "packets", 0, 0),
         (["check"].as_slice(), "check", 0, 0),
         (["explain"].as_slice(), "explain", 0, 0),
+        (["draw"].as_slice(), "draw", 0, 0),
         (["analyse"].as_slice(), "analyse", 1_000_000, 20_000),
         (["latency"].as_slice(), "latency", 1_000_000, 20_000),
         (["batch", "--seek=0"].as_slice(), "batch", 1_000_000, 0),
+        (["--quiet", "check"].as_slice(), "check", 0, 0),
+        (["check", "--quiet"].as_slice(), "check", 0, 0),
         (
             ["analyse", "--limit", "1", "--seek", "0"].as_slice(),
             "analyse",
@@ -91,6 +95,12 @@ fn command_lines(rt: HostRuntime) {
         (["latency", "--limit"].as_slice(), 2),
         (["latency", "--seek", "1000001"].as_slice(), 2),
         (["analyse", "--seek", "-1"].as_slice(), 2),
+        (["latency", "--workers", "0"].as_slice(), 2),
+        (["batch", "--workers", "17"].as_slice(), 2),
+        (["analyse", "--workers", "many"].as_slice(), 2),
+        (["check", "--workers", "1"].as_slice(), 2),
+        (["check", "--progress"].as_slice(), 2),
+        (["latency", "--progress=yes"].as_slice(), 2),
         (["analyse", "--bounds", "leads"].as_slice(), 2),
         (["latency", "--bounds", "Stamp"].as_slice(), 2),
         (["check", "--bounds", "stamp"].as_slice(), 2),
@@ -109,6 +119,8 @@ fn command_lines(rt: HostRuntime) {
         (["help", "first", "first"].as_slice(), 2),
         (["first", "help"].as_slice(), 2),
         (["explain", "--limit", "3"].as_slice(), 2),
+        (["check", "--quiet=yes"].as_slice(), 2),
+        (["draw", "--limit", "3"].as_slice(), 2),
     ] {
         assert_eq!(rt; status_of(rt.alloc(), words), Some(status), "at {words:?}");
     }
@@ -130,6 +142,30 @@ fn bounds(rt: HostRuntime) {
     }
 }
 
+/// How many workers a command line asks for.
+fn workers_run(alloc: Global, words: &[&str]) -> Option<u32> {
+    match &judge(alloc, words) {
+        Verdict::Run(Command::Analyse(options) | Command::Latency(options)) => {
+            Some(options.workers())
+        }
+        Verdict::Batch(options) => Some(options.workers()),
+        _ => None,
+    }
+}
+
+#[test]
+fn workers(rt: HostRuntime) {
+    for (words, want) in [
+        (["latency"].as_slice(), 1),
+        (["analyse", "--workers", "1"].as_slice(), 1),
+        (["analyse", "--workers", "4", "--seek=0"].as_slice(), 4),
+        (["latency", "--workers=16"].as_slice(), 16),
+        (["batch", "--limit", "7", "--workers", "2"].as_slice(), 2),
+    ] {
+        assert_eq!(rt; workers_run(rt.alloc(), words), Some(want), "at {words:?}");
+    }
+}
+
 #[test]
 fn help(rt: HostRuntime) {
     let verdict = judge(rt.alloc(), &["--help"]);
@@ -143,11 +179,14 @@ fn help(rt: HostRuntime) {
             "  check  ",
             "  analyse  ",
             "  explain  ",
+            "  draw  ",
             "  latency  ",
             "  batch  ",
             "standard input",
+            "--quiet",
             "TOML",
             "convoy analyse < scenario.toml | convoy explain",
+            "convoy analyse < scenario.toml | convoy draw > run.svg",
             "convoy analyse < scenario.toml | convoy check",
             "Exit status:",
             "  4  a certificate that is refused",

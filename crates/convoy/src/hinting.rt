@@ -1,0 +1,92 @@
+//! What the program writes to standard error, for people: a line before it waits for a terminal, and a
+//! hint where it has no answer (docs/HINTS.md).
+
+use super::judge::Verdict;
+use super::kept::{KeptReader, KeptWriter};
+use super::{NOT_VALID, REJECTED};
+use convoy_engine::{Command, Fault, LONGEST_CERTIFICATE, LONGEST_JOB, MOST_JOBS};
+use convoy_hints::{
+    hint_for_certificate, hint_for_jobs, hint_for_length, hint_for_reading, hint_for_scenario,
+    hint_for_words, hint_for_writing,
+};
+use std::alloc::{AllocError, Global};
+use std::convert::AsStr;
+use std::io::{Error, Write};
+
+/// How a run ended, and what is known of its streams.
+#[derive(Drop)]
+pub struct Ended<'a, R, W> {
+    pub verdict: &'a Verdict,
+    pub words: &'a [String],
+    pub result: &'a Result<u8, Fault>,
+    pub reader: &'a KeptReader<R>,
+    pub writer: &'a KeptWriter<W>,
+}
+
+/// Whether the command line asks for no hints.
+pub fn is_quiet<S: AsStr>(words: &[S]) -> bool {
+    words.iter().any(|word| word.as_str() == "--quiet")
+}
+
+/// The line that is written before a terminal is read.
+pub fn greeting(alloc: Global, verdict: &Verdict) -> Result<Option<String>, AllocError> {
+    let wanted = match verdict {
+        Verdict::Run(Command::First | Command::Analyse(_) | Command::Latency(_)) => "a scenario",
+        Verdict::Run(Command::Check | Command::Explain | Command::Draw) => "a certificate",
+        Verdict::Run(_) => "a scenario or a certificate",
+        Verdict::Batch(_) => "scenarios",
+        Verdict::Text { .. } | Verdict::Memory => return Ok(None),
+    };
+    let line = format!(in alloc;
+        "hint: reading {wanted} from standard input, up to its end; 'convoy --help' tells more\n"
+    )?;
+    Ok(Some(line))
+}
+
+/// The hint for how a run ended; None where there is none.
+pub fn hint_for<R, W>(
+    alloc: Global,
+    ended: &Ended<'_, R, W>,
+) -> Result<Option<String>, AllocError> {
+    match ended.result {
+        Ok(REJECTED) => hint_for_words(alloc, ended.words),
+        Ok(NOT_VALID) => {
+            hint_for_certificate(alloc, ended.reader.text(), ended.reader.is_whole())
+        }
+        Ok(_) => Ok(None),
+        Err(Fault::Memory | Fault::TooManyReads) => Ok(None),
+        Err(Fault::Read) => match ended.reader.failure() {
+            Some(error) => Ok(Some(hint_for_reading(alloc, &error)?)),
+            None => Ok(None),
+        },
+        Err(Fault::Write) => match ended.writer.failure() {
+            Some(error) => Ok(Some(hint_for_writing(alloc, &error)?)),
+            None => Ok(None),
+        },
+        Err(Fault::TooLong) => {
+            let text = ended.reader.text();
+            let most = longest_for(ended.verdict, text);
+            Ok(Some(hint_for_length(alloc, text, most)?))
+        }
+        Err(Fault::TooManyJobs) => Ok(Some(hint_for_jobs(alloc, MOST_JOBS)?)),
+        Err(_) if ended.reader.is_whole() => hint_for_scenario(alloc, ended.reader.text()),
+        Err(_) => Ok(None),
+    }
+}
+
+/// How many bytes the text has at most that is read for the verdict and begins so.
+fn longest_for(verdict: &Verdict, text: &[u8]) -> usize {
+    match verdict {
+        Verdict::Run(Command::First | Command::Analyse(_) | Command::Latency(_)) => LONGEST_JOB,
+        Verdict::Run(Command::Check | Command::Explain | Command::Draw) => LONGEST_CERTIFICATE,
+        _ if text.starts_with(b"convoy ") => LONGEST_CERTIFICATE,
+        _ => LONGEST_JOB,
+    }
+}
+
+/// Writes a line that may be missing; where the write fails, that is all.
+pub fn write_line<W: Write>(writer: &mut W, line: Result<Option<String>, AllocError>) {
+    if let Ok(Some(line)) = line {
+        let _ = writer.write_all(line.as_bytes());
+    }
+}

@@ -1,0 +1,110 @@
+//! The standard streams, with what a hint needs to know of them.
+
+use std::alloc::Global;
+use std::io;
+use std::io::{Error, Read, Write};
+
+/// How many bytes of the input are kept at most: a scenario and more, and the lines of a certificate
+/// before its tree.
+const MOST_KEPT: usize = 131_072;
+
+/// A reader, with a copy of the first bytes that it gave.
+#[derive(Drop)]
+pub struct KeptReader<R> {
+    reader: R,
+    text: Vec<u8>,
+    is_whole: bool,
+    failure: Option<Error>,
+}
+
+impl<R> KeptReader<R> {
+    /// The reader, of which nothing was read yet.
+    pub fn new(alloc: Global, reader: R) -> Self {
+        KeptReader {
+            reader,
+            text: Vec::new(alloc),
+            is_whole: true,
+            failure: None,
+        }
+    }
+
+    /// The first bytes that were read: as many as are kept, and fewer where memory ran out.
+    pub fn text(&self) -> &[u8] {
+        self.text.as_slice()
+    }
+
+    /// Whether that is all that was read.
+    pub fn is_whole(&self) -> bool {
+        self.is_whole
+    }
+
+    /// Why the last read that failed did.
+    pub fn failure(&self) -> Option<Error> {
+        self.failure
+    }
+}
+
+impl<R: Read> Read for KeptReader<R> {
+    ghost remaining = { λ kept. R.remaining kept.reader };
+
+    fn read(&mut self, buffer: &mut [u8]) -> io::Result<usize> {
+        let result = self.reader.read(buffer);
+        match &result {
+            Ok(count) => {
+                if self.is_whole {
+                    self.is_whole = keep(&mut self.text, &buffer[..*count]);
+                }
+            }
+            Err(error) => self.failure = Some(*error),
+        }
+        result
+    }
+}
+
+/// Keeps bytes, as long as there is room, and answers whether there was room for all.
+fn keep(text: &mut Vec<u8>, bytes: &[u8]) -> bool {
+    let room = MOST_KEPT.saturating_sub(text.len());
+    let count = room.min(bytes.len());
+    text.extend_from_slice(&bytes[..count]).is_ok() && count == bytes.len()
+}
+
+/// A writer that knows why it failed.
+#[derive(Drop)]
+pub struct KeptWriter<W> {
+    writer: W,
+    failure: Option<Error>,
+}
+
+impl<W> KeptWriter<W> {
+    /// The writer, to which nothing was written yet.
+    pub fn new(writer: W) -> Self {
+        KeptWriter {
+            writer,
+            failure: None,
+        }
+    }
+
+    /// Why the last write that failed did.
+    pub fn failure(&self) -> Option<Error> {
+        self.failure
+    }
+}
+
+impl<W: Write> Write for KeptWriter<W> {
+    ghost contents = { λ kept. W.contents kept.writer };
+
+    fn write(&mut self, bytes: &[u8]) -> io::Result<usize> {
+        let result = self.writer.write(bytes);
+        if let Err(error) = &result {
+            self.failure = Some(*error);
+        }
+        result
+    }
+
+    fn flush(&mut self) -> io::Result<()> {
+        self.writer.flush()
+    }
+}
+
+#[cfg(test)]
+mod tests;

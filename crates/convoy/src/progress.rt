@@ -1,0 +1,175 @@
+//! How far a long search has come, told on standard error.
+
+use super::judge::Verdict;
+use convoy_engine::{Bounds, Command, Gate, Watch};
+use std::alloc::{AllocError, Global};
+use std::convert::AsStr;
+use std::io::{Stderr, Write};
+use std::sync::atomic::{AtomicBool, AtomicU32, AtomicU64, Ordering};
+use std::time::Clock;
+
+/// How many milliseconds pass before a search is told of, and then from one line to the next.
+const PAUSE: u64 = 1_000;
+
+/// How many branches a worker takes up between two looks at the clock, less 1.
+const FEW: u64 = 1_023;
+
+/// Where progress is told.
+#[derive(Clone, Copy, Debug, PartialEq, Eq)]
+pub enum Screen {
+    /// Nowhere.
+    Off,
+    /// On a terminal, each line in the place of the last one.
+    Terminal,
+    /// Line by line.
+    Stream,
+}
+
+/// Where progress is told, by the words of the command line, and by whether standard error is a terminal.
+pub fn screen_for<S: AsStr>(words: &[S], is_terminal: bool) -> Screen {
+    if words.iter().any(|word| word.as_str() == "--quiet") {
+        Screen::Off
+    } else if is_terminal {
+        Screen::Terminal
+    } else if words.iter().any(|word| word.as_str() == "--progress") {
+        Screen::Stream
+    } else {
+        Screen::Off
+    }
+}
+
+/// By what the search of a verdict closes boxes.
+pub fn bounds_of(verdict: &Verdict) -> Bounds {
+    match verdict {
+        Verdict::Run(Command::Analyse(options) | Command::Latency(options)) => options.bounds(),
+        _ => Bounds::Plain,
+    }
+}
+
+/// Tells on standard error how far a search has come, once a second.
+#[derive(Drop)]
+pub struct Progress<'a, R> {
+    rt: &'a R,
+    alloc: Global,
+    stderr: Stderr,
+    screen: Screen,
+    /// Of how many branches of a worker one is counted, less 1: one less than a power of two.
+    skipped: u64,
+    /// When the search began, in milliseconds of the clock.
+    begun: AtomicU64,
+    /// When the next line is due.
+    due: AtomicU64,
+    /// How many branches were taken up, as far as they are counted.
+    spent: AtomicU64,
+    limit: AtomicU64,
+    least: AtomicU32,
+    /// The greatest number where no bound is known.
+    most: AtomicU32,
+    /// Whether a line was told.
+    told: AtomicBool,
+}
+
+impl<'a, R: Clock> Progress<'a, R> {
+    /// Progress of that command on that screen.
+    pub fn new(
+        rt: &'a R,
+        alloc: Global,
+        stderr: Stderr,
+        screen: Screen,
+        bounds: Bounds,
+    ) -> Progress<'a, R> {
+        let skipped = match bounds {
+            Bounds::Lead => 0,
+            Bounds::Plain | Bounds::Stamp => FEW,
+        };
+        Progress {
+            rt,
+            alloc,
+            stderr,
+            screen,
+            skipped,
+            begun: AtomicU64::new(0),
+            due: AtomicU64::new(0),
+            spent: AtomicU64::new(0),
+            limit: AtomicU64::new(0),
+            least: AtomicU32::new(0),
+            most: AtomicU32::new(0),
+            told: AtomicBool::new(false),
+        }
+    }
+
+    /// The clock in milliseconds, or 0 where there is none.
+    fn now(&self) -> u64 {
+        match self.rt.monotonic() {
+            Ok(time) => u64::try_from(time.as_millis()).unwrap_or(u64::MAX),
+            Err(_) => 0,
+        }
+    }
+
+    /// Writes a line where one is due.
+    fn tell(&self, spent: u64) {
+        let now = self.now();
+        if now < self.due.load(Ordering::Relaxed) {
+            return;
+        }
+        self.due.store(now.saturating_add(PAUSE), Ordering::Relaxed);
+        if let Ok(line) = self.line(spent, now) {
+            self.told.store(true, Ordering::Relaxed);
+            let _ = (&self.stderr).write_all(line.as_bytes());
+        }
+    }
+
+    /// What is told after so many branches at that time.
+    fn line(&self, spent: u64, now: u64) -> Result<String, AllocError> {
+        let limit = self.limit.load(Ordering::Relaxed);
+        let least = self.least.load(Ordering::Relaxed);
+        let most = self.most.load(Ordering::Relaxed);
+        let passed = now
+            .saturating_sub(self.begun.load(Ordering::Relaxed))
+            .max(1);
+        let rate = spent.saturating_mul(1_000) / passed;
+        let spent = spent.min(limit);
+        let (start, end) = match self.screen {
+            Screen::Terminal => ("\r", "\x1b[K"),
+            Screen::Stream | Screen::Off => ("", "\n"),
+        };
+        if most == u32::MAX {
+            return format!(in self.alloc;
+                "{start}{spent} of {limit} tickets, {rate} a second; at least {least} ticks{end}"
+            );
+        }
+        format!(in self.alloc;
+            "{start}{spent} of {limit} tickets, {rate} a second; between {least} and {most} ticks{end}"
+        )
+    }
+}
+
+impl<'a, R: Clock> Gate for Progress<'a, R> {
+    fn before_branch(&self, worker: u32, nth: u64) {
+        if self.screen == Screen::Off || nth & self.skipped != 0 {
+            return;
+        }
+        let counted = self.skipped.saturating_add(1);
+        let spent = self.spent.fetch_add(counted, Ordering::Relaxed);
+        if worker == 0 {
+            self.tell(spent.saturating_add(counted));
+        }
+    }
+}
+
+impl<'a, R: Clock> Watch for Progress<'a, R> {
+    fn begins(&self, limit: u64, least: u32, most: Option<u32>) {
+        let now = self.now();
+        self.begun.store(now, Ordering::Relaxed);
+        self.due.store(now.saturating_add(PAUSE), Ordering::Relaxed);
+        self.limit.store(limit, Ordering::Relaxed);
+        self.least.store(least, Ordering::Relaxed);
+        self.most.store(most.unwrap_or(u32::MAX), Ordering::Relaxed);
+    }
+
+    fn ends(&self) {
+        if self.screen == Screen::Terminal && self.told.load(Ordering::Relaxed) {
+            let _ = (&self.stderr).write_all(b"\n");
+        }
+    }
+}
