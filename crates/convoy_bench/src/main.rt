@@ -5,22 +5,28 @@
 //! `convoy_bench stamps [TURNS]` takes a scenario and makes that many calls of the bounds of the root.
 //! `convoy_bench mixed [TURNS]` takes a scenario, and runs that many times each of 32 mixed schedules.
 //! `convoy_bench search [LIMIT]` takes a scenario and searches it, with at most that many tickets.
+//! `convoy_bench workers [LIMIT]` takes a scenario and searches it, alone and by 1, 2 and 4 workers.
 //! `convoy_bench seek [BUDGET]` takes a scenario and seeks in it, with at most that many simulations.
 //! `convoy_bench certificate` takes the text of a certificate, reads it, checks it and writes it again.
 #![tactic(auto)]
 
 mod timing;
+mod workers;
 
-use anyhow::{Context, Result, bail};
+use anyhow::{Context, Result};
 use convoy_intervals::DelayBox;
 use convoy_packets::{Delays, PacketTable};
 use convoy_scenario::{Scenario, read_toml};
 use std::alloc::Global;
 use std::env;
 use std::io::Read;
+use std::rt::Runtime;
+use std::sync::Wait;
+use std::thread::Threads;
 use timing::{
     time_bound, time_certificate, time_mixed, time_search, time_seek, time_simulate, time_stamps,
 };
+use workers::time_workers;
 
 /// How many turns are made where no number is given.
 const ONE_TURN: u32 = 1;
@@ -42,6 +48,8 @@ enum Task {
     Mixed(u32),
     /// A search with at most so many tickets.
     Search(u32),
+    /// Searches by several workers, with at most so many tickets each.
+    Workers(u32),
     /// Seeking with at most so many simulations.
     Seek(u32),
     /// The calls on a certificate.
@@ -57,6 +65,7 @@ fn main(rt: HostRuntime) -> Result<()> {
         Task::Stamps(turns) => time_bounds(&rt, rt.alloc(), &text, turns),
         Task::Mixed(turns) => time_mixtures(&rt, rt.alloc(), &text, turns),
         Task::Search(limit) => time_tree(&rt, rt.alloc(), &text, limit),
+        Task::Workers(limit) => time_crews(&rt, rt.alloc(), &text, limit),
         Task::Seek(budget) => time_best(&rt, rt.alloc(), &text, budget),
         Task::Certificate => time_certificate(&rt, rt.alloc(), &text),
     }
@@ -74,6 +83,7 @@ fn asked_for(rt: &HostRuntime) -> Result<Task> {
         "stamps" => Ok(Task::Stamps(number_or(words.next(), ONE_TURN)?)),
         "mixed" => Ok(Task::Mixed(number_or(words.next(), ONE_TURN)?)),
         "search" => Ok(Task::Search(number_or(words.next(), MOST_TICKETS)?)),
+        "workers" => Ok(Task::Workers(number_or(words.next(), MOST_TICKETS)?)),
         "seek" => Ok(Task::Seek(number_or(words.next(), MOST_SIMULATIONS)?)),
         _ => Ok(Task::Scenario(number_of(&word)?)),
     }
@@ -95,10 +105,8 @@ fn number_of(word: &String) -> Result<u32> {
 
 /// The scenario of a text.
 fn read_scenario(alloc: Global, text: &[u8]) -> Result<Scenario> {
-    match read_toml(alloc, text) {
-        Ok(input) => Ok(input.scenario),
-        Err(_) => bail!("standard input has no scenario"),
-    }
+    let input = read_toml(alloc, text).context("standard input has no scenario")?;
+    Ok(input.scenario)
 }
 
 /// Times the calls on a scenario.
@@ -131,6 +139,18 @@ fn time_tree(rt: &HostRuntime, alloc: Global, text: &[u8], limit: u32) -> Result
     let scenario = read_scenario(alloc, text)?;
     let table = PacketTable::of(alloc, &scenario)?;
     time_search(rt, alloc, &scenario, &table, limit)
+}
+
+/// Times searches by several workers.
+fn time_crews<R: Runtime + Threads + Wait + Sync>(
+    rt: &R,
+    alloc: Global,
+    text: &[u8],
+    limit: u32,
+) -> Result<()> {
+    let scenario = read_scenario(alloc, text)?;
+    let table = PacketTable::of(alloc, &scenario)?;
+    time_workers(rt, alloc, &scenario, &table, limit)
 }
 
 /// Times seeking.

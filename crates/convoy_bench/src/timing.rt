@@ -14,6 +14,7 @@ use convoy_seek::seek;
 use convoy_sim::{Record, latency, simulate};
 use convoy_stamps::{stamp_bound, stamp_bound_of};
 use std::alloc::Global;
+use std::rt::Runtime;
 use std::time::{Duration, Instant};
 
 /// Makes that many calls of `bound`, and tells what one answers and how long it takes.
@@ -139,10 +140,7 @@ fn mixed_schedule(alloc: Global, table: &PacketTable, number: u32) -> Result<Del
     ensures { IfOk result (λ delays. AreWithin table.now.ranges delays) }
 {
     let list = mixed_delays(alloc, table.ranges(), number)?;
-    match Delays::from_list(alloc, table, &list) {
-        Ok(delays) => Ok(delays),
-        Err(_) => bail!("a mixture is no schedule"),
-    }
+    Ok(Delays::from_list(alloc, table, &list)?)
 }
 
 /// Some delay in each range, another mixture for each number.
@@ -158,8 +156,8 @@ fn mixed_delays(alloc: Global, ranges: &[(u16, u16)], number: u32) -> Result<Vec
 }
 
 /// Searches with at most that many tickets, and tells how it ended and how long it takes.
-pub fn time_search(
-    rt: &HostRuntime,
+pub fn time_search<R: Runtime>(
+    rt: &R,
     alloc: Global,
     scenario: &Scenario,
     table: &PacketTable,
@@ -247,7 +245,7 @@ fn tell(rt: &HostRuntime, call: &str, turns: u32, elapsed: Duration) -> Result<(
 }
 
 /// Tells on standard error how many nodes a call takes up in a second.
-fn tell_rate(rt: &HostRuntime, call: &str, nodes: u64, elapsed: Duration) -> Result<()> {
+pub fn tell_rate<R: Runtime>(rt: &R, call: &str, nodes: u64, elapsed: Duration) -> Result<()> {
     let rate = u128::from(nodes) * 1_000_000_000 / elapsed.as_nanos().max(1);
     eprintln!(rt;
         "{call}: {nodes} nodes in {} us, {rate} a second",

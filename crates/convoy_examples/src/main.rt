@@ -2,15 +2,15 @@
 //! output, so that no example, and nothing that the documents say of one, goes out of date.
 #![tactic(auto)]
 
-ghost use Rattle.std.specs.Prelude.{◌≡◌};
-
 use anyhow::{Result, bail};
 use convoy_engine::{
     DEFAULT_SIMULATIONS, DeviceFailed, MOST_TICKETS, Options, SliceSource, StreamSink, VecSink,
-    run_analyse, run_check, run_explain, run_first, run_latency, write_all,
+    run_analyse, run_check, run_draw, run_explain, run_first, run_latency, write_all,
 };
 use std::alloc::Global;
 use std::fs;
+use std::sync::Wait;
+use std::thread::Threads;
 
 /// The scenarios in `examples/`, but for the one that takes a million nodes.
 const EXAMPLES: [&str; 8] = [
@@ -37,22 +37,24 @@ fn main(rt: HostRuntime) -> Result<()> {
     for name in EXAMPLES {
         println!(rt; "{name}")?;
         let text = fs::read_to_string(&rt, name)?;
-        answer(&rt, rt.alloc(), text.as_bytes())?;
+        print(&rt, &answers(&rt, rt.alloc(), text.as_bytes())?)?;
     }
     println!(rt; "certificate of base.toml")?;
     let text = fs::read_to_string(&rt, "base.toml")?;
-    print(&rt, &certificate(rt.alloc(), text.as_bytes())?)?;
+    print(&rt, &certificate(&rt, rt.alloc(), text.as_bytes())?)?;
     for name in EXPLAINED {
         println!(rt; "explanation of {name}")?;
         let text = fs::read_to_string(&rt, name)?;
-        print(&rt, &explanation(rt.alloc(), text.as_bytes())?)?;
+        print(&rt, &explanation(&rt, rt.alloc(), text.as_bytes())?)?;
     }
-    Ok(())
+    println!(rt; "image of base.toml")?;
+    let text = fs::read_to_string(&rt, "base.toml")?;
+    print(&rt, &image(&rt, rt.alloc(), text.as_bytes())?)
 }
 
-/// Prints what `first` and `latency` answer for a scenario, and what `check` answers for the
-/// certificate that `analyse` writes.
-fn answer(rt: &HostRuntime, alloc: Global, text: &[u8]) -> Result<()> {
+/// What `first` and `latency` write for a scenario, and what `check` writes for the certificate that
+/// `analyse` writes.
+fn answers<R: Threads + Wait + Sync>(rt: &R, alloc: Global, text: &[u8]) -> Result<Vec<u8>> {
     let mut sink = VecSink::new(alloc, PIECE);
     run_first(
         alloc,
@@ -61,21 +63,23 @@ fn answer(rt: &HostRuntime, alloc: Global, text: &[u8]) -> Result<()> {
         MOST_READS,
     )?;
     run_latency(
+        rt,
         alloc,
         &mut SliceSource::new(text, PIECE),
         &mut sink,
         &options(),
     )?;
-    let certificate = certificate(alloc, text)?;
+    let certificate = certificate(rt, alloc, text)?;
     let mut source = SliceSource::new(&certificate, PIECE);
     run_check(alloc, &mut source, &mut sink, MOST_READS)?;
-    print(rt, sink.bytes())
+    Ok(Vec::from_slice(alloc, sink.bytes())?)
 }
 
 /// What `analyse` writes for a scenario.
-fn certificate(alloc: Global, text: &[u8]) -> Result<Vec<u8>> {
+fn certificate<R: Threads + Wait + Sync>(rt: &R, alloc: Global, text: &[u8]) -> Result<Vec<u8>> {
     let mut sink = VecSink::new(alloc, PIECE);
     run_analyse(
+        rt,
         alloc,
         &mut SliceSource::new(text, PIECE),
         &mut sink,
@@ -85,18 +89,25 @@ fn certificate(alloc: Global, text: &[u8]) -> Result<Vec<u8>> {
 }
 
 /// What `explain` writes for that.
-fn explanation(alloc: Global, text: &[u8]) -> Result<Vec<u8>> {
-    let certificate = certificate(alloc, text)?;
+fn explanation<R: Threads + Wait + Sync>(rt: &R, alloc: Global, text: &[u8]) -> Result<Vec<u8>> {
+    let certificate = certificate(rt, alloc, text)?;
     let mut source = SliceSource::new(&certificate, PIECE);
     let mut sink = VecSink::new(alloc, PIECE);
     run_explain(alloc, &mut source, &mut sink, MOST_READS)?;
     Ok(Vec::from_slice(alloc, sink.bytes())?)
 }
 
+/// What `draw` writes for that.
+fn image<R: Threads + Wait + Sync>(rt: &R, alloc: Global, text: &[u8]) -> Result<Vec<u8>> {
+    let certificate = certificate(rt, alloc, text)?;
+    let mut source = SliceSource::new(&certificate, PIECE);
+    let mut sink = VecSink::new(alloc, PIECE);
+    run_draw(alloc, &mut source, &mut sink, MOST_READS)?;
+    Ok(Vec::from_slice(alloc, sink.bytes())?)
+}
+
 /// A search with one worker and as many tickets as there may be, from a schedule that is sought first.
-fn options() -> Options
-    ensures { result.workers ≡ 1 }
-{
+fn options() -> Options {
     match Options::new(1, MOST_TICKETS, MOST_READS) {
         Some(options) => options.seeking(DEFAULT_SIMULATIONS),
         None => unreachable!(),

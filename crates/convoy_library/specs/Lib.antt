@@ -27,9 +27,21 @@ pub use Rattle.convoy_certificate.specs.declared.text_fault.TextFault
 pub use Rattle.convoy_checker.specs.Validity
 pub use Rattle.convoy_checker.specs.Checks
 pub use Rattle.convoy_checker.specs.declared.refused.Refused
--- what a search answers
+-- why a run is as late as it is
+pub use Rattle.convoy_explain.specs.Causes
+pub use Rattle.convoy_explain.specs.Explanations
+pub use Rattle.convoy_explain.specs.PacketLists
+-- boxes, and what closes them
+pub use Rattle.convoy_intervals.specs.Boxes
+pub use Rattle.convoy_intervals.specs.Bounds as PlainBounds
+pub use Rattle.convoy_stamps.specs.StampBounds
+pub use Rattle.convoy_leads.specs.Closing
+-- what seeking and a search answer
+pub use Rattle.convoy_seek.specs.Finds
+pub use Rattle.convoy_branch.specs.declared.bounds.Bounds
 pub use Rattle.convoy_branch.specs.Fronts
 pub use Rattle.convoy_branch.specs.Outcomes
+pub use Rattle.convoy_share.specs.declared.fault.SearchFault
 -- the search of many workers as a machine
 pub use Rattle.convoy_branch.specs.Machine
 pub use Rattle.convoy_branch.specs.Replays

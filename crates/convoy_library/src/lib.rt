@@ -4,10 +4,15 @@
 pub use convoy_branch as branch;
 pub use convoy_certificate as certificate;
 pub use convoy_checker as checker;
+pub use convoy_explain as explain;
 pub use convoy_incumbent as incumbent;
 pub use convoy_intervals as intervals;
+pub use convoy_leads as leads;
 pub use convoy_ledger as ledger;
 pub use convoy_packets as packets;
 pub use convoy_scenario as scenario;
+pub use convoy_seek as seek;
+pub use convoy_share as share;
 pub use convoy_sim as sim;
+pub use convoy_stamps as stamps;
 pub use convoy_timeline as timeline;

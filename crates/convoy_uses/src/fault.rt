@@ -2,6 +2,7 @@ use convoy_library::certificate::TextFault;
 use convoy_library::checker::Refused;
 use convoy_library::packets::ListFault;
 use convoy_library::scenario::ScenarioFault;
+use convoy_library::share::SearchFault;
 use std::alloc::AllocError;
 
 /// Why there is no answer.
@@ -70,6 +71,20 @@ impl From<TextFault> for Fault {
         match cause {
             TextFault::Memory => Fault::Memory,
             cause => Fault::Text(cause),
+        }
+    }
+}
+
+impl From<SearchFault> for Fault {
+    ghost use Rattle.std.specs.Prelude.{◌≡◌};
+    ghost use Rattle.convoy_uses.specs.Faults.{of_search};
+
+    ghost from_gives = { λ cause fault. fault ≡ of_search cause };
+
+    fn from(cause: SearchFault) -> Fault {
+        match cause {
+            SearchFault::Memory => Fault::Memory,
+            SearchFault::PlaceTooLarge(_) => Fault::BoardFull,
         }
     }
 }

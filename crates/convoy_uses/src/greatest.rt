@@ -1,10 +1,18 @@
-ghost use Rattle.std.specs.Prelude.{IfOk};
+ghost use Rattle.std.specs.Prelude.{ℕ, ◌≤◌, IfOk};
+ghost use Rattle.convoy_library.specs.Bounds.{Bounds};
+ghost use Rattle.convoy_library.specs.Outcomes.{IsOutcome};
+ghost use Rattle.convoy_library.specs.Scenario.{Scenario};
+ghost use Rattle.convoy_library.specs.Tickets.{most_tickets};
 ghost use Rattle.convoy_uses.specs.Answers.{IsAnswer};
 
+use super::fault::Fault;
 use convoy_library::branch::{Bounds, Outcome, search_alone};
 use convoy_library::packets::PacketTable;
 use convoy_library::scenario::Scenario;
+use convoy_library::share::{NoGate, search};
 use std::alloc::{AllocError, Global};
+use std::sync::Wait;
+use std::thread::Threads;
 
 /// What a search tells of the greatest latency of a scenario, in ticks.
 #[derive(Clone, Copy, Debug, PartialEq, Eq)]
@@ -25,11 +33,38 @@ pub fn greatest_latency(
     ensures { IfOk result (IsAnswer scenario.now) }
 {
     let table = PacketTable::of(alloc, scenario)?;
-    match search_alone(alloc, scenario, &table, limit, Bounds::Plain)? {
-        Outcome::Proved { certificate, .. } => Ok(Answer::Exactly(certificate.latency())),
-        Outcome::Open { best, upper, .. } => Ok(Answer::Between {
+    let outcome = search_alone(alloc, scenario, &table, limit, Bounds::Plain)?;
+    Ok(answer_of(&outcome))
+}
+
+/// The same by a search of so many workers, each in a thread of its own.
+pub fn greatest_latency_by<R: Threads + Wait + Sync>(
+    rt: &R,
+    alloc: Global,
+    scenario: &Scenario,
+    workers: u32,
+    limit: u64,
+) -> Result<Answer, Fault>
+    requires workers { (1 ≤ workers) × (workers ≤ 16) }
+    requires tickets { (1 ≤ limit) × (limit ≤ most_tickets) }
+    ensures { IfOk result (IsAnswer scenario.now) }
+{
+    let table = PacketTable::of(alloc, scenario)?;
+    let bounds = Bounds::Plain;
+    let outcome = search(rt, alloc, scenario, &table, workers, limit, bounds, &NoGate)?;
+    Ok(answer_of(&outcome))
+}
+
+/// What the outcome of a search tells.
+fn answer_of(outcome: &Outcome) -> Answer
+    ensures { (bounds : Bounds) (scenario : Scenario) (workers limit : ℕ) →
+        IsOutcome bounds scenario workers limit outcome.now → IsAnswer scenario result }
+{
+    match outcome {
+        Outcome::Proved { certificate, .. } => Answer::Exactly(certificate.latency()),
+        Outcome::Open { best, upper, .. } => Answer::Between {
             least: best.latency(),
-            most: upper,
-        }),
+            most: *upper,
+        },
     }
 }

@@ -5,7 +5,7 @@
 pub use building::exchange;
 pub use checking::{Vouched, check_certificate};
 pub use fault::Fault;
-pub use greatest::{Answer, greatest_latency};
+pub use greatest::{Answer, greatest_latency, greatest_latency_by};
 pub use records::best_of_three;
 pub use schedule::latency_under;
 pub use tickets::draw_together;

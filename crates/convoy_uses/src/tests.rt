@@ -1,8 +1,8 @@
 mod threads;
 
 use super::{
-    Answer, Fault, Judgement, check_certificate, exchange, greatest_latency, judge_timeout,
-    latency_under,
+    Answer, Fault, Judgement, check_certificate, exchange, greatest_latency, greatest_latency_by,
+    judge_timeout, latency_under,
 };
 use convoy_library::certificate::TextFault;
 use convoy_library::checker::Refused;
@@ -115,6 +115,23 @@ fn greatest_latencies(rt: HostRuntime) -> Result<(), Fail> {
             want,
             "limit {limit}"
         );
+    }
+    Ok(())
+}
+
+#[test]
+fn greatest_latencies_by_workers(rt: HostRuntime) -> Result<(), Fail> {
+    let alloc = rt.alloc();
+    for (text, limit, want) in [
+        (BASE, 1, Answer::Exactly(12)),
+        (SWAPPED, 10, Answer::Between { least: 6, most: 12 }),
+        (SWAPPED, 100_000, Answer::Exactly(6)),
+    ] {
+        let scenario = scenario_of(alloc, text)?;
+        for workers in [1, 4, 16] {
+            let found = greatest_latency_by(&rt, alloc, &scenario, workers, limit);
+            assert_eq!(rt; found, Ok(want), "{workers} workers, limit {limit}");
+        }
     }
     Ok(())
 }
