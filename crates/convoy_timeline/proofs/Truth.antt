@@ -14,7 +14,7 @@ use Rattle.convoy_sim.specs.Times.{arrive, settle}
 use Rattle.convoy_sim.specs.Delivery.{deliver}
 use Rattle.convoy_scenario.specs.Scenario.{GoesTo}
 use Rattle.convoy_timeline.specs.declared.entry.EntryKind.TheVariants.{Propose, Commit, Deliver}
-use Rattle.convoy_timeline.specs.Timeline.{entry_of, insert_entry, line_of, entries_at, entries_of, timeline_text}
+use Rattle.convoy_timeline.specs.Timeline.{entry_of, insert_entry, line_of, entries_at, entries_of, timeline_of, timeline_text}
 use Rattle.convoy_timeline.specs.Told.{proposal_told, entries_told_at, entries_told, told_in_order, text_told}
 
 -- two functions that agree on a list's elements make the same of it
@@ -67,8 +67,12 @@ entries_told-true plan delays run told =
     (message_at plan m).destinations (found (message_at plan m).destinations)))
     (message_numbers plan) (below (length plan.multicasts)))
 
+pub told_in_order-true : (plan : Scenario) (delays : List ℕ) (run : Run) → IsRunOf plan delays run
+    → told_in_order plan run ≡ timeline_of plan delays
+unfolding told_in_order
+told_in_order-true plan delays run told = ap (λ entries. fold insert_entry [] entries) (entries_told-true plan delays run told)
+
 pub text_told-true : (plan : Scenario) (delays : List ℕ) (run : Run) → IsRunOf plan delays run
     → text_told plan run ≡ timeline_text plan delays
-unfolding told_in_order text_told timeline_text
-text_told-true plan delays run told =
-    ap (λ entries. flat_map (line_of plan) (fold insert_entry [] entries)) (entries_told-true plan delays run told)
+unfolding text_told timeline_text
+text_told-true plan delays run told = ap (λ entries. flat_map (line_of plan) entries) (told_in_order-true plan delays run told)

@@ -76,6 +76,10 @@ line_of scenario entry =
     ++ 46 ∷ (group_name_at scenario entry.stamp.group
     ++ 10 ∷ [])))))
 
--- the timeline of the run that follows from a schedule of delays: the lines of its entries in their order
+-- the entries of the run that follows from a schedule of delays, in their order
+abbrev pub timeline_of : Scenario → List ℕ → List Entry
+timeline_of scenario delays = fold insert_entry [] (entries_of scenario delays)
+
+-- the timeline of that run: the lines of its entries
 unfoldable pub timeline_text : Scenario → List ℕ → List ℕ
-timeline_text scenario delays = flat_map (line_of scenario) (fold insert_entry [] (entries_of scenario delays))
+timeline_text scenario delays = flat_map (line_of scenario) (timeline_of scenario delays)

@@ -2,7 +2,8 @@
 //! groups, as lines of text.
 #![tactic(auto)]
 
-pub use timeline::write_timeline;
+pub use entry::{Entry, EntryKind};
+pub use timeline::{entries_of, write_timeline};
 
 mod entry;
 mod listing;

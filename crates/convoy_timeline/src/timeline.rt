@@ -1,7 +1,7 @@
 ghost use Rattle.std.specs.Prelude.{◌≡◌, ◌++◌, ℕ, List, string_bytes, OnOk, OnErr, IfOk};
 ghost use Rattle.convoy_scenario.specs.Scenario.{group_name_at, message_at};
 ghost use Rattle.convoy_sim.specs.Run.{IsRunOf};
-ghost use Rattle.convoy_timeline.specs.Timeline.{line_of, timeline_text};
+ghost use Rattle.convoy_timeline.specs.Timeline.{line_of, timeline_of, timeline_text};
 ghost use Rattle.convoy_timeline.specs.Told.{text_told};
 
 use super::entry::Entry;
@@ -9,6 +9,15 @@ use super::listing::list_entries;
 use convoy_scenario::Scenario;
 use convoy_sim::Run;
 use std::alloc::{AllocError, Global};
+
+/// What happens at each group in a run of the scenario, in the order of the timeline
+/// ([`write_timeline`]).
+pub fn entries_of(alloc: Global, scenario: &Scenario, run: &Run) -> Result<Vec<Entry>, AllocError>
+    ensures { (delays : List ℕ) → IsRunOf scenario.now delays run.now
+        → IfOk result (λ entries. entries.items ≡ timeline_of scenario.now delays) }
+{
+    list_entries(alloc, scenario, run)
+}
 
 /// Appends the timeline of a run of the scenario, for a reader who follows what happens at each
 /// group: for each message at each of its destinations the three lines
