@@ -4,7 +4,7 @@ ghost use Rattle.std.specs.Prelude.{◌≡◌, ◌+◌, ◌-◌, ◌<◌, [], �
 ghost use Rattle.std.specs.Prelude.{IfOk, IfNone, IfSome, MatchResult, OnErr, OnOk};
 ghost use Rattle.convoy_deque.specs.Tasks.{whole_share, AreAllTaken, IsOf, IsPut};
 
-use super::rule::{Begin, EachOnce, OneShare, Put, Take, View};
+use super::rule::{Begin, Count, EachOnce, OneShare, Put, Take, View};
 use super::task::Task;
 use super::thief::Thief;
 use convoy_intervals::Tracked;
@@ -113,6 +113,14 @@ impl Owner {
         let stealer = self.worker.stealer()?;
         let pass = self.worker.another::<OneShare>();
         Ok(Thief::of(stealer, pass))
+    }
+
+    /// How many branches stand in the deque at one moment of the call. Thieves may take them meanwhile,
+    /// so contracts learn nothing from it.
+    pub fn len(&mut self) -> usize
+        ensures { self.new ≡ self.old }
+    {
+        self.worker.len_as::<Count>()
     }
 
     /// How many branches were put.

@@ -4,7 +4,7 @@
 use super::task::Task;
 use convoy_intervals::DelayBox;
 use convoy_scenario::Scenario;
-use crossbeam_deque::protocol::{Join, Outcome, Protocol, Split};
+use crossbeam_deque::protocol::{Join, Lesson, Outcome, Protocol, Split};
 use std::collections::LinkedList;
 
 /// What the rule knows of the owner, or of one thief. No value of it is made.
@@ -70,6 +70,13 @@ impl Outcome<Task, View> for Rob {
     ghost use Rattle.convoy_deque.specs.Rule.{HasTaken};
 
     ghost then = { HasTaken };
+}
+
+/// The tasks are counted, which tells nothing of them.
+pub struct Count;
+
+impl Lesson<Task, View> for Count {
+    ghost fact = { λ _ _. Unit {0} };
 }
 
 /// How a thief gets its share, and how it comes back.

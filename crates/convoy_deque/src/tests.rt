@@ -44,6 +44,7 @@ fn first_and_last_branch(rt: HostRuntime) -> Result<(), Fail> {
     let branch = root.copy()?;
     let mut owner = Owner::open(alloc, root)?;
     assert!(rt; matches!(owner.put(branch), Ok(1)));
+    assert_eq!(rt; owner.len(), 2);
     let thief = owner.thief()?;
     let rt_shared = &rt;
     let (thief, _) = join(
@@ -57,6 +58,7 @@ fn first_and_last_branch(rt: HostRuntime) -> Result<(), Fail> {
         },
         move || (),
     );
+    assert_eq!(rt; owner.len(), 1);
     let task = owner
         .take()
         .expect(&rt, "the last branch stands in the deque");
