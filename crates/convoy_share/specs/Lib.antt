@@ -11,6 +11,7 @@ pub mod Filling
 pub mod Turns
 pub mod Laws
 -- What the program's own parts say: a tree under way, and what a worker has in hand.
+pub mod Kept
 pub mod Growing
 pub mod Means
 pub mod Offers

@@ -9,10 +9,9 @@ ghost use Rattle.convoy_share.specs.Workers.{StaysOwner};
 use super::fault::SearchFault;
 use super::filling::Filling;
 use super::finishing::search_left;
-use super::growing::Growing;
 use super::means::Means;
 use super::owner::OwnerWorker;
-use super::piece::Piece;
+use super::piece::Settled;
 use super::shared::Shared;
 use super::tree::{Tree, keep};
 use convoy_branch::Gate;
@@ -28,7 +27,7 @@ use std::sync::Wait;
 pub(crate) struct Ended {
     pub hand: Hand,
     pub clerk: Clerk,
-    pub pieces: Vec<Piece>,
+    pub pieces: Vec<Settled>,
     pub drawn_by_thieves: Vec<u64>,
 }
 
@@ -45,8 +44,9 @@ fn drain_once(shared: &Shared, worker: &mut OwnerWorker) -> Result<bool, AllocEr
         return Ok(false);
     };
     let number = task.number;
-    let growing = Growing::of(shared.alloc, task.branch)?;
-    keep(&mut worker.trees, Tree::of(number, growing.work))?;
+    let mut pieces = Vec::new(shared.alloc);
+    pieces.push(Settled::left(shared.alloc, task.branch, false)?)?;
+    keep(&mut worker.trees, Tree::of(number, pieces))?;
     Ok(true)
 }
 

@@ -10,7 +10,7 @@ ghost use Rattle.convoy_branch.specs.Fronts.{left_in};
 ghost use Rattle.convoy_share.specs.Filling.{IsFilling, slot_at};
 ghost use Rattle.convoy_share.specs.Pieces.{front};
 
-use super::piece::Piece;
+use super::piece::{Piece, Settled};
 use convoy_intervals::Tracked;
 use std::alloc::{AllocError, Global};
 use std::marker::Model;
@@ -19,7 +19,7 @@ use std::marker::Model;
 #[derive(Drop)]
 pub(crate) struct Slot {
     /// From the last one back.
-    pieces: Vec<Piece>,
+    pieces: Vec<Settled>,
 }
 
 impl Model for Slot {
@@ -42,14 +42,14 @@ impl Slot {
     }
 
     /// A tree of pieces that stand from the last one back.
-    pub fn of(pieces: Vec<Piece>) -> Slot
+    pub fn of(pieces: Vec<Settled>) -> Slot
         ensures { result ≡ reverse pieces.items }
     {
         Slot { pieces }
     }
 
     /// Puts the tree in front of the pieces, which stand from the last one back, and leaves nothing.
-    fn pour(&mut self, rest: &mut Vec<Piece>) -> Result<(), AllocError>
+    fn pour(&mut self, rest: &mut Vec<Settled>) -> Result<(), AllocError>
         ensures rest { OnOk result (reverse rest.new.items ≡ self.old ++ reverse rest.old.items) }
         ensures empty { OnOk result (self.new ≡ []) }
     {
@@ -62,9 +62,9 @@ impl Slot {
 #[derive(Drop)]
 pub(crate) struct Filling {
     /// The pieces that are settled, in order.
-    pub done: Vec<Piece>,
+    pub done: Vec<Settled>,
     /// The pieces that come after them, from the last one back.
-    pub rest: Vec<Piece>,
+    pub rest: Vec<Settled>,
     /// The trees that are not in their places yet, by number.
     pub slots: Vec<Slot>,
 }
@@ -126,10 +126,10 @@ impl Filling {
             < length self.old.rest.items + sum_by length self.old.slots.items)) }
     {
         while let Some(piece) = self.rest.pop() {
-            match piece {
+            match piece.into_piece() {
                 Piece::Todo { branch, tried } => return Ok(Some((branch, tried))),
                 Piece::Pushed(number) => self.fill_place(number)?,
-                Piece::Done(node) => self.done.push(Piece::Done(node))?,
+                Piece::Done(node) => self.done.push(Settled::done(node))?,
             }
         }
         Ok(None)

@@ -12,18 +12,18 @@ ghost use Rattle.convoy_share.specs.Turns.{pieces_of};
 use super::fault::SearchFault;
 use super::filling::Filling;
 use super::means::{Means, TakenUp, take_up};
-use super::piece::Piece;
+use super::piece::{Piece, Settled};
 use super::shared::Shared;
 use convoy_branch::laws::fronts_better;
 use convoy_branch::{Gate, Turn};
 use convoy_certificate::Node;
 use convoy_intervals::Tracked;
-use std::alloc::AllocError;
+use std::alloc::{AllocError, Global};
 use std::sync::Wait;
 
 impl Filling {
     /// The pieces of a turn come next.
-    fn follow(&mut self, turn: Turn) -> Result<(), AllocError>
+    fn follow(&mut self, alloc: Global, turn: Turn) -> Result<(), AllocError>
         ensures rest { OnOk result (reverse self.new.rest.items
             ≡ pieces_of turn ++ reverse self.old.rest.items) }
         ensures few { OnOk result (length self.new.rest.items ≤ length self.old.rest.items + 3) }
@@ -31,35 +31,29 @@ impl Filling {
         ensures slots { OnOk result (self.new.slots.items ≡ self.old.slots.items) }
     {
         match turn {
-            Turn::Closed(node) => self.rest.push(Piece::Done(node))?,
+            Turn::Closed(node) => self.rest.push(Settled::done(node))?,
             Turn::Halves {
                 packet,
                 at,
                 lower,
                 upper,
             } => {
-                self.rest.push(Piece::Todo {
-                    branch: upper,
-                    tried: true,
-                })?;
-                self.rest.push(Piece::Todo {
-                    branch: lower,
-                    tried: false,
-                })?;
-                self.rest.push(Piece::Done(Node::Split { packet, at }))?;
+                self.rest.push(Settled::left(alloc, upper, true)?)?;
+                self.rest.push(Settled::left(alloc, lower, false)?)?;
+                self.rest.push(Settled::done(Node::Split { packet, at }))?;
             }
         }
         Ok(())
     }
 
     /// The branch stays left.
-    fn leave(&mut self, branch: Tracked, tried: bool) -> Result<(), AllocError>
+    fn leave(&mut self, alloc: Global, branch: Tracked, tried: bool) -> Result<(), AllocError>
         ensures done { OnOk result (self.new.done.items
             ≡ self.old.done.items ++ Piece.Todo branch tried ∷ []) }
         ensures rest { OnOk result (self.new.rest.items ≡ self.old.rest.items) }
         ensures slots { OnOk result (self.new.slots.items ≡ self.old.slots.items) }
     {
-        self.done.push(Piece::Todo { branch, tried })?;
+        self.done.push(Settled::left(alloc, branch, tried)?)?;
         Ok(())
     }
 }
@@ -91,8 +85,8 @@ fn advance_last<R: Wait, G: Gate>(
 {
     fronts_better();
     match take_up(rt, gate, shared, means, branch, tried)? {
-        TakenUp::Turned(turn) => filling.follow(turn)?,
-        TakenUp::Left(branch) => filling.leave(branch, tried)?,
+        TakenUp::Turned(turn) => filling.follow(shared.alloc, turn)?,
+        TakenUp::Left(branch) => filling.leave(shared.alloc, branch, tried)?,
     }
     Ok(())
 }

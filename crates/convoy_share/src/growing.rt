@@ -5,7 +5,7 @@ ghost use Rattle.std.specs.Prelude.{IfNone, IfOk, IfSome, OnOk};
 ghost use Rattle.convoy_share.specs.Growing.{pieces_in};
 ghost use Rattle.convoy_share.specs.Turns.{parted, pieces_of};
 
-use super::piece::Piece;
+use super::piece::{Piece, Settled};
 use convoy_branch::Turn;
 use convoy_certificate::Node;
 use convoy_intervals::Tracked;
@@ -17,7 +17,7 @@ pub(crate) struct Growing {
     /// The pieces that are still to be looked at. What is looked at first stands last.
     pub work: Vec<Piece>,
     /// The pieces that come after them in the tree, from the last one back.
-    pub written: Vec<Piece>,
+    pub written: Vec<Settled>,
 }
 
 impl Growing {
@@ -50,7 +50,8 @@ impl Growing {
         while let Some(piece) = self.work.pop() {
             match piece {
                 Piece::Todo { branch, tried } => return Ok(Some((branch, tried))),
-                piece => self.written.push(piece)?,
+                Piece::Done(node) => self.written.push(Settled::done(node))?,
+                Piece::Pushed(number) => self.written.push(Settled::pushed(number))?,
             }
         }
         Ok(None)
@@ -103,12 +104,12 @@ impl Growing {
     }
 
     /// The branch stays left.
-    pub fn leave(&mut self, branch: Tracked, tried: bool) -> Result<(), AllocError>
+    pub fn leave(&mut self, alloc: Global, branch: Tracked, tried: bool) -> Result<(), AllocError>
         ensures pieces { OnOk result (pieces_in self.new
             ≡ self.old.work.items ++ Piece.Todo branch tried ∷ reverse self.old.written.items) }
         ensures few { OnOk result (self.new.work.items ≡ self.old.work.items) }
     {
-        self.written.push(Piece::Todo { branch, tried })?;
+        self.written.push(Settled::left(alloc, branch, tried)?)?;
         Ok(())
     }
 }

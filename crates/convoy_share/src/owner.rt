@@ -13,10 +13,9 @@ ghost use Rattle.convoy_share.specs.Workers.{StaysOwner};
 use super::fault::SearchFault;
 use super::growing::Growing;
 use super::means::{Means, TakenUp, take_up};
-use super::piece::Piece;
+use super::piece::{Piece, Settled};
 use super::shared::Shared;
 use super::tree::{Tree, keep};
-use super::worker::search_branch;
 use convoy_branch::laws::fronts_better;
 use convoy_branch::{Gate, Turn};
 use convoy_deque::Owner;
@@ -35,13 +34,20 @@ pub(crate) struct OwnerWorker {
     pub drawn_by_thieves: Vec<u64>,
 }
 
-/// Puts a branch under the next number. Where the deque can't grow the owner keeps it.
-fn offer(owner: &mut Owner, branch: Tracked) -> Piece
+/// Puts a branch under the next number. The owner keeps it where as many branches as there are workers
+/// wait for thieves already, or where the deque can't grow.
+fn offer(owner: &mut Owner, branch: Tracked, workers: u32) -> Piece
     requires { branch.scenario ≡ owner.old.scenario }
     ensures offered { IsOffered owner.old owner.new branch result }
     ensures owner { owner.new ≡ record owner.old { put = owner.new.put } }
     ensures more { length owner.old.put ≤ length owner.new.put }
 {
+    if owner.len() >= workers as usize {
+        return Piece::Todo {
+            branch,
+            tried: false,
+        };
+    }
     match owner.put(branch) {
         Ok(number) => Piece::Pushed(number),
         Err(branch) => Piece::Todo {
@@ -51,7 +57,8 @@ fn offer(owner: &mut Owner, branch: Tracked) -> Piece
     }
 }
 
-/// Takes up the branch that is next in a tree of the owner, and puts the lower half of a split.
+/// Takes up the branch that is next in a tree of the owner, and offers the lower half of a split to
+/// thieves.
 fn advance_owner<R: Wait, G: Gate>(
     rt: &R,
     gate: &G,
@@ -91,17 +98,17 @@ fn advance_owner<R: Wait, G: Gate>(
                 upper,
             },
         ) => {
-            let lower = offer(owner, lower);
+            let lower = offer(owner, lower, shared.workers);
             growing.part(packet, at, lower, upper)?;
         }
         TakenUp::Turned(turn) => growing.follow(turn)?,
-        TakenUp::Left(branch) => growing.leave(branch, tried)?,
+        TakenUp::Left(branch) => growing.leave(shared.alloc, branch, tried)?,
     }
     Ok(())
 }
 
-/// Searches a branch as far as there are tickets, and puts the lower half of each split. The pieces of
-/// its tree are answered from the last one back.
+/// Searches a branch as far as there are tickets, and offers the lower half of each split to thieves. The
+/// pieces of its tree are answered from the last one back.
 fn search_own<R: Wait, G: Gate>(
     rt: &R,
     gate: &G,
@@ -109,7 +116,7 @@ fn search_own<R: Wait, G: Gate>(
     means: &mut Means,
     owner: &mut Owner,
     branch: Tracked,
-) -> Result<Vec<Piece>, SearchFault>
+) -> Result<Vec<Settled>, SearchFault>
     requires hand { means.old.hand.board ≡ shared.now.board.now }
     requires clerk { means.old.clerk.ledger ≡ shared.now.ledger.now }
     requires owner { owner.old.scenario ≡ shared.now.scenario.now }
@@ -124,32 +131,6 @@ fn search_own<R: Wait, G: Gate>(
         advance_owner(rt, gate, shared, means, owner, &mut growing, branch, tried)?;
     }
     Ok(growing.written)
-}
-
-/// Searches a branch as far as there are tickets: by itself where there is no thief, and else so that
-/// the lower half of each split is put. The pieces of its tree are answered from the last one back.
-fn search_taken<R: Wait, G: Gate>(
-    rt: &R,
-    gate: &G,
-    shared: &Shared,
-    means: &mut Means,
-    owner: &mut Owner,
-    branch: Tracked,
-) -> Result<Vec<Piece>, SearchFault>
-    requires hand { means.old.hand.board ≡ shared.now.board.now }
-    requires clerk { means.old.clerk.ledger ≡ shared.now.ledger.now }
-    requires owner { owner.old.scenario ≡ shared.now.scenario.now }
-    requires of_scenario { branch.scenario ≡ shared.now.scenario.now }
-    ensures grown { (low : ℕ) → low ≤ length owner.old.put → IfOk result (λ pieces.
-        IsGrown shared.now.bounds shared.now.scenario.now means.old means.new owner.old.put owner.new.put low
-        (branch.space ∷ []) (reverse pieces.items)) }
-    ensures owner { OnOk result (owner.new ≡ record owner.old { put = owner.new.put }) }
-{
-    if shared.workers == 1 {
-        search_branch(rt, gate, shared, means, branch)
-    } else {
-        search_own(rt, gate, shared, means, owner, branch)
-    }
 }
 
 /// Takes a branch back, if there is one, and searches it. Answers whether there was one.
@@ -167,7 +148,7 @@ fn work_once<R: Wait, G: Gate>(
         Some(task) => {
             shared.begun.store(true, Ordering::SeqCst);
             let number = task.number;
-            let pieces = search_taken(
+            let pieces = search_own(
                 rt,
                 gate,
                 shared,

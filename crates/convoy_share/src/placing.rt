@@ -9,7 +9,7 @@ ghost use Rattle.convoy_share.specs.Filling.{CanBeFilled, IsFilling, IsPlacing};
 ghost use Rattle.convoy_share.specs.Subtrees.{Subtree};
 
 use super::filling::{Filling, Slot};
-use super::piece::Piece;
+use super::piece::Settled;
 use super::tree::Tree;
 use std::alloc::{AllocError, Global};
 
@@ -29,7 +29,7 @@ impl Filling {
     {
         let slots = place_trees(empty_slots(alloc, count)?, trees);
         let mut rest = Vec::new(alloc);
-        rest.push(Piece::Pushed(0))?;
+        rest.push(Settled::pushed(0))?;
         Ok(Filling {
             done: Vec::new(alloc),
             rest,

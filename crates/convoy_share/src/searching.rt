@@ -14,7 +14,7 @@ ghost use Rattle.convoy_share.specs.Pieces.{is_left};
 use super::ending::{Ended, finish};
 use super::fault::SearchFault;
 use super::opening::open_workers;
-use super::piece::Piece;
+use super::piece::Settled;
 use super::running::run;
 use super::settled::{has_left, nodes_of, upper_over};
 use super::shared::Shared;
@@ -38,7 +38,8 @@ use std::thread::Threads;
 /// Searches for the greatest latency of a scenario with so many workers, each in a thread of its own, by
 /// branch and bound (docs/PROTOCOL.md). It starts from the record of the least delays. The workers draw
 /// their tickets from one ledger of `limit`, and each calls the gate before it takes up a branch; boxes
-/// are closed by those bounds. Where a thread can't be started, its worker runs after the others.
+/// are closed by those bounds. Where a thread can't be started, its worker runs after the others. One
+/// worker searches alone, as [`convoy_branch::search_alone`] does.
 ///
 /// The errors are that memory ran out, and that more records were found than the board can name. Each
 /// comes after all threads have ended; of several the one of the worker of the least number.
@@ -85,6 +86,12 @@ pub fn search_from<'a, R: Threads + Wait + Sync, G: Gate + Sync>(
     ensures value { IfOk result (λ outcome. IsOutcome bounds scenario.now workers limit outcome) }
     ensures opened { IfOk result (λ outcome. opening.latency ≤ best_of outcome) }
 {
+    if workers == 1 {
+        let outcome = convoy_branch::search_from(
+            alloc, scenario, table, opening, limit, bounds, gate,
+        )?;
+        return Ok(outcome);
+    }
     let (board, hand) = match Board::open(rt, alloc, opening) {
         Ok(opened) => opened,
         Err((_, fault)) => return Err(fault.into()),
@@ -138,7 +145,7 @@ pub(crate) struct Closed {
     /// How many each worker drew.
     by_worker: Vec<u64>,
     /// The tree.
-    pieces: Vec<Piece>,
+    pieces: Vec<Settled>,
 }
 
 /// Ends board and ledger, of which all workers' shares are back.

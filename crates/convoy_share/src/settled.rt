@@ -7,7 +7,7 @@ ghost use Rattle.convoy_intervals.specs.Boxes.{Box};
 ghost use Rattle.convoy_branch.specs.Uppers.{IsUpperOf};
 ghost use Rattle.convoy_share.specs.Pieces.{IsPiece, IsRaisedOver, is_left, left_boxes, nodes_in};
 
-use super::piece::Piece;
+use super::piece::{Kept, Settled};
 use convoy_branch::laws::{uppers_begin, uppers_raised};
 use convoy_branch::{Bounds, Closer};
 use convoy_certificate::Node;
@@ -15,17 +15,8 @@ use convoy_packets::PacketTable;
 use convoy_scenario::Scenario;
 use std::alloc::{AllocError, Global};
 
-impl Piece {
-    /// Whether it is a branch that is left.
-    fn is_left(&self) -> bool
-        ensures { result ≡ is_left self.now }
-    {
-        matches!(self, Piece::Todo { .. })
-    }
-}
-
 /// Whether a branch is left.
-pub(crate) fn has_left(pieces: &[Piece]) -> bool
+pub(crate) fn has_left(pieces: &[Settled]) -> bool
     ensures { result ≡ list_any is_left pieces.now }
 {
     for piece in pieces {
@@ -37,13 +28,13 @@ pub(crate) fn has_left(pieces: &[Piece]) -> bool
 }
 
 /// The nodes for which tickets were spent.
-pub(crate) fn nodes_of(alloc: Global, pieces: &[Piece]) -> Result<Vec<Node>, AllocError>
+pub(crate) fn nodes_of(alloc: Global, pieces: &[Settled]) -> Result<Vec<Node>, AllocError>
     ensures { IfOk result (λ nodes. nodes.items ≡ nodes_in pieces.now) }
 {
     let mut nodes = Vec::with_capacity(alloc, pieces.len())?;
     for piece in pieces {
-        if let Piece::Done(node) = piece {
-            nodes.push(*node)?;
+        if let Some(node) = piece.node() {
+            nodes.push(node)?;
         }
     }
     Ok(nodes)
@@ -56,7 +47,7 @@ pub(crate) fn upper_over(
     scenario: &Scenario,
     table: &PacketTable,
     bounds: Bounds,
-    pieces: &[Piece],
+    pieces: &[Settled],
     seen: u32,
 ) -> Result<u32, AllocError>
     requires packets { table.now ≡ table_of scenario.now }
@@ -78,7 +69,7 @@ fn raised_over(
     alloc: Global,
     scenario: &Scenario,
     table: &PacketTable,
-    piece: &Piece,
+    piece: &Settled,
     upper: u32,
     closer: &mut Closer,
 ) -> Result<u32, AllocError>
@@ -88,8 +79,8 @@ fn raised_over(
         (λ raised. IsRaisedOver closer.old scenario.now piece.now upper raised) }
     ensures same { closer.new ≡ closer.old }
 {
-    match piece {
-        Piece::Todo { branch, .. } => closer.raised(alloc, scenario, table, branch, upper),
-        Piece::Done(_) | Piece::Pushed(_) => Ok(upper),
+    match piece.kept() {
+        Kept::Todo { branch, .. } => closer.raised(alloc, scenario, table, branch, upper),
+        Kept::Done(_) | Kept::Pushed(_) => Ok(upper),
     }
 }

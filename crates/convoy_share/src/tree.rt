@@ -2,7 +2,7 @@
 
 ghost use Rattle.std.specs.Prelude.{◌≡◌, [], ◌∷◌, ◌++◌, reverse, OnOk};
 
-use super::piece::Piece;
+use super::piece::Settled;
 use std::alloc::AllocError;
 use std::marker::Model;
 
@@ -12,7 +12,7 @@ use std::marker::Model;
 pub(crate) struct Tree {
     number: u64,
     /// From the last one back.
-    pieces: Vec<Piece>,
+    pieces: Vec<Settled>,
 }
 
 impl Model for Tree {
@@ -26,14 +26,14 @@ impl Model for Tree {
 
 impl Tree {
     /// A tree of pieces that stand from the last one back.
-    pub fn of(number: u64, pieces: Vec<Piece>) -> Tree
+    pub fn of(number: u64, pieces: Vec<Settled>) -> Tree
         ensures { result ≡ record { number = number; pieces = reverse pieces.items } }
     {
         Tree { number, pieces }
     }
 
     /// The number of the branch, and the pieces from the last one back.
-    pub fn into_parts(self) -> (u64, Vec<Piece>)
+    pub fn into_parts(self) -> (u64, Vec<Settled>)
         ensures number { result.0 ≡ self.number }
         ensures pieces { reverse result.1.items ≡ self.pieces }
     {

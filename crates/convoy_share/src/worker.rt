@@ -10,7 +10,7 @@ ghost use Rattle.convoy_share.specs.Means.{IsGrown, drawn};
 use super::fault::SearchFault;
 use super::growing::Growing;
 use super::means::{Means, TakenUp, take_up};
-use super::piece::Piece;
+use super::piece::{Piece, Settled};
 use super::shared::Shared;
 use convoy_branch::Gate;
 use convoy_branch::laws::fronts_better;
@@ -45,7 +45,7 @@ fn advance<R: Wait, G: Gate>(
     fronts_better();
     match take_up(rt, gate, shared, means, branch, tried)? {
         TakenUp::Turned(turn) => growing.follow(turn)?,
-        TakenUp::Left(branch) => growing.leave(branch, tried)?,
+        TakenUp::Left(branch) => growing.leave(shared.alloc, branch, tried)?,
     }
     Ok(())
 }
@@ -58,7 +58,7 @@ pub(crate) fn search_branch<R: Wait, G: Gate>(
     shared: &Shared,
     means: &mut Means,
     branch: Tracked,
-) -> Result<Vec<Piece>, SearchFault>
+) -> Result<Vec<Settled>, SearchFault>
     requires hand { means.old.hand.board ≡ shared.now.board.now }
     requires clerk { means.old.clerk.ledger ≡ shared.now.ledger.now }
     requires of_scenario { branch.scenario ≡ shared.now.scenario.now }

@@ -13,7 +13,7 @@ returns-in_ok-keep-in-Some g c =
     let shared = c.args.shared.now in
     let old = c.args.worker.now in
     let trees = c.in_ok-keep-in-Some.ensures ∙ ap (λ (t : Subtree). old.trees.items ++ t ∷ []) c.of.ensures in
-    let new : OwnerWorker = record { means = c.search_taken.new.means; end = c.search_taken.new.owner; trees = c.keep.new.trees; drawn_by_thieves = old.drawn_by_thieves } in
+    let new : OwnerWorker = record { means = c.search_own.new.means; end = c.search_own.new.owner; trees = c.keep.new.trees; drawn_by_thieves = old.drawn_by_thieves } in
     let took = c.in-Some.ensures.some in
     let told = c.in_ok-pieces-in-Some.ensures in
     let task = c.in-Some.task in

@@ -16,5 +16,5 @@ returns-clause-filling c bounds scenario seen tickets put taken can =
     let slots = c.place_trees-slots.result.items in
     let start = IsPlacing-opened bounds scenario seen tickets c.args.count put taken all c.in_ok-empty_slots.field-0.items c.in_ok-empty_slots.ensures can in
     let placed = c.place_trees-slots.ensures bounds scenario seen put all taken start in
-    let rest = ap (λ (ps : List Piece). reverse ps) (c.in_ok-push.ensures.items ∙ ap (λ (ps : List Piece). ps ++ Pushed 0 ∷ []) c.new-rest.ensures.items) in
+    let rest = ap (λ (ps : List Piece). reverse ps) (c.in_ok-push.ensures.items ∙ ap (λ (p : Piece). c.new-rest.result.items ++ p ∷ []) c.pushed.ensures ∙ ap (λ (ps : List Piece). ps ++ Pushed 0 ∷ []) c.new-rest.ensures.items) in
     IsFilling-by bounds scenario seen tickets put [] c.new.result.items (Pushed 0 ∷ []) (reverse c.push.new.self.items) slots slots c.new.ensures.items rest refl (IsFilling-opened bounds scenario seen tickets c.args.count put taken all slots can placed)
