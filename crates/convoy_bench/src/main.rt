@@ -6,10 +6,19 @@
 //! `convoy_bench mixed [TURNS]` takes a scenario, and runs that many times each of 32 mixed schedules.
 //! `convoy_bench search [LIMIT]` takes a scenario and searches it, with at most that many tickets.
 //! `convoy_bench workers [LIMIT]` takes a scenario and searches it, alone and by 1, 2 and 4 workers.
+//! `convoy_bench crews [TURNS]` takes a scenario, and compares that many searches by 4 and by 16 workers.
+//! `convoy_bench sharing [TURNS]` takes a scenario and lets 1, 2 and 4 threads share a board and a ledger.
+//! `convoy_bench leads [TURNS]` takes a scenario and makes that many tests by leads for each latency.
 //! `convoy_bench seek [BUDGET]` takes a scenario and seeks in it, with at most that many simulations.
 //! `convoy_bench certificate` takes the text of a certificate, reads it, checks it and writes it again.
 #![tactic(auto)]
 
+ghost use Rattle.std.specs.Prelude.{◌≡◌};
+ghost use Rattle.convoy_packets.specs.Table.{table_of};
+
+mod crews;
+mod leads;
+mod sharing;
 mod timing;
 mod workers;
 
@@ -17,6 +26,9 @@ use anyhow::{Context, Result};
 use convoy_intervals::DelayBox;
 use convoy_packets::{Delays, PacketTable};
 use convoy_scenario::{Scenario, read_toml};
+use crews::compare_crews;
+use leads::time_leads;
+use sharing::time_sharing;
 use std::alloc::Global;
 use std::env;
 use std::io::Read;
@@ -37,125 +49,169 @@ const MOST_TICKETS: u32 = 4_000_000;
 /// How many simulations seeking has where no number is given.
 const MOST_SIMULATIONS: u32 = 20_000;
 
+/// How many calls a thread makes on what it shares where no number is given.
+const SHARED_CALLS: u32 = 200_000;
+
 /// What is timed.
 #[derive(Clone, Copy)]
 enum Task {
     /// The calls on a scenario, so many times each.
-    Scenario(u32),
+    Scenario,
     /// The bounds of the root, so many times each.
-    Stamps(u32),
+    Stamps,
     /// Runs of mixed schedules, so many times each.
-    Mixed(u32),
+    Mixed,
     /// A search with at most so many tickets.
-    Search(u32),
+    Search,
     /// Searches by several workers, with at most so many tickets each.
-    Workers(u32),
+    Workers,
+    /// Searches by 4 and by 16 workers, so many times, to compare.
+    Crews,
+    /// What threads share, with so many calls by each.
+    Sharing,
+    /// Tests by leads, so many times for each latency.
+    Leads,
     /// Seeking with at most so many simulations.
-    Seek(u32),
+    Seek,
     /// The calls on a certificate.
     Certificate,
 }
 
-fn main(rt: HostRuntime) -> Result<()> {
-    let mut text = Vec::new(rt.alloc());
-    let task = asked_for(&rt)?;
-    rt.stdin().read_to_end(&mut text)?;
-    match task {
-        Task::Scenario(turns) => time_scenario(&rt, rt.alloc(), &text, turns),
-        Task::Stamps(turns) => time_bounds(&rt, rt.alloc(), &text, turns),
-        Task::Mixed(turns) => time_mixtures(&rt, rt.alloc(), &text, turns),
-        Task::Search(limit) => time_tree(&rt, rt.alloc(), &text, limit),
-        Task::Workers(limit) => time_crews(&rt, rt.alloc(), &text, limit),
-        Task::Seek(budget) => time_best(&rt, rt.alloc(), &text, budget),
-        Task::Certificate => time_certificate(&rt, rt.alloc(), &text),
+impl Task {
+    /// What a word of the command line asks for.
+    fn of(word: &str) -> Option<Task> {
+        match word {
+            "certificate" => Some(Task::Certificate),
+            "stamps" => Some(Task::Stamps),
+            "mixed" => Some(Task::Mixed),
+            "search" => Some(Task::Search),
+            "workers" => Some(Task::Workers),
+            "crews" => Some(Task::Crews),
+            "sharing" => Some(Task::Sharing),
+            "leads" => Some(Task::Leads),
+            "seek" => Some(Task::Seek),
+            _ => None,
+        }
+    }
+
+    /// How many times, or with how many tickets or simulations, where no number is given.
+    fn number(self) -> u32 {
+        match self {
+            Task::Search | Task::Workers => MOST_TICKETS,
+            Task::Seek => MOST_SIMULATIONS,
+            Task::Sharing => SHARED_CALLS,
+            _ => ONE_TURN,
+        }
     }
 }
 
-/// What the command line asks for.
-fn asked_for(rt: &HostRuntime) -> Result<Task> {
+fn main(rt: HostRuntime) -> Result<()> {
+    time_input(&rt, rt.alloc(), rt.stdin())
+}
+
+/// Times what the command line asks for, on the text of a device.
+fn time_input<R: Runtime + Threads + Wait + Sync, I: Read + Drop>(
+    rt: &R,
+    alloc: Global,
+    mut input: I,
+) -> Result<()> {
+    let (task, number) = asked_for(rt)?;
+    let mut text = Vec::new(alloc);
+    input.read_to_end(&mut text)?;
+    time_text(rt, alloc, &text, task, number)
+}
+
+/// What the command line asks for, and its number.
+fn asked_for<R: Runtime>(rt: &R) -> Result<(Task, u32)> {
     let mut words = env::args(rt)?;
     let _program = words.next();
     let Some(word) = words.next() else {
-        return Ok(Task::Scenario(ONE_TURN));
+        return Ok((Task::Scenario, ONE_TURN));
     };
-    match word.as_str() {
-        "certificate" => Ok(Task::Certificate),
-        "stamps" => Ok(Task::Stamps(number_or(words.next(), ONE_TURN)?)),
-        "mixed" => Ok(Task::Mixed(number_or(words.next(), ONE_TURN)?)),
-        "search" => Ok(Task::Search(number_or(words.next(), MOST_TICKETS)?)),
-        "workers" => Ok(Task::Workers(number_or(words.next(), MOST_TICKETS)?)),
-        "seek" => Ok(Task::Seek(number_or(words.next(), MOST_SIMULATIONS)?)),
-        _ => Ok(Task::Scenario(number_of(&word)?)),
-    }
-}
-
-/// The number that a word is, or that other one where there is no word.
-fn number_or(word: Option<String>, other: u32) -> Result<u32> {
-    match word {
-        Some(word) => number_of(&word),
-        None => Ok(other),
+    let Some(task) = Task::of(word.as_str()) else {
+        return Ok((Task::Scenario, number_of(word.as_str())?));
+    };
+    match words.next() {
+        Some(number) => Ok((task, number_of(number.as_str())?)),
+        None => Ok((task, task.number())),
     }
 }
 
 /// The number that a word is.
-fn number_of(word: &String) -> Result<u32> {
-    let number = word.as_str().parse::<u32>();
+fn number_of(word: &str) -> Result<u32> {
+    let number = word.parse::<u32>();
     Ok(number.context("a word of the command line is no number")?)
 }
 
-/// The scenario of a text.
-fn read_scenario(alloc: Global, text: &[u8]) -> Result<Scenario> {
-    let input = read_toml(alloc, text).context("standard input has no scenario")?;
-    Ok(input.scenario)
-}
-
-/// Times the calls on a scenario.
-fn time_scenario(rt: &HostRuntime, alloc: Global, text: &[u8], turns: u32) -> Result<()> {
-    let scenario = read_scenario(alloc, text)?;
-    let table = PacketTable::of(alloc, &scenario)?;
-    let root = DelayBox::root(alloc, &table)?;
-    let least = Delays::least(alloc, &table)?;
-    time_bound(rt, &scenario, &table, &root, turns)?;
-    time_simulate(rt, alloc, &scenario, &table, &least, turns)
-}
-
-/// Times the bounds of the root.
-fn time_bounds(rt: &HostRuntime, alloc: Global, text: &[u8], turns: u32) -> Result<()> {
-    let scenario = read_scenario(alloc, text)?;
-    let table = PacketTable::of(alloc, &scenario)?;
-    let root = DelayBox::root(alloc, &table)?;
-    time_stamps(rt, alloc, &scenario, &table, &root, turns)
-}
-
-/// Times runs of mixed schedules.
-fn time_mixtures(rt: &HostRuntime, alloc: Global, text: &[u8], turns: u32) -> Result<()> {
-    let scenario = read_scenario(alloc, text)?;
-    let table = PacketTable::of(alloc, &scenario)?;
-    time_mixed(rt, alloc, &scenario, &table, turns)
-}
-
-/// Times a search.
-fn time_tree(rt: &HostRuntime, alloc: Global, text: &[u8], limit: u32) -> Result<()> {
-    let scenario = read_scenario(alloc, text)?;
-    let table = PacketTable::of(alloc, &scenario)?;
-    time_search(rt, alloc, &scenario, &table, limit)
-}
-
-/// Times searches by several workers.
-fn time_crews<R: Runtime + Threads + Wait + Sync>(
+/// Times the calls on a text.
+fn time_text<R: Runtime + Threads + Wait + Sync>(
     rt: &R,
     alloc: Global,
     text: &[u8],
-    limit: u32,
+    task: Task,
+    number: u32,
 ) -> Result<()> {
-    let scenario = read_scenario(alloc, text)?;
+    if let Task::Certificate = task {
+        return time_certificate(rt, alloc, text);
+    }
+    let input = read_toml(alloc, text).context("standard input has no scenario")?;
+    let scenario = input.scenario;
     let table = PacketTable::of(alloc, &scenario)?;
-    time_workers(rt, alloc, &scenario, &table, limit)
+    match task {
+        Task::Workers => time_workers(rt, alloc, &scenario, &table, number),
+        Task::Crews => compare_crews(rt, alloc, &scenario, &table, number),
+        Task::Sharing => time_sharing(rt, alloc, &scenario, &table, number),
+        _ => time_alone(rt, alloc, &scenario, &table, task, number),
+    }
 }
 
-/// Times seeking.
-fn time_best(rt: &HostRuntime, alloc: Global, text: &[u8], budget: u32) -> Result<()> {
-    let scenario = read_scenario(alloc, text)?;
-    let table = PacketTable::of(alloc, &scenario)?;
-    time_seek(rt, alloc, &scenario, &table, budget)
+/// Times the calls on a scenario that no threads share.
+fn time_alone<R: Runtime>(
+    rt: &R,
+    alloc: Global,
+    scenario: &Scenario,
+    table: &PacketTable,
+    task: Task,
+    number: u32,
+) -> Result<()>
+    requires { table.now ≡ table_of scenario.now }
+{
+    match task {
+        Task::Search => time_search(rt, alloc, scenario, table, number),
+        Task::Leads => time_leads(rt, alloc, scenario, table, number),
+        Task::Seek => time_seek(rt, alloc, scenario, table, number),
+        Task::Mixed => time_mixed(rt, alloc, scenario, table, number),
+        Task::Stamps => time_bounds(rt, alloc, scenario, table, number),
+        _ => time_scenario(rt, alloc, scenario, table, number),
+    }
+}
+
+/// Times the calls on a scenario.
+fn time_scenario<R: Runtime>(
+    rt: &R,
+    alloc: Global,
+    scenario: &Scenario,
+    table: &PacketTable,
+    turns: u32,
+) -> Result<()>
+    requires { table.now ≡ table_of scenario.now }
+{
+    let root = DelayBox::root(alloc, table)?;
+    let least = Delays::least(alloc, table)?;
+    time_bound(rt, scenario, table, &root, turns)?;
+    time_simulate(rt, alloc, scenario, table, &least, turns)
+}
+
+/// Times the bounds of the root.
+fn time_bounds<R: Runtime>(
+    rt: &R,
+    alloc: Global,
+    scenario: &Scenario,
+    table: &PacketTable,
+    turns: u32,
+) -> Result<()>
+    requires { table.now ≡ table_of scenario.now }
+{
+    let root = DelayBox::root(alloc, table)?;
+    time_stamps(rt, alloc, scenario, table, &root, turns)
 }

@@ -18,8 +18,8 @@ use std::rt::Runtime;
 use std::time::{Duration, Instant};
 
 /// Makes that many calls of `bound`, and tells what one answers and how long it takes.
-pub fn time_bound(
-    rt: &HostRuntime,
+pub fn time_bound<R: Runtime>(
+    rt: &R,
     scenario: &Scenario,
     table: &PacketTable,
     delay_box: &DelayBox,
@@ -40,8 +40,8 @@ pub fn time_bound(
 
 /// Makes that many calls of `bound`, of `stamp_bound` and of `stamp_bound_of`, and tells what one of
 /// each answers and how long it takes.
-pub fn time_stamps(
-    rt: &HostRuntime,
+pub fn time_stamps<R: Runtime>(
+    rt: &R,
     alloc: Global,
     scenario: &Scenario,
     table: &PacketTable,
@@ -71,8 +71,8 @@ pub fn time_stamps(
 
 /// Makes that many calls of `simulate` and of `latency`, and tells what one answers and how long it
 /// takes.
-pub fn time_simulate(
-    rt: &HostRuntime,
+pub fn time_simulate<R: Runtime>(
+    rt: &R,
     alloc: Global,
     scenario: &Scenario,
     table: &PacketTable,
@@ -103,8 +103,8 @@ const MIXTURES: u32 = 32;
 
 /// Runs that many times each of some mixed schedules, by `simulate` and by `latency`, and tells the
 /// sum of all latencies by each and how long a call takes.
-pub fn time_mixed(
-    rt: &HostRuntime,
+pub fn time_mixed<R: Runtime>(
+    rt: &R,
     alloc: Global,
     scenario: &Scenario,
     table: &PacketTable,
@@ -191,8 +191,8 @@ pub fn time_search<R: Runtime>(
 
 /// Seeks a schedule of a great latency from the least delays, with at most that many simulations, and
 /// tells what it found and how long it takes.
-pub fn time_seek(
-    rt: &HostRuntime,
+pub fn time_seek<R: Runtime>(
+    rt: &R,
     alloc: Global,
     scenario: &Scenario,
     table: &PacketTable,
@@ -216,7 +216,7 @@ pub fn time_seek(
 
 /// Reads the text of a certificate, checks it and writes it again, and tells how many nodes it has,
 /// whether it is accepted, whether the text came out as it was, and how long each call takes.
-pub fn time_certificate(rt: &HostRuntime, alloc: Global, text: &[u8]) -> Result<()> {
+pub fn time_certificate<R: Runtime>(rt: &R, alloc: Global, text: &[u8]) -> Result<()> {
     let start = Instant::now(rt)?;
     let Ok(certificate) = read(alloc, text) else {
         bail!("standard input has no certificate");
@@ -238,17 +238,18 @@ pub fn time_certificate(rt: &HostRuntime, alloc: Global, text: &[u8]) -> Result<
 }
 
 /// Tells on standard error how long one call takes.
-fn tell(rt: &HostRuntime, call: &str, turns: u32, elapsed: Duration) -> Result<()> {
+fn tell<R: Runtime>(rt: &R, call: &str, turns: u32, elapsed: Duration) -> Result<()> {
     let each = elapsed.as_nanos() / u128::from(turns.max(1));
     eprintln!(rt; "{call}: {turns} calls, {each} ns each")?;
     Ok(())
 }
 
-/// Tells on standard error how many nodes a call takes up in a second.
-pub fn tell_rate<R: Runtime>(rt: &R, call: &str, nodes: u64, elapsed: Duration) -> Result<()> {
-    let rate = u128::from(nodes) * 1_000_000_000 / elapsed.as_nanos().max(1);
+/// Tells on standard error how many nodes, or other parts of a task, were done in that time, and how many
+/// that is in a second.
+pub fn tell_rate<R: Runtime>(rt: &R, call: &str, parts: u64, elapsed: Duration) -> Result<()> {
+    let rate = u128::from(parts) * 1_000_000_000 / elapsed.as_nanos().max(1);
     eprintln!(rt;
-        "{call}: {nodes} nodes in {} us, {rate} a second",
+        "{call}: {parts} in {} us, {rate} a second",
         elapsed.as_micros()
     )?;
     Ok(())

@@ -1,0 +1,74 @@
+//! Times tests by leads.
+
+ghost use Rattle.std.specs.Prelude.{◌≡◌};
+ghost use Rattle.convoy_packets.specs.Table.{table_of};
+ghost use Rattle.convoy_intervals.specs.Boxes.{IsBox};
+
+use super::timing::time_stamps;
+use anyhow::Result;
+use convoy_intervals::{DelayBox, bound};
+use convoy_leads::Leads;
+use convoy_packets::{Delays, PacketTable};
+use convoy_scenario::Scenario;
+use convoy_sim::latency;
+use std::alloc::Global;
+use std::rt::Runtime;
+use std::time::Instant;
+
+/// Tests by leads whether the root is closed, so many times for each latency from that of the least delays
+/// to the plain bound. Tells for how many it is, and how long a test takes in the mean and for the latency
+/// where it takes longest; and the same number of calls of each other bound, as yardsticks.
+pub fn time_leads<R: Runtime>(
+    rt: &R,
+    alloc: Global,
+    scenario: &Scenario,
+    table: &PacketTable,
+    turns: u32,
+) -> Result<()>
+    requires { table.now ≡ table_of scenario.now }
+{
+    let root = DelayBox::root(alloc, table)?;
+    time_stamps(rt, alloc, scenario, table, &root, turns)?;
+    let least = latency(scenario, table, &Delays::least(alloc, table)?);
+    let most = bound(scenario, table, &root);
+    let (mut tests, mut closed) = (0u32, 0u32);
+    let (mut sum, mut worst) = (0u128, (0u128, least));
+    for tested in least..=most {
+        let (closes, each) = time_test(rt, alloc, scenario, table, &root, tested, turns)?;
+        tests = tests.wrapping_add(1);
+        closed = closed.wrapping_add(u32::from(closes));
+        sum = sum.saturating_add(each);
+        worst = worst.max((each, tested));
+    }
+    println!(rt; "leads close {closed} of {tests} latencies from {least} to {most}")?;
+    let mean = sum / u128::from(tests.max(1));
+    eprintln!(rt;
+        "closes: {mean} ns in the mean, {} ns for {}",
+        worst.0, worst.1
+    )?;
+    Ok(())
+}
+
+/// Makes that many tests of a box for a latency. Answers whether it is closed, and how many nanoseconds
+/// each took.
+fn time_test<R: Runtime>(
+    rt: &R,
+    alloc: Global,
+    scenario: &Scenario,
+    table: &PacketTable,
+    delay_box: &DelayBox,
+    tested: u32,
+    turns: u32,
+) -> Result<(bool, u128)>
+    requires packets { table.now ≡ table_of scenario.now }
+    requires inside { IsBox scenario.now delay_box.now }
+{
+    let mut leads = Leads::new(alloc);
+    let mut closed = false;
+    let start = Instant::now(rt)?;
+    for _ in 0..turns {
+        closed = leads.closes(scenario, table, delay_box, tested)?;
+    }
+    let elapsed = start.elapsed(rt)?;
+    Ok((closed, elapsed.as_nanos() / u128::from(turns.max(1))))
+}
