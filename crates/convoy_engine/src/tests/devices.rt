@@ -3,8 +3,8 @@
 use super::fixture::{Asked, READS, run, told_of};
 use super::texts::{BASE, CERTIFICATE_OF_BASE, FIRST_OF_BASE};
 use crate::{
-    DEFAULT_LIMIT, DeviceFailed, Done, Fault, LONGEST_JOB, Sink, SliceSource, Source, StreamSink,
-    StreamSource, VecSink,
+    DEFAULT_LIMIT, DeviceFailed, Done, Fault, Sink, SliceSource, Source, StreamSink, StreamSource,
+    VecSink,
 };
 use std::alloc::{AllocError, Global};
 use std::io;
@@ -13,7 +13,7 @@ use std::sync::Wait;
 use std::test::Fail;
 use std::thread::Threads;
 
-/// A source in memory that gives 64 bytes a read, and fails after some reads.
+/// A source in memory that fails once, after some reads; a further read would be good again.
 #[derive(Drop)]
 pub(super) struct FailingSource<'a> {
     pub(super) inner: SliceSource<'a>,
@@ -25,6 +25,7 @@ impl<'a> Source for FailingSource<'a> {
 
     fn read(&mut self, buffer: &mut [u8]) -> Result<usize, DeviceFailed> {
         if self.good == 0 {
+            self.good = u64::MAX;
             return Err(DeviceFailed);
         }
         self.good -= 1;
@@ -32,7 +33,7 @@ impl<'a> Source for FailingSource<'a> {
     }
 }
 
-/// A sink in memory that takes a byte a write, and fails after some writes.
+/// A sink in memory that fails once, after some writes; a further write would be taken.
 #[derive(Drop)]
 pub(super) struct FailingSink {
     pub(super) inner: VecSink,
@@ -44,6 +45,7 @@ impl Sink for FailingSink {
 
     fn write(&mut self, bytes: &[u8]) -> Result<usize, DeviceFailed> {
         if self.good == 0 {
+            self.good = usize::MAX;
             return Err(DeviceFailed);
         }
         self.good -= 1;
@@ -93,7 +95,7 @@ fn base_first(rt: HostRuntime) -> Result<(), Fail> {
 #[test]
 fn stopped_reading(rt: HostRuntime) -> Result<(), Fail> {
     let alloc = rt.alloc();
-    let long = vec![in alloc; b'#'; LONGEST_JOB + 1]?;
+    let long = vec![in alloc; b'#'; 65_537]?;
     for (text, piece, reads, line) in [
         (BASE.as_bytes(), 1, 3, "fault 44 too many reads\n"),
         (b"delay = \xff".as_slice(), 1, READS, "fault 1 not TOML\n"),
@@ -116,9 +118,10 @@ fn fails_reading<R: Threads + Wait + Sync>(rt: &R, alloc: Global, asked: Asked, 
     matches!(ended, Err(Fault::Read)) && sink.bytes().is_empty()
 }
 
+/// Four reads give the text, and the fifth one would tell its end.
 #[test]
 fn failing_reads(rt: HostRuntime) {
-    for good in 0..4 {
+    for good in 0..5 {
         for asked in [Asked::First, Asked::Analyse(DEFAULT_LIMIT)] {
             assert!(rt;
                 fails_reading(&rt, rt.alloc(), asked, good),

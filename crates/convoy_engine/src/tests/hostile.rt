@@ -61,7 +61,16 @@ fn cut_certificates(rt: HostRuntime) -> Result<(), Fail> {
     Ok(())
 }
 
-/// A front of a scenario has a fault, unless only its last byte is missing.
+/// Whether it is the line of a fault from 1 to 10: one of a text.
+fn is_fault_of_text(line: &[u8]) -> bool {
+    match line.strip_prefix(b"fault ".as_slice()) {
+        Some([b'1', b'0', b' ', ..]) => true,
+        Some([digit, b' ', ..]) => digit.is_ascii_digit() && *digit != b'0',
+        _ => false,
+    }
+}
+
+/// A front of a scenario has a fault of its text, unless only its last byte is missing.
 #[test]
 fn cut_scenarios(rt: HostRuntime) -> Result<(), Fail> {
     let text = BASE.as_bytes();
@@ -69,8 +78,7 @@ fn cut_scenarios(rt: HostRuntime) -> Result<(), Fail> {
     for length in 0..whole {
         let (done, told) = told(&rt, rt.alloc(), Asked::First, front(text, length))?;
         assert_eq!(rt; done, None, "{length} bytes");
-        let faulty = told.as_slice().starts_with(b"fault ");
-        assert!(rt; faulty, "{length} bytes");
+        assert!(rt; is_fault_of_text(&told), "{length} bytes");
     }
     let (_, told) = told(&rt, rt.alloc(), Asked::First, front(text, whole))?;
     assert_eq!(rt; told.as_slice(), FIRST_OF_BASE.as_bytes());
@@ -87,16 +95,21 @@ fn bent(alloc: Global, text: &[u8], place: usize, byte: u8) -> Result<Vec<u8>, A
 }
 
 /// Bytes that stand for something in a certificate, and two that never do.
-const TELLING: [u8; 7] = [b' ', b'\n', b'0', b'1', b'a', b'p', b'\xff'];
+const TELLING: [u8; 8] = [b' ', b'\n', b'0', b'1', b'9', b'a', b'p', b'\xff'];
 
+/// What is accepted has the latency that its own schedule has.
 #[test]
 fn bent_certificates(rt: HostRuntime) -> Result<(), Fail> {
     let text = CERTIFICATE_OF_BASE.as_bytes();
     for place in 0..text.len() {
         for byte in TELLING {
             let bent = bent(rt.alloc(), text, place, byte)?;
-            let (done, told) = told(&rt, rt.alloc(), Asked::Check, &bent)?;
-            assert!(rt; is_checked(&done, &told), "{byte} at {place}");
+            let (done, line) = told(&rt, rt.alloc(), Asked::Check, &bent)?;
+            assert!(rt; is_checked(&done, &line), "{byte} at {place}");
+            if done == Some(Done::Fine) {
+                let (_, out) = told(&rt, rt.alloc(), Asked::Simulate, &bent)?;
+                assert!(rt; out.starts_with(b"latency 12\n"), "{byte} at {place}");
+            }
         }
     }
     Ok(())

@@ -1,6 +1,7 @@
 use super::read_lines;
 use crate::fault::{Limit, ScenarioFault};
 use crate::line_fault::{Expected, LineFault};
+use crate::line_forms::{groups_in, multicast_in};
 use crate::version::Version;
 use convoy_lines::LineReader;
 use std::alloc::Global;
@@ -66,6 +67,23 @@ fn many_names(rt: HostRuntime) -> Result<(), Fail> {
     ] {
         let found = fault_of_names(rt.alloc(), groups, to)?;
         assert_eq!(rt; found, Some(LineFault::Scenario(fault)), "{to}");
+    }
+    Ok(())
+}
+
+/// However many names a line has, nine of them are kept at most.
+#[test]
+fn kept_names(rt: HostRuntime) -> Result<(), Fail> {
+    let alloc = rt.alloc();
+    let wrong = LineFault::Line(1, Expected::Groups);
+    for (count, kept) in [(8, 8), (9, 9), (10, 9), (1_000, 9)] {
+        let names = " b".repeat(alloc, count)?;
+        let line = format!(in alloc; "groups{names}")?;
+        let groups = groups_in(alloc, line.as_bytes(), wrong)?;
+        assert_eq!(rt; groups.len(), kept, "of {count}");
+        let line = format!(in alloc; "multicast x client 0{names}")?;
+        let multicast = multicast_in(alloc, &groups, line.as_bytes(), wrong)?;
+        assert_eq!(rt; multicast.to.len(), kept, "of {count}");
     }
     Ok(())
 }
