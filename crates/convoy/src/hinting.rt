@@ -6,8 +6,8 @@ use super::kept::{KeptReader, KeptWriter};
 use super::{NOT_VALID, REJECTED};
 use convoy_engine::{Command, Fault, LONGEST_CERTIFICATE, LONGEST_JOB, MOST_JOBS};
 use convoy_hints::{
-    hint_for_certificate, hint_for_jobs, hint_for_length, hint_for_reading, hint_for_scenario,
-    hint_for_words, hint_for_writing,
+    hint_for_batch, hint_for_certificate, hint_for_jobs, hint_for_length, hint_for_reading,
+    hint_for_scenario, hint_for_words, hint_for_writing,
 };
 use std::alloc::{AllocError, Global};
 use std::convert::AsStr;
@@ -51,9 +51,10 @@ pub fn hint_for<R, W>(
     match ended.result {
         Ok(REJECTED) => hint_for_words(alloc, ended.words),
         Ok(NOT_VALID) => {
-            hint_for_certificate(alloc, ended.reader.text(), ended.reader.is_whole())
+            let (reader, line) = (ended.reader, ended.writer.text());
+            hint_for_certificate(alloc, reader.text(), reader.is_whole(), line)
         }
-        Ok(_) => Ok(None),
+        Ok(_) => hint_for_answer(alloc, ended),
         Err(Fault::Memory | Fault::TooManyReads) => Ok(None),
         Err(Fault::Read) => match ended.reader.failure() {
             Some(error) => Ok(Some(hint_for_reading(alloc, &error)?)),
@@ -71,6 +72,18 @@ pub fn hint_for<R, W>(
         Err(Fault::TooManyJobs) => Ok(Some(hint_for_jobs(alloc, MOST_JOBS)?)),
         Err(_) if ended.reader.is_whole() => hint_for_scenario(alloc, ended.reader.text()),
         Err(_) => Ok(None),
+    }
+}
+
+/// The hint for a run that gave its answer: the blocks of a batch have the faults of its jobs.
+fn hint_for_answer<R, W>(
+    alloc: Global,
+    ended: &Ended<'_, R, W>,
+) -> Result<Option<String>, AllocError> {
+    let reader = ended.reader;
+    match ended.verdict {
+        Verdict::Batch(_) => hint_for_batch(alloc, reader.text(), reader.is_whole(), LONGEST_JOB),
+        _ => Ok(None),
     }
 }
 

@@ -46,8 +46,8 @@ draws it.
 
 The scenario is read from standard input, as TOML. The commands `check`,
 `explain` and `draw` read a certificate there, which `analyse` writes;
-`simulate`, `timeline` and `packets` read either. The answer goes to standard output.
-Without a command word the command is `first`.";
+`simulate`, `timeline` and `packets` read either. The answer goes to standard
+output. Without a command word the command is `first`.";
 
 const AFTER: &str = "\
 Example of a scenario:

@@ -57,7 +57,7 @@ fn main(rt: HostRuntime) -> ExitCode {
         reader: KeptReader::new(alloc, rt.stdin()),
     };
     let mut sink = StreamSink {
-        writer: KeptWriter::new(rt.stdout()),
+        writer: KeptWriter::new(alloc, rt.stdout()),
     };
     let screen = screen_for(&words, rt.stderr().is_terminal());
     let progress = Progress::new(&rt, alloc, rt.stderr(), screen, bounds_of(&verdict));

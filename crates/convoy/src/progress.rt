@@ -133,13 +133,15 @@ impl<'a, R: Clock> Progress<'a, R> {
             Screen::Terminal => ("\r", "\x1b[K"),
             Screen::Stream | Screen::Off => ("", "\n"),
         };
+        let tickets = if limit == 1 { "ticket" } else { "tickets" };
         if most == u32::MAX {
+            let ticks = if least == 1 { "tick" } else { "ticks" };
             return format!(in self.alloc;
-                "{start}{spent} of {limit} tickets, {rate} a second; at least {least} ticks{end}"
+                "{start}{spent} of {limit} {tickets}, {rate} a second; at least {least} {ticks}{end}"
             );
         }
         format!(in self.alloc;
-            "{start}{spent} of {limit} tickets, {rate} a second; between {least} and {most} ticks{end}"
+            "{start}{spent} of {limit} {tickets}, {rate} a second; between {least} and {most} ticks{end}"
         )
     }
 }

@@ -1,27 +1,42 @@
 use super::damage::hint_for_damage;
-use super::lines::{delays_of, sketch_of_lines};
+use super::lines::{delays_of, scenario_in, sketch_of_lines};
 use super::quoting::Quoted;
+use super::refusal::refusal_in;
 use super::scenario_hints::{hint_for_bytes, hint_for_sketch, with_label};
 use super::schedules::hint_for_schedule;
+use super::tree_hints::hint_for_refusal;
 use convoy_certificate::{TextFault, read};
 use convoy_lines::LineReader;
-use convoy_scenario::{Expected, ScenarioFault, Version, read_lines};
+use convoy_scenario::{Expected, ScenarioFault};
 use std::alloc::{AllocError, Global};
 
-/// Why a text is refused as a certificate, in one line `hint: ..`. The text may have been cut, where it
-/// is not `whole`. None where it is the text of a certificate, or where nothing can be said beyond the
-/// refusal.
+/// Why a certificate is refused, in one line `hint: ..`: by its text, which may have been cut where it
+/// is not `whole`, and by the `line` that was answered, `refused NUMBER TEXT`. None where nothing can be
+/// said beyond that line.
 pub fn hint_for_certificate(
     alloc: Global,
     text: &[u8],
     whole: bool,
+    line: &[u8],
 ) -> Result<Option<String>, AllocError> {
-    let hint = match hint_for_damage(alloc, text)? {
-        Some(hint) => Some(hint),
-        None if text.starts_with(b"convoy ") => hint_for_lines(alloc, text, whole)?,
-        None => Some(hint_for_other_text(alloc, text)?),
+    let hint = match refusal_in(line) {
+        Some(refusal) => hint_for_refusal(alloc, text, whole, refusal)?,
+        None => hint_for_refused_text(alloc, text, whole)?,
     };
     with_label(alloc, hint)
+}
+
+/// Why a text is that of no certificate.
+fn hint_for_refused_text(
+    alloc: Global,
+    text: &[u8],
+    whole: bool,
+) -> Result<Option<String>, AllocError> {
+    match hint_for_damage(alloc, text)? {
+        Some(hint) => Ok(Some(hint)),
+        None if text.starts_with(b"convoy ") => hint_for_lines(alloc, text, whole),
+        None => Ok(Some(hint_for_other_text(alloc, text)?)),
+    }
 }
 
 /// What the text is, where it does not begin as a certificate does.
@@ -130,14 +145,8 @@ fn hint_for_scenario_lines(
 
 /// What is wrong with the schedule in a certificate.
 fn hint_for_schedule_line(alloc: Global, text: &[u8]) -> Result<Option<String>, AllocError> {
-    let version = if text.starts_with(b"convoy 1") {
-        Version::One
-    } else {
-        Version::Two
-    };
     let mut reader = LineReader::over(text);
-    let _ = reader.line();
-    let Ok(scenario) = read_lines(alloc, version, &mut reader) else {
+    let Some(scenario) = scenario_in(alloc, &mut reader) else {
         return Ok(None);
     };
     let _ = reader.line();

@@ -1,5 +1,7 @@
 use super::part::Part;
 use super::sketch::{Link, Multicast, Sketch};
+use convoy_lines::LineReader;
+use convoy_scenario::{Scenario, Version, read_lines};
 use std::alloc::{AllocError, Global};
 
 /// The scenario that stands in the lines of a certificate; what is not of its form is left out.
@@ -21,6 +23,17 @@ pub(crate) fn sketch_of_lines(alloc: Global, text: &str) -> Result<Sketch<'_>, A
         }
     }
     Ok(sketch)
+}
+
+/// The scenario of a certificate, read from its first line on; None where the lines have a fault, or
+/// memory ran out.
+pub(crate) fn scenario_in(alloc: Global, reader: &mut LineReader) -> Option<Scenario> {
+    let version = if reader.line()? == b"convoy 1".as_slice() {
+        Version::One
+    } else {
+        Version::Two
+    };
+    read_lines(alloc, version, reader).ok()
 }
 
 /// The delays in a line `schedule`; none where its bytes are not UTF-8.

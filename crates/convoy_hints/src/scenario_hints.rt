@@ -19,11 +19,22 @@ use toml::de::Error;
 pub fn hint_for_scenario(alloc: Global, text: &[u8]) -> Result<Option<String>, AllocError> {
     let hint = match read_toml(alloc, text) {
         Ok(input) => hint_for_input(alloc, input)?,
-        Err(ScenarioFault::Memory) => None,
-        Err(ScenarioFault::NotToml) => hint_for_text(alloc, text)?,
-        Err(fault) => hint_for_table(alloc, text, fault)?,
+        Err(fault) => hint_for_fault(alloc, text, fault)?,
     };
     with_label(alloc, hint)
+}
+
+/// What is wrong with the text of a scenario that has that fault.
+pub(crate) fn hint_for_fault(
+    alloc: Global,
+    text: &[u8],
+    fault: ScenarioFault,
+) -> Result<Option<String>, AllocError> {
+    match fault {
+        ScenarioFault::Memory => Ok(None),
+        ScenarioFault::NotToml => hint_for_text(alloc, text),
+        fault => hint_for_table(alloc, text, fault),
+    }
 }
 
 /// What is wrong with the schedule of a scenario without a fault.
@@ -90,6 +101,9 @@ pub(crate) fn hint_for_bytes(
         );
     }
     let line = spot_at(text, offset).line;
+    if offset == 1 {
+        return format!(in alloc; "the input is not UTF-8 after its first byte, in line {line}");
+    }
     format!(in alloc; "the input is not UTF-8 after its first {offset} bytes, in line {line}")
 }
 

@@ -1,3 +1,4 @@
+use super::counting::noun;
 use convoy_explain::write_packets;
 use convoy_packets::PacketTable;
 use convoy_scenario::Scenario;
@@ -13,8 +14,11 @@ pub(crate) fn hint_for_schedule(
     let table = PacketTable::of(alloc, scenario)?;
     if delays.len() != table.len() {
         let (found, wanted) = (delays.len(), table.len());
+        let delays = noun(found == 1, "delay", "delays");
+        let packets = noun(wanted == 1, "packet", "packets");
+        let which = noun(wanted == 1, "which it is", "which they are");
         let hint = format!(in alloc;
-            "the schedule has {found} delays, and the scenario has {wanted} packets: 'convoy packets' tells which they are"
+            "the schedule has {found} {delays}, and the scenario has {wanted} {packets}: 'convoy packets' tells {which}"
         )?;
         return Ok(Some(hint));
     }
@@ -26,7 +30,8 @@ pub(crate) fn hint_for_schedule(
     write_packets(scenario, &table, &mut lines)?;
     match line_at(&lines, packet) {
         Some(line) => {
-            let hint = format!(in alloc; "the schedule gives {delay} ticks to {line}")?;
+            let ticks = noun(delay == 1, "tick", "ticks");
+            let hint = format!(in alloc; "the schedule gives {delay} {ticks} to {line}")?;
             Ok(Some(hint))
         }
         None => Ok(None),

@@ -1,6 +1,6 @@
-use super::{KeptReader, MOST_KEPT};
+use super::{KeptReader, KeptWriter, MOST_KEPT, MOST_TOLD};
 use std::io;
-use std::io::{Error, ErrorKind, Read};
+use std::io::{Error, ErrorKind, Read, Write};
 
 /// A reader that gives so many bytes, one a read, and then fails.
 #[derive(Drop)]
@@ -44,4 +44,33 @@ fn keeps_no_more_than_the_front(rt: HostRuntime) {
     assert!(rt; reader.read(&mut buffer).is_ok());
     assert!(rt; !reader.is_whole());
     assert_eq!(rt; reader.text().len(), MOST_KEPT);
+}
+
+/// A writer that takes at most so many bytes at a time.
+#[derive(Drop)]
+struct Slow {
+    most: usize,
+}
+
+impl Write for Slow {
+    fn write(&mut self, bytes: &[u8]) -> io::Result<usize> {
+        Ok(bytes.len().min(self.most))
+    }
+
+    fn flush(&mut self) -> io::Result<()> {
+        Ok(())
+    }
+}
+
+#[test]
+fn keeps_the_front_of_what_was_taken(rt: HostRuntime) {
+    let mut writer = KeptWriter::new(rt.alloc(), Slow { most: 8 });
+    assert!(rt; writer.write(b"refused 22").is_ok());
+    assert_eq!(rt; writer.text(), b"refused ".as_slice());
+    assert!(rt; writer.write(b"22\n").is_ok());
+    assert_eq!(rt; writer.text(), b"refused 22\n".as_slice());
+    for _ in 0..MOST_TOLD {
+        assert!(rt; writer.write(b"xx").is_ok());
+    }
+    assert_eq!(rt; writer.text().len(), MOST_TOLD);
 }
