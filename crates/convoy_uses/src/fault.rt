@@ -4,21 +4,28 @@ use convoy_library::packets::ListFault;
 use convoy_library::scenario::ScenarioFault;
 use convoy_library::share::SearchFault;
 use std::alloc::AllocError;
+use thiserror::Error;
 
 /// Why there is no answer.
-#[derive(Clone, Copy, Debug, PartialEq, Eq)]
+#[derive(Clone, Copy, Debug, PartialEq, Eq, Error)]
 pub enum Fault {
     /// The text of the scenario is faulty.
+    #[error("the scenario is faulty: {0}")]
     Scenario(ScenarioFault),
     /// The delays are no schedule of the scenario.
+    #[error("the delays are no schedule of the scenario: {0}")]
     Schedule(ListFault),
     /// The bytes are not the text of a certificate.
+    #[error("the text is no certificate: {0}")]
     Text(TextFault),
     /// The certificate is not valid.
+    #[error("the certificate is not valid: {0}")]
     Invalid(Refused),
     /// A board holds 4,294,967,296 records, and takes no further one.
+    #[error("the board takes no further record")]
     BoardFull,
     /// Memory ran out, which says nothing of the input.
+    #[error("out of memory")]
     Memory,
 }
 

@@ -177,3 +177,32 @@ fn exchanges_take_two_delays(rt: HostRuntime) -> Result<(), Fail> {
     }
     Ok(())
 }
+
+#[test]
+fn faults_tell_themselves(rt: HostRuntime) -> Result<(), Fail> {
+    let alloc = rt.alloc();
+    for (fault, want) in [
+        (
+            Fault::Scenario(ScenarioFault::LinkToItself),
+            "the scenario is faulty: a link leads from a group to itself",
+        ),
+        (
+            Fault::Schedule(ListFault::Range(4)),
+            "the delays are no schedule of the scenario: the schedule gives packet 4 a delay that it may not take",
+        ),
+        (
+            Fault::Text(TextFault::AfterEnd),
+            "the text is no certificate: the text goes on after the line `end`",
+        ),
+        (
+            Fault::Invalid(Refused::TreeCount),
+            "the certificate is not valid: the nodes are not one whole tree",
+        ),
+        (Fault::BoardFull, "the board takes no further record"),
+        (Fault::Memory, "out of memory"),
+    ] {
+        let line = format!(in alloc; "{fault}")?;
+        assert_eq!(rt; line.as_str(), want);
+    }
+    Ok(())
+}
