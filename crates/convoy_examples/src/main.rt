@@ -2,13 +2,14 @@
 //! output, so that no example, and nothing that the documents say of one, goes out of date.
 #![tactic(auto)]
 
-use anyhow::{Result, bail};
+use anyhow::{Context, Result};
 use convoy_engine::{
-    DEFAULT_SIMULATIONS, DeviceFailed, MOST_TICKETS, Options, SliceSource, StreamSink, VecSink,
-    run_analyse, run_check, run_draw, run_explain, run_first, run_latency, write_all,
+    DEFAULT_SIMULATIONS, MOST_TICKETS, Options, SliceSource, VecSink, run_analyse, run_check,
+    run_draw, run_explain, run_first, run_latency,
 };
 use std::alloc::Global;
 use std::fs;
+use std::rt::Runtime;
 use std::sync::Wait;
 use std::thread::Threads;
 
@@ -34,22 +35,49 @@ const MOST_READS: u64 = 1_000_000;
 const PIECE: usize = 65_536;
 
 fn main(rt: HostRuntime) -> Result<()> {
+    print_all(&rt, rt.alloc())
+}
+
+/// Prints all that is compared.
+fn print_all<R: Runtime + Threads + Wait + Sync>(rt: &R, alloc: Global) -> Result<()> {
+    print_answers(rt, alloc)?;
+    print_certificate(rt, alloc)?;
+    print_explanations(rt, alloc)?;
+    print_image(rt, alloc)
+}
+
+/// Prints the answers for each example.
+fn print_answers<R: Runtime + Threads + Wait + Sync>(rt: &R, alloc: Global) -> Result<()> {
     for name in EXAMPLES {
         println!(rt; "{name}")?;
-        let text = fs::read_to_string(&rt, name)?;
-        print(&rt, &answers(&rt, rt.alloc(), text.as_bytes())?)?;
+        let text = fs::read_to_string(rt, name)?;
+        print(rt, &answers(rt, alloc, text.as_bytes())?)?;
     }
+    Ok(())
+}
+
+/// Prints the certificate of the base example.
+fn print_certificate<R: Runtime + Threads + Wait + Sync>(rt: &R, alloc: Global) -> Result<()> {
     println!(rt; "certificate of base.toml")?;
-    let text = fs::read_to_string(&rt, "base.toml")?;
-    print(&rt, &certificate(&rt, rt.alloc(), text.as_bytes())?)?;
+    let text = fs::read_to_string(rt, "base.toml")?;
+    print(rt, &certificate(rt, alloc, text.as_bytes())?)
+}
+
+/// Prints the explanations that the documents have.
+fn print_explanations<R: Runtime + Threads + Wait + Sync>(rt: &R, alloc: Global) -> Result<()> {
     for name in EXPLAINED {
         println!(rt; "explanation of {name}")?;
-        let text = fs::read_to_string(&rt, name)?;
-        print(&rt, &explanation(&rt, rt.alloc(), text.as_bytes())?)?;
+        let text = fs::read_to_string(rt, name)?;
+        print(rt, &explanation(rt, alloc, text.as_bytes())?)?;
     }
+    Ok(())
+}
+
+/// Prints the image of the base example.
+fn print_image<R: Runtime + Threads + Wait + Sync>(rt: &R, alloc: Global) -> Result<()> {
     println!(rt; "image of base.toml")?;
-    let text = fs::read_to_string(&rt, "base.toml")?;
-    print(&rt, &image(&rt, rt.alloc(), text.as_bytes())?)
+    let text = fs::read_to_string(rt, "base.toml")?;
+    print(rt, &image(rt, alloc, text.as_bytes())?)
 }
 
 /// What `first` and `latency` write for a scenario, and what `check` writes for the certificate that
@@ -114,13 +142,8 @@ fn options() -> Options {
     }
 }
 
-/// Writes bytes to standard output.
-fn print(rt: &HostRuntime, bytes: &[u8]) -> Result<()> {
-    let mut sink = StreamSink {
-        writer: rt.stdout(),
-    };
-    match write_all(&mut sink, bytes) {
-        Ok(()) => Ok(()),
-        Err(DeviceFailed) => bail!("the output could not be written"),
-    }
+/// Prints a text.
+fn print<R: Runtime>(rt: &R, text: &[u8]) -> Result<()> {
+    let text = str::from_utf8(text).context("an answer is no text")?;
+    Ok(print!(rt; "{text}")?)
 }
