@@ -1,4 +1,4 @@
--- What checking a certificate answers: its latency where it is valid, and else its first fault.
+-- What checking a certificate answers: its latency if it is valid, and else its first fault.
 use Rattle.std.specs.Prelude.{ℕ, ◌+◌, ◌==◌, nat_le, Bool, ◌&&◌, if◌then◌else◌, List, [], ◌∷◌, ◌++◌, Option, Some, None, Result, Ok, Err}
 use Rattle.std.specs.Option.{option_or}
 use Rattle.convoy_scenario.specs.Scenario.{Scenario}
@@ -14,11 +14,13 @@ use Rattle.convoy_checker.specs.declared.refused.Refused.{Refused}
 use Rattle.convoy_checker.specs.declared.refused.Refused.TheVariants as refused
 use Rattle.convoy_checker.specs.Trees.{boxes_below}
 
--- the fault, unless the test holds
+-- no fault if the test holds, and else this one
 abbrev pub unless : Refused → Bool → Option Refused
 unless fault holds = if holds then None else Some fault
 
--- the fault of the node of that number over its box
+-- The fault of a node over its box, if it has one. The arguments: the scenario, the latency of the certificate, the
+-- number of the node, from 0, the node, and its box. The tests say what the statements of `Leaves` say: that `can_split`
+-- and `is_point` do is proved in `convoy_intervals/proofs/BoxTests.antt`.
 abbrev pub node_fault : Scenario → ℕ → ℕ → Node → Box → Option Refused
 node_fault scenario latency number (Split packet at) box = unless (refused.Split number) (can_split box packet at)
 node_fault scenario latency number Bound box =
@@ -30,7 +32,8 @@ node_fault scenario latency number Stamp box =
 node_fault scenario latency number (Lead named) box =
     unless (refused.LeadLeaf number) (nat_le named latency && closes_by_leads scenario box named)
 
--- the first fault of the nodes from that number on, over the boxes that are open there
+-- The first fault of the nodes from that number on, over the boxes that are left there, each for a node to come; after
+-- all nodes and boxes, `TreeCount` if the one ended before the other.
 abbrev pub first_fault : Scenario → ℕ → ℕ → List Box → List Node → Option Refused
 first_fault scenario latency number [] [] = None
 first_fault scenario latency number (box ∷ boxes) (node ∷ nodes) =
@@ -38,12 +41,13 @@ first_fault scenario latency number (box ∷ boxes) (node ∷ nodes) =
     (first_fault scenario latency (number + 1) (boxes_below node box ++ boxes) nodes)
 first_fault scenario latency number boxes nodes = Some refused.TreeCount
 
--- the latency of a certificate without a fault, and else the first fault
+-- what the certificate is answered: its latency if no fault of its tree is given, and else that fault
 abbrev pub checked_tree : Certificate → Option Refused → Result ℕ Refused
 checked_tree certificate None = Ok certificate.latency
 checked_tree certificate (Some fault) = Err fault
 
--- The latency of a valid certificate, and else the first fault: the schedule's latency comes before the tree.
+-- The latency of a valid certificate, and else its first fault: that of the schedule's latency comes before those of the
+-- tree.
 unfoldable pub checked : Certificate → Result ℕ Refused
 checked certificate =
     let simulated = latency_of certificate.scenario certificate.delays in

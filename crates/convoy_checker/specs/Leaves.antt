@@ -1,4 +1,4 @@
--- What each kind of node says of its box, where a latency is stated.
+-- What each kind of leaf, and a split, says of its box, for the latency that the certificate states.
 use Rattle.std.specs.Prelude.{ℕ, ◌≤◌, IsTrue}
 use Rattle.convoy_scenario.specs.Scenario.{Scenario}
 use Rattle.convoy_sim.specs.Delivery.{latency_of}
@@ -25,7 +25,8 @@ ClosesByStamps scenario latency box = stamp_bound scenario box ≤ latency
 abbrev pub ClosesByLeads : Scenario → ℕ → Box → Type 0
 ClosesByLeads scenario latency box = IsTrue (closes_by_leads scenario box latency)
 
--- the node is right over the box: the box can be split so, or the leaf closes it; a lead leaf does so for the latency that it names
+-- the node is right over the box: the box can be split so, or the leaf closes it; a lead leaf does so for the latency
+-- that it names, which is at most the stated one
 abbrev pub IsRight : Scenario → ℕ → Node → Box → Type 0
 IsRight scenario latency (Split packet at) box = CanSplit box packet at
 IsRight scenario latency Bound box = ClosesByBound scenario latency box

@@ -9,7 +9,8 @@ pub use Rattle.convoy_intervals.specs.Bounds
 pub use Rattle.convoy_stamps.specs.StampBounds
 pub use Rattle.convoy_leads.specs.Closing
 pub use Rattle.convoy_certificate.specs.Certificate
--- What a valid certificate is, which fault is told, and the laws of both. A yes does not rest on these words, since valid implies greatest is proved.
+-- What a valid certificate is, which fault is told, and the laws of both. What a yes means does not rest on these words,
+-- since it is proved that the latency of a valid certificate is the greatest.
 pub mod Trees
 pub mod Leaves
 pub mod Validity

@@ -16,7 +16,7 @@ IsTreeOver scenario latency box nodes = AreTrees boxes_below (IsRight scenario l
 abbrev pub IsTree : Scenario → ℕ → List Node → Type 0
 IsTree scenario latency nodes = IsTreeOver scenario latency (root_of scenario) nodes
 
--- the nodes are a tree over the lower half of the box, and after it a tree over the upper half
+-- the nodes are a tree over the lower half of the box, followed by a tree over the upper half
 pub record AreHalfTrees (scenario : Scenario) (latency : ℕ) (box : Box) (packet at : ℕ) (nodes : List Node) : Type 0 where
   pub lower : List Node
   pub upper : List Node
@@ -24,7 +24,8 @@ pub record AreHalfTrees (scenario : Scenario) (latency : ℕ) (box : Box) (packe
   pub lower_tree : IsTreeOver scenario latency (lower_half box packet at) lower
   pub upper_tree : IsTreeOver scenario latency (upper_half box packet at) upper
 
--- the schedule of the certificate has the stated latency, and its nodes are a tree that shows that no other schedule has a greater one
+-- The certificate's schedule has the stated latency, and the certificate's nodes are a tree over the root box, each node
+-- right for that latency. That no other schedule has a greater one is not said here: it follows (`ValidIsGreatest`).
 pub record IsValid (certificate : Certificate) : Type 0 where
   pub latency : latency_of certificate.scenario certificate.delays ≡ certificate.latency
   pub tree : IsTree certificate.scenario certificate.latency certificate.nodes
