@@ -7,17 +7,17 @@ use Rattle.convoy_intervals.specs.Boxes.{root_of}
 use Rattle.convoy_certificate.specs.Certificate.{Certificate, IsCertificate}
 use Rattle.convoy_checker.specs.declared.refused.Refused.{Refused}
 use Rattle.convoy_checker.specs.declared.refused.Refused.TheVariants as refused
-use Rattle.convoy_checker.specs.Checks.{checked, checked_tree, first_fault}
+use Rattle.convoy_checker.specs.Checks.{checked, verdict, first_fault}
 use Rattle.convoy_checker.specs.Laws.{CheckedIsValid, ValidIsGreatest}
 use Rattle.convoy_checker.specs.Validity.{IsValid}
 use Rattle.convoy_sim.specs.Greatest.{IsGreatest}
 
 -- a latency that is answered is that of the certificate
-tree_latency : (certificate : Certificate) (fault : Option Refused) (latency : ℕ) → checked_tree certificate fault ≡ Ok latency → latency ≡ certificate.latency
+tree_latency : (certificate : Certificate) (fault : Option Refused) (latency : ℕ) → verdict certificate fault ≡ Ok latency → latency ≡ certificate.latency
 tree_latency certificate None latency answer = cc
 tree_latency certificate (Some fault) latency answer = cc
 
-if_latency : (certificate : Certificate) (fault : Option Refused) (other : Refused) (test : Bool) (latency : ℕ) → (if test then checked_tree certificate fault else Err other) ≡ Ok latency → latency ≡ certificate.latency
+if_latency : (certificate : Certificate) (fault : Option Refused) (other : Refused) (test : Bool) (latency : ℕ) → (if test then verdict certificate fault else Err other) ≡ Ok latency → latency ≡ certificate.latency
 if_latency certificate fault other true latency answer = tree_latency certificate fault latency answer
 if_latency certificate fault other false latency answer = cc
 

@@ -17,7 +17,7 @@ use Rattle.convoy_certificate.specs.declared.node.Node.{Node}
 use Rattle.convoy_certificate.specs.declared.node.Node.TheVariants.{Split, Bound, Point, Stamp, Lead}
 use Rattle.convoy_checker.specs.declared.refused.Refused.{Refused}
 use Rattle.convoy_checker.specs.declared.refused.Refused.TheVariants as refused
-use Rattle.convoy_checker.specs.Checks.{unless, node_fault, first_fault, checked_tree, checked}
+use Rattle.convoy_checker.specs.Checks.{fault_unless, node_fault, first_fault, verdict, checked}
 use Rattle.convoy_checker.specs.Leaves.{ClosesByLeads, IsRight}
 use Rattle.convoy_checker.specs.Trees.{AreTrees, boxes_below}
 use Rattle.convoy_checker.specs.Validity.{IsValid}
@@ -26,7 +26,7 @@ Decides-le : (a b : ℕ) → Decides (nat_le a b) (a ≤ b)
 Decides-le a b = (leb-true a b, le-leb a b)
 
 -- a test has no fault just where it says yes
-unless_none : (fault : Refused) (test : Bool) (Holds : Type 0) → Decides test Holds → (unless fault test ≡ None) ↔ Holds
+unless_none : (fault : Refused) (test : Bool) (Holds : Type 0) → Decides test Holds → (fault_unless test fault ≡ None) ↔ Holds
 unless_none fault true Holds decides = (λ none. decides.0 refl, λ holds. refl)
 unless_none fault false Holds decides =
     (λ none. absurd cc, λ holds. let held = decides.1 holds in absurd cc)
@@ -70,7 +70,7 @@ trees_none plan latency number (box ∷ boxes) (node ∷ nodes) =
     )
 
 -- a tree's latency is answered just where it has no fault
-tree_answer : (certificate : Certificate) (fault : Option Refused) → (checked_tree certificate fault ≡ Ok certificate.latency) ↔ (fault ≡ None)
+tree_answer : (certificate : Certificate) (fault : Option Refused) → (verdict certificate fault ≡ Ok certificate.latency) ↔ (fault ≡ None)
 tree_answer certificate None = (λ answer. refl, λ none. refl)
 tree_answer certificate (Some fault) = (λ answer. absurd cc, λ none. absurd cc)
 
@@ -90,7 +90,7 @@ checked_valid certificate =
     let fault = first_fault plan latency 0 (root_of plan ∷ []) certificate.nodes in
     let trees = trees_none plan latency 0 (root_of plan ∷ []) certificate.nodes in
     let answer = tree_answer certificate fault in
-    let same = if_answer (simulated == latency) (simulated ≡ latency) (checked_tree certificate fault) (refused.Latency simulated) latency (Decides-eqb simulated latency) in (
+    let same = if_answer (simulated == latency) (simulated ≡ latency) (verdict certificate fault) (refused.Latency simulated) latency (Decides-eqb simulated latency) in (
       λ accepted. let both = same.0 accepted in record { latency = both.0; tree = trees.0 (answer.0 both.1) },
       λ valid. same.1 (valid.latency, answer.1 (trees.1 valid.tree)),
     )

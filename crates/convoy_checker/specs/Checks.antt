@@ -15,22 +15,22 @@ use Rattle.convoy_checker.specs.declared.refused.Refused.TheVariants as refused
 use Rattle.convoy_checker.specs.Trees.{boxes_below}
 
 -- no fault if the test holds, and else this one
-abbrev pub unless : Refused → Bool → Option Refused
-unless fault holds = if holds then None else Some fault
+abbrev pub fault_unless : Bool → Refused → Option Refused
+fault_unless holds fault = if holds then None else Some fault
 
 -- The fault of a node over its box, if it has one. The arguments: the scenario, the latency of the certificate, the
 -- number of the node, from 0, the node, and its box. The tests say what the statements of `Leaves` say: that `can_split`
--- and `is_point` do is proved in `convoy_intervals/proofs/BoxTests.antt`.
+-- and `is_point` do is a law of `convoy_intervals` (`tests_decide`).
 abbrev pub node_fault : Scenario → ℕ → ℕ → Node → Box → Option Refused
-node_fault scenario latency number (Split packet at) box = unless (refused.Split number) (can_split box packet at)
+node_fault scenario latency number (Split packet at) box = fault_unless (can_split box packet at) (refused.Split number)
 node_fault scenario latency number Bound box =
-    let bound = plain_bound scenario box in unless (refused.BoundLeaf number bound) (nat_le bound latency)
+    let bound = plain_bound scenario box in fault_unless (nat_le bound latency) (refused.BoundLeaf number bound)
 node_fault scenario latency number Point box =
-    unless (refused.PointLeaf number) (is_point box && nat_le (latency_of scenario (greatest_of box)) latency)
+    fault_unless (is_point box && nat_le (latency_of scenario (greatest_of box)) latency) (refused.PointLeaf number)
 node_fault scenario latency number Stamp box =
-    let bound = stamp_bound scenario box in unless (refused.StampLeaf number bound) (nat_le bound latency)
+    let bound = stamp_bound scenario box in fault_unless (nat_le bound latency) (refused.StampLeaf number bound)
 node_fault scenario latency number (Lead named) box =
-    unless (refused.LeadLeaf number) (nat_le named latency && closes_by_leads scenario box named)
+    fault_unless (nat_le named latency && closes_by_leads scenario box named) (refused.LeadLeaf number)
 
 -- The first fault of the nodes from that number on, over the boxes that are left there, each for a node to come; after
 -- all nodes and boxes, `TreeCount` if the one ended before the other.
@@ -41,10 +41,10 @@ first_fault scenario latency number (box ∷ boxes) (node ∷ nodes) =
     (first_fault scenario latency (number + 1) (boxes_below node box ++ boxes) nodes)
 first_fault scenario latency number boxes nodes = Some refused.TreeCount
 
--- what the certificate is answered: its latency if no fault of its tree is given, and else that fault
-abbrev pub checked_tree : Certificate → Option Refused → Result ℕ Refused
-checked_tree certificate None = Ok certificate.latency
-checked_tree certificate (Some fault) = Err fault
+-- the answer to a certificate of which the first fault of its tree is given: its latency if there is none
+abbrev pub verdict : Certificate → Option Refused → Result ℕ Refused
+verdict certificate None = Ok certificate.latency
+verdict certificate (Some fault) = Err fault
 
 -- The latency of a valid certificate, and else its first fault: that of the schedule's latency comes before those of the
 -- tree.
@@ -53,5 +53,5 @@ checked certificate =
     let simulated = latency_of certificate.scenario certificate.delays in
     let root = root_of certificate.scenario in
     if simulated == certificate.latency
-    then checked_tree certificate (first_fault certificate.scenario certificate.latency 0 (root ∷ []) certificate.nodes)
+    then verdict certificate (first_fault certificate.scenario certificate.latency 0 (root ∷ []) certificate.nodes)
     else Err (refused.Latency simulated)

@@ -1,5 +1,5 @@
 -- What is proved of boxes and bounds. Each is the one clause of the function of its name in the crate's module `laws`.
-use Rattle.std.specs.Prelude.{◌≡◌, ℕ, ◌≤◌, ◌<◌, ◌↔◌, slice_index_or, slice_set, Some, IsFalse}
+use Rattle.std.specs.Prelude.{◌≡◌, ℕ, ◌≤◌, ◌<◌, ◌↔◌, true, slice_index_or, slice_set, Some, IsFalse}
 use Rattle.std.specs.List.{slice_get}
 use Rattle.convoy_scenario.specs.Scenario.{Scenario}
 use Rattle.convoy_scenario.specs.WellFormed.{IsScenario}
@@ -8,7 +8,7 @@ use Rattle.convoy_packets.specs.declared.packet.Packet.{Packet}
 use Rattle.convoy_packets.specs.Packets.{packets_of}
 use Rattle.convoy_packets.specs.Table.{least_of}
 use Rattle.convoy_sim.specs.Delivery.{latency_of}
-use Rattle.convoy_intervals.specs.Boxes.{Box, CanSplit, IsBox, IsIn, IsPoint, root_of, lower_half, upper_half, greatest_of}
+use Rattle.convoy_intervals.specs.Boxes.{Box, CanSplit, IsBox, IsIn, IsPoint, root_of, can_split, lower_half, upper_half, is_point, greatest_of}
 use Rattle.convoy_intervals.specs.Bounds.{Tables, Encloses, tables_of, plain_bound_over, plain_bound}
 use Rattle.convoy_intervals.specs.Spans.{moves_arrival, moves_settling, arrival_span, settling_span}
 
@@ -40,6 +40,13 @@ HalvesPartition =
     → CanSplit ranges packet at
     → (IsIn (lower_half ranges packet at) delays ↔ IsIn ranges delays × (slice_index_or delays packet 0 ≤ at))
     × (IsIn (upper_half ranges packet at) delays ↔ IsIn ranges delays × (at < slice_index_or delays packet 0))
+
+-- the tests of a box answer yes just where the statements of their names hold
+abbrev pub TestsDecide : Type 0
+TestsDecide =
+    (ranges : Box) (packet at : ℕ)
+    → ((can_split ranges packet at ≡ true) ↔ CanSplit ranges packet at)
+    × ((is_point ranges ≡ true) ↔ IsPoint ranges)
 
 -- the upper half of a box has the greatest delays of the box
 abbrev pub UpperKeepsGreatest : Type 0

@@ -2,7 +2,7 @@
 //! that needs the law calls the function.
 
 ghost use Rattle.convoy_intervals.specs.Laws.{RootIsBox, RootHoldsAll, MembersAreAssignments};
-ghost use Rattle.convoy_intervals.specs.Laws.{HalvesAreBoxes, HalvesPartition, UpperKeepsGreatest};
+ghost use Rattle.convoy_intervals.specs.Laws.{HalvesAreBoxes, HalvesPartition, UpperKeepsGreatest, TestsDecide};
 ghost use Rattle.convoy_intervals.specs.Laws.{GreatestIsMember, LeastIsMember, PointHasOneMember};
 ghost use Rattle.convoy_intervals.specs.Laws.{MembersAreEnclosed, SpansAreCarried};
 ghost use Rattle.convoy_intervals.specs.Laws.{PlainBoundOverTables, PlainBoundHolds};
@@ -33,6 +33,12 @@ pub fn halves_are_boxes()
 /// The halves of a box at a packet have its members, each in exactly one of them.
 pub fn halves_partition()
     ensures { HalvesPartition }
+{}
+
+/// The tests whether a box can be split so, and whether it is a point, answer yes just where it can,
+/// and where it is.
+pub fn tests_decide()
+    ensures { TestsDecide }
 {}
 
 /// The upper half of a box has the greatest delays of the box.
