@@ -22,7 +22,11 @@ const DASHED: &str = r#"stroke-width="16" stroke-dasharray="60 40""#;
 /// How the line is drawn of what the delivery waits for.
 const THICK: &str = r#"stroke-width="40""#;
 
-/// The legend: the colours of messages, the lines of packets, and the signs of what happens.
+/// What stamps are called, and where signs stand.
+const NOTE: &str =
+    "2.b is the stamp that group b gives at time 2 of its clock; of several messages the later ones have their signs a little to the right of their tick";
+
+/// The legend: the colours of messages, the lines of packets, the signs of what happens, and a note.
 pub(crate) fn legend(
     alloc: Global,
     scenario: &Scenario,
@@ -32,8 +36,11 @@ pub(crate) fn legend(
     let mut text = String::new(alloc);
     let y = sheet.bottom.saturating_add(400);
     write_colors(alloc, scenario, picture, y, &mut text)?;
-    write_lines(y.saturating_add(LINE), &mut text)?;
-    write_signs(alloc, sheet, y.saturating_add(LINE + LINE), &mut text)?;
+    write_lines(sheet, y.saturating_add(LINE), &mut text)?;
+    let waits = picture.why().holder.is_some();
+    write_signs(alloc, waits, y.saturating_add(LINE + LINE), &mut text)?;
+    let y = y.saturating_add(LINE + LINE + LINE);
+    write!(&mut text, "<text x=\"{MARGIN}\" y=\"{y}\">{NOTE}</text>\n")?;
     Ok(text)
 }
 
@@ -57,8 +64,8 @@ fn write_colors(
     Ok(())
 }
 
-/// The lines of packets.
-fn write_lines(y: u32, text: &mut String) -> Result<(), AllocError> {
+/// The lines of packets, and how many signs have no words.
+fn write_lines(sheet: &Sheet, y: u32, text: &mut String) -> Result<(), AllocError> {
     let mut x = MARGIN;
     for (style, words) in [
         (PLAIN, "a message on its way"),
@@ -66,6 +73,13 @@ fn write_lines(y: u32, text: &mut String) -> Result<(), AllocError> {
         (THICK, "what the delivery waits for"),
     ] {
         x = write_line(x, y, ("#000000", style), words, text)?;
+    }
+    let wordless = sheet.wordless();
+    if wordless > 0 {
+        write!(
+            text,
+            "<text x=\"{x}\" y=\"{y}\">signs without room for words: {wordless}</text>\n"
+        )?;
     }
     Ok(())
 }
@@ -93,24 +107,21 @@ fn write_words(x: u32, y: u32, words: &str, text: &mut String) -> Result<u32, Al
     Ok(left.saturating_add(width_of(words)).saturating_add(200))
 }
 
-/// The signs of what happens.
-fn write_signs(alloc: Global, sheet: &Sheet, y: u32, text: &mut String) -> Result<(), AllocError> {
+/// The signs of what happens; that of the target's wait only where it waits.
+fn write_signs(alloc: Global, waits: bool, y: u32, text: &mut String) -> Result<(), AllocError> {
     let mut x = MARGIN;
     for (kind, words) in [
+        (MarkKind::Issue, "issue"),
         (MarkKind::Arrival, "arrival, with the local stamp"),
         (MarkKind::Commit, "commit, with the final stamp"),
+        (MarkKind::Wait, "from its commit on the target waits"),
         (MarkKind::Delivery, "delivery"),
     ] {
-        let sign = sign(alloc, kind, x.saturating_add(240), y.saturating_sub(40))?;
-        text.push_str(&sign)?;
-        x = write_words(x, y, words, text)?;
-    }
-    let wordless = sheet.wordless();
-    if wordless > 0 {
-        write!(
-            text,
-            "<text x=\"{x}\" y=\"{y}\">signs without room for words: {wordless}</text>\n"
-        )?;
+        if kind != MarkKind::Wait || waits {
+            let sign = sign(alloc, kind, x.saturating_add(240), y.saturating_sub(40))?;
+            write!(text, "<g stroke=\"#000000\">{sign}</g>")?;
+            x = write_words(x, y, words, text)?;
+        }
     }
     Ok(())
 }

@@ -161,7 +161,7 @@ impl Sheet {
 
     /// How high the sheet is.
     pub(crate) fn height(&self) -> u32 {
-        self.bottom.saturating_add(1_000)
+        self.bottom.saturating_add(1_220)
     }
 
     /// How many lanes there are.
