@@ -1,9 +1,9 @@
 -- The replay of a list of events, event by event, and what holds at its end.
-use Rattle.std.specs.Prelude.{◌≡◌, ◌⊎◌, ℕ, ◌+◌, ◌≤◌, ◌<◌, Bool, true, false, if◌then◌else◌, List, [], ◌∷◌, length, take, drop, Result, Ok, Err}
+use Rattle.std.specs.Prelude.{◌≡◌, ◌⊎◌, ℕ, ◌+◌, ◌≤◌, ◌<◌, Bool, true, if◌then◌else◌, List, [], ◌∷◌, length, take, drop, Result}
 use Rattle.std.specs.List.{All, Any, count_by, sum_by}
 use Rattle.std.proofs.Common.{arith, refl, sym, ap, subst, ◌∙◌, inl, inr, get_or, zero, suc}
-use Rattle.std.proofs.lemmas.Bool.{cond-true, cond-false}
-use Rattle.std.proofs.lemmas.List.{at_drop_all, at_drop_more, take_all}
+use Rattle.std.proofs.lemmas.Bool.{cond-true}
+use Rattle.std.proofs.lemmas.List.{at_drop_more, take_all}
 use Rattle.std.proofs.lemmas.List.Elements.{All-get_or, All-head, All-replicate, All-set, All-tail, All-weaker}
 use Rattle.std.proofs.lemmas.List.Sums.{get_or-le-sum_by, sum_by-cons, sum_by_more}
 use Rattle.convoy_scenario.specs.Scenario.{Scenario}
@@ -18,7 +18,6 @@ use Rattle.convoy_branch.specs.declared.parts.Branch.{Branch}
 use Rattle.convoy_branch.specs.declared.event.Event.{Event}
 use Rattle.convoy_branch.specs.declared.event.Event.TheVariants.{Look, Publish, Draw, Put, Take, Split, Close}
 use Rattle.convoy_branch.specs.declared.replaying.ReplayFault.{ReplayFault}
-use Rattle.convoy_branch.specs.declared.replaying.ReplayFault.TheVariants.{Unlawful}
 use Rattle.convoy_branch.specs.Machine.{Core, after, best_after, is_lawful, is_left, replayed, run, stands, start, worker_after, worker_at, worker_of}
 use Rattle.convoy_branch.specs.Replays.{IsEventOf, IsFound, IsLeftIn, IsReplayed, ends, is_done, left_of}
 use Rattle.convoy_branch.proofs.CoreSteps.{Grounds, IsSound, IsSound-after, IsSound-start, IsWorker}
@@ -26,13 +25,6 @@ use Rattle.convoy_branch.proofs.Endings.{done-after, flag}
 use Rattle.convoy_branch.proofs.LawfulEvents.{lawful_parts}
 
 -- ---- The run, from a place on
-
-pub run-stops : (plan : Scenario) (core : Core) (events : List Event) (place : ℕ) (event : Event) → place < length events → event ≡ get_or events place event → is_lawful plan core event ≡ false → run plan place core (drop place events) ≡ Err (Unlawful place)
-run-stops plan core events place event within is unlawful =
-    let next = get_or events place event in
-    let same : is_lawful plan core next ≡ false = subst (λ (e : Event). is_lawful plan core e ≡ false) is unlawful in
-    let F : List Event → Result Core ReplayFault = λ es. run plan place core es in
-    at_drop_more F events place event within ∙ cond-false (is_lawful plan core next) _ _ same
 
 pub run-goes : (plan : Scenario) (core : Core) (events : List Event) (place : ℕ) (event : Event) → place < length events → event ≡ get_or events place event → is_lawful plan core event ≡ true → run plan place core (drop place events) ≡ run plan (place + 1) (after core event) (drop (place + 1) events)
 run-goes plan core events place event within is lawful =
@@ -42,10 +34,6 @@ run-goes plan core events place event within is lawful =
     at_drop_more F events place event within
     ∙ (cond-true (is_lawful plan core next) _ _ same
     ∙ ap (λ (e : Event). run plan (place + 1) (after core e) (drop (place + 1) events)) (sym is))
-
-pub run-ends : (plan : Scenario) (core : Core) (events : List Event) (place : ℕ) → length events ≤ place → run plan place core (drop place events) ≡ Ok core
-run-ends plan core events place past =
-    let F : List Event → Result Core ReplayFault = λ es. run plan place core es in at_drop_all F events place past
 
 -- ---- What holds after the first events
 

@@ -12,7 +12,7 @@ use Rattle.convoy_sim.specs.Delivery.{latency_of}
 use Rattle.convoy_sim.specs.Record.{Record}
 use Rattle.convoy_certificate.specs.Certificate.{IsNode}
 use Rattle.convoy_certificate.specs.declared.node.Node.{Node}
-use Rattle.convoy_certificate.specs.declared.node.Node.TheVariants.{Split, Bound, Point, Stamp, Lead}
+use Rattle.convoy_certificate.specs.declared.node.Node.TheVariants.{Split}
 use Rattle.convoy_intervals.specs.Boxes.{Box, IsBox, greatest_of, lower_half, root_of, upper_half}
 use Rattle.convoy_intervals.specs.Tracked.{Tracked}
 use Rattle.convoy_intervals.specs.Laws.{HalvesAreBoxes, UpperKeepsGreatest}
@@ -27,7 +27,7 @@ use Rattle.convoy_branch.specs.Searching.{IsSearching, IsWork, front_of, front_n
 use Rattle.convoy_branch.proofs.FrontTrees.{AreFronts-better, AreFronts-filled, AreFronts-turned}
 use Rattle.convoy_branch.proofs.FrontCounts.{spent_in-turned}
 use Rattle.convoy_branch.proofs.BetterRecords.{IsNoWorse-found}
-use Rattle.convoy_branch.proofs.SplitNodes.{IsNode-split}
+use Rattle.convoy_branch.proofs.SplitNodes.{IsNode-split, leaf_node}
 
 -- the front, with the last piece of work or the last node apart
 abbrev done : List Node → List FrontNode
@@ -104,17 +104,9 @@ front_turned work nodes (Closed node) = front-written work node nodes
 front_turned work nodes (Halves packet at lower upper) =
     front-halved work (Write (Split packet at)) (Branch lower false) (Branch upper true) (done nodes)
 
--- a leaf that closes a box may stand in a certificate
-closed_node : (bounds : Bounds) (plan : Scenario) (known : ℕ) (box : Box) (node : Node) → IsTurn bounds plan box known (Closed node) → IsNode node
-closed_node bounds plan known box (Split packet at) turn = absurd turn
-closed_node bounds plan known box Bound turn = tt
-closed_node bounds plan known box Point turn = tt
-closed_node bounds plan known box Stamp turn = tt
-closed_node bounds plan known box (Lead latency) turn = omega (arith, turn.0, turn.1.named)
-
 nodes_turned : (bounds : Bounds) (plan : Scenario) (known : ℕ) (nodes : List Node) (box : Box) (turn : Turn) → IsTurn bounds plan box known turn → All IsNode nodes → All IsNode (nodes_after nodes turn)
 nodes_turned bounds plan known nodes box (Closed node) turn all =
-    All-push IsNode nodes node all (closed_node bounds plan known box node turn)
+    All-push IsNode nodes node all (leaf_node bounds plan known box node turn)
 nodes_turned bounds plan known nodes box (Halves packet at lower upper) turn all = all
 
 -- the halves of a box wait to be taken up: both are boxes of the scenario, and the greatest delays of the upper one were tried
@@ -188,8 +180,3 @@ best_no_worse bounds plan best next seen box step scenario seen_is is next_is =
     let is' : IsStep bounds plan box best.latency step = subst (λ (n : ℕ). IsStep bounds plan box n step) seen_is is in
     let no_worse = IsNoWorse-found bounds plan best box step.found scenario is'.found in
     rw next_is no_worse.above
-
--- a box that waits is a box of the scenario, and is known to be tried where it is told to be
-pub waits : (bounds : Bounds) (plan : Scenario) (best : Record) (work : List Work) (nodes : List Node) (tickets : ℕ) (branch : Tracked) (tried : Bool) → IsSearching bounds plan best (work ++ Branch branch tried ∷ []) nodes tickets → IsWork plan best.latency (Branch branch tried)
-waits bounds plan best work nodes tickets branch tried searching =
-    (All-front (IsWork plan best.latency) work (Branch branch tried) searching.all_work).1

@@ -29,14 +29,15 @@ IsNode-split plan box packet at table inside part =
       omega (arith, range.high, within.2, part.high),
     )
 
--- what a step makes of a box: a leaf, or a split that may stand in a certificate
-leaf_node : (bounds : Bounds) (plan : Scenario) (known : ℕ) (box : Box) (node : Node) → IsTurn bounds plan box known (Closed node) → IsNode node
+-- a leaf that closes a box may stand in a certificate
+pub leaf_node : (bounds : Bounds) (plan : Scenario) (known : ℕ) (box : Box) (node : Node) → IsTurn bounds plan box known (Closed node) → IsNode node
 leaf_node bounds plan known box (Split packet at) turn = absurd turn
 leaf_node bounds plan known box Bound turn = tt
 leaf_node bounds plan known box Point turn = tt
 leaf_node bounds plan known box Stamp turn = tt
 leaf_node bounds plan known box (Lead latency) turn = omega (arith, turn.0, turn.1.named)
 
+-- what a step makes of a box may: a leaf, or a split
 pub All-turn : (bounds : Bounds) (plan : Scenario) (known : ℕ) (box : Box) (turn : Turn) → IsTable (table_of plan) → IsBox plan box → IsTurn bounds plan box known turn → All IsNode (spent_in (front_after turn))
 All-turn bounds plan known box (Closed node) table inside is =
     All-cons IsNode node [] (leaf_node bounds plan known box node is) (All-nil IsNode)

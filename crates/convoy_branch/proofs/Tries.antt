@@ -1,4 +1,4 @@
--- Which leaf closes a box in a search, and what a look at the box shows: a greater latency than was seen, or that of the greatest delays is no greater.
+-- Which leaf closes a box in a search, and what a look shows at a box that is closed at once.
 use Rattle.std.specs.Prelude.{◌≡◌, ◌≢◌, ℕ, ◌≤◌, ◌<◌, ◌^◌, nat_le, Bool, true, false, ◌||◌, if◌then◌else◌, Option, Some, None, is_some, refl}
 use Rattle.std.proofs.Common.{arith, ap, sym, subst, ◌∙◌}
 use Rattle.std.proofs.lemmas.Bool.{false≢true}
@@ -8,7 +8,6 @@ use Rattle.convoy_certificate.specs.declared.node.Node.{Node}
 use Rattle.convoy_certificate.specs.declared.node.Node.TheVariants as nodes
 use Rattle.convoy_branch.specs.declared.bounds.Bounds.{Bounds}
 use Rattle.convoy_branch.specs.declared.bounds.Bounds.TheVariants.{Plain, Stamp, Lead}
-use Rattle.convoy_branch.specs.declared.step.Look.{Look}
 use Rattle.convoy_branch.specs.declared.step.Turn.TheVariants.{Closed}
 use Rattle.convoy_intervals.specs.Bounds.{plain_bound}
 use Rattle.convoy_intervals.specs.Boxes.{Box, greatest_of}
@@ -16,9 +15,9 @@ use Rattle.convoy_stamps.specs.StampBounds.{stamp_bound}
 use Rattle.convoy_leads.specs.Closing.{closes_by_leads}
 use Rattle.convoy_branch.specs.Looks.{IsLook}
 use Rattle.convoy_branch.specs.SearchBounds.{closes_for, further_leaf, leaf_for}
-use Rattle.convoy_branch.specs.Steps.{IsTurn, StaysOpen, found_in, known_after}
+use Rattle.convoy_branch.specs.Steps.{IsTurn}
 use Rattle.convoy_sim.specs.Delivery.{latency_of}
-use Rattle.convoy_sim.specs.Record.{Record, attained_by}
+use Rattle.convoy_sim.specs.Record.{attained_by}
 
 -- ---- Which bounds they are
 
@@ -88,27 +87,6 @@ closed_since : (bounds : Bounds) (plan : Scenario) (box : Box) (known : ℕ) (le
 closed_since bounds plan box known None some is = absurd (false≢true some)
 closed_since bounds plan box known (Some node) some is = is.1
 
-open_since : (bounds : Bounds) (plan : Scenario) (box : Box) (known : ℕ) (leaf : Option Node) → is_some leaf ≡ false → IsLeafFor bounds plan box known leaf → closes_for bounds plan box known ≡ false
-open_since bounds plan box known None none is = is
-open_since bounds plan box known (Some node) none is = absurd (false≢true (sym none))
-
--- ---- Tries
-
--- the record of the greatest delays, where their latency is above the one seen
-abbrev pub tried_in : Scenario → Box → ℕ → Option Record
-tried_in plan box seen =
-    if nat_le (latency_of plan (greatest_of box)) seen then None else Some (attained_by plan (greatest_of box))
-
--- one of two latencies is known, whichever is the greater
-known_is_greater : (tried seen : ℕ) (attained : Record) (no_more : Bool) → attained.latency ≡ tried → nat_le tried seen ≡ no_more → tried ≤ known_after seen (if no_more then None else Some attained)
-known_is_greater tried seen attained true is test = grind (arith, nat_tests)
-known_is_greater tried seen attained false is test = grind (arith, nat_tests)
-
--- what is known after a try is no less than the latency of the greatest delays
-pub known_is_tried : (plan : Scenario) (box : Box) (seen : ℕ) → latency_of plan (greatest_of box) ≤ known_after seen (tried_in plan box seen)
-known_is_tried plan box seen =
-    known_is_greater (latency_of plan (greatest_of box)) seen (attained_by plan (greatest_of box)) _ refl refl
-
 -- ---- Looks
 
 -- a box that is closed at once
@@ -121,16 +99,4 @@ look_closed bounds plan box seen leaf small least is some =
       leaf = is;
       tried = λ none. absurd (false≢true (sym (ap is_some none) ∙ some));
       named = small;
-    }
-
--- a box that is not, whose greatest delays are tried
-pub look_open : (bounds : Bounds) (plan : Scenario) (box : Box) (seen : ℕ) (first leaf : Option Node) (found : Option Record) → seen < 2 ^ 32 → stamp_bound plan box ≤ plain_bound plan box → first ≡ leaf_for bounds plan box seen → is_some first ≡ false → found ≡ tried_in plan box seen → leaf ≡ leaf_for bounds plan box (known_after seen found) → known_after seen found < 2 ^ 32 → IsLook bounds plan box seen (record { found = found; leaf = leaf })
-look_open bounds plan box seen first leaf found small least is none found_is leaf_is named =
-    let open_box : closes_for bounds plan box seen ≡ false = open_since bounds plan box seen first none (subst (λ (l : Option Node). IsLeafFor bounds plan box seen l) (sym is) (IsLeafFor-first plan box seen small least bounds)) in
-    let rest = nat_le (latency_of plan (greatest_of box)) seen in
-    record {
-      found = found_is ∙ sym (ap (λ (b : Bool). if b || rest then None else Some (attained_by plan (greatest_of box))) open_box);
-      leaf = leaf_is;
-      tried = λ _. subst (λ (f : Option Record). latency_of plan (greatest_of box) ≤ known_after seen f) (sym found_is) (known_is_tried plan box seen);
-      named = named;
     }

@@ -1,4 +1,4 @@
--- The bounds of boxes by which a search goes, and the boxes that it closes for a latency.
+-- The boxes that a search closes for a latency, by their bounds or by leads.
 use Rattle.std.specs.Prelude.{ℕ, nat_le, Bool, ◌||◌, if◌then◌else◌, Option, Some, None}
 use Rattle.convoy_scenario.specs.Scenario.{Scenario}
 use Rattle.convoy_certificate.specs.declared.certificate.TheConstants.{MOST_LEADS, MOST_NODES}
@@ -10,12 +10,6 @@ use Rattle.convoy_stamps.specs.StampBounds.{stamp_bound}
 use Rattle.convoy_leads.specs.Closing.{closes_by_leads}
 use Rattle.convoy_branch.specs.declared.bounds.Bounds.{Bounds}
 use Rattle.convoy_branch.specs.declared.bounds.Bounds.TheVariants.{Plain, Stamp, Lead}
-
--- the bound of a box by which a search goes; where leads do not close the box, a search by leads goes by its stamp bound
-abbrev pub bound_of : Bounds → Scenario → Box → ℕ
-bound_of Plain scenario box = plain_bound scenario box
-bound_of Stamp scenario box = stamp_bound scenario box
-bound_of Lead scenario box = stamp_bound scenario box
 
 -- whether a search closes the box for a latency: its bound is at most that, or, in a search by leads, these close it
 abbrev pub closes_for : Bounds → Scenario → Box → ℕ → Bool

@@ -1,5 +1,5 @@
 use Rattle.std.proofs.Common.{◌∙◌, sym}
-use Rattle.convoy_branch.proofs.Tries.{look_closed, look_open}
+use Rattle.convoy_branch.proofs.Tries.{look_closed}
 use Rattle.convoy_branch.proofs.step.look_at.Goals as goal
 
 pub returns-then-is_some-clause-value : goal.returns-then-is_some-clause-value
