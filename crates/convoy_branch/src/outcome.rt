@@ -5,14 +5,16 @@ use convoy_sim::Record;
 #[derive(Drop)]
 pub enum Outcome {
     /// The greatest latency is known: the certificate shows it. A ticket was spent for each node,
-    /// `tickets` in all; `by_worker` has those of each worker.
+    /// `tickets` in all. `by_worker` has how many of them each worker drew, at the index of the
+    /// worker's number, which is 0 for the owner.
     Proved {
         certificate: Certificate,
         tickets: u64,
         by_worker: Vec<u64>,
     },
     /// The tickets ended with boxes left. The greatest latency is that of `best` or more, and at
-    /// most `upper`, in ticks.
+    /// most `upper`, in ticks. As many tickets as may be were spent, `tickets` in all, and
+    /// `by_worker` has how many of them each worker drew, as above.
     Open {
         best: Record,
         upper: u32,

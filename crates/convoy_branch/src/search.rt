@@ -36,7 +36,8 @@ mod tests;
 /// are closed by those bounds: by plain ones no node of the certificate is a stamp leaf, and only by leads
 /// is one a lead leaf, which names the latency that was known where it closed its box.
 ///
-/// `Outcome::Open` is the answer only where a box is left when all tickets are spent.
+/// `Outcome::Open` is the answer only where a box is left when all tickets are spent. The error is
+/// that memory ran out.
 pub fn search_alone(
     alloc: Global,
     scenario: &Scenario,
@@ -54,7 +55,8 @@ pub fn search_alone(
 
 /// The search of [`search_alone`] from an opening record of the scenario. Its latency is at least
 /// that of the least delays, and the latency that the search finds is at least that of the record.
-/// The gate is called before each box that is taken up, by worker 0.
+/// The gate is called before each box that is taken up, by worker 0. The error is that memory ran
+/// out.
 pub fn search_from<G: Gate>(
     alloc: Global,
     scenario: &Scenario,

@@ -127,6 +127,8 @@ impl Board {
     }
 
     /// Puts a record of the board's scenario into the board's table, from where it can be published.
+    /// Where memory ran out the record comes back. Where its place is 4,294,967,296 or more, which
+    /// the board's word can't name, the record stays in the table, and its place comes back.
     pub fn note<R: Wait>(&self, rt: &R, found: Record) -> Result<Noted, NoteFault>
         requires { found.scenario ≡ self.now.scenario }
         ensures noted { IfOk result (λ noted. IsNoteOf self.now noted × (noted.value ≡ found)) }
