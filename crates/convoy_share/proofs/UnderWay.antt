@@ -105,14 +105,6 @@ IsUnderWay-put bounds scenario seen before put low boxes front rest branch tried
       more = (way.more.0 ++ lower.space ∷ [], ap (λ (bs : List Box). bs ++ lower.space ∷ []) way.more.1 ∙ append_assoc before way.more.0 (lower.space ∷ []));
     }
 
--- a worker that has taken nothing, and whose branches are all roots
-pub IsResult-none : (bounds : Bounds) (scenario : Scenario) (seen roots : ℕ) (put : List Box) → roots ≡ length put → IsResult bounds scenario seen 0 roots put [] []
-IsResult-none bounds scenario seen roots put same = record {
-  trees = tt;
-  places = λ x. omega (arith, ap (once_below x) same);
-  nodes = refl;
-}
-
 -- one task more
 pub IsResult-more : (better : FrontsBetter) (bounds : Bounds) (scenario : Scenario) (seen more tickets drawn roots : ℕ) (before put : List Box) (taken : List Task) (subtrees : List Subtree) (task : Task) (pieces : List Piece) → seen ≤ more → IsResult bounds scenario seen tickets roots before taken subtrees → IsUnderWay bounds scenario more before put (task.number + 1) (task.branch.space ∷ []) pieces drawn → IsResult bounds scenario more (tickets + drawn) roots put (taken ++ task ∷ []) (subtrees ++ record { number = task.number; pieces = pieces } ∷ [])
 IsResult-more better bounds scenario seen more tickets drawn roots before put taken subtrees task pieces above is way =

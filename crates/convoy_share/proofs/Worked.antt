@@ -23,7 +23,7 @@ use Rattle.convoy_share.specs.Workers.{IsOwner, IsThief, StaysOwner, HasJoined, 
 use Rattle.convoy_share.proofs.Joins.{IsResult-joined}
 use Rattle.convoy_share.proofs.UnderWay.{IsResult-more}
 
--- with its own deque and shares, or with equal ones
+-- with its own deque and shares
 pub thief_own : (shared : Common) (deque : DequeId) (hand clerk : ℕ) (worker : ThiefWorker) → IsThief shared deque hand clerk worker → IsThief shared worker.end.deque worker.means.hand.share worker.means.clerk.share worker
 thief_own shared deque hand clerk worker is = record {
   board_is = is.board_is;
@@ -35,19 +35,8 @@ thief_own shared deque hand clerk worker is = record {
   result = is.result;
 }
 
-pub thief_given : (shared : Common) (deque : DequeId) (hand clerk : ℕ) (old new : ThiefWorker) → IsThief shared deque hand clerk old → IsThief shared old.end.deque old.means.hand.share old.means.clerk.share new → IsThief shared deque hand clerk new
-thief_given shared deque hand clerk old new was is = record {
-  board_is = is.board_is;
-  ledger_is = is.ledger_is;
-  hand_is = is.hand_is ∙ was.hand_is;
-  clerk_is = is.clerk_is ∙ was.clerk_is;
-  deque_is = is.deque_is ∙ was.deque_is;
-  scenario_is = is.scenario_is;
-  result = is.result;
-}
-
 -- a result by its parts
-pub result_by : (bounds : Bounds) (scenario : Scenario) (roots : ℕ) (seen : ℕ) (tickets tickets' : ℕ) (put put' : List Box) (taken taken' : List Task) (trees trees' : List Subtree) → tickets' ≡ tickets → put' ≡ put → taken' ≡ taken → trees' ≡ trees → IsResult bounds scenario seen tickets roots put taken trees → IsResult bounds scenario seen tickets' roots put' taken' trees'
+result_by : (bounds : Bounds) (scenario : Scenario) (roots : ℕ) (seen : ℕ) (tickets tickets' : ℕ) (put put' : List Box) (taken taken' : List Task) (trees trees' : List Subtree) → tickets' ≡ tickets → put' ≡ put → taken' ≡ taken → trees' ≡ trees → IsResult bounds scenario seen tickets roots put taken trees → IsResult bounds scenario seen tickets' roots put' taken' trees'
 result_by bounds scenario roots seen tickets tickets' put put' taken taken' trees trees' t p k r is = rw (t, p, k, r) is
 
 -- one branch more
@@ -65,7 +54,7 @@ thief_more better shared deque hand clerk old new task pieces is end grown trees
       result = result_by shared.bounds shared.scenario 0 new.means.hand.seen _ (drawn new.means) [] [] _ new.end.taken _ new.trees.items grown.spent refl (ap (λ (e : ThiefEnd). e.taken) end) trees more;
     }
 
--- the owner, with its own deque and shares, or with equal ones
+-- the owner, with its own deque and shares
 pub owner_own : (shared : Common) (deque : DequeId) (hand clerk share joined least : ℕ) (worker : OwnerWorker) → IsOwner shared deque hand clerk share joined least worker → StaysOwner shared worker worker
 owner_own shared deque hand clerk share joined least worker is = record {
   board_is = is.board_is;
@@ -81,23 +70,6 @@ owner_own shared deque hand clerk share joined least worker is = record {
   joined_is = refl;
   theirs = is.theirs;
   no_less = omega arith;
-}
-
-pub owner_given : (shared : Common) (deque : DequeId) (hand clerk share joined least : ℕ) (old new : OwnerWorker) → IsOwner shared deque hand clerk share joined least old → StaysOwner shared old new → IsOwner shared deque hand clerk share joined least new
-owner_given shared deque hand clerk share joined least old new was is = record {
-  board_is = is.board_is;
-  ledger_is = is.ledger_is;
-  hand_is = is.hand_is ∙ was.hand_is;
-  clerk_is = is.clerk_is ∙ was.clerk_is;
-  deque_is = is.deque_is ∙ was.deque_is;
-  scenario_is = is.scenario_is;
-  share_is = is.share_is ∙ was.share_is;
-  some_put = is.some_put;
-  root = is.root;
-  result = is.result;
-  joined_is = is.joined_is ∙ was.joined_is;
-  theirs = is.theirs;
-  no_less = omega (arith, was.no_less, is.no_less);
 }
 
 -- a branch that the owner takes has a number below the count of those that it put
@@ -164,11 +136,7 @@ owner_joined better shared deque hand clerk share joined least hand_too clerk_to
 owner_by : (shared : Common) (deque : DequeId) (hand hand' clerk clerk' share share' joined joined' least : ℕ) (worker : OwnerWorker) → hand ≡ hand' → clerk ≡ clerk' → share ≡ share' → joined ≡ joined' → IsOwner shared deque hand clerk share joined least worker → IsOwner shared deque hand' clerk' share' joined' least worker
 owner_by shared deque hand hand' clerk clerk' share share' joined joined' least worker h c s j is = rw (sym h, sym c, sym s, sym j) is
 
--- without a thief, and with one more
-pub joined_none : (shared : Common) (owner worker : OwnerWorker) (thieves : List ThiefWorker) → thieves ≡ [] → StaysOwner shared owner worker → HasJoined shared owner thieves worker
-joined_none shared owner worker thieves none is =
-    subst (λ (ts : List ThiefWorker). HasJoined shared owner ts worker) (sym none) (owner_by shared owner.end.deque _ (owner.means.hand.share + hand_shares []) _ (owner.means.clerk.share + clerk_shares []) _ (owner.end.share + 0) _ (length owner.drawn_by_thieves.items + 0) owner.means.hand.seen worker (omega arith) (omega arith) (omega arith) (omega arith) is)
-
+-- with one thief more
 pub joined_more : (shared : Common) (owner worker : OwnerWorker) (all thieves : List ThiefWorker) (thief : ThiefWorker) → all ≡ thieves ++ thief ∷ [] → IsOwner shared owner.end.deque (owner.means.hand.share + hand_shares thieves + thief.means.hand.share) (owner.means.clerk.share + clerk_shares thieves + thief.means.clerk.share) (owner.end.share + length thieves + 1) (length owner.drawn_by_thieves.items + length thieves + 1) owner.means.hand.seen worker → HasJoined shared owner all worker
 joined_more shared owner worker all thieves thief same is =
     subst (λ (ts : List ThiefWorker). HasJoined shared owner ts worker) (sym same) (owner_by shared owner.end.deque _ (owner.means.hand.share + hand_shares (thieves ++ thief ∷ [])) _ (owner.means.clerk.share + clerk_shares (thieves ++ thief ∷ [])) _ (owner.end.share + length (thieves ++ thief ∷ [])) _ (length owner.drawn_by_thieves.items + length (thieves ++ thief ∷ [])) owner.means.hand.seen worker (omega (arith, sum_by_push (λ (w : ThiefWorker). w.means.hand.share) thieves thief)) (omega (arith, sum_by_push (λ (w : ThiefWorker). w.means.clerk.share) thieves thief)) (omega (arith, length-append thieves (thief ∷ []))) (omega (arith, length-append thieves (thief ∷ []))) is)

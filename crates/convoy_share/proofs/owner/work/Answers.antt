@@ -1,4 +1,4 @@
-use Rattle.convoy_share.proofs.Worked.{owner_own, owner_given}
+use Rattle.convoy_share.proofs.Worked.{owner_own}
 use Rattle.convoy_share.proofs.owner.work.Goals as goal
 
 pub work_once-requires : goal.work_once-requires
