@@ -67,6 +67,10 @@ pub fn search<R: Threads + Wait + Sync, G: Gate + Sync>(
 
 /// The search of [`search`] from an opening record of the scenario. Its latency is at least that of the
 /// least delays, and the latency that the search finds is at least that of the record.
+///
+/// The errors are those of [`search`]: `Memory` where memory ran out, for any worker or for the
+/// outcome, and `PlaceTooLarge` where several workers found a record whose place is 4,294,967,296
+/// or more, which the board's word can't name.
 pub fn search_from<'a, R: Threads + Wait + Sync, G: Gate + Sync>(
     rt: &R,
     alloc: Global,
