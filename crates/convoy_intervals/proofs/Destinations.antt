@@ -1,7 +1,7 @@
 -- The destinations of messages are groups of the scenario.
 use Rattle.std.specs.Prelude.{◌≡◌, ℕ, ◌<◌, ◌≤◌, ◌==◌, Bool, true, false, ◌||◌, List, [], ◌∷◌, length, All}
 use Rattle.std.specs.List.{list_any}
-use Rattle.std.proofs.Common.{refl, sym, subst, arith, get_or, inl, inr}
+use Rattle.std.proofs.Common.{refl, subst, arith, inl, inr}
 use Rattle.std.proofs.lemmas.Bool.{cases_lt, false≢true}
 use Rattle.std.proofs.lemmas.Bool.Decides.{nat_tests}
 use Rattle.std.proofs.lemmas.List.{get_or_past}
@@ -36,11 +36,6 @@ module _ (plan : Scenario) (well : IsScenario plan) where
   pub group_of_goes : (m g : ℕ) → GoesTo plan m g → g < length plan.groups
   group_of_goes m g goes =
       below_any g (length plan.groups) (message_at plan m).destinations (well.messages m no_message (message_of_goes plan m g goes)).known goes
-
-  -- each number among its destinations is one
-  pub item_known : (m : ℕ) → m < length plan.multicasts → (items : List ℕ) → items ≡ (message_at plan m).destinations → (k : ℕ) → k < length items → get_or items k 0 < length plan.groups
-  item_known m known items is k below =
-      subst (λ xs. (i : ℕ) → i < length xs → get_or xs i 0 < length plan.groups) (sym is) (λ i h. (well.messages m no_message known).known i 0 h) k below
 
   -- and no message is issued later than it may be
   pub issued_by : (m : ℕ) → m < length plan.multicasts → (message_at plan m).at ≤ 1000000

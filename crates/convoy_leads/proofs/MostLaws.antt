@@ -1,11 +1,11 @@
 -- Numbers that are told for some messages at once, each barred.
-use Rattle.std.proofs.Common.{◌≡◌, ◌≢◌, ℕ, ◌+◌, ◌-◌, ◌<◌, ◌≤◌, ◌==◌, suc, inl, inr, nat_lt, Bool, true, false, ◌&&◌, not, cond, List, [], ◌∷◌, ◌++◌, length, take, get_or, set, max, min, map, fold, All, refl, sym, ap, ap₂, ◌∙◌, arith}
+use Rattle.std.proofs.Common.{◌≡◌, ◌≢◌, ℕ, ◌+◌, ◌-◌, ◌<◌, ◌≤◌, ◌==◌, suc, inl, inr, nat_lt, Bool, true, false, ◌&&◌, not, cond, List, [], ◌∷◌, ◌++◌, length, get_or, set, max, min, map, fold, All, refl, sym, ap, ap₂, ◌∙◌, arith}
 use Rattle.std.specs.List.{list_any}
 use Rattle.std.proofs.Math.Nat.{max-zero}
 use Rattle.std.proofs.lemmas.Bool.{cases_lt, cond_both}
 use Rattle.std.proofs.lemmas.Bool.Decides.{nat_tests}
 use Rattle.std.proofs.lemmas.Grind.{get_or-set_at}
-use Rattle.std.proofs.lemmas.List.{get_or-set_other, take_more}
+use Rattle.std.proofs.lemmas.List.{get_or-set_other}
 use Rattle.std.proofs.lemmas.List.FromFn.{get_or-range_with_len, length-range_with_len}
 use Rattle.convoy_scenario.specs.Scenario.{Scenario, message_at, message_numbers}
 use Rattle.convoy_scenario.specs.WellFormed.{IsScenario}
@@ -30,23 +30,12 @@ pub mapped : (f : ℕ → ℕ) (bars xs : List ℕ) → AreFor f bars xs → xs 
 mapped f bars xs are = mapped_by f bars xs are.long are.each
 
 -- ---- clocks
--- the greatest over one element more
-pub rise_more : {X : Type 0} (f : X → ℕ) (a : ℕ) (xs : List X) (i : ℕ) (d : X) → i < length xs
-    → fold max a (map f (take (i + 1) xs)) ≡ max (fold max a (map f (take i xs))) (f (get_or xs i d))
-rise_more {X = X} f a xs i d l = ap (λ ys. fold max a (map f ys)) (take_more xs i d l) ∙ over (get_or xs i d) a (take i xs) where
-  over : (y : X) (b : ℕ) (ys : List X) → fold max b (map f (ys ++ y ∷ [])) ≡ max (fold max b (map f ys)) (f y)
-  over y b [] = refl
-  over y b (z ∷ zs) = over y (max b (f z)) zs
-
 module _ (scenario : Scenario) (tables : Tables) (sure : Sure) (q h : ℕ) (tick : Tick) (start : Start) where
   abbrev clock : ℕ → ℕ
   clock x = clock_from scenario tables sure x q h tick start
 
   abbrev since : ℕ → ℕ
   since x = clock_since scenario tables sure x q h tick start
-
-  abbrev precedes : Bool
-  precedes = may_precede q h tick start
 
   -- a start that may not come before gives no clock
   pub clock_unless : (x : ℕ) → may_precede q h tick start ≡ false → clock_from scenario tables sure x q h tick start ≡ 0
@@ -162,9 +151,6 @@ target_there scenario well =
 
 -- ---- a start by what was told for the bars
 module _ (scenario : Scenario) (tables : LeadTables) (sure : Sure) (starts : List Start) (tick : Tick) (pair : Pair) where
-  abbrev raise : ℕ → ℕ
-  raise x = raise_high scenario tables sure starts tick x pair.message pair.group
-
   pub start_is : (barring : Bool) (base : ℕ) (barred : List ℕ)
       → base ≡ raise_high scenario tables sure starts tick scenario.target_message pair.message pair.group
       → barred ≡ cond barring (map (λ x. raise_high scenario tables sure starts tick x pair.message pair.group) (message_numbers scenario)) []

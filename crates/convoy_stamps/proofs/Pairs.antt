@@ -1,8 +1,8 @@
 -- The pairs of a scenario, by membership in its list of them.
-use Rattle.std.proofs.Common.{◌≡◌, ℕ, ◌<◌, true, ◌==◌, List, map, length, get_or, All, refl, ap₂, subst}
+use Rattle.std.proofs.Common.{◌≡◌, true, ◌==◌, map, get_or, All, refl, ap₂, subst}
 use Rattle.std.proofs.lemmas.List.Elements.{Contains-get_or}
 use Rattle.std.proofs.lemmas.Bool.{and_from, and_parts, eq-eqb, eqb-true}
-use Rattle.convoy_scenario.specs.Scenario.{Scenario, message_at, message_numbers, GoesTo}
+use Rattle.convoy_scenario.specs.Scenario.{Scenario, message_at, message_numbers}
 use Rattle.convoy_sim.proofs.Membership.{IsIn, in_of_contains, in-flat_map, in_of_flat_map, in-map, in_of_map}
 use Rattle.convoy_sim.proofs.Addressed.{in_of_goes, goes_from_in, in-numbers}
 use Rattle.convoy_stamps.specs.declared.pair.Pair.{Pair}
@@ -34,10 +34,3 @@ pub All-pairs : (scenario : Scenario) → All (IsPair scenario) (pairs_of scenar
 All-pairs scenario k d l =
     goes_of_pair scenario (get_or (pairs_of scenario) k d)
     (in_of_contains (get_or (pairs_of scenario) k d) (pairs_of scenario) (Contains-get_or (pairs_of scenario) k d l))
-
--- a message goes to each group of its destinations
-pub goes_to_item : (scenario : Scenario) (m : ℕ) (items : List ℕ) (k : ℕ) → items ≡ (message_at scenario m).destinations → k < length items
-    → GoesTo scenario m (get_or items k 0)
-goes_to_item scenario m items k same l =
-    goes_from_in scenario m (get_or items k 0)
-    (subst (IsIn (get_or items k 0)) same (in_of_contains (get_or items k 0) items (Contains-get_or items k 0 l)))
