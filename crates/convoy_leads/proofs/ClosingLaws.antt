@@ -11,7 +11,7 @@ use Rattle.convoy_sim.specs.Stamps.{is_less, local_stamp, final_stamp}
 use Rattle.convoy_sim.specs.Delivery.{addressed_to, latency_at, latency_of}
 use Rattle.convoy_sim.specs.Laws.{ahead_of}
 use Rattle.convoy_sim.proofs.Membership.{IsIn, in-filter, in_of_filter, in_greatest, greatest_most}
-use Rattle.convoy_sim.proofs.Addressed.{in_of_goes, goes_from_in, in-addressed, goes_of_addressed}
+use Rattle.convoy_sim.proofs.Addressed.{in_of_goes, goes_from_in, in-addressed, goes_of_addressed, in_of_ahead}
 use Rattle.convoy_intervals.specs.Bounds.{Tables, rivals, tables_of, plain_bound}
 use Rattle.convoy_intervals.specs.Laws.{MembersAreEnclosed}
 use Rattle.convoy_leads.specs.Below.{LawsBelow}
@@ -41,13 +41,6 @@ unfolding settle
 settled_by scenario delays m g tick goes late none =
     reached (propose_arrive scenario delays m g) tick g (message_at scenario m).destinations (in_of_goes scenario m g goes) late
     (λ k i way. none k (goes_from_in scenario m k i) way)
-
--- what is ahead of a message at a group goes there with a lesser stamp
-in_of_ahead : (scenario : Scenario) (delays : Schedule) (n m g : ℕ) → IsIn n (ahead_of scenario delays m g)
-    → GoesTo scenario n g × (is_less (local_stamp scenario delays n g) (final_stamp scenario delays m) ≡ true)
-in_of_ahead scenario delays n m g i =
-    let r = in_of_filter (λ k. is_less (local_stamp scenario delays k g) (final_stamp scenario delays m)) n (addressed_to scenario g) i in
-    (goes_of_addressed scenario n g r.0, r.1)
 
 module _ (below : LawsBelow) (scenario : Scenario) (delays : Schedule) (well : IsScenario scenario) (n : ℕ) (to : GoesTo scenario n scenario.target_group)
     (ahead : is_less (local_stamp scenario delays n scenario.target_group) (final_stamp scenario delays scenario.target_message) ≡ true) where

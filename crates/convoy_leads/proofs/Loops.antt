@@ -2,9 +2,9 @@
 use Rattle.std.proofs.Common.{◌≡◌, ℕ, ◌+◌, ◌<◌, ◌≤◌, zero, suc, Bool, true, false, cond, List, [], ◌∷◌, ◌++◌, length, drop, take, get_or, max, map, fold, filter, All, refl, sym, ap, subst, ◌∙◌, arith, length-drop}
 use Rattle.std.specs.List.{range_with_len}
 use Rattle.std.proofs.lemmas.List.{take_more}
-use Rattle.std.proofs.lemmas.List.Elements.{filter-append}
 use Rattle.std.proofs.lemmas.Grind.{fold-append}
 use Rattle.std.proofs.lemmas.List.FromFn.{map-range_with_len_more}
+use Rattle.convoy_stamps.proofs.Loops.{filter_range_more}
 use Rattle.convoy_leads.specs.Leads.{covers_all}
 
 -- one number more
@@ -14,25 +14,12 @@ fold_range_more op a f zero from = ap (λ k. op a (f k)) (omega arith)
 fold_range_more op a f (suc n) from =
     fold_range_more op (op a (f from)) f n (from + 1) ∙ ap (λ k. op (fold op (op a (f from)) (map f (range_with_len (from + 1) n))) (f k)) (omega arith)
 
-pub range_push : (from n : ℕ) → range_with_len from (suc n) ≡ range_with_len from n ++ (from + n) ∷ []
-range_push from zero = ap (λ k. k ∷ []) (omega arith)
-range_push from (suc n) =
-    ap (λ ks. from ∷ ks) (range_push (from + 1) n ∙ ap (λ k. range_with_len (from + 1) n ++ k ∷ []) (omega arith))
-
 -- the next number passes the test, or it does not
-range_more : (p : ℕ → Bool) (n : ℕ) → filter p (range_with_len 0 (n + 1)) ≡ filter p (range_with_len 0 n) ++ cond (p n) (n ∷ []) []
-range_more p n =
-    let next : n + 1 ≡ suc n = omega arith in
-    let here : 0 + n ≡ n = omega arith in
-    ap (λ k. filter p (range_with_len 0 k)) next
-    ∙ ap (filter p) (range_push 0 n ∙ ap (λ k. range_with_len 0 n ++ k ∷ []) here)
-    ∙ filter-append p (range_with_len 0 n) (n ∷ [])
-
 pub range_more_yes : (p : ℕ → Bool) (n : ℕ) → p n ≡ true → filter p (range_with_len 0 (n + 1)) ≡ filter p (range_with_len 0 n) ++ n ∷ []
-range_more_yes p n t = range_more p n ∙ ap (λ b. filter p (range_with_len 0 n) ++ cond b (n ∷ []) []) t
+range_more_yes p n t = filter_range_more p n ∙ ap (λ b. filter p (range_with_len 0 n) ++ cond b (n ∷ []) []) t
 
 pub range_more_no : (p : ℕ → Bool) (n : ℕ) → p n ≡ false → filter p (range_with_len 0 (n + 1)) ≡ filter p (range_with_len 0 n)
-range_more_no p n t = range_more p n ∙ ap (λ b. filter p (range_with_len 0 n) ++ cond b (n ∷ []) []) t ∙ append_nil (filter p (range_with_len 0 n)) where
+range_more_no p n t = filter_range_more p n ∙ ap (λ b. filter p (range_with_len 0 n) ++ cond b (n ∷ []) []) t ∙ append_nil (filter p (range_with_len 0 n)) where
   append_nil : (xs : List ℕ) → xs ++ [] ≡ xs
   append_nil [] = refl
   append_nil (x ∷ xs) = ap (λ ys. x ∷ ys) (append_nil xs)

@@ -13,6 +13,7 @@ use Rattle.convoy_sim.specs.Delivery.{addressed_to}
 use Rattle.convoy_sim.specs.Places.{place}
 use Rattle.convoy_sim.proofs.Membership.{IsIn, in_of_filter, greatest_most, all-in}
 use Rattle.convoy_sim.proofs.Addressed.{goes_of_addressed, goes_from_in, in_of_goes, number_of_goes}
+use Rattle.convoy_sim.proofs.MomentsOrder.{time_of_not_less}
 use Rattle.convoy_intervals.specs.Bounds.{Tables, Encloses}
 use Rattle.convoy_stamps.specs.declared.pair.Pair.{Pair}
 use Rattle.convoy_stamps.specs.Reach.{IsPair, pairs_of}
@@ -21,7 +22,7 @@ use Rattle.convoy_stamps.proofs.Pairs.{goes_of_pair}
 use Rattle.convoy_leads.specs.SureLeads.{is_earlier, sure_after, sure_later, sure_behind, lead_at, top_of, top_behind, next_lead, with_lead, is_later, insert_pair, last_first, first_leads, leads_of, sure_time}
 use Rattle.convoy_leads.specs.Laws.{SureLeadsHold}
 use Rattle.convoy_leads.specs.Below.{LawsBelow}
-use Rattle.convoy_leads.proofs.Times.{arrivals_from, commit_from_tick, time_of_not_less, one_time, stamp_positive, once-addressed}
+use Rattle.convoy_leads.proofs.Times.{arrivals_from, commit_from_tick, one_time, stamp_positive, once-addressed}
 use Rattle.convoy_leads.proofs.Tops.{top_within}
 
 -- ---- lists

@@ -1,15 +1,14 @@
 -- The order of arrivals and commits, and the times of stamps, as the laws of the crates below have them.
-use Rattle.std.proofs.Common.{◌≡◌, ◌≢◌, ℕ, ◌<◌, ◌≤◌, Bool, true, false, ◌⊎◌, inl, inr, List, [], ◌∷◌, length, filter, ap, arith}
+use Rattle.std.proofs.Common.{◌≡◌, ◌≢◌, ℕ, ◌<◌, ◌≤◌, Bool, true, ◌⊎◌, inl, inr, List, [], ◌∷◌, length, filter, ap, arith}
 use Rattle.std.proofs.lemmas.Bool.{cases_Bool, cases_lt, cases_eq}
 use Rattle.std.proofs.lemmas.Bool.Decides.{nat_tests}
 use Rattle.convoy_scenario.specs.Scenario.{Scenario, message_at, message_numbers, is_addressed, GoesTo}
 use Rattle.convoy_scenario.specs.WellFormed.{IsScenario}
 use Rattle.convoy_packets.specs.Assignment.{Schedule}
 use Rattle.convoy_sim.specs.declared.moment.MomentKind.TheVariants.{Arrival, Commit}
-use Rattle.convoy_sim.specs.declared.timestamp.Timestamp.{Timestamp}
 use Rattle.convoy_sim.specs.Times.{arrive, settle}
 use Rattle.convoy_sim.specs.Moments.{is_before, arrival_of, commit_of}
-use Rattle.convoy_sim.specs.Stamps.{is_less, local_stamp}
+use Rattle.convoy_sim.specs.Stamps.{local_stamp}
 use Rattle.convoy_sim.specs.Delivery.{addressed_to}
 use Rattle.convoy_sim.proofs.Membership.{IsOnce, once-range, filter_keeps, filter_drops}
 use Rattle.convoy_intervals.specs.Bounds.{Tables, Encloses}
@@ -60,9 +59,6 @@ arrivals_from scenario delays z q h (inr (e, l)) = by_numbers (arrive scenario d
   by_numbers a b z q h e l = grind (arith, nat_tests, e, l)
 
 -- ---- times of stamps
-pub time_of_not_less : (a b : Timestamp) → is_less a b ≡ false → b.time ≤ a.time
-time_of_not_less a b h = grind (arith, nat_tests)
-
 pub once-addressed : (scenario : Scenario) (g : ℕ) → IsOnce (addressed_to scenario g)
 once-addressed scenario g = once-filter (λ n. is_addressed (message_at scenario n) g) (message_numbers scenario) (once-range 0 (length scenario.multicasts))
 

@@ -3,7 +3,10 @@ use Rattle.std.proofs.Common.{◌≡◌, ℕ, ◌<◌, true, ◌==◌, inl, inr,
 use Rattle.std.proofs.lemmas.Bool.{cases_lt, false≢true, eq-eqb, eqb-true}
 use Rattle.std.proofs.lemmas.List.{get_or_past}
 use Rattle.convoy_scenario.specs.Scenario.{Scenario, no_message, message_at, message_numbers, is_addressed, GoesTo}
+use Rattle.convoy_packets.specs.Assignment.{Schedule}
+use Rattle.convoy_sim.specs.Stamps.{is_less, local_stamp, final_stamp}
 use Rattle.convoy_sim.specs.Delivery.{addressed_to}
+use Rattle.convoy_sim.specs.Laws.{ahead_of}
 use Rattle.convoy_sim.proofs.Membership.{IsIn, in-range, in-filter, in_of_filter, list_any_in, in_of_list_any}
 
 pub in_of_goes : (plan : Scenario) (m g : ℕ) → GoesTo plan m g → IsIn g (message_at plan m).destinations
@@ -29,3 +32,10 @@ in-addressed plan m g h = in-filter (λ n. is_addressed (message_at plan n) g) m
 
 pub goes_of_addressed : (plan : Scenario) (m g : ℕ) → IsIn m (addressed_to plan g) → GoesTo plan m g
 goes_of_addressed plan m g i = (in_of_filter (λ n. is_addressed (message_at plan n) g) m (message_numbers plan) i).1
+
+-- what is ahead of a message at a group goes there with a lesser stamp
+pub in_of_ahead : (plan : Scenario) (delays : Schedule) (n m g : ℕ) → IsIn n (ahead_of plan delays m g)
+    → GoesTo plan n g × (is_less (local_stamp plan delays n g) (final_stamp plan delays m) ≡ true)
+in_of_ahead plan delays n m g i =
+    let r = in_of_filter (λ k. is_less (local_stamp plan delays k g) (final_stamp plan delays m)) n (addressed_to plan g) i in
+    (goes_of_addressed plan n g r.0, r.1)

@@ -8,8 +8,8 @@ use Rattle.convoy_sim.specs.Stamps.{is_less, local_stamp, final_stamp}
 use Rattle.convoy_sim.specs.Delivery.{last_commit, addressed_to, holds_back, is_free, first_tick, deliver}
 use Rattle.convoy_sim.specs.Laws.{ahead_of, arrive_by, DeliveryIsLeast, DeliveryLaw, DeliveryBound, DeliveredByLastCommit, ArrivesAfterIssue, DeliveredAfterCommit, LatencyIsNeverNegative}
 use Rattle.convoy_scenario.specs.Scenario.{GoesTo}
-use Rattle.convoy_sim.proofs.Membership.{IsIn, in-filter, in_of_filter, list_any_in, in_of_list_any, in_greatest, greatest_most, greatest_mono}
-use Rattle.convoy_sim.proofs.Addressed.{in-addressed, goes_of_addressed}
+use Rattle.convoy_sim.proofs.Membership.{IsIn, in-filter, list_any_in, in_of_list_any, in_greatest, greatest_most, greatest_mono}
+use Rattle.convoy_sim.proofs.Addressed.{in-addressed, goes_of_addressed, in_of_ahead}
 use Rattle.convoy_sim.proofs.ScenarioMoments.{arrive_settle}
 use Rattle.convoy_sim.proofs.StampLaws.{earlier_arrives}
 
@@ -32,12 +32,6 @@ pub in-ahead : (plan : Scenario) (delays : List ℕ) (n m g : ℕ) → GoesTo pl
     → is_less (local_stamp plan delays n g) (final_stamp plan delays m) ≡ true → IsIn n (ahead_of plan delays m g)
 in-ahead plan delays n m g h l =
     in-filter (λ k. is_less (local_stamp plan delays k g) (final_stamp plan delays m)) n (addressed_to plan g) (in-addressed plan n g h) l
-
-pub in_of_ahead : (plan : Scenario) (delays : List ℕ) (n m g : ℕ) → IsIn n (ahead_of plan delays m g)
-    → GoesTo plan n g × (is_less (local_stamp plan delays n g) (final_stamp plan delays m) ≡ true)
-in_of_ahead plan delays n m g i =
-    let r = in_of_filter (λ k. is_less (local_stamp plan delays k g) (final_stamp plan delays m)) n (addressed_to plan g) i in
-    (goes_of_addressed plan n g r.0, r.1)
 
 holds_parts : (plan : Scenario) (delays : List ℕ) (m g tick n : ℕ) → holds_back plan delays m g tick n ≡ true
     → (arrive plan delays n g ≤ tick) × (is_less (local_stamp plan delays n g) (final_stamp plan delays m) ≡ true) × (tick < settle plan delays n g)

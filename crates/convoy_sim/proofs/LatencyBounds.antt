@@ -7,9 +7,10 @@ use Rattle.convoy_sim.specs.Stamps.{final_stamp}
 use Rattle.convoy_sim.specs.Delivery.{last_commit, latency_at, latency_of}
 use Rattle.convoy_sim.specs.Laws.{ahead_of, OrderLaw, LatencyWithinFourDelays, LoneLatencyWithinTwoDelays, TargetLatencyWithinFourDelays}
 use Rattle.convoy_sim.proofs.Membership.{IsIn, greatest_most, greatest_mono}
+use Rattle.convoy_sim.proofs.Addressed.{in_of_ahead}
 use Rattle.convoy_sim.proofs.MomentsOrder.{less_after, less_trans}
 use Rattle.convoy_sim.proofs.StampLaws.{earlier_arrives, not_greater}
-use Rattle.convoy_sim.proofs.DeliveryTick.{in-ahead, in_of_ahead, delivery_law}
+use Rattle.convoy_sim.proofs.DeliveryTick.{in-ahead, delivery_law}
 use Rattle.convoy_scenario.specs.WellFormed.{IsScenario}
 use Rattle.convoy_sim.proofs.PacketDelays.{committed_within}
 

@@ -14,9 +14,9 @@ use Rattle.convoy_sim.specs.Laws.{ahead_of}
 use Rattle.convoy_sim.specs.Run.{Run, IsRunOf, proposed_of, committed_of, delivered_of, final_stamp_of}
 use Rattle.convoy_sim.specs.RunLaws.{IsStampedBefore, IsAhead, IsAwaited, IsLastAwaited, IsAloneAt, KeepsLaws, RunsKeepTheLaws}
 use Rattle.convoy_sim.proofs.Membership.{IsIn, in_greatest, greatest_is_one}
-use Rattle.convoy_sim.proofs.Addressed.{number_of_goes}
+use Rattle.convoy_sim.proofs.Addressed.{number_of_goes, in_of_ahead}
 use Rattle.convoy_sim.proofs.StampLaws.{finals_differ}
-use Rattle.convoy_sim.proofs.DeliveryTick.{in-ahead, in_of_ahead, delivery_law, never_negative}
+use Rattle.convoy_sim.proofs.DeliveryTick.{in-ahead, delivery_law, never_negative}
 use Rattle.convoy_sim.proofs.LatencyBounds.{order_law, within_four, lone_within_two}
 
 module _ (plan : Scenario) (delays : Schedule) (run : Run) (well : IsScenario plan) (is : IsRunOf plan delays run) where

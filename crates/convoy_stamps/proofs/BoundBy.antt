@@ -1,26 +1,18 @@
 -- A bound over some of the rivals: those may be left out that are not ahead of the target.
-use Rattle.std.proofs.Common.{◌≡◌, ℕ, ◌≤◌, Bool, true, not, nat_le, inl, inr, List, ◌∷◌, map, subst, arith}
+use Rattle.std.proofs.Common.{ℕ, ◌≤◌, Bool, not, nat_le, inl, inr, List, ◌∷◌, map, subst, arith}
 use Rattle.std.specs.List.{filter}
 use Rattle.std.proofs.lemmas.Bool.{le-leb, not_from_false}
 use Rattle.convoy_scenario.specs.Scenario.{Scenario, GoesTo}
 use Rattle.convoy_scenario.specs.WellFormed.{IsScenario}
 use Rattle.convoy_packets.specs.Assignment.{Schedule}
 use Rattle.convoy_sim.specs.Times.{greatest, arrive, settle}
-use Rattle.convoy_sim.specs.Stamps.{is_less, local_stamp, final_stamp}
 use Rattle.convoy_sim.specs.Delivery.{addressed_to, latency_at, latency_of}
 use Rattle.convoy_sim.specs.Laws.{ahead_of, DeliveryLaw, EarlierArrivesBeforeCommit}
 use Rattle.convoy_sim.proofs.Membership.{IsIn, in-filter, in_of_filter, in_greatest, greatest_most, greatest_mono}
-use Rattle.convoy_sim.proofs.Addressed.{in-addressed, goes_of_addressed}
+use Rattle.convoy_sim.proofs.Addressed.{in-addressed, in_of_ahead}
 use Rattle.convoy_intervals.specs.Bounds.{Tables, Encloses, tables_of, rivals, plain_bound_over, plain_bound}
 use Rattle.convoy_stamps.specs.StampBounds.{bound_by, is_surely_behind, stamp_bound}
 use Rattle.convoy_stamps.specs.Laws.{KeepsThoseAhead, StampBoundAtMostPlain}
-
--- what is ahead of a message at a group goes there with a lesser stamp
-in_of_ahead : (scenario : Scenario) (delays : Schedule) (n m g : ℕ) → IsIn n (ahead_of scenario delays m g)
-    → GoesTo scenario n g × (is_less (local_stamp scenario delays n g) (final_stamp scenario delays m) ≡ true)
-in_of_ahead scenario delays n m g i =
-    let r = in_of_filter (λ k. is_less (local_stamp scenario delays k g) (final_stamp scenario delays m)) n (addressed_to scenario g) i in
-    (goes_of_addressed scenario n g r.0, r.1)
 
 module _ (delivery : DeliveryLaw) (earlier : EarlierArrivesBeforeCommit) (scenario : Scenario) (delays : Schedule) (tables : Tables) (leaves_out : ℕ → Bool) (well : IsScenario scenario) (enclosed : Encloses scenario delays tables) (keeps : KeepsThoseAhead scenario delays leaves_out) where
   -- the target and the rivals that are not left out

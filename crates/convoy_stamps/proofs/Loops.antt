@@ -1,10 +1,11 @@
--- Loops over the first numbers, one number more at a time.
+-- Loops over the first numbers, one number more at a time. This file is open to the crates above.
 use Rattle.std.proofs.Common.{◌≡◌, ℕ, ◌+◌, zero, suc, max, Bool, true, false, ◌&&◌, cond, List, [], ◌∷◌, ◌++◌, map, filter, fold, length, flat_map, refl, sym, ap, ◌∙◌, arith}
 use Rattle.std.specs.List.{range_with_len}
 use Rattle.std.proofs.lemmas.List.{flat_map_more}
 use Rattle.std.proofs.lemmas.List.Elements.{filter-append}
 
-range_push : (from n : ℕ) → range_with_len from (suc n) ≡ range_with_len from n ++ (from + n) ∷ []
+-- one number more
+pub range_push : (from n : ℕ) → range_with_len from (suc n) ≡ range_with_len from n ++ (from + n) ∷ []
 range_push from zero = ap (λ k. k ∷ []) (omega arith)
 range_push from (suc n) =
     ap (λ ks. from ∷ ks) (range_push (from + 1) n ∙ ap (λ k. range_with_len (from + 1) n ++ k ∷ []) (omega arith))

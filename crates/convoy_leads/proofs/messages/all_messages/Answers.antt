@@ -1,7 +1,7 @@
 use Rattle.std.proofs.Common.{◌≡◌, ℕ, ◌+◌, suc, List, [], ◌∷◌, ◌++◌, length, sym, ap, ◌∙◌, arith}
 use Rattle.std.specs.List.{range_with_len}
 use Rattle.std.proofs.lemmas.List.FromFn.{length-range_with_len}
-use Rattle.convoy_leads.proofs.Loops.{range_push}
+use Rattle.convoy_stamps.proofs.Loops.{range_push}
 use Rattle.convoy_leads.proofs.messages.all_messages.Goals as goal
 
 pub push-requires-clause-room : goal.push-requires-clause-room
