@@ -1,34 +1,18 @@
 -- Worked rows, computed from the definitions alone.
-use Rattle.std.proofs.Common.{◌≡◌, ℕ, List, [], ◌∷◌, ◌++◌, replicate, refl, codes}
+use Rattle.std.proofs.Common.{◌≡◌, [], ◌∷◌, ◌++◌, replicate, refl, codes}
 use Rattle.std.specs.Fmt.{digits}
-use Rattle.convoy_scenario.specs.declared.sender.Sender.{Sender}
 use Rattle.convoy_scenario.specs.declared.sender.Sender.TheVariants.{Client, Group}
-use Rattle.convoy_scenario.specs.Scenario.{Message, Scenario}
+use Rattle.convoy_scenario.specs.Scenario.{Scenario}
 use Rattle.convoy_packets.specs.Packets.{packets_of}
 use Rattle.convoy_packets.specs.Assignment.{delay_of}
 use Rattle.convoy_sim.specs.Times.{arrive, settle}
 use Rattle.convoy_sim.specs.Moments.{moments_of}
 use Rattle.convoy_sim.specs.Stamps.{clocks_of, local_stamp, final_stamp}
 use Rattle.convoy_sim.specs.Delivery.{holds_back, deliver, latency_at, latency_of}
+use Rattle.convoy_sim.proofs.RowScenarios.{message, base_with, base, swapped}
 use Rattle.convoy_explain.specs.Causes.{holder_of, last_proposer, explanation_of}
 use Rattle.convoy_explain.specs.Explanations.{answered_text, awaited_text, commit_text, flight_text, holder_text, latency_text, sent_text, stamp_text, text_of, worst_text}
 use Rattle.convoy_explain.specs.PacketLists.{packet_line, packet_text, packets_text, scheduled_packets_text, taken_text}
-
-message : List ℕ → Sender → List ℕ → ℕ → Message
-message name sender destinations at =
-    record { name = name; sender = sender; destinations = destinations; at = at }
-
--- x from a client to b, t from a client to a and b, and y from a to a and b at tick 6
-base : Scenario
-base = record {
-  delay = 3;
-  groups = codes "a" ∷ codes "b" ∷ [];
-  links = [];
-  multicasts = message (codes "x") Client (1 ∷ []) 0 ∷ message (codes "t") Client (0 ∷ 1 ∷ []) 0
-      ∷ message (codes "y") (Group 0) (0 ∷ 1 ∷ []) 6 ∷ [];
-  target_message = 1;
-  target_group = 0;
-}
 
 -- the base with every packet's delay three ticks, where y holds t back
 base_threes : text_of base (explanation_of base (replicate 8 3)) 1 ≡
@@ -39,20 +23,8 @@ base_threes : text_of base (explanation_of base (replicate 8 3)) 1 ≡
     codes "  tick 6   a sends y to b, packet 5, 3 ticks" ++ 10 ∷ (
     codes "  tick 9   b proposes 3.b to a, packet 7, 3 ticks" ++ 10 ∷ (
     codes "no schedule is worse: 1 node, checked" ++ 10 ∷ ([])))))))
-unfolding base message packets_of delay_of arrive settle moments_of clocks_of local_stamp final_stamp holds_back deliver latency_at latency_of digits holder_of last_proposer explanation_of stamp_text flight_text latency_text commit_text holder_text awaited_text sent_text answered_text worst_text text_of
+unfolding base_with message packets_of delay_of arrive settle moments_of clocks_of local_stamp final_stamp holds_back deliver latency_at latency_of digits holder_of last_proposer explanation_of stamp_text flight_text latency_text commit_text holder_text awaited_text sent_text answered_text worst_text text_of
 base_threes = refl
-
--- the base with its groups in the other order, where nothing holds t back
-swapped : Scenario
-swapped = record {
-  delay = 3;
-  groups = codes "b" ∷ codes "a" ∷ [];
-  links = [];
-  multicasts = message (codes "x") Client (0 ∷ []) 0 ∷ message (codes "t") Client (0 ∷ 1 ∷ []) 0
-      ∷ message (codes "y") (Group 1) (0 ∷ 1 ∷ []) 6 ∷ [];
-  target_message = 1;
-  target_group = 1;
-}
 
 swapped_threes : text_of swapped (explanation_of swapped (replicate 8 3)) 1_469 ≡
     codes "t at a: at worst 6 ticks, from its issue at tick 0 to its delivery at tick 6" ++ 10 ∷ (
@@ -119,7 +91,7 @@ base_packets : packets_text base ≡
     codes "packet 5: y from a to b, 1 to 3 ticks" ++ 10 ∷ (
     codes "packet 6: proposal of y from a to b, 1 to 3 ticks" ++ 10 ∷ (
     codes "packet 7: proposal of y from b to a, 1 to 3 ticks" ++ 10 ∷ ([]))))))))
-unfolding base message packets_of digits packet_line packet_text packets_text taken_text
+unfolding base_with message packets_of digits packet_line packet_text packets_text taken_text
 base_packets = refl
 
 -- the message with a link from b to a of one tick, under a schedule

@@ -1,11 +1,11 @@
 -- Worked rows of leads, computed from the definitions alone.
-use Rattle.std.proofs.Common.{◌≡◌, ℕ, true, false, List, [], ◌∷◌, refl, codes}
-use Rattle.convoy_scenario.specs.declared.sender.Sender.{Sender}
+use Rattle.std.proofs.Common.{◌≡◌, true, false, List, [], ◌∷◌, refl, codes}
 use Rattle.convoy_scenario.specs.declared.sender.Sender.TheVariants.{Client, Group}
-use Rattle.convoy_scenario.specs.Scenario.{Link, Message, Scenario}
+use Rattle.convoy_scenario.specs.Scenario.{Link, Scenario}
 use Rattle.convoy_packets.specs.Packets.{packets_of}
 use Rattle.convoy_packets.specs.Assignment.{delay_of, ranges_of}
 use Rattle.convoy_sim.specs.Times.{arrive, settle}
+use Rattle.convoy_sim.proofs.RowScenarios.{message, base_with, base, swapped, raised_twice}
 use Rattle.convoy_intervals.specs.Boxes.{root_of}
 use Rattle.convoy_intervals.specs.Bounds.{plain_bound}
 use Rattle.convoy_leads.specs.Windows.{tables_by, windows_of}
@@ -13,41 +13,13 @@ use Rattle.convoy_leads.specs.SureLeads.{leads_of, sure_time}
 use Rattle.convoy_leads.specs.Leads.{is_led}
 use Rattle.convoy_leads.specs.Closing.{is_behind, closes_by_leads}
 
-message : List ℕ → Sender → List ℕ → ℕ → Message
-message name sender destinations at =
-    record { name = name; sender = sender; destinations = destinations; at = at }
-
--- the base scenario, where y may hold t back
-base : Scenario
-base = record {
-  delay = 3;
-  groups = codes "a" ∷ codes "b" ∷ [];
-  links = [];
-  multicasts = message (codes "x") Client (1 ∷ []) 0 ∷ message (codes "t") Client (0 ∷ 1 ∷ []) 0
-      ∷ message (codes "y") (Group 0) (0 ∷ 1 ∷ []) 6 ∷ [];
-  target_message = 1;
-  target_group = 0;
-}
-
 base_closes : closes_by_leads base (root_of base) 12 ≡ true
-unfolding base message packets_of ranges_of delay_of arrive settle leads_of sure_time is_led closes_by_leads
+unfolding base_with message packets_of ranges_of delay_of arrive settle leads_of sure_time is_led closes_by_leads
 base_closes = refl
 
 base_stays_open : closes_by_leads base (root_of base) 11 ≡ false
-unfolding base message packets_of ranges_of delay_of arrive settle leads_of sure_time is_led closes_by_leads
+unfolding base_with message packets_of ranges_of delay_of arrive settle leads_of sure_time is_led closes_by_leads
 base_stays_open = refl
-
--- the base with its groups in the order b, a
-swapped : Scenario
-swapped = record {
-  delay = 3;
-  groups = codes "b" ∷ codes "a" ∷ [];
-  links = [];
-  multicasts = message (codes "x") Client (0 ∷ []) 0 ∷ message (codes "t") Client (0 ∷ 1 ∷ []) 0
-      ∷ message (codes "y") (Group 1) (0 ∷ 1 ∷ []) 6 ∷ [];
-  target_message = 1;
-  target_group = 1;
-}
 
 swapped_closes : closes_by_leads swapped (root_of swapped) 6 ≡ true
 unfolding swapped message packets_of ranges_of delay_of arrive settle leads_of sure_time is_led closes_by_leads
@@ -56,19 +28,6 @@ swapped_closes = refl
 swapped_stays_open : closes_by_leads swapped (root_of swapped) 5 ≡ false
 unfolding swapped message packets_of ranges_of delay_of arrive settle leads_of sure_time is_led closes_by_leads
 swapped_stays_open = refl
-
--- groups c, a, b and messages u, v, t, w1, w2, n, with fifteen packets: u and v may raise the clock of a twice before t arrives there
-raised_twice : Scenario
-raised_twice = record {
-  delay = 3;
-  groups = codes "c" ∷ codes "a" ∷ codes "b" ∷ [];
-  links = [];
-  multicasts = message (codes "u") Client (1 ∷ 2 ∷ []) 0 ∷ message (codes "v") Client (1 ∷ 2 ∷ []) 0
-      ∷ message (codes "t") Client (0 ∷ 1 ∷ []) 5 ∷ message (codes "w1") (Group 0) (0 ∷ []) 9
-      ∷ message (codes "w2") (Group 0) (0 ∷ []) 9 ∷ message (codes "n") (Group 0) (0 ∷ 2 ∷ []) 10 ∷ [];
-  target_message = 2;
-  target_group = 0;
-}
 
 raised_twice_closes : closes_by_leads raised_twice (root_of raised_twice) 11 ≡ true
 unfolding raised_twice message packets_of ranges_of delay_of arrive settle leads_of sure_time is_led closes_by_leads

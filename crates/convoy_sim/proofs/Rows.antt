@@ -2,44 +2,14 @@
 use Rattle.std.proofs.Common.{◌≡◌, ℕ, List, [], ◌∷◌, length, replicate, refl, codes}
 use Rattle.convoy_scenario.specs.declared.sender.Sender.{Sender}
 use Rattle.convoy_scenario.specs.declared.sender.Sender.TheVariants.{Client, Group}
-use Rattle.convoy_scenario.specs.Scenario.{Message, Scenario}
+use Rattle.convoy_scenario.specs.Scenario.{Scenario}
 use Rattle.convoy_packets.specs.Packets.{packets_of}
 use Rattle.convoy_packets.specs.Assignment.{delay_of}
 use Rattle.convoy_sim.specs.Times.{arrive, settle}
 use Rattle.convoy_sim.specs.Moments.{moments_of}
 use Rattle.convoy_sim.specs.Stamps.{clocks_of, local_stamp, final_stamp}
 use Rattle.convoy_sim.specs.Delivery.{holds_back, deliver, latency_at, latency_of}
-
-message : List ℕ → Sender → List ℕ → ℕ → Message
-message name sender destinations at =
-    record { name = name; sender = sender; destinations = destinations; at = at }
-
--- the base scenario, with the tick at which y is issued
-base_with_y_at : ℕ → Scenario
-base_with_y_at at = record {
-  delay = 3;
-  groups = codes "a" ∷ codes "b" ∷ [];
-  links = [];
-  multicasts = message (codes "x") Client (1 ∷ []) 0 ∷ message (codes "t") Client (0 ∷ 1 ∷ []) 0
-      ∷ message (codes "y") (Group 0) (0 ∷ 1 ∷ []) at ∷ [];
-  target_message = 1;
-  target_group = 0;
-}
-
-base : Scenario
-base = base_with_y_at 6
-
--- the base with its groups in the order b, a
-swapped : Scenario
-swapped = record {
-  delay = 3;
-  groups = codes "b" ∷ codes "a" ∷ [];
-  links = [];
-  multicasts = message (codes "x") Client (0 ∷ []) 0 ∷ message (codes "t") Client (0 ∷ 1 ∷ []) 0
-      ∷ message (codes "y") (Group 1) (0 ∷ 1 ∷ []) 6 ∷ [];
-  target_message = 1;
-  target_group = 1;
-}
+use Rattle.convoy_sim.proofs.RowScenarios.{message, base_with, base_with_y_at, base, swapped, raised_twice}
 
 -- x arrives at b one tick before t, in its tick, or after it
 raced : Scenario
@@ -63,19 +33,6 @@ lone sender destinations = record {
   target_group = 0;
 }
 
--- u and v raise the clock of a, so that t has a stamp of time 4 and waits for n
-raised_twice : Scenario
-raised_twice = record {
-  delay = 3;
-  groups = codes "c" ∷ codes "a" ∷ codes "b" ∷ [];
-  links = [];
-  multicasts = message (codes "u") Client (1 ∷ 2 ∷ []) 0 ∷ message (codes "v") Client (1 ∷ 2 ∷ []) 0
-      ∷ message (codes "t") Client (0 ∷ 1 ∷ []) 5 ∷ message (codes "w1") (Group 0) (0 ∷ []) 9
-      ∷ message (codes "w2") (Group 0) (0 ∷ []) 9 ∷ message (codes "n") (Group 0) (0 ∷ 2 ∷ []) 10 ∷ [];
-  target_message = 2;
-  target_group = 0;
-}
-
 -- as many groups and messages as there may be, each message from a client to all groups
 largest : Scenario
 largest = record {
@@ -88,15 +45,15 @@ largest = record {
 }
 
 base_has_eight_packets : length (packets_of base) ≡ 8
-unfolding base base_with_y_at message packets_of
+unfolding base_with message packets_of
 base_has_eight_packets = refl
 
 base_ones : latency_of base (replicate 8 1) ≡ 2
-unfolding base base_with_y_at message packets_of delay_of arrive settle moments_of clocks_of local_stamp final_stamp holds_back deliver latency_at latency_of
+unfolding base_with message packets_of delay_of arrive settle moments_of clocks_of local_stamp final_stamp holds_back deliver latency_at latency_of
 base_ones = refl
 
 base_threes : latency_of base (replicate 8 3) ≡ 12
-unfolding base base_with_y_at message packets_of delay_of arrive settle moments_of clocks_of local_stamp final_stamp holds_back deliver latency_at latency_of
+unfolding base_with message packets_of delay_of arrive settle moments_of clocks_of local_stamp final_stamp holds_back deliver latency_at latency_of
 base_threes = refl
 
 swapped_threes : latency_of swapped (replicate 8 3) ≡ 6
@@ -104,16 +61,16 @@ unfolding swapped message packets_of delay_of arrive settle moments_of clocks_of
 swapped_threes = refl
 
 y_one_later : latency_of (base_with_y_at 7) (replicate 8 3) ≡ 6
-unfolding base_with_y_at message packets_of delay_of arrive settle moments_of clocks_of local_stamp final_stamp holds_back deliver latency_at latency_of
+unfolding base_with message packets_of delay_of arrive settle moments_of clocks_of local_stamp final_stamp holds_back deliver latency_at latency_of
 y_one_later = refl
 
 y_one_earlier : latency_of (base_with_y_at 5) (replicate 8 3) ≡ 11
-unfolding base_with_y_at message packets_of delay_of arrive settle moments_of clocks_of local_stamp final_stamp holds_back deliver latency_at latency_of
+unfolding base_with message packets_of delay_of arrive settle moments_of clocks_of local_stamp final_stamp holds_back deliver latency_at latency_of
 y_one_earlier = refl
 
 -- lesser delays, and a far lesser latency
 not_monotone : latency_of (base_with_y_at 5) (3 ∷ 3 ∷ 1 ∷ 3 ∷ 1 ∷ 3 ∷ 3 ∷ 3 ∷ []) ≡ 3
-unfolding base_with_y_at message packets_of delay_of arrive settle moments_of clocks_of local_stamp final_stamp holds_back deliver latency_at latency_of
+unfolding base_with message packets_of delay_of arrive settle moments_of clocks_of local_stamp final_stamp holds_back deliver latency_at latency_of
 not_monotone = refl
 
 -- a greater delay of x, and a lesser latency

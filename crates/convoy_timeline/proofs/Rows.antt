@@ -1,32 +1,16 @@
 -- Worked rows, computed from the definitions alone.
-use Rattle.std.proofs.Common.{◌≡◌, ℕ, List, [], ◌∷◌, ◌++◌, replicate, refl, codes}
+use Rattle.std.proofs.Common.{◌≡◌, [], ◌∷◌, ◌++◌, replicate, refl, codes}
 use Rattle.std.specs.Fmt.{digits}
-use Rattle.convoy_scenario.specs.declared.sender.Sender.{Sender}
 use Rattle.convoy_scenario.specs.declared.sender.Sender.TheVariants.{Client, Group}
-use Rattle.convoy_scenario.specs.Scenario.{Message, Scenario}
+use Rattle.convoy_scenario.specs.Scenario.{Scenario}
 use Rattle.convoy_packets.specs.Packets.{packets_of}
 use Rattle.convoy_packets.specs.Assignment.{delay_of}
 use Rattle.convoy_sim.specs.Times.{arrive, settle}
 use Rattle.convoy_sim.specs.Moments.{moments_of}
 use Rattle.convoy_sim.specs.Stamps.{clocks_of, local_stamp, final_stamp}
 use Rattle.convoy_sim.specs.Delivery.{holds_back, deliver}
+use Rattle.convoy_sim.proofs.RowScenarios.{message, base_with, base}
 use Rattle.convoy_timeline.specs.Timeline.{line_of, timeline_text}
-
-message : List ℕ → Sender → List ℕ → ℕ → Message
-message name sender destinations at =
-    record { name = name; sender = sender; destinations = destinations; at = at }
-
--- x from a client to b, t from a client to a and b, and y from a to a and b at tick 6
-base : Scenario
-base = record {
-  delay = 3;
-  groups = codes "a" ∷ codes "b" ∷ [];
-  links = [];
-  multicasts = message (codes "x") Client (1 ∷ []) 0 ∷ message (codes "t") Client (0 ∷ 1 ∷ []) 0
-      ∷ message (codes "y") (Group 0) (0 ∷ 1 ∷ []) 6 ∷ [];
-  target_message = 1;
-  target_group = 0;
-}
 
 -- the base with every packet's delay one tick
 base_ones : timeline_text base (replicate 8 1) ≡
@@ -35,7 +19,7 @@ base_ones : timeline_text base (replicate 8 1) ≡
     (codes "2 b commit t 2.b" ++ 10 ∷ (codes "2 a deliver t 2.b" ++ 10 ∷ (codes "2 b deliver t 2.b" ++ 10 ∷
     (codes "6 a propose y 3.a" ++ 10 ∷ (codes "7 b propose y 3.b" ++ 10 ∷ (codes "7 b commit y 3.b" ++ 10 ∷
     (codes "7 b deliver y 3.b" ++ 10 ∷ (codes "8 a commit y 3.b" ++ 10 ∷ (codes "8 a deliver y 3.b" ++ 10 ∷ []))))))))))))))
-unfolding base message packets_of delay_of arrive settle moments_of clocks_of local_stamp final_stamp holds_back deliver digits line_of timeline_text
+unfolding base_with message packets_of delay_of arrive settle moments_of clocks_of local_stamp final_stamp holds_back deliver digits line_of timeline_text
 base_ones = refl
 
 -- t waits at a for y, and the two are delivered there in one tick, in the order of their final stamps
