@@ -32,6 +32,7 @@ impl Model for Picture {
 
 impl Picture {
     /// The picture of the run of a scenario under a schedule; with the packet table of the scenario.
+    /// Fails where memory runs out, and else never.
     pub fn of(
         alloc: Global,
         scenario: &Scenario,

@@ -9,6 +9,7 @@ pub(crate) struct Rows {
 }
 
 impl Rows {
+    /// No row yet, and no limit to how many there may be.
     pub(crate) fn new(alloc: Global) -> Rows {
         Rows {
             ends: Vec::new(alloc),

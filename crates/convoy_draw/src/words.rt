@@ -51,6 +51,7 @@ pub(crate) fn stamp_text(
     format!(in alloc; "{}.{giver}", stamp.time)
 }
 
+/// The word that stands after a number of ticks.
 pub(crate) fn tick_word(count: u32) -> &'static str
     ensures { result.now ≡ tick_word count }
 {

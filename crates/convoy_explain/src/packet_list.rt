@@ -37,7 +37,8 @@ pub fn write_packets(
 }
 
 /// Appends the list of a scenario's packets as [`write_packets`] does, each line with the delay that
-/// a schedule of the scenario gives the packet, after `takes`.
+/// a schedule of the scenario gives the packet, after `takes`. Where memory runs out the vector is as
+/// it was.
 pub fn write_scheduled_packets(
     scenario: &Scenario,
     table: &PacketTable,

@@ -34,7 +34,7 @@ impl Model for DelayBox {
 
 impl DelayBox {
     /// The box in which each packet has its whole range: its members are the assignments of the
-    /// table's scenario.
+    /// table's scenario. Fails where memory runs out, and else never.
     pub fn root(alloc: Global, table: &PacketTable) -> Result<DelayBox, AllocError>
         ensures value { IfOk result (λ root. root ≡ table.now.ranges) }
         ensures is_box { (scenario : Scenario) → table.now ≡ table_of scenario
@@ -104,7 +104,8 @@ impl DelayBox {
         })
     }
 
-    /// The member of the box in which each packet takes the greatest time of its range.
+    /// The member of the box in which each packet takes the greatest time of its range. Fails where
+    /// memory runs out, and else never.
     pub fn greatest(&self, alloc: Global) -> Result<Delays, AllocError>
         ensures value { IfOk result (λ delays. delays ≡ greatest_of self.now) }
         ensures member { IfOk result (λ delays. IsIn self.now delays) }
@@ -113,7 +114,7 @@ impl DelayBox {
         Ok(Delays::from_vec(delays))
     }
 
-    /// A copy of the box.
+    /// A copy of the box. Fails where memory runs out, and else never.
     pub fn copy(&self) -> Result<DelayBox, AllocError>
         ensures { IfOk result (λ b. b ≡ self.now) }
     {

@@ -15,10 +15,12 @@ use convoy_sim::laws::arrives_within_one_delay;
 use std::alloc::{AllocError, Global};
 
 /// From when to when a message may arrive at a group, and be committed there, over the members of a
-/// box: the least and the greatest tick of each.
+/// box.
 #[derive(Clone, Copy, Debug, PartialEq, Eq)]
 pub struct Span {
+    /// The least and the greatest tick at which the message arrives.
     pub arrival: (u32, u32),
+    /// The least and the greatest tick at which it is committed.
     pub settling: (u32, u32),
 }
 

@@ -43,7 +43,7 @@ impl Model for Tracked {
 }
 
 impl Tracked {
-    /// The box in which each packet has its whole range.
+    /// The box in which each packet has its whole range. Fails where memory runs out, and else never.
     pub fn root(
         alloc: Global,
         scenario: &Scenario,
@@ -56,7 +56,8 @@ impl Tracked {
         Tracked::over(alloc, scenario, table, DelayBox::root(alloc, table)?)
     }
 
-    /// A box of the scenario, with all that is kept of it computed from the box.
+    /// A box of the scenario, with all that is kept of it computed from the box. Fails where memory
+    /// runs out, and else never; the box does not come back then.
     pub fn over(
         alloc: Global,
         scenario: &Scenario,
@@ -134,7 +135,7 @@ impl Tracked {
         })
     }
 
-    /// A copy of the box, with all that is kept of it.
+    /// A copy of the box, with all that is kept of it. Fails where memory runs out, and else never.
     pub fn copy(&self) -> Result<Tracked, AllocError>
         ensures { IfOk result (λ t. t ≡ self.now) }
     {

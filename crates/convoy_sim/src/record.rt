@@ -78,7 +78,7 @@ impl Record {
         self.scenario.copy()
     }
 
-    /// The same record again.
+    /// The same record again. Fails where memory runs out, and else never.
     pub fn copy(&self) -> Result<Record, AllocError>
         ensures { IfOk result (λ r. r ≡ self.now) }
     {

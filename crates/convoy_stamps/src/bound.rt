@@ -35,7 +35,8 @@ pub fn stamp_bound(
     stamp_bound_of(alloc, scenario, &tracked)
 }
 
-/// The same of a box that is tracked: what is kept of it is not computed again.
+/// The same of a box that is tracked: what is kept of it is not computed again. The error is that
+/// memory ran out.
 pub fn stamp_bound_of(
     alloc: Global,
     scenario: &Scenario,

@@ -11,7 +11,8 @@ use convoy_scenario::Scenario;
 use std::alloc::{AllocError, Global};
 use std::mem::swap;
 
-/// Each message of a scenario with each of its destinations. The error is that memory ran out.
+/// Each message of a scenario with each of its destinations: by the number of the message, and then in
+/// the order of its destinations. The error is that memory ran out.
 pub fn pairs_of(alloc: Global, scenario: &Scenario) -> Result<Vec<Pair>, AllocError>
     ensures { IfOk result (λ pairs. pairs.items ≡ pairs_of scenario.now) }
 {

@@ -38,17 +38,18 @@ impl EntryKind {
     }
 }
 
-/// What happens to a message at a group, at that tick and with that stamp: the local one where it is
-/// proposed, else the final one.
+/// What happens to a message at a group, at that tick and with that stamp.
 #[derive(Clone, Copy, Debug, PartialEq, Eq)]
 pub struct Entry {
     /// In ticks.
     pub tick: u32,
+    /// What happens.
     pub kind: EntryKind,
     /// The number of the message.
     pub message: usize,
     /// The number of the group.
     pub group: usize,
+    /// The local stamp where the message is proposed, else its final stamp.
     pub stamp: Timestamp,
 }
 

@@ -11,7 +11,7 @@ use convoy_sim::Run;
 use std::alloc::{AllocError, Global};
 
 /// What happens at each group in a run of the scenario, in the order of the timeline
-/// ([`write_timeline`]).
+/// ([`write_timeline`]). Fails where memory runs out, and else never.
 pub fn entries_of(alloc: Global, scenario: &Scenario, run: &Run) -> Result<Vec<Entry>, AllocError>
     ensures { (delays : List ℕ) → IsRunOf scenario.now delays run.now
         → IfOk result (λ entries. entries.items ≡ timeline_of scenario.now delays) }
