@@ -8,7 +8,7 @@ use Rattle.convoy_sim.specs.Stamps.{is_less, local_stamp, final_stamp}
 use Rattle.convoy_sim.specs.Delivery.{last_commit, addressed_to, holds_back, is_free, first_tick, deliver}
 use Rattle.convoy_sim.specs.Laws.{ahead_of, arrive_by, DeliveryIsLeast, DeliveryLaw, DeliveryBound, DeliveredByLastCommit, ArrivesAfterIssue, DeliveredAfterCommit, LatencyIsNeverNegative}
 use Rattle.convoy_scenario.specs.Scenario.{GoesTo}
-use Rattle.convoy_sim.proofs.Membership.{IsIn, in-filter, list_any_in, in_of_list_any, in_greatest, greatest_most, greatest_mono}
+use Rattle.convoy_sim.proofs.Membership.{IsIn, in-filter, list_any_in, in_of_list_any, in_greatest, greatest_most, greatest_of_fewer}
 use Rattle.convoy_sim.proofs.Addressed.{in-addressed, goes_of_addressed, in_of_ahead}
 use Rattle.convoy_sim.proofs.ScenarioMoments.{arrive_settle}
 use Rattle.convoy_sim.proofs.StampLaws.{earlier_arrives}
@@ -88,7 +88,7 @@ delivery_law plan delays well m g hm =
     let last : ℕ = last_commit plan delays g (m ∷ ahead_of plan delays m g) in
     let settled : ℕ = settle plan delays m g in
     let low : settled ≤ last = in_greatest (λ k. settle plan delays k g) m (m ∷ ahead_of plan delays m g) (inl refl) in
-    let high : last ≤ last_commit plan delays g (addressed_to plan g) = greatest_mono (λ k. settle plan delays k g) (m ∷ ahead_of plan delays m g) (addressed_to plan g)
+    let high : last ≤ last_commit plan delays g (addressed_to plan g) = greatest_of_fewer (λ k. settle plan delays k g) (m ∷ ahead_of plan delays m g) (addressed_to plan g)
     (λ n i. elim i [
       | inl e ↦ subst (λ k. IsIn k (addressed_to plan g)) e (in-addressed plan m g hm)
       | inr j ↦ in-addressed plan n g (in_of_ahead plan delays n m g j).0
@@ -111,7 +111,7 @@ delivery_is_least plan delays well m g hm =
 pub delivery_bound : DeliveryBound
 delivery_bound plan delays well m g hm =
     rw (delivery_law plan delays well m g hm)
-    (greatest_mono (λ k. settle plan delays k g) (m ∷ ahead_of plan delays m g) (m ∷ arrive_by plan delays m g)
+    (greatest_of_fewer (λ k. settle plan delays k g) (m ∷ ahead_of plan delays m g) (m ∷ arrive_by plan delays m g)
     (λ n i. elim i [
       | inl e ↦ inl e
       | inr j ↦
@@ -123,7 +123,7 @@ delivery_bound plan delays well m g hm =
 pub delivered_by_last : DeliveredByLastCommit
 delivered_by_last plan delays well m g hm =
     rw (delivery_law plan delays well m g hm)
-    (greatest_mono (λ k. settle plan delays k g) (m ∷ ahead_of plan delays m g) (addressed_to plan g)
+    (greatest_of_fewer (λ k. settle plan delays k g) (m ∷ ahead_of plan delays m g) (addressed_to plan g)
     (λ n i. elim i [
       | inl e ↦ subst (λ k. IsIn k (addressed_to plan g)) e (in-addressed plan m g hm)
       | inr j ↦ in-addressed plan n g (in_of_ahead plan delays n m g j).0

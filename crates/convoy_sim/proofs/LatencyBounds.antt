@@ -6,7 +6,7 @@ use Rattle.convoy_sim.specs.Times.{arrive, settle}
 use Rattle.convoy_sim.specs.Stamps.{final_stamp}
 use Rattle.convoy_sim.specs.Delivery.{last_commit, latency_at, latency_of}
 use Rattle.convoy_sim.specs.Laws.{ahead_of, OrderLaw, LatencyWithinFourDelays, LoneLatencyWithinTwoDelays, TargetLatencyWithinFourDelays}
-use Rattle.convoy_sim.proofs.Membership.{IsIn, greatest_most, greatest_mono}
+use Rattle.convoy_sim.proofs.Membership.{IsIn, greatest_most, greatest_of_fewer}
 use Rattle.convoy_sim.proofs.Addressed.{in_of_ahead}
 use Rattle.convoy_sim.proofs.MomentsOrder.{less_after, less_trans}
 use Rattle.convoy_sim.proofs.StampLaws.{earlier_arrives, not_greater}
@@ -17,7 +17,7 @@ use Rattle.convoy_sim.proofs.PacketDelays.{committed_within}
 pub order_law : OrderLaw
 order_law plan delays well m n less g hm hn =
     rw (delivery_law plan delays well m g hm, delivery_law plan delays well n g hn)
-    (greatest_mono (λ k. settle plan delays k g) (m ∷ ahead_of plan delays m g) (n ∷ ahead_of plan delays n g) ahead) where
+    (greatest_of_fewer (λ k. settle plan delays k g) (m ∷ ahead_of plan delays m g) (n ∷ ahead_of plan delays n g) ahead) where
       ahead : (k : ℕ) → IsIn k (m ∷ ahead_of plan delays m g) → IsIn k (n ∷ ahead_of plan delays n g)
       ahead k (inl e) = inr (subst (λ j. IsIn j (ahead_of plan delays n g)) e
           (in-ahead plan delays m n g hm (less_after _ (final_stamp plan delays m) _ (not_greater plan delays well m g hm) less)))

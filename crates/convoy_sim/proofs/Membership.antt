@@ -158,8 +158,8 @@ greatest_most f b xs h = fold_max_most 0 b (map f xs) (omega arith)
     (λ y i. let r = in_of_map f y xs i in subst (λ z. z ≤ b) r.2 (h r.0 r.1))
 
 -- the greatest over fewer elements is no greater
-pub greatest_mono : {X : Type 0} (f : X → ℕ) (xs ys : List X) → ((x : X) → IsIn x xs → IsIn x ys) → fold max 0 (map f xs) ≤ fold max 0 (map f ys)
-greatest_mono f xs ys h = greatest_most f _ xs (λ x i. in_greatest f x ys (h x i))
+pub greatest_of_fewer : {X : Type 0} (f : X → ℕ) (xs ys : List X) → ((x : X) → IsIn x xs → IsIn x ys) → fold max 0 (map f xs) ≤ fold max 0 (map f ys)
+greatest_of_fewer f xs ys h = greatest_most f _ xs (λ x i. in_greatest f x ys (h x i))
 
 fold_max_is : (a : ℕ) (xs : List ℕ) → (a ≡ fold max a xs) ⊎ IsIn (fold max a xs) xs
 fold_max_is a [] = inl refl

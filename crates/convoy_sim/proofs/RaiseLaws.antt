@@ -48,9 +48,9 @@ first_in s ms first rest c z run once e i = elim (cases_Bool (is_before z c)) [
   | inr f ↦ absurd (
       let back = not_first_in first rest c z (subst IsOrdered e run.ordered) i in
       let parts = before_total z c f back in
-      let zin : IsIn z ms = subst (IsIn z) (sym e) (in-append_left z first (c ∷ rest) i) in
-      let cin : IsIn c ms = subst (IsIn c) (sym e) (in-append_right c first (c ∷ rest) (inl refl)) in
-      let same : z ≡ c = run.same z c zin cin parts.1 parts.2 parts.3 in
+      let z_is_in : IsIn z ms = subst (IsIn z) (sym e) (in-append_left z first (c ∷ rest) i) in
+      let c_is_in : IsIn c ms = subst (IsIn c) (sym e) (in-append_right c first (c ∷ rest) (inl refl)) in
+      let same : z ≡ c = run.same z c z_is_in c_is_in parts.1 parts.2 parts.3 in
       once_in first rest c (subst IsOnce e once) (subst (λ w. IsIn w first) same i))
 ]
 

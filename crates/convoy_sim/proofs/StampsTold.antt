@@ -185,13 +185,13 @@ module _ (plan : Scenario) (well : IsScenario plan) (delays : List ℕ) where
         | inr e ↦ subst (λ d. AreTrue (done ++ d ∷ []) (with_moment table d)) e (true_commit done r.0 r.1 table r.2 told)
       ]
 
-  true_upto : (done mid rest : List Moment) (table : StampTable) → done ++ (mid ++ rest) ≡ moments_of plan delays
+  true_up_to : (done mid rest : List Moment) (table : StampTable) → done ++ (mid ++ rest) ≡ moments_of plan delays
       → AreTrue done table → AreTrue (done ++ mid) (with_moments table mid)
-  true_upto done [] rest table e told = subst (λ l. AreTrue l table) (sym (append_nothing done)) told
-  true_upto done (c ∷ mid) rest table e told =
+  true_up_to done [] rest table e told = subst (λ l. AreTrue l table) (sym (append_nothing done)) told
+  true_up_to done (c ∷ mid) rest table e told =
       let cuts : IsCut plan well delays done c (mid ++ rest) = record { whole = e } in
       subst (λ l. AreTrue l (with_moments table (c ∷ mid))) (append_assoc done (c ∷ []) mid)
-      (true_upto (done ++ c ∷ []) mid rest (with_moment table c) (cut_next plan well delays done c (mid ++ rest) cuts)
+      (true_up_to (done ++ c ∷ []) mid rest (with_moment table c) (cut_next plan well delays done c (mid ++ rest) cuts)
       (true_next done c (mid ++ rest) table cuts told))
 
   -- the tables when the moments before a given one have been read
@@ -200,7 +200,7 @@ module _ (plan : Scenario) (well : IsScenario plan) (delays : List ℕ) where
 
   pub true_before : (last : Moment) → AreTrue (before last (moments_of plan delays)) (stamps_before last)
   true_before last =
-      true_upto [] (before last (moments_of plan delays)) (from_on last (moments_of plan delays)) no_stamps
+      true_up_to [] (before last (moments_of plan delays)) (from_on last (moments_of plan delays)) no_stamps
       (cut last (moments_of plan delays) (moments_run plan well delays).ordered) true_at_start
 
   -- ---- what is ahead

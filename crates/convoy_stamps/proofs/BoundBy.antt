@@ -8,7 +8,7 @@ use Rattle.convoy_packets.specs.Assignment.{Schedule}
 use Rattle.convoy_sim.specs.Times.{greatest, arrive, settle}
 use Rattle.convoy_sim.specs.Delivery.{addressed_to, latency_at, latency_of}
 use Rattle.convoy_sim.specs.Laws.{ahead_of, DeliveryLaw, EarlierArrivesBeforeCommit}
-use Rattle.convoy_sim.proofs.Membership.{IsIn, in-filter, in_of_filter, in_greatest, greatest_most, greatest_mono}
+use Rattle.convoy_sim.proofs.Membership.{IsIn, in-filter, in_of_filter, in_greatest, greatest_most, greatest_of_fewer}
 use Rattle.convoy_sim.proofs.Addressed.{in-addressed, in_of_ahead}
 use Rattle.convoy_intervals.specs.Bounds.{Tables, Encloses, tables_of, rivals, plain_bound_over, plain_bound}
 use Rattle.convoy_stamps.specs.StampBounds.{bound_by, is_surely_behind, stamp_bound}
@@ -62,7 +62,7 @@ module _ (delivery : DeliveryLaw) (earlier : EarlierArrivesBeforeCommit) (scenar
 bound_by_le : (scenario : Scenario) (tables : Tables) (leaves_out : ℕ → Bool) → bound_by scenario tables leaves_out ≤ plain_bound_over scenario tables
 bound_by_le scenario tables leaves_out =
     let t : ℕ = scenario.target_message in
-    let fewer = greatest_mono (λ n. tables.greatest_settling n scenario.target_group)
+    let fewer = greatest_of_fewer (λ n. tables.greatest_settling n scenario.target_group)
     (t ∷ filter (λ n. not (leaves_out n)) (rivals scenario tables)) (t ∷ rivals scenario tables)
     (λ n i. elim i [ inl e ↦ inl e | inr j ↦ inr (in_of_filter (λ k. not (leaves_out k)) n (rivals scenario tables) j).0 ]) in
     omega arith
