@@ -7,11 +7,11 @@ use super::messages::Messages;
 use super::windows::Windows;
 use convoy_scenario::{MOST_GROUPS, MOST_MULTICASTS};
 
-/// Whether the arrival of message `z` at a tick is before that of message `q` at another.
-pub(crate) fn is_earlier(a: u32, z: usize, b: u32, q: usize) -> bool
-    ensures { result ≡ is_earlier a z b q }
+/// Whether the arrival of a message at a tick is before that of another message at another tick.
+pub(crate) fn is_earlier(tick: u32, message: usize, other_tick: u32, other: usize) -> bool
+    ensures { result ≡ is_earlier tick message other_tick other }
 {
-    a < b || (a == b && z < q)
+    tick < other_tick || (tick == other_tick && message < other)
 }
 
 /// Those of the messages to a group that surely arrive there after message `q`, which arrives there
