@@ -1,10 +1,10 @@
 -- What is kept of a long line of names.
-use Rattle.std.proofs.Common.{◌≡◌, ℕ, zero, suc, ◌≤◌, nat_le, ◌&&◌, Bool, true, false, List, [], ◌∷◌, ◌++◌, length, take, Option, Some, None, refl, ap, sym, subst, ◌∙◌, arith, inl, inr, append_assoc}
+use Rattle.std.proofs.Common.{◌≡◌, ℕ, zero, suc, ◌≤◌, nat_le, ◌&&◌, Bool, true, false, List, [], ◌∷◌, ◌++◌, length, take, Option, Some, None, refl, ap, sym, subst, ◌∙◌, arith, inl, inr}
 use Rattle.std.specs.List.{list_all}
 use Rattle.std.specs.Str.{bytes_eq}
 use Rattle.std.proofs.lemmas.Bool.{and_parts, and_from, cases_Bool, cases_lt, false≢true, false_from_ne_true, le-leb}
 use Rattle.std.proofs.lemmas.Cmp.{nat_list_eq_equiv}
-use Rattle.std.proofs.lemmas.List.{take_all, take-append-le, length-take-le, append-nil}
+use Rattle.std.proofs.lemmas.List.{take_all, take-append-le, length-take-le}
 use Rattle.std.proofs.lemmas.Map.Made.{length-le_from_is_member}
 use Rattle.convoy_scenario.specs.Checks.{is_among, all_differ, is_known_sender, knows}
 use Rattle.convoy_scenario.specs.Draft.{DraftMessage}
@@ -22,20 +22,8 @@ all_among groups names = list_all (λ name. is_among name groups) names
 abbrev pub keeps : List (List ℕ) → List (List ℕ) → List (List ℕ) → List (List ℕ)
 keeps groups kept names = alone_or_first (kept ++ names) (first_unknown groups names)
 
-pub keeps_all : (groups kept : List (List ℕ)) → length kept ≤ 9 → keeps groups kept [] ≡ kept
-keeps_all groups kept few = rw (append-nil kept) (take_all 9 kept few)
-
-pub keeps_unknown : (groups kept : List (List ℕ)) (name : List ℕ) (names : List (List ℕ)) → is_among name groups ≡ false → keeps groups kept (name ∷ names) ≡ name ∷ []
-keeps_unknown groups kept name names other = rw other refl
-
 known_next : (groups : List (List ℕ)) (name : List ℕ) (names all : List (List ℕ)) → is_among name groups ≡ true → alone_or_first all (first_unknown groups (name ∷ names)) ≡ alone_or_first all (first_unknown groups names)
 known_next groups name names all known = rw known refl
-
--- one more is kept
-pub keeps_next : (groups kept : List (List ℕ)) (name : List ℕ) (names : List (List ℕ)) → is_among name groups ≡ true → keeps groups kept (name ∷ names) ≡ keeps groups (kept ++ name ∷ []) names
-keeps_next groups kept name names known =
-    known_next groups name names (kept ++ name ∷ names) known
-    ∙ ap (λ all. alone_or_first all (first_unknown groups names)) (sym (append_assoc kept (name ∷ []) names))
 
 full : (groups kept front back : List (List ℕ)) (found : Option (List ℕ)) → 9 ≤ length kept → alone_or_first (kept ++ front) found ≡ alone_or_first (kept ++ back) found
 full groups kept front back None enough = take-append-le 9 kept front enough ∙ sym (take-append-le 9 kept back enough)
@@ -46,15 +34,9 @@ pub keeps_enough : (groups kept : List (List ℕ)) (name : List ℕ) (names : Li
 keeps_enough groups kept name names known enough =
     known_next groups name names (kept ++ name ∷ names) known ∙ full groups kept (name ∷ names) names (first_unknown groups names) enough
 
--- the first names, where there are enough, and where there are no more
+-- the first names, where there are enough
 pub first_enough : (kept more all : List (List ℕ)) → 9 ≤ length kept → length kept ≤ 9 → take 9 (kept ++ more) ≡ all → kept ≡ all
 first_enough kept more all enough few e = sym (take_all 9 kept few) ∙ sym (take-append-le 9 kept more enough) ∙ e
-
-pub first_all : (kept all : List (List ℕ)) → length kept ≤ 9 → take 9 (kept ++ []) ≡ all → kept ≡ all
-first_all kept all few e = sym (take_all 9 kept few) ∙ ap (take 9) (sym (append-nil kept)) ∙ e
-
-pub first_next : (kept : List (List ℕ)) (name : List ℕ) (names all : List (List ℕ)) → take 9 (kept ++ name ∷ names) ≡ all → take 9 ((kept ++ name ∷ []) ++ names) ≡ all
-first_next kept name names all e = ap (take 9) (append_assoc kept (name ∷ []) names) ∙ e
 
 -- ---- what is kept is known where all is
 
