@@ -1,6 +1,7 @@
 -- Worked rows: what the definitions of the reader give for some drafts, tables and texts.
-use Rattle.std.proofs.Common.{◌≡◌, refl, true, ℕ, pos, negsuc, List, [], ◌∷◌, Option, Some, None, Ok, Err, codes}
+use Rattle.std.proofs.Common.{◌≡◌, refl, true, ℕ, pos, negsuc, List, [], ◌∷◌, Option, Some, None, Result, Ok, Err, codes}
 use Rattle.toml.specs.Data.{Items, no_items, item, Members, no_members, member, string, integer, boolean, array, table}
+use Rattle.convoy_scenario.specs.declared.fault.ScenarioFault.{ScenarioFault}
 use Rattle.convoy_scenario.specs.declared.fault.ScenarioFault.TheVariants.{Shape, OverLimit, BadName, DoubleName, UnknownGroup, NoDestination, DoubleDestination, UnknownTarget, TargetNotAddressed, LinkToItself}
 use Rattle.convoy_scenario.specs.declared.fault.Key.TheVariants as key
 use Rattle.convoy_scenario.specs.declared.fault.Limit.TheVariants as limit
@@ -8,7 +9,7 @@ use Rattle.convoy_scenario.specs.declared.sender.Sender.TheVariants.{Client, Gro
 use Rattle.convoy_scenario.specs.Scenario.{Scenario, range_between}
 use Rattle.convoy_scenario.specs.Draft.{Draft, DraftLink}
 use Rattle.convoy_scenario.specs.Numbering.{scenario_of_draft}
-use Rattle.convoy_scenario.specs.Reading.{input_of_table, scenario_of_table}
+use Rattle.convoy_scenario.specs.Reading.{input_of_table, scenario_of_input}
 
 -- three ticks at most; x to b, t to b and a, y from a to both; t at a
 abbrev base : Draft
@@ -107,6 +108,10 @@ one message = item (table message) no_items
 
 abbrev odd : Members
 odd = member (codes "zone") (boolean true) no_members
+
+-- the scenario of a table
+abbrev scenario_of_table : Members → Result Scenario ScenarioFault
+scenario_of_table members = scenario_of_input (input_of_table members)
 
 table_read : scenario_of_table (top (one (message_table no_members)) (target_table no_members) no_members) ≡ Ok (record {
   delay = 3;

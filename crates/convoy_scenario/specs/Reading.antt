@@ -38,10 +38,6 @@ input_of_text text = table_of_text text >>= input_of_table
 abbrev pub scenario_of_input : Result InputView ScenarioFault → Result Scenario ScenarioFault
 scenario_of_input given = result_map_both (λ g. g.scenario) (λ fault. fault) given
 
--- the scenario of a table
-abbrev pub scenario_of_table : Members → Result Scenario ScenarioFault
-scenario_of_table table = scenario_of_input (input_of_table table)
-
 -- the scenario of a text
 abbrev pub scenario_of_text : List ℕ → Result Scenario ScenarioFault
 scenario_of_text text = scenario_of_input (input_of_text text)
