@@ -35,16 +35,13 @@ use Rattle.convoy_certificate.specs.Laws.{TextsAreRead}
 use Rattle.convoy_scenario.specs.Memory.{IsUnlessMemory}
 use Rattle.convoy_certificate.specs.Text.{is_stamp, is_lead, lines_version, version_of, version_line, latency_line, schedule_line, node_line, end_line, certificate_lines, certificate_text}
 use Rattle.convoy_certificate.proofs.Assigned.{passes}
-use Rattle.convoy_certificate.proofs.LineLaws.{WrittenGrounds, AreWords, AreLines, lines_append, decimal_word, number_again, line_made, label_again, number_line_again, lines_again, scenario_lines_are}
+use Rattle.convoy_certificate.proofs.LineLaws.{WrittenGrounds, AreWords, AreLines, latency_word, lines_append, decimal_word, number_again, line_made, label_again, number_line_again, lines_again, scenario_lines_are}
 use Rattle.convoy_certificate.proofs.NodeLaws.{neither, leads_more, split_word, split_again, lead_word, lead_again}
 
 -- ---- the schedule
 
 schedule_word : IsWord (codes "schedule")
 schedule_word = record { some = omega arith; spaceless = refl; endless = refl }
-
-latency_word : IsWord (codes "latency")
-latency_word = record { some = omega arith; spaceless = refl; endless = refl }
 
 -- delays that fit the form
 abbrev pub Small : List ℕ → Type 0

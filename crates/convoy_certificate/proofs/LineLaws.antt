@@ -1,5 +1,5 @@
 -- Words and lines: the laws on which the reading and the writing of a certificate rest, in the forms that are used here.
-use Rattle.std.proofs.Common.{◌≡◌, ℕ, ◌<◌, ◌≤◌, ◌^◌, List, [], ◌∷◌, ◌++◌, map, take, length, true, Option, Some, None, refl, ap, ◌∙◌, decimal, sym}
+use Rattle.std.proofs.Common.{◌≡◌, ℕ, ◌<◌, ◌≤◌, ◌^◌, List, [], ◌∷◌, ◌++◌, map, take, length, true, Option, Some, None, refl, ap, arith, ◌∙◌, codes, decimal, sym}
 use Rattle.std.specs.List.{AllByRecursion, flat_map}
 use Rattle.std.specs.Str.{bytes_eq}
 use Rattle.std.proofs.lemmas.List.{take_all}
@@ -17,6 +17,9 @@ use Rattle.convoy_lines.specs.Texts.{line_of, number_line, text_of}
 use Rattle.convoy_scenario.specs.Lines.{scenario_lines}
 use Rattle.convoy_scenario.specs.Scenario.{Scenario}
 use Rattle.convoy_scenario.specs.WellFormed.{IsScenario}
+
+pub latency_word : IsWord (codes "latency")
+latency_word = record { some = omega arith; spaceless = refl; endless = refl }
 
 -- ---- what is read
 

@@ -16,8 +16,7 @@ use Rattle.convoy_scenario.specs.LineReading.{form_at, scenario_at}
 use Rattle.convoy_lines.specs.Texts.{line_of}
 use Rattle.convoy_scenario.specs.Lines.{scenario_lines}
 use Rattle.convoy_scenario.specs.declared.line_fault.Expected.{Expected}
-use Rattle.convoy_lines.specs.Laws.{IsWord}
-use Rattle.convoy_certificate.proofs.LineLaws.{ReadGrounds, same_bytes}
+use Rattle.convoy_certificate.proofs.LineLaws.{ReadGrounds, latency_word, same_bytes}
 use Rattle.convoy_certificate.proofs.NodeLaws.{neither, leads_more, and_then_takes, map_takes, node_takes}
 use Rattle.convoy_certificate.specs.declared.certificate.TheConstants.{MOST_LEADS, MOST_NODES}
 use Rattle.convoy_certificate.specs.declared.node.Node.{Node}
@@ -72,9 +71,6 @@ took_at {A} expected form number rest (line ∷ lines) x e = by_value (form line
 
 took : {A : Type 0} (expected : Expected) (form : List ℕ → Option A) (p : Place) (x : A × Place) → in_text (form_at expected form p) ≡ Ok x → Took form p x
 took expected form p x e = took_at expected form p.number p.rest p.ended x e
-
-latency_word : IsWord (codes "latency")
-latency_word = record { some = omega arith; spaceless = refl; endless = refl }
 
 version_takes : (line : List ℕ) (version : Version) → version_in line ≡ Some version → line ≡ version_line version
 version_takes line version e =

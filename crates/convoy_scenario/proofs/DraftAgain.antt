@@ -18,6 +18,7 @@ use Rattle.convoy_scenario.specs.Numbering.{message_place, sender_of, link_of, m
 use Rattle.convoy_scenario.proofs.LineLaws.{itself, same_bytes}
 use Rattle.convoy_scenario.proofs.NumberedAgain.{any_at, apart, one_place, among_at, place_again, numbers_again, Rises, rises, above, among_named}
 use Rattle.convoy_scenario.proofs.LinkLemmas.{ticks_again, not_itself, before_all, stay}
+use Rattle.convoy_scenario.proofs.NumberedLemmas.{AllByRecursion-map, nothing}
 use Rattle.convoy_scenario.proofs.PlaceLemmas.{place_within, place_passes, find_place}
 
 -- ---- back to numbers
@@ -50,9 +51,6 @@ messages_again plan (m ∷ ms) distinct are =
 
 name_at : (plan : Scenario) (k : ℕ) → k < length plan.multicasts → (d : DraftMessage) → (get_or (map (draft_message plan) plan.multicasts) k d).name ≡ (message_at plan k).name
 name_at plan k within d = ap (λ (m : DraftMessage). m.name) (get_or-map (draft_message plan) plan.multicasts k no_message d within)
-
-abbrev nothing : DraftMessage
-nothing = record { name = []; sender = None; to = []; at = pos 0 }
 
 is_there : (plan : Scenario) → IsScenario plan → is_message (draft_for plan).target_message (draft_for plan).messages ≡ true
 is_there plan s =
@@ -158,10 +156,6 @@ differ : (names : List (List ℕ)) → IsDistinct bytes_eq names → all_differ 
 unfolding IsDistinct
 differ [] distinct = refl
 differ (n ∷ ns) distinct = and_from _ _ (none_of (bytes_eq n) ns distinct.0) (differ ns distinct.1)
-
-AllByRecursion-map : {A B : Type 0} (P : B → Type 0) (f : A → B) (xs : List A) → AllByRecursion (λ x. P (f x)) xs → AllByRecursion P (map f xs)
-AllByRecursion-map P f [] h = tt
-AllByRecursion-map P f (x ∷ xs) h = (h.0, AllByRecursion-map P f xs h.1)
 
 messages_are : (plan : Scenario) (ms : List Message) → IsDistinct (λ a b. bytes_eq a.name b.name) ms → messages_differ (map (draft_message plan) ms) ≡ true
 unfolding IsDistinct

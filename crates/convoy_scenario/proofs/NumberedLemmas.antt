@@ -96,7 +96,7 @@ groups_distinct (name ∷ names) h =
     let parts = and_parts (not (is_among name names)) (all_differ names) h in
     (apart (bytes_eq name) names parts.0, groups_distinct names parts.1)
 
-AllByRecursion-map : {A B : Type 0} (P : B → Type 0) (f : A → B) (xs : List A) → AllByRecursion (λ x. P (f x)) xs → AllByRecursion P (map f xs)
+pub AllByRecursion-map : {A B : Type 0} (P : B → Type 0) (f : A → B) (xs : List A) → AllByRecursion (λ x. P (f x)) xs → AllByRecursion P (map f xs)
 AllByRecursion-map P f [] h = tt
 AllByRecursion-map P f (x ∷ xs) h = (h.0, AllByRecursion-map P f xs h.1)
 
@@ -188,7 +188,8 @@ links_formed draft (link ∷ links) within ranges known other =
 target_is : (draft : Draft) (m : DraftMessage) → find (λ message. bytes_eq draft.target_message message.name) draft.messages ≡ Some m → is_target_addressed draft ≡ true → is_among draft.target_group m.to ≡ true
 target_is draft m e h = rw e at h
 
-abbrev nothing : DraftMessage
+-- a message of which nothing is written
+abbrev pub nothing : DraftMessage
 nothing = record { name = []; sender = None; to = []; at = pos 0 }
 
 -- a draft that passes the checks is a scenario

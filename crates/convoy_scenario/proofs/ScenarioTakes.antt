@@ -20,7 +20,7 @@ use Rattle.convoy_scenario.specs.Draft.{Draft, DraftLink, DraftMessage}
 use Rattle.convoy_scenario.specs.Scenario.{Scenario, Message, message_at, no_message}
 use Rattle.convoy_scenario.specs.WellFormed.{is_name, is_group_name, client_word, IsScenario}
 use Rattle.convoy_scenario.specs.Laws.{CanSay, IsBetween}
-use Rattle.convoy_scenario.specs.Checks.{Check, checks, judge, is_within, is_among, is_known_sender, knows, has_range, knows_link, is_message}
+use Rattle.convoy_scenario.specs.Checks.{checks, judge, is_within, is_among, is_known_sender, knows, has_range, knows_link, is_message}
 use Rattle.convoy_scenario.specs.Numbering as numbering
 use Rattle.convoy_scenario.specs.Numbering.{place, message_place, ticks, numbers_of, link_of, message_of, in_order, delay_of_draft, links_of_draft, scenario_of, scenario_of_draft}
 use Rattle.convoy_lines.specs.Texts.{line_of}
@@ -33,7 +33,7 @@ use Rattle.convoy_scenario.specs.LineReading.{form_at, is_link_due, links_in, li
 use Rattle.convoy_scenario.proofs.FormLaws.{Says, SaysLink, link_takes, message_takes, name_takes, names_take, groups_take, target_takes}
 use Rattle.convoy_scenario.proofs.LineLaws.{LineLaws, same_bytes, delay_word, number_line_takes}
 use Rattle.convoy_scenario.proofs.LinkLemmas.{placed, stay}
-use Rattle.convoy_scenario.proofs.NumberedLemmas.{scenario_formed}
+use Rattle.convoy_scenario.proofs.NumberedLemmas.{all_hold, nothing, scenario_formed}
 use Rattle.convoy_scenario.proofs.PlaceLemmas.{place_within, place_passes, name_at_place}
 
 -- ---- the destinations
@@ -316,16 +316,6 @@ all_ordered groups number (m ∷ ms) e =
 
 -- ---- the checks
 
-next_holds : (b : Bool) (fault : ScenarioFault) (rest : Result (Unit {0}) ScenarioFault) → cond b rest (Err fault) ≡ Ok tt → (b ≡ true) × (rest ≡ Ok tt)
-next_holds true fault rest h = (refl, h)
-next_holds false fault rest h = cc
-
-pub all_hold : (cs : List Check) → judge cs ≡ Ok tt → AllByRecursion (λ c. c.0 ≡ true) cs
-all_hold [] h = tt
-all_hold (c ∷ cs) h =
-    let next = next_holds c.0 c.1 (judge cs) h in
-    (next.0, all_hold cs next.1)
-
 of_draft : (r : Result (Unit {0}) ScenarioFault) (made plan : Scenario) → told (result_and r (Ok made)) ≡ Ok plan → (r ≡ Ok tt) × (made ≡ plan)
 of_draft (Ok u) made plan e = (refl, same_ok made plan e)
 of_draft (Err fault) made plan e = absurd cc
@@ -338,9 +328,6 @@ delay_is : (d : ℕ) → is_within 1 GREATEST_DELAY (pos d) ≡ true → decimal
 delay_is d e =
     let parts = and_parts (leb 1 d) (leb d GREATEST_DELAY) e in
     tick_is GREATEST_DELAY d (and_from (leb 0 d) (leb d GREATEST_DELAY) (le-leb 0 d (omega arith)) parts.1)
-
-abbrev nothing : DraftMessage
-nothing = record { name = []; sender = None; to = []; at = pos 0 }
 
 target_name : (draft : Draft) → is_message draft.target_message draft.messages ≡ true
     → (message_at (scenario_of draft) (message_place draft.target_message draft.messages)).name ≡ draft.target_message
@@ -430,9 +417,9 @@ scenario_takes laws version p x e =
     let same : (scenario_of draft, d.0.1) ≡ x = ap (λ (plan : Scenario). (plan, d.0.1)) (sure.1 ∙ link-order.1 ∙ order.1) ∙ same_ok (g.0, d.0.1) x g.2 in
     let all = all_hold (checks draft) sure.0 in
     let names = all.1.1.1.1.1 in
-    let refs = names.1.1.1.1.1 in
+    let references = names.1.1.1.1.1 in
     let some = groups_some b.0.0 names.0 in
-    let fine = each draft c.0.0 names.1.0 refs.0 all.1.1.1.0 (all_ordered b.0.0 k.0.1.number c.0.0 order.0) in
+    let fine = each draft c.0.0 names.1.0 references.0 all.1.1.1.0 (all_ordered b.0.0 k.0.1.number c.0.0 order.0) in
     let t-delay = took Delay (number_in (codes "delay")) p a.0 a.1 in
     let t-groups = took Groups groups_in a.0.1 b.0 b.1 in
     let t-links = links_take laws version 0 b.0.1.number b.0.1.rest b.0.1.ended k.0 k.1 in
@@ -443,12 +430,12 @@ scenario_takes laws version p x e =
     let stand = placed (delay_of_draft draft) None b.0.1.number (links_of_draft draft) link-order.0 in
     let kept : in_order (delay_of_draft draft) (links_of_draft draft) ≡ links_of_draft draft = stay (delay_of_draft draft) None (links_of_draft draft) stand.0 stand.1 in
     let links : t-links.lines ≡ map (link_line (scenario_of draft)) (scenario_of draft).links =
-    link_lines_are draft t-links.lines k.0.0 some all.0 all.1.1.1.1.0 refs.1.1.0 t-links.say ∙ ap (map (link_line (scenario_of draft))) (sym kept) in
+    link_lines_are draft t-links.lines k.0.0 some all.0 all.1.1.1.1.0 references.1.1.0 t-links.say ∙ ap (map (link_line (scenario_of draft))) (sym kept) in
     let lines = lines_are draft t-messages.lines c.0.0 some t-messages.say fine in
-    let target = target_takes laws t-target.line d.0.0 t-target.has (name_among d.0.0.0 c.0.0 refs.1.1.1.1.1.0 names.1.0) (among_some d.0.0.1 b.0.0 refs.1.0 some) in
+    let target = target_takes laws t-target.line d.0.0 t-target.has (name_among d.0.0.0 c.0.0 references.1.1.1.1.1.0 names.1.0) (among_some d.0.0.1 b.0.0 references.1.0 some) in
     let target-is : t-target.line ≡ target_line (scenario_of draft) =
-    target ∙ ap (λ w. line_of (codes "target") (w ∷ d.0.0.1 ∷ [])) (sym (target_name draft refs.1.1.1.1.1.0))
-    ∙ ap (λ w. line_of (codes "target") ((message_at (scenario_of draft) (scenario_of draft).target_message).name ∷ w ∷ [])) (sym (name_at_place d.0.0.1 b.0.0 refs.1.0)) in
+    target ∙ ap (λ w. line_of (codes "target") (w ∷ d.0.0.1 ∷ [])) (sym (target_name draft references.1.1.1.1.1.0))
+    ∙ ap (λ w. line_of (codes "target") ((message_at (scenario_of draft) (scenario_of draft).target_message).name ∷ w ∷ [])) (sym (name_at_place d.0.0.1 b.0.0 references.1.0)) in
     let stood : p.ended ≡ t-delay.line ∷ t-groups.line ∷ (t-links.lines ++ (t-messages.lines ++ t-target.line ∷ d.0.1.ended)) =
     t-delay.ended ∙ ap (λ ls. t-delay.line ∷ ls) (t-groups.ended ∙ ap (λ ls. t-groups.line ∷ ls) (t-links.before ∙ ap (λ ls. t-links.lines ++ ls) (t-messages.before ∙ ap (λ ls. t-messages.lines ++ ls) t-target.ended))) in
     let whole = made draft a.0.0 t-delay.line t-groups.line t-target.line t-links.lines t-messages.lines d.0.1.ended refl delay (delay_is a.0.0 all.0) groups links lines target-is in
