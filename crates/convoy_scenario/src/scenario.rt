@@ -163,12 +163,12 @@ impl Scenario {
         self.groups.len()
     }
 
-    /// The name of group g.
-    pub fn group_name(&self, g: usize) -> &str
-        requires { g < length self.now.groups }
-        ensures { result.now ≡ group_name_at self.now g }
+    /// The name of a group.
+    pub fn group_name(&self, group: usize) -> &str
+        requires { group < length self.now.groups }
+        ensures { result.now ≡ group_name_at self.now group }
     {
-        self.groups[g].as_str()
+        self.groups[group].as_str()
     }
 
     /// How many links there are whose range is not 1 to D.
@@ -207,43 +207,43 @@ impl Scenario {
         self.multicasts.len()
     }
 
-    /// The name of message m.
-    pub fn message_name(&self, m: usize) -> &str
-        requires { m < length self.now.multicasts }
-        ensures { result.now ≡ (message_at self.now m).name }
+    /// The name of a message.
+    pub fn message_name(&self, message: usize) -> &str
+        requires { message < length self.now.multicasts }
+        ensures { result.now ≡ (message_at self.now message).name }
     {
-        let message = &self.multicasts[m];
-        message.name.as_str()
+        let multicast = &self.multicasts[message];
+        multicast.name.as_str()
     }
 
-    /// Who sends message m.
-    pub fn sender(&self, m: usize) -> Sender
-        requires { m < length self.now.multicasts }
-        ensures value { result ≡ (message_at self.now m).sender }
+    /// Who sends a message.
+    pub fn sender(&self, message: usize) -> Sender
+        requires { message < length self.now.multicasts }
+        ensures value { result ≡ (message_at self.now message).sender }
         ensures lawful { IsScenario self.now }
     {
-        let message = &self.multicasts[m];
-        message.sender
+        let multicast = &self.multicasts[message];
+        multicast.sender
     }
 
-    /// The numbers of the groups that message m goes to, ascending.
-    pub fn destinations(&self, m: usize) -> &[usize]
-        requires { m < length self.now.multicasts }
-        ensures value { result.now ≡ (message_at self.now m).destinations }
+    /// The numbers of the groups that a message goes to, ascending.
+    pub fn destinations(&self, message: usize) -> &[usize]
+        requires { message < length self.now.multicasts }
+        ensures value { result.now ≡ (message_at self.now message).destinations }
         ensures lawful { IsScenario self.now }
     {
-        let message = &self.multicasts[m];
-        message.destinations.as_slice()
+        let multicast = &self.multicasts[message];
+        multicast.destinations.as_slice()
     }
 
-    /// The tick at which message m is issued.
-    pub fn issue_tick(&self, m: usize) -> u32
-        requires { m < length self.now.multicasts }
-        ensures value { result ≡ (message_at self.now m).at }
+    /// The tick at which a message is issued.
+    pub fn issue_tick(&self, message: usize) -> u32
+        requires { message < length self.now.multicasts }
+        ensures value { result ≡ (message_at self.now message).at }
         ensures lawful { IsScenario self.now }
     {
-        let message = &self.multicasts[m];
-        message.at
+        let multicast = &self.multicasts[message];
+        multicast.at
     }
 
     /// The number of the message of which the latency is asked.
