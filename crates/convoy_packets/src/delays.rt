@@ -80,14 +80,14 @@ impl Delays {
 
     /// Gives the packet at a place another delay, in ticks. A schedule within some ranges stays within
     /// them where the delay is in the one at that place.
-    pub fn set(&mut self, i: usize, delay: u16)
-        requires { i < length self.old }
-        ensures value { self.new ≡ slice_set self.old i delay }
+    pub fn set(&mut self, place: usize, delay: u16)
+        requires { place < length self.old }
+        ensures value { self.new ≡ slice_set self.old place delay }
         ensures within { (ranges : List (ℕ × ℕ)) → AreWithin ranges self.old
-            → IfSome (slice_get ranges i) (λ range. IsWithin range delay)
+            → IfSome (slice_get ranges place) (λ range. IsWithin range delay)
             → AreWithin ranges self.new }
     {
-        self.delays[i] = delay;
+        self.delays[place] = delay;
     }
 
     /// Takes over the delays of another schedule of as many packets.
@@ -119,12 +119,12 @@ impl Delays {
         self.delays.is_empty()
     }
 
-    /// The delay of the packet at place `i`, in ticks.
-    pub fn delay(&self, i: usize) -> u16
-        requires { i < length self.now }
-        ensures { result ≡ slice_index self.now i }
+    /// The delay of the packet at a place, in ticks.
+    pub fn delay(&self, place: usize) -> u16
+        requires { place < length self.now }
+        ensures { result ≡ slice_index self.now place }
     {
-        self.delays[i]
+        self.delays[place]
     }
 
     /// The delay of the packet at a place that was looked up, in ticks; 0 where there is none.

@@ -64,21 +64,21 @@ impl PacketTable {
         self.packets.is_empty()
     }
 
-    /// The packet at place `i`.
-    pub fn packet(&self, i: usize) -> Packet
-        requires { i < length self.now.packets }
-        ensures { slice_get self.now.packets i ≡ Some result }
+    /// The packet at a place.
+    pub fn packet(&self, place: usize) -> Packet
+        requires { place < length self.now.packets }
+        ensures { slice_get self.now.packets place ≡ Some result }
     {
-        self.packets[i]
+        self.packets[place]
     }
 
-    /// The least and the greatest delay of the packet at place `i`, in ticks.
-    pub fn range(&self, i: usize) -> (u16, u16)
-        requires { i < length self.now.packets }
-        ensures value { slice_get self.now.ranges i ≡ Some result }
+    /// The least and the greatest delay of the packet at a place, in ticks.
+    pub fn range(&self, place: usize) -> (u16, u16)
+        requires { place < length self.now.packets }
+        ensures value { slice_get self.now.ranges place ≡ Some result }
         ensures lawful { IsRange result }
     {
-        self.ranges[i]
+        self.ranges[place]
     }
 
     /// The least and the greatest delay of each packet, in ticks.

@@ -3,4 +3,4 @@ use Rattle.convoy_packets.proofs.delays.Delays.set.Goals as goal
 
 pub returns-clause-within : goal.returns-clause-within
 returns-clause-within c =
-    rw (← c.self.view_is) (λ ranges within here. AreWithin-set ranges c.self.inside.delays.items c.args.i c.args.delay (rw (← c.self.view_is) at c.requires) within here)
+    rw (← c.self.view_is) (λ ranges within here. AreWithin-set ranges c.self.inside.delays.items c.args.place c.args.delay (rw (← c.self.view_is) at c.requires) within here)
