@@ -169,6 +169,7 @@ fn has_lead(nodes: &[Node]) -> bool
     false
 }
 
+/// Whether a node is a lead leaf.
 pub(crate) fn is_lead(node: Node) -> bool
     ensures { result ≡ is_lead node }
 {

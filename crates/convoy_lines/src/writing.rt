@@ -4,7 +4,7 @@ ghost use Rattle.convoy_lines.specs.Texts.{ended, spaced, number_line};
 use itoa::Buffer;
 use std::alloc::AllocError;
 
-/// Appends a space and a word.
+/// Appends a space and a word. Where memory runs out, a front of the two may have been appended.
 pub fn push_further_word(text: &mut Vec<u8>, word: &str) -> Result<(), AllocError>
     ensures { OnOk result (text.new.items ≡ text.old.items ++ spaced word.now) }
 {
@@ -21,7 +21,8 @@ pub fn push_number(text: &mut Vec<u8>, number: u32) -> Result<(), AllocError>
     text.extend_from_slice(buffer.format(number).as_bytes())
 }
 
-/// Appends the line of a label and a number, and the byte 10 that ends it.
+/// Appends the line of a label and a number, and the byte 10 that ends it. Where memory runs out, a
+/// front of the line may have been appended.
 pub fn push_number_line(text: &mut Vec<u8>, label: &str, number: u32) -> Result<(), AllocError>
     ensures { OnOk result (text.new.items ≡ text.old.items ++ ended (number_line label.now number)) }
 {

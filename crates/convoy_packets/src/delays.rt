@@ -27,7 +27,8 @@ impl Model for Delays {
 }
 
 impl Delays {
-    /// The schedule in which each packet takes the least time that it may take.
+    /// The schedule in which each packet takes the least time that it may take. Fails where memory
+    /// runs out, and else never.
     pub fn least(alloc: Global, table: &PacketTable) -> Result<Delays, AllocError>
         ensures value { IfOk result (λ delays. delays ≡ least_of table.now.ranges) }
         ensures within { IfOk result (λ delays. AreWithin table.now.ranges delays) }
@@ -36,7 +37,8 @@ impl Delays {
         Ok(Delays { delays })
     }
 
-    /// The schedule in which each packet takes the greatest time that it may take.
+    /// The schedule in which each packet takes the greatest time that it may take. Fails where memory
+    /// runs out, and else never.
     pub fn greatest(alloc: Global, table: &PacketTable) -> Result<Delays, AllocError>
         ensures value { IfOk result (λ delays. delays ≡ greatest_of table.now.ranges) }
         ensures within { IfOk result (λ delays. AreWithin table.now.ranges delays) }
@@ -63,7 +65,7 @@ impl Delays {
         Ok(Delays { delays })
     }
 
-    /// The same schedule, in memory of its own.
+    /// The same schedule, in memory of its own. Fails where memory runs out, and else never.
     pub fn copy(&self) -> Result<Delays, AllocError>
         ensures { IfOk result (λ copy. copy ≡ self.now) }
     {

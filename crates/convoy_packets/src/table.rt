@@ -34,7 +34,7 @@ impl Model for PacketTable {
 }
 
 impl PacketTable {
-    /// The table of a scenario.
+    /// The table of a scenario. Fails where memory runs out, and else never.
     pub fn of(alloc: Global, scenario: &Scenario) -> Result<PacketTable, AllocError>
         ensures value { IfOk result (λ table. table ≡ table_of scenario.now) }
         ensures lawful { IfOk result (λ table. IsTable table) }

@@ -22,6 +22,7 @@ impl Model for Name {
 }
 
 impl Name {
+    /// The name with this text, good or not. Fails where memory runs out, and else never.
     pub fn new(alloc: Global, text: &str) -> Result<Name, AllocError>
         ensures { IfOk result (λ name. name ≡ text.now) }
     {
@@ -37,6 +38,7 @@ impl Name {
         Ok(Name { text })
     }
 
+    /// The text of the name.
     pub fn as_str(&self) -> &str
         ensures { result.now ≡ self.now }
     {

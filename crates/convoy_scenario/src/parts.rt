@@ -37,7 +37,9 @@ pub struct LinkParts<'a> {
     /// The group that sends, or none where a client does.
     pub sender: Option<&'a str>,
     pub to: &'a str,
+    /// The least delay, in ticks.
     pub least: u32,
+    /// The greatest delay, in ticks.
     pub most: u32,
 }
 
@@ -64,6 +66,7 @@ pub struct ScenarioParts<'a> {
     pub groups: &'a [&'a str],
     /// The links, in any order; between places without a link a packet takes 1 to `delay` ticks.
     pub links: &'a [LinkParts<'a>],
+    /// The messages, in the order of their numbers.
     pub messages: &'a [MessageParts<'a>],
     /// The name of the message of which the latency is asked.
     pub target_message: &'a str,
