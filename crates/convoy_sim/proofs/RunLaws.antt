@@ -1,5 +1,5 @@
 -- What a run tells is what the definitions say, so the laws of the definitions are laws of what it tells.
-use Rattle.std.proofs.Common.{◌≡◌, ℕ, ◌+◌, ◌*◌, ◌<◌, ◌≤◌, Bool, true, false, ◌⊎◌, inl, inr, ◌∷◌, length, Some, is_some, refl, sym, ap, subst, subst₂, ◌∙◌, arith}
+use Rattle.std.proofs.Common.{◌≡◌, ℕ, ◌+◌, ◌*◌, ◌<◌, ◌≤◌, true, inl, inr, ◌∷◌, length, Some, is_some, sym, ap, subst, subst₂, ◌∙◌, arith}
 use Rattle.std.proofs.lemmas.Bool.{cases_Bool, cases_eq}
 use Rattle.std.proofs.lemmas.Option.{none-some, same_Some, slice_get_within}
 use Rattle.convoy_scenario.specs.Scenario.{Scenario, GoesTo, message_at, is_addressed}
@@ -12,7 +12,7 @@ use Rattle.convoy_sim.specs.Stamps.{is_less, local_stamp, final_stamp}
 use Rattle.convoy_sim.specs.Delivery.{last_commit, deliver, latency_at, latency_of}
 use Rattle.convoy_sim.specs.Laws.{ahead_of}
 use Rattle.convoy_sim.specs.Run.{Run, IsRunOf, proposed_of, committed_of, delivered_of, final_stamp_of}
-use Rattle.convoy_sim.specs.RunLaws.{IsStampedBefore, IsAhead, IsAwaited, IsLastAwaited, IsAloneAt, KeepsLaws, RunsKeepTheLaws}
+use Rattle.convoy_sim.specs.RunLaws.{IsStampedBefore, IsAhead, IsAwaited, IsLastAwaited, IsAloneAt, RunsKeepTheLaws}
 use Rattle.convoy_sim.proofs.Membership.{IsIn, in_greatest, greatest_is_one}
 use Rattle.convoy_sim.proofs.Addressed.{number_of_goes, in_of_ahead}
 use Rattle.convoy_sim.proofs.StampLaws.{finals_differ}
