@@ -1,5 +1,5 @@
 -- How many bytes the lines of a certificate have at most, and its text.
-use Rattle.std.proofs.Common.{◌≡◌, ℕ, zero, suc, ◌+◌, ◌*◌, ◌<◌, ◌≤◌, ◌^◌, nat_le, nat_lt, ◌==◌, true, ◌&&◌, ◌||◌, not, Option, Some, None, List, [], ◌∷◌, ◌++◌, length, length-append, map, get_or, All, ap, ◌∙◌, add-one, arith, refl, codes, decimal}
+use Rattle.std.proofs.Common.{◌≡◌, ℕ, zero, suc, ◌+◌, ◌*◌, ◌<◌, ◌≤◌, ◌^◌, nat_le, nat_lt, ◌==◌, true, ◌&&◌, ◌||◌, not, Some, None, List, [], ◌∷◌, ◌++◌, length, length-append, map, get_or, All, ap, ◌∙◌, add-one, arith, refl, codes, decimal}
 use Rattle.std.specs.List.{AllByRecursion, flat_map, list_all}
 use Rattle.std.specs.List.Sorted.{IsStrictlyIncreasing}
 use Rattle.std.specs.Str.{bytes_eq}

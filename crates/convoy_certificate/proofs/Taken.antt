@@ -27,7 +27,7 @@ use Rattle.convoy_certificate.specs.declared.text_fault.TextFault.TheVariants as
 use Rattle.convoy_certificate.specs.Certificate.{Certificate}
 use Rattle.convoy_certificate.specs.Forms.{version_in, delays_in, schedule_in, node_in, node_or_end, greatest_number_of_delay}
 use Rattle.convoy_lines.specs.Results.{◌>>=◌}
-use Rattle.convoy_certificate.specs.Reading.{in_text, is_same_version, whole, is_assignment, leads_with, are_too_many, from_node, nodes_in, nodes_at, certificate_of, AreReadable, IsTextOf}
+use Rattle.convoy_certificate.specs.Reading.{in_text, is_same_version, whole, is_assignment, leads_with, are_too_many, from_node, nodes_in, nodes_at, certificate_of, IsTextOf}
 use Rattle.convoy_certificate.specs.Laws.{TextsAreKept}
 use Rattle.convoy_certificate.specs.Text.{is_lead, lines_version, version_of, version_line, latency_line, schedule_line, node_line, end_line, certificate_lines, certificate_text}
 
