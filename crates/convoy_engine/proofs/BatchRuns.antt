@@ -1,8 +1,7 @@
 -- How the run of a batch ends, from what was read so far and the blocks that went out.
 use Rattle.std.proofs.Common.{◌≡◌, inl, inr, ℕ, ◌+◌, ◌<◌, ◌≤◌, List, [], ◌∷◌, ◌++◌, length, get_or, take, drop, Ok, Err, refl, ap, sym, ◌∙◌, append_assoc, arith, length-append, take-append-drop}
 use Rattle.std.specs.List.{FoldsTo}
-use Rattle.std.proofs.lemmas.Grind.{flat_map-append}
-use Rattle.std.proofs.lemmas.List.{append-nil, take_more}
+use Rattle.std.proofs.lemmas.List.{take_more}
 use Rattle.std.proofs.lemmas.List.Elements.{All-nil, All-push}
 use Rattle.std.proofs.lemmas.Fn.{FoldsTo-push}
 use Rattle.convoy_jobs.specs.Jobs.{ended_jobs}
@@ -14,9 +13,9 @@ use Rattle.convoy_engine.specs.declared.fault.Fault.{Fault}
 use Rattle.convoy_engine.specs.declared.fault.Fault.TheVariants.{Read, Write, TooManyJobs, TooManyReads}
 use Rattle.convoy_engine.specs.Batches.{AnswersAll, IsBatchRun, ReadsAll, ReadsOn}
 use Rattle.convoy_engine.specs.BatchSteps.{EndsBatch, IsUnderWay, StopsAnswering}
-use Rattle.convoy_engine.specs.Devices.{Answer, Moved, Failed, HasRun, IsPiece, joined}
+use Rattle.convoy_engine.specs.Devices.{Answer, Moved, Failed, HasRun, IsPiece}
 use Rattle.convoy_engine.proofs.Blocks.{stops_among}
-use Rattle.convoy_engine.proofs.Pieces.{MovesPieces}
+use Rattle.convoy_engine.proofs.Pieces.{MovesPieces, joined_push, piece}
 
 -- one byte more of a piece
 pub byte_taken : (text piece : List ℕ) (i : ℕ) → i < length piece → (text ++ take i piece) ++ get_or piece i 0 ∷ [] ≡ text ++ take (i + 1) piece
@@ -38,13 +37,6 @@ stops_in_piece stay settings may_write start new text piece i fault below stop =
 pub no_blocks : {K : Type 0} (settings : Settings) (may_write : K → Answer → K → Type 0) (start : K) → HasRun may_write start start (AnswersAll settings [])
 no_blocks settings may_write start =
     record { answers = []; calls = refl; says = record { replies = []; allowed = tt; written = record { each = All-nil IsPiece; whole = refl } } }
-
-joined_push : (answers : List Answer) (bytes : List ℕ) → joined (answers ++ Moved bytes ∷ []) ≡ joined answers ++ bytes
-joined_push answers bytes = rw (flat_map-append, append-nil) refl
-
-piece : (bytes : List ℕ) → 0 < length bytes → IsPiece (Moved bytes)
-piece [] more = absurd (omega arith)
-piece (b ∷ bytes) more = tt
 
 module _ {S K : Type 0} (reads : S → Answer → S → Type 0) (writes : K → Answer → K → Type 0) (settings : Settings) (most count : ℕ) (source mid new : S) (sink now : K)
     (bytes : List ℕ) (batch : Batch) (p : MovesPieces reads source bytes count mid) (u : IsUnderWay settings writes sink now bytes batch) (below : count < most) where

@@ -21,11 +21,13 @@ pub record MovesPieces {S : Type 0} (step : S → Answer → S → Type 0) (old 
 pub no_pieces : {S : Type 0} (step : S → Answer → S → Type 0) (s : S) → MovesPieces step s [] 0 s
 no_pieces step s = record { answers = []; calls = refl; each = All-nil IsPiece; whole = refl; made = refl }
 
-piece : (bytes : List ℕ) → 0 < length bytes → IsPiece (Moved bytes)
+-- some bytes that were moved make a piece
+pub piece : (bytes : List ℕ) → 0 < length bytes → IsPiece (Moved bytes)
 piece [] more = absurd (omega arith)
 piece (b ∷ bytes) more = tt
 
-joined_push : (answers : List Answer) (bytes : List ℕ) → joined (answers ++ Moved bytes ∷ []) ≡ joined answers ++ bytes
+-- all bytes with those of one answer more
+pub joined_push : (answers : List Answer) (bytes : List ℕ) → joined (answers ++ Moved bytes ∷ []) ≡ joined answers ++ bytes
 joined_push answers bytes = rw (flat_map-append, append-nil) refl
 
 -- one more piece

@@ -11,26 +11,39 @@ use thiserror::Error;
 /// the texts of `Display` are for callers of the library alone.
 #[derive(Debug, Drop, Error)]
 pub enum Fault {
+    /// The bytes are not UTF-8, or the text is not TOML 1.1.
     #[error("the text is not TOML")]
     NotToml,
+    /// A key is absent, its value is of another kind, or the key is unknown. It names the key:
+    /// `Key::Unknown` for one that a scenario text may not have.
     #[error("a key is absent, unknown or of another kind: {0}")]
     Shape(Key),
+    /// A number of the scenario is outside its limits. It names the limit that is broken.
     #[error("over a limit: {0}")]
     OverLimit(Limit),
+    /// A name is not of 1 to `LONGEST_NAME` bytes of `a` to `z`, `0` to `9`, `_` and `-` with a
+    /// letter first, or a group is named `client`.
     #[error("a name is not a name")]
     BadName,
+    /// Two groups, or two messages, have one name, or two links lead from one sender to one group.
     #[error("a name is there twice")]
     DoubleName,
+    /// A sender, a destination, the target's group or an end of a link is no group.
     #[error("a group is not known")]
     UnknownGroup,
+    /// A message goes nowhere.
     #[error("a message has no destination")]
     NoDestination,
+    /// A message names a destination twice.
     #[error("a message has a destination twice")]
     DoubleDestination,
+    /// The target's message is no message.
     #[error("the target's message is not known")]
     UnknownTarget,
+    /// The target's message does not go to the target's group.
     #[error("the target's message does not go to its group")]
     TargetNotAddressed,
+    /// A link leads from a group to that group.
     #[error("a link leads from a group to itself")]
     LinkToItself,
     /// The schedule has not one delay for each packet.

@@ -97,7 +97,8 @@ impl Options {
         })
     }
 
-    /// The same options, of a search that starts from the best schedule that so many simulations find.
+    /// The same options, of a search that starts from the best schedule that so many simulations
+    /// find. The number is at most [`MOST_SIMULATIONS`], which it requires.
     pub fn seeking(self, simulations: u64) -> Options
         requires { simulations ≤ MOST_SIMULATIONS }
         ensures { result ≡ record self { simulations = simulations } }

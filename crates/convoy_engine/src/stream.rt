@@ -13,6 +13,7 @@ const MOST_TRIES: u32 = 1_000;
 /// the reader failed where it did, since none can say what a file or a terminal does.
 #[derive(Drop)]
 pub struct StreamSource<R> {
+    /// The reader. Each read of the source reads from it.
     pub reader: R,
 }
 
@@ -30,6 +31,7 @@ impl<R: Read> Source for StreamSource<R> {
 /// a read of a [`StreamSource`] is.
 #[derive(Drop)]
 pub struct StreamSink<W> {
+    /// The writer. Each write of the sink writes to it.
     pub writer: W,
 }
 
