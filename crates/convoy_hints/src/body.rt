@@ -37,7 +37,7 @@ impl fmt::Display for Line<'_> {
 }
 
 impl<'a> Body<'a> {
-    /// The body of a certificate of which so many bytes are at hand, all if it is whole; None where
+    /// The body of a certificate of which that many bytes are at hand, all if it is whole; None where
     /// its schedule is not among them.
     pub(crate) fn of(text: &'a [u8], is_whole: bool) -> Option<Body<'a>> {
         let text = std::str::from_utf8(text).ok()?;

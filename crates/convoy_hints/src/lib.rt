@@ -7,6 +7,7 @@ pub use certificate_hints::hint_for_certificate;
 pub use device_hints::{hint_for_jobs, hint_for_length, hint_for_reading, hint_for_writing};
 pub use job_hints::hint_for_batch;
 pub use scenario_hints::hint_for_scenario;
+pub use search_hints::{hint_for_leads, hint_for_tickets};
 pub use word_hints::hint_for_words;
 
 mod body;
@@ -28,6 +29,7 @@ mod references;
 mod refusal;
 mod scenario_hints;
 mod schedules;
+mod search_hints;
 mod shape;
 mod sketch;
 mod spot;

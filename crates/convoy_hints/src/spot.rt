@@ -5,7 +5,7 @@ pub(crate) struct Spot {
     pub(crate) column: usize,
 }
 
-/// The place after so many bytes of a text, or at its end.
+/// The place after that many bytes of a text, or at its end.
 pub(crate) fn spot_at(text: &[u8], offset: usize) -> Spot {
     let mut spot = Spot { line: 1, column: 1 };
     for byte in text.iter().take(offset) {

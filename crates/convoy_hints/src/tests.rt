@@ -1,5 +1,6 @@
 use super::{
-    hint_for_batch, hint_for_certificate, hint_for_length, hint_for_scenario, hint_for_words,
+    hint_for_batch, hint_for_certificate, hint_for_leads, hint_for_length, hint_for_scenario,
+    hint_for_tickets, hint_for_words,
 };
 use std::alloc::{AllocError, Global};
 
@@ -348,7 +349,7 @@ fn cut_trees(rt: HostRuntime) -> Result<(), AllocError> {
         ),
         (
             "24 split node 7",
-            "line 17 splits a packet that the scenario has not, or after a delay at which its range there can't be split",
+            "line 17 splits a packet that the scenario does not have, or after a delay at which its range there can't be split",
         ),
         ("25 tree count", ""),
         (
@@ -460,7 +461,7 @@ fn other_texts(rt: HostRuntime) -> Result<(), AllocError> {
     Ok(())
 }
 
-/// The hints for a batch of jobs with so many bytes at most.
+/// The hints for a batch of jobs with at most that many bytes.
 fn of_batch(alloc: Global, text: &str, whole: bool, longest: usize) -> Result<String, AllocError> {
     let hint = hint_for_batch(alloc, text.as_bytes(), whole, longest)?;
     Ok(hint.unwrap_or(String::new(alloc)))
@@ -531,6 +532,26 @@ fn command_lines(rt: HostRuntime) -> Result<(), AllocError> {
     ] {
         let hint = told(rt.alloc(), hint_for_words(rt.alloc(), words))?;
         assert_eq!(rt; hint.as_str(), want, "at {words:?}");
+    }
+    Ok(())
+}
+
+#[test]
+fn searches_that_do_not_end(rt: HostRuntime) -> Result<(), AllocError> {
+    let alloc = rt.alloc();
+    assert_eq!(rt;
+        hint_for_leads(alloc, 1)?.as_str(),
+        "hint: the search did not end with 1 ticket: with '--bounds lead' it mostly does\n"
+    );
+    assert_eq!(rt;
+        hint_for_tickets(alloc, 99_999, 100_000)?.as_str(),
+        "hint: the search did not end with 99999 tickets: '--limit' allows up to 100000 by leads\n"
+    );
+    for tickets in [100_000, 4_000_000] {
+        assert_eq!(rt;
+            hint_for_tickets(alloc, tickets, 100_000)?.as_str(),
+            "hint: the search did not end with 100000 tickets, the most by leads: no latency is above the second number\n"
+        );
     }
     Ok(())
 }

@@ -52,7 +52,7 @@ fn hint_for_split(
     let line = body.line_of(node);
     let Some((packet, at)) = line.text.and_then(|text| split_of(text)) else {
         let hint = format!(in alloc;
-            "{line} splits a packet that the scenario has not, or after a delay at which its range there can't be split"
+            "{line} splits a packet that the scenario does not have, or after a delay at which its range there can't be split"
         )?;
         return Ok(Some(hint));
     };
@@ -88,7 +88,7 @@ fn packets_of(alloc: Global, body: &Body<'_>) -> Result<Option<PacketTable>, All
     }
 }
 
-/// A line names a packet that is none of so many.
+/// A line names a packet that is none of that many.
 fn hint_for_packet(
     alloc: Global,
     line: &Line<'_>,

@@ -40,7 +40,7 @@ pub fn hint_for_words<S: AsStr>(alloc: Global, words: &[S]) -> Result<Option<Str
     Ok(Some(hint))
 }
 
-/// Whether a word is no option, and has a sign that files have in their names and commands have not.
+/// Whether a word is no option, and has a sign that files have in their names and commands do not.
 fn is_file(word: &str) -> bool {
     word == "-" || (!word.starts_with('-') && (word.contains('.') || word.contains('/')))
 }
