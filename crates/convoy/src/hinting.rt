@@ -1,13 +1,13 @@
 //! What the program writes to standard error, for people: a line before it waits for a terminal, and a
-//! hint where it has no answer (docs/HINTS.md).
+//! hint where it has no answer, or an open one (docs/HINTS.md).
 
 use super::judge::Verdict;
 use super::kept::{KeptReader, KeptWriter};
-use super::{NOT_VALID, REJECTED};
-use convoy_engine::{Command, Fault, LONGEST_CERTIFICATE, LONGEST_JOB, MOST_JOBS};
+use super::{NOT_VALID, OPEN, REJECTED};
+use convoy_engine::{Bounds, Command, Fault, LONGEST_CERTIFICATE, LONGEST_JOB, MOST_JOBS};
 use convoy_hints::{
-    hint_for_batch, hint_for_certificate, hint_for_jobs, hint_for_length, hint_for_reading,
-    hint_for_scenario, hint_for_words, hint_for_writing,
+    hint_for_batch, hint_for_certificate, hint_for_jobs, hint_for_leads, hint_for_length,
+    hint_for_reading, hint_for_scenario, hint_for_tickets, hint_for_words, hint_for_writing,
 };
 use std::alloc::{AllocError, Global};
 use std::convert::AsStr;
@@ -54,6 +54,7 @@ pub fn hint_for<R, W>(
             let (reader, line) = (ended.reader, ended.writer.text());
             hint_for_certificate(alloc, reader.text(), reader.is_whole(), line)
         }
+        Ok(OPEN) => hint_for_open(alloc, ended.verdict),
         Ok(_) => hint_for_answer(alloc, ended),
         Err(Fault::Memory | Fault::TooManyReads) => Ok(None),
         Err(Fault::Read) => match ended.reader.failure() {
@@ -73,6 +74,20 @@ pub fn hint_for<R, W>(
         Err(_) if ended.reader.is_whole() => hint_for_scenario(alloc, ended.reader.text()),
         Err(_) => Ok(None),
     }
+}
+
+/// The hint for a search that did not end.
+fn hint_for_open(alloc: Global, verdict: &Verdict) -> Result<Option<String>, AllocError> {
+    let Verdict::Run(Command::Analyse(options) | Command::Latency(options)) = verdict else {
+        return Ok(None);
+    };
+    let tickets = options.limit();
+    let bounds = options.bounds();
+    let hint = match bounds {
+        Bounds::Plain | Bounds::Stamp => hint_for_leads(alloc, tickets)?,
+        Bounds::Lead => hint_for_tickets(alloc, tickets, bounds.most_nodes() as u64)?,
+    };
+    Ok(Some(hint))
 }
 
 /// The hint for a run that gave its answer: the blocks of a batch have the faults of its jobs.

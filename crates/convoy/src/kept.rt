@@ -64,7 +64,7 @@ impl<R: Read> Read for KeptReader<R> {
     }
 }
 
-/// Keeps bytes, up to so many in all, and answers whether there was room for all.
+/// Keeps bytes, up to that many in all, and answers whether there was room for all.
 fn keep(text: &mut Vec<u8>, bytes: &[u8], most: usize) -> bool {
     let room = most.saturating_sub(text.len());
     let count = room.min(bytes.len());

@@ -119,7 +119,7 @@ impl<'a, R: Clock> Progress<'a, R> {
         }
     }
 
-    /// What is told after so many branches at that time.
+    /// What is told after that many branches at that time.
     fn line(&self, spent: u64, now: u64) -> Result<String, AllocError> {
         let limit = self.limit.load(Ordering::Relaxed);
         let least = self.least.load(Ordering::Relaxed);
