@@ -26,29 +26,29 @@ Decides-le : (a b : ℕ) → Decides (nat_le a b) (a ≤ b)
 Decides-le a b = (leb-true a b, le-leb a b)
 
 -- a test has no fault just where it says yes
-unless_none : (fault : Refused) (test : Bool) (Holds : Type 0) → Decides test Holds → (fault_unless test fault ≡ None) ↔ Holds
-unless_none fault true Holds decides = (λ none. decides.0 refl, λ holds. refl)
-unless_none fault false Holds decides =
+fault_unless_none : (fault : Refused) (test : Bool) (Holds : Type 0) → Decides test Holds → (fault_unless test fault ≡ None) ↔ Holds
+fault_unless_none fault true Holds decides = (λ none. decides.0 refl, λ holds. refl)
+fault_unless_none fault false Holds decides =
     (λ none. absurd cc, λ holds. let held = decides.1 holds in absurd cc)
 
 -- a node has no fault just where it is right over its box
 pub node_none : (plan : Scenario) (latency number : ℕ) (node : Node) (box : Box) → (node_fault plan latency number node box ≡ None) ↔ IsRight plan latency node box
 node_none plan latency number (Split packet at) box =
-    unless_none (refused.Split number) (can_split box packet at) (CanSplit box packet at) (Decides-can_split box packet at)
+    fault_unless_none (refused.Split number) (can_split box packet at) (CanSplit box packet at) (Decides-can_split box packet at)
 node_none plan latency number Bound box =
     let bound = plain_bound plan box in
-    unless_none (refused.BoundLeaf number bound) (nat_le bound latency) (bound ≤ latency) (Decides-le bound latency)
+    fault_unless_none (refused.BoundLeaf number bound) (nat_le bound latency) (bound ≤ latency) (Decides-le bound latency)
 node_none plan latency number Point box =
     let tried = latency_of plan (greatest_of box) in
     let low = nat_le tried latency in
-    unless_none (refused.PointLeaf number) (is_point box && low) (IsPoint box × (tried ≤ latency)) (Decides-and (is_point box) low (Decides-is_point box) (Decides-le tried latency))
+    fault_unless_none (refused.PointLeaf number) (is_point box && low) (IsPoint box × (tried ≤ latency)) (Decides-and (is_point box) low (Decides-is_point box) (Decides-le tried latency))
 node_none plan latency number Stamp box =
     let bound = stamp_bound plan box in
-    unless_none (refused.StampLeaf number bound) (nat_le bound latency) (bound ≤ latency) (Decides-le bound latency)
+    fault_unless_none (refused.StampLeaf number bound) (nat_le bound latency) (bound ≤ latency) (Decides-le bound latency)
 node_none plan latency number (Lead named) box =
     let low = nat_le named latency in
     let closed = closes_by_leads plan box named in
-    unless_none (refused.LeadLeaf number) (low && closed) ((named ≤ latency) × ClosesByLeads plan named box) (Decides-and low closed (Decides-le named latency) (λ holds. holds, λ holds. holds))
+    fault_unless_none (refused.LeadLeaf number) (low && closed) ((named ≤ latency) × ClosesByLeads plan named box) (Decides-and low closed (Decides-le named latency) (λ holds. holds, λ holds. holds))
 
 -- neither of two faults is there just where their first is not
 or_none : (first second : Option Refused) → (option_or first second ≡ None) ↔ (first ≡ None) × (second ≡ None)
