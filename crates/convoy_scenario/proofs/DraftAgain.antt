@@ -15,8 +15,7 @@ use Rattle.convoy_scenario.specs.WellFormed.{is_name, is_group_name, sender_plac
 use Rattle.convoy_scenario.specs.Checks.{Check, checks, judge, is_within, is_count, is_among, all_differ, is_known_sender, knows, is_message, messages_differ, is_named_alike, is_same_pair, links_differ, has_range, knows_link, leads_elsewhere, is_target_addressed}
 use Rattle.convoy_scenario.specs.Naming.{sender_name, draft_link, draft_message, draft_for}
 use Rattle.convoy_scenario.specs.Numbering.{message_place, sender_of, link_of, message_of, scenario_of, scenario_of_draft}
-use Rattle.convoy_scenario.proofs.LineLaws.{itself, same_bytes}
-use Rattle.convoy_scenario.proofs.NumberedAgain.{any_at, apart, one_place, among_at, place_again, numbers_again, Rises, rises, above, among_named}
+use Rattle.convoy_scenario.proofs.NumberedAgain.{itself, same_bytes, any_at, apart, one_place, among_at, place_again, numbers_again, Rises, rises, above, among_named}
 use Rattle.convoy_scenario.proofs.LinkLemmas.{ticks_again, not_itself, before_all, stay}
 use Rattle.convoy_scenario.proofs.NumberedLemmas.{AllByRecursion-map, nothing}
 use Rattle.convoy_scenario.proofs.PlaceLemmas.{place_within, place_passes, find_place}
@@ -82,7 +81,8 @@ known n g (d ∷ ds) all any =
 target_is : (plan : Scenario) → IsScenario plan → IsMulticast (length plan.groups) (message_at plan plan.target_message)
 target_is plan s = All-get_or (IsMulticast (length plan.groups)) plan.multicasts plan.target_message no_message s.target s.messages
 
-group_known : (plan : Scenario) → IsScenario plan → plan.target_group < length plan.groups
+-- the target's group is a group
+pub group_known : (plan : Scenario) → IsScenario plan → plan.target_group < length plan.groups
 group_known plan s = known (length plan.groups) plan.target_group (message_at plan plan.target_message).destinations (target_is plan s).known s.addressed
 
 pub draft_again : (plan : Scenario) → IsScenario plan → scenario_of (draft_for plan) ≡ plan

@@ -1,20 +1,18 @@
--- What is read, be it from a draft or from a text, is a well-formed scenario.
-use Rattle.std.proofs.Common.{◌≡◌, ℕ, List, Result, Ok, Err, refl, subst}
+-- What is made of a draft is a well-formed scenario, of which the target has the names of the draft.
+use Rattle.std.proofs.Common.{◌≡◌, Bool, Result, Ok, Err, true, get_or, refl, ap, sym, subst, ◌∙◌}
 use Rattle.std.specs.Result.{result_and}
+use Rattle.std.specs.Str.{bytes_eq}
+use Rattle.std.proofs.lemmas.List.{get_or-map}
 use Rattle.convoy_scenario.specs.declared.fault.ScenarioFault.{ScenarioFault}
-use Rattle.convoy_scenario.specs.Draft.{Draft}
-use Rattle.convoy_scenario.specs.Scenario.{Scenario}
+use Rattle.convoy_scenario.specs.Draft.{Draft, DraftMessage}
+use Rattle.convoy_scenario.specs.Laws.{IsNamedTarget}
+use Rattle.convoy_scenario.specs.Scenario.{Message, Scenario, message_at, no_message}
 use Rattle.convoy_scenario.specs.WellFormed.{IsScenario}
-use Rattle.convoy_scenario.specs.Checks.{checks, judge}
-use Rattle.convoy_scenario.specs.Numbering.{scenario_of, scenario_of_draft}
-use Rattle.convoy_lines.specs.Results.{◌>>=◌}
-use Rattle.convoy_scenario.specs.Shape.{written_of_table}
-use Rattle.convoy_scenario.specs.Reading.{InputView, table_of_text, input_of_written, input_of_table, input_of_text, scenario_of_input, scenario_of_text}
-use Rattle.convoy_scenario.proofs.NumberedLemmas.{scenario_formed}
-
-after_ok : {A B : Type 0} (r : Result A ScenarioFault) (f : A → Result B ScenarioFault) (y : B) → (r >>= f) ≡ Ok y → (x : A) × (r ≡ Ok x) × (f x ≡ Ok y)
-after_ok (Ok x) f y e = (x, refl, e)
-after_ok (Err fault) f y e = absurd cc
+use Rattle.convoy_scenario.specs.Checks.{checks, is_message, judge}
+use Rattle.convoy_scenario.specs.Numbering.{message_of, message_place, scenario_of, scenario_of_draft}
+use Rattle.convoy_scenario.proofs.NumberedAgain.{same_bytes}
+use Rattle.convoy_scenario.proofs.NumberedLemmas.{all_hold, nothing, scenario_formed}
+use Rattle.convoy_scenario.proofs.PlaceLemmas.{place_within, place_passes, name_at_place}
 
 same_ok : {A : Type 0} (x y : A) → ◌≡◌ {A = Result A ScenarioFault} (Ok x) (Ok y) → x ≡ y
 same_ok x y e = cc
@@ -28,19 +26,20 @@ of_draft draft scenario e =
     let p = passed (judge (checks draft)) (scenario_of draft) scenario e in
     subst IsScenario p.1 (scenario_formed draft p.0)
 
-input_has : (given : Result InputView ScenarioFault) (scenario : Scenario) → scenario_of_input given ≡ Ok scenario → (input : InputView) × (given ≡ Ok input) × (input.scenario ≡ scenario)
-input_has (Ok input) scenario e = (input, refl, same_ok input.scenario scenario e)
-input_has (Err fault) scenario e = absurd cc
+target_name : (draft : Draft) → is_message draft.target_message draft.messages ≡ true
+    → (message_at (scenario_of draft) (message_place draft.target_message draft.messages)).name ≡ draft.target_message
+target_name draft among =
+    let by_name : DraftMessage → Bool = λ m. bytes_eq draft.target_message m.name in
+    let t = message_place draft.target_message draft.messages in
+    let within = place_within by_name draft.messages among in
+    let stands : message_at (scenario_of draft) t ≡ message_of draft.groups (get_or draft.messages t nothing) = get_or-map (message_of draft.groups) draft.messages t nothing no_message within in
+    ap (λ (m : Message). m.name) stands ∙ sym (same_bytes draft.target_message (get_or draft.messages t nothing).name (place_passes by_name draft.messages nothing among))
 
-of_input : (text : List ℕ) (input : InputView) → input_of_text text ≡ Ok input → IsScenario input.scenario
-of_input text input e =
-    let table = after_ok (table_of_text text) input_of_table input e in
-    let written = after_ok (written_of_table table.0) input_of_written input table.2 in
-    let given = after_ok (scenario_of_draft written.0.draft) (λ scenario. Ok (record { scenario = scenario; schedule = written.0.schedule })) input written.2 in
-    let same : record { scenario = given.0; schedule = written.0.schedule } ≡ input = same_ok _ input given.2 in
-    subst (λ (i : InputView). IsScenario i.scenario) same (of_draft written.0.draft given.0 given.1)
-
-pub of_text : (text : List ℕ) (scenario : Scenario) → scenario_of_text text ≡ Ok scenario → IsScenario scenario
-of_text text scenario e =
-    let has = input_has (input_of_text text) scenario e in
-    subst IsScenario has.2 (of_input text has.0 has.1)
+pub named_target : (draft : Draft) (scenario : Scenario) → scenario_of_draft draft ≡ Ok scenario → IsNamedTarget draft scenario
+named_target draft scenario e =
+    let p = passed (judge (checks draft)) (scenario_of draft) scenario e in
+    let references = (all_hold (checks draft) p.0).1.1.1.1.1.1.1.1.1.1 in
+    subst (IsNamedTarget draft) p.1 (record {
+      message = target_name draft references.1.1.1.1.1.0;
+      group = name_at_place draft.target_group draft.groups references.1.0;
+    })

@@ -5,10 +5,16 @@ use Rattle.std.specs.List.Sorted.{IsStrictlyIncreasing}
 use Rattle.std.specs.Str.{bytes_eq}
 use Rattle.std.proofs.lemmas.Bool.{cases_Bool, cases_order, ne_eqb, eqb-true, eqb-false, or_right, false_from_ne_true, both_ways}
 use Rattle.std.proofs.lemmas.List.Elements.{All-head, All-tail}
+use Rattle.std.proofs.lemmas.Slice.Eq.{bytes_eq-Decides}
 use Rattle.convoy_scenario.specs.Checks.{is_among}
 use Rattle.convoy_scenario.specs.Numbering.{place, numbers_of}
-use Rattle.convoy_scenario.proofs.LineLaws.{itself, same_bytes}
 use Rattle.convoy_scenario.proofs.PlaceLemmas.{place_within, name_at_place}
+
+pub same_bytes : (xs ys : List ℕ) → bytes_eq xs ys ≡ true → xs ≡ ys
+same_bytes xs ys e = (bytes_eq-Decides xs ys).0 e
+
+pub itself : (xs : List ℕ) → bytes_eq xs xs ≡ true
+itself xs = (bytes_eq-Decides xs xs).1 refl
 
 pub any_at : {X : Type 0} (p : X → Bool) (xs : List X) (k : ℕ) (d : X) → k < length xs → p (get_or xs k d) ≡ true → list_any p xs ≡ true
 any_at p [] k d within e = absurd (omega arith)

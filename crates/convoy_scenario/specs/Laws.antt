@@ -1,18 +1,14 @@
--- What is proved of drafts, of scenario texts and of the lines of scenarios. Each is the one clause of the function of its name in the crate's module `laws`.
-use Rattle.std.specs.Prelude.{◌≡◌, ℕ, ◌+◌, ◌≤◌, ◌↔◌, List, [], ◌++◌, length, Ok, All}
+-- What is proved of drafts and of scenarios. Each is the one clause of the function of its name in the crate's module `laws`.
+use Rattle.std.specs.Prelude.{◌≡◌, ℕ, ◌<◌, ◌≤◌, false, List, [], length, slice_index_or, None, Ok, IsTrue}
+use Rattle.std.specs.List.{AllByRecursion, IsDistinct}
+use Rattle.std.specs.Str.{bytes_eq}
 use Rattle.convoy_scenario.specs.declared.limits.TheConstants.{MOST_LINKS}
-use Rattle.convoy_scenario.specs.declared.version.Version.{Version}
-use Rattle.convoy_scenario.specs.declared.version.Version.TheVariants.{One, Two}
-use Rattle.convoy_lines.specs.Laws.{IsLine}
-use Rattle.convoy_lines.specs.Places.{Place}
+use Rattle.convoy_scenario.specs.Checks.{Check, all_differ, is_among, judge}
 use Rattle.convoy_scenario.specs.Draft.{Draft}
-use Rattle.convoy_scenario.specs.LineReading.{scenario_at}
-use Rattle.convoy_scenario.specs.Lines.{scenario_lines}
 use Rattle.convoy_scenario.specs.Naming.{draft_for}
-use Rattle.convoy_scenario.specs.Numbering.{scenario_of_draft}
-use Rattle.convoy_scenario.specs.Reading.{scenario_of_text}
-use Rattle.convoy_scenario.specs.Scenario.{Scenario}
-use Rattle.convoy_scenario.specs.WellFormed.{IsScenario}
+use Rattle.convoy_scenario.specs.Numbering.{in_order, links_of_draft, place, scenario_of_draft}
+use Rattle.convoy_scenario.specs.Scenario.{Link, Scenario, group_name_at, message_at}
+use Rattle.convoy_scenario.specs.WellFormed.{IsScenario, ascend_after, is_whole}
 
 -- what is made of a draft is a well-formed scenario
 abbrev pub DraftsGiveScenarios : Type 0
@@ -22,31 +18,39 @@ DraftsGiveScenarios = (draft : Draft) (scenario : Scenario) → scenario_of_draf
 abbrev pub ScenariosHaveDrafts : Type 0
 ScenariosHaveDrafts = (scenario : Scenario) → IsScenario scenario → scenario_of_draft (draft_for scenario) ≡ Ok scenario
 
--- what a text is read as is a well-formed scenario
-abbrev pub TextsGiveScenarios : Type 0
-TextsGiveScenarios = (text : List ℕ) (scenario : Scenario) → scenario_of_text text ≡ Ok scenario → IsScenario scenario
+-- the links of a well-formed scenario are those of its draft, all of them and in their order
+abbrev pub LinksHaveDrafts : Type 0
+LinksHaveDrafts = (scenario : Scenario) → IsScenario scenario → links_of_draft (draft_for scenario) ≡ scenario.links
 
--- the lines of a well-formed scenario are lines
-abbrev pub ScenarioLinesAreLines : Type 0
-ScenarioLinesAreLines = (scenario : Scenario) → IsScenario scenario → All IsLine (scenario_lines scenario)
+-- the target's group is a group
+abbrev pub TargetsAreGroups : Type 0
+TargetsAreGroups = (scenario : Scenario) → IsScenario scenario → scenario.target_group < length scenario.groups
 
 -- a well-formed scenario has no more links than there are pairs of a sender and a group
 abbrev pub LinksAreFew : Type 0
 LinksAreFew = (scenario : Scenario) → IsScenario scenario → length scenario.links ≤ MOST_LINKS
 
--- the lines of a scenario stand between two places
-pub record IsBetween (scenario : Scenario) (place past : Place) : Type 0 where
-  pub ended : place.ended ≡ scenario_lines scenario ++ past.ended
-  pub rest : place.rest ≡ past.rest
-  pub number : place.number + length (scenario_lines scenario) ≡ past.number
+-- where no rule of a list has a fault, each of them holds
+abbrev pub JudgedRulesHold : Type 0
+JudgedRulesHold = (rules : List Check) → judge rules ≡ Ok tt → AllByRecursion (λ rule. IsTrue rule.0) rules
 
--- the lines of that version can say the scenario: those of version 1 say no link
-abbrev pub CanSay : Version → Scenario → Type 0
-CanSay One scenario = scenario.links ≡ []
-CanSay Two scenario = Unit {0}
+-- names of which no two are the same are distinct
+abbrev pub DifferentNamesAreDistinct : Type 0
+DifferentNamesAreDistinct = (names : List (List ℕ)) → IsTrue (all_differ names) → IsDistinct bytes_eq names
 
--- a scenario is read at a place, up to another, just where it is well formed, that version can say it, and its lines stand between the places
-abbrev pub ScenariosAreTheirLines : Type 0
-ScenariosAreTheirLines =
-    (version : Version) (scenario : Scenario) (place past : Place)
-    → (scenario_at version place ≡ Ok (scenario, past)) ↔ (IsScenario scenario × CanSay version scenario × IsBetween scenario place past)
+-- a name that is among others stands at its place
+abbrev pub NamesHavePlaces : Type 0
+NamesHavePlaces = (name : List ℕ) (names : List (List ℕ)) → IsTrue (is_among name names) → slice_index_or names (place name names) [] ≡ name
+
+-- the target of what is made of a draft has the names that are written there
+pub record IsNamedTarget (draft : Draft) (scenario : Scenario) : Type 0 where
+  pub message : (message_at scenario scenario.target_message).name ≡ draft.target_message
+  pub group : group_name_at scenario scenario.target_group ≡ draft.target_group
+
+abbrev pub TargetsAreNamed : Type 0
+TargetsAreNamed = (draft : Draft) (scenario : Scenario) → scenario_of_draft draft ≡ Ok scenario → IsNamedTarget draft scenario
+
+-- links that ascend, of which none has the whole range, stay as they are
+abbrev pub OrderedLinksStay : Type 0
+OrderedLinksStay =
+    (delay : ℕ) (links : List Link) → IsTrue (ascend_after None links) → AllByRecursion (λ link. is_whole delay link ≡ false) links → in_order delay links ≡ links

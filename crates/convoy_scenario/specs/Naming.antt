@@ -4,11 +4,17 @@ use Rattle.convoy_scenario.specs.declared.sender.Sender.{Sender}
 use Rattle.convoy_scenario.specs.declared.sender.Sender.TheVariants.{Client, Group}
 use Rattle.convoy_scenario.specs.Draft.{Draft, DraftLink, DraftMessage}
 use Rattle.convoy_scenario.specs.Scenario.{Scenario, Link, Message, message_at, group_name_at}
+use Rattle.convoy_scenario.specs.WellFormed.{client_word}
 
 -- a sender by name
 abbrev pub sender_name : Scenario → Sender → Option (List ℕ)
 sender_name scenario Client = None
 sender_name scenario (Group g) = Some (group_name_at scenario g)
+
+-- the word for a sender
+abbrev pub sender_word : Scenario → Sender → List ℕ
+sender_word scenario Client = client_word
+sender_word scenario (Group g) = group_name_at scenario g
 
 -- a message by names
 abbrev pub draft_message : Scenario → Message → DraftMessage

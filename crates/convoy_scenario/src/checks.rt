@@ -66,7 +66,7 @@ fn check_references(draft: &DraftScenario) -> Result<(), ScenarioFault>
     if !all_are_known(&draft.groups, &draft.multicasts) {
         return Err(ScenarioFault::UnknownGroup);
     }
-    if !is_among(&draft.target_group, &draft.groups) {
+    if !draft.target_group.is_among(&draft.groups) {
         return Err(ScenarioFault::UnknownGroup);
     }
     if !all_links_are_known(&draft.groups, &draft.links) {
@@ -121,13 +121,6 @@ fn message_names_are_good(multicasts: &[DraftMulticast]) -> bool
     multicasts.iter().all(|m| m.name.is_good())
 }
 
-/// Whether the name is one of these.
-pub fn is_among(name: &Name, names: &[Name]) -> bool
-    ensures { result ≡ is_among name.now names.now }
-{
-    names.iter().any(|other| name.is_same(other))
-}
-
 /// Whether the name is one of the messages' names.
 fn is_message(name: &Name, multicasts: &[DraftMulticast]) -> bool
     ensures { result ≡ is_message name.now multicasts.now }
@@ -141,7 +134,7 @@ fn all_differ(names: &[Name]) -> bool
 {
     let mut rest = names;
     while let Some((name, tail)) = rest.split_first() {
-        if is_among(name, tail) {
+        if name.is_among(tail) {
             return false;
         }
         rest = tail;
@@ -166,7 +159,7 @@ fn is_known_sender(groups: &[Name], sender: &Option<Name>) -> bool
     ensures { result ≡ is_known_sender groups.now sender.now }
 {
     match sender {
-        Some(name) => is_among(name, groups),
+        Some(name) => name.is_among(groups),
         None => true,
     }
 }
@@ -174,7 +167,7 @@ fn is_known_sender(groups: &[Name], sender: &Option<Name>) -> bool
 fn are_among(names: &[Name], groups: &[Name]) -> bool
     ensures { result ≡ list_all (λ name. is_among name groups.now) names.now }
 {
-    names.iter().all(|name| is_among(name, groups))
+    names.iter().all(|name| name.is_among(groups))
 }
 
 fn knows(groups: &[Name], multicast: &DraftMulticast) -> bool
@@ -205,7 +198,7 @@ fn is_target_addressed(draft: &DraftScenario) -> bool
     ensures { result ≡ is_target_addressed draft.now }
 {
     match find_message(&draft.target_message, &draft.multicasts) {
-        Some(multicast) => is_among(&draft.target_group, &multicast.to),
+        Some(multicast) => draft.target_group.is_among(&multicast.to),
         None => false,
     }
 }
@@ -268,7 +261,7 @@ fn links_differ(links: &[DraftLink]) -> bool
 fn knows_link(groups: &[Name], link: &DraftLink) -> bool
     ensures { result ≡ knows_link groups.now link.now }
 {
-    is_known_sender(groups, &link.sender) && is_among(&link.to, groups)
+    is_known_sender(groups, &link.sender) && link.to.is_among(groups)
 }
 
 fn all_links_are_known(groups: &[Name], links: &[DraftLink]) -> bool

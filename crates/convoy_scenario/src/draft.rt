@@ -1,13 +1,15 @@
 use super::name::Name;
 use std::marker::Model;
 
-/// A message as it is written.
+/// A message as it is written, with the names of groups in place of their numbers.
 #[derive(Debug, Drop)]
 pub struct DraftMulticast {
     pub name: Name,
     /// The group that sends it, or none where a client does.
     pub sender: Option<Name>,
+    /// The groups that it goes to, in the order in which they are written.
     pub to: Vec<Name>,
+    /// The tick at which it is issued, within the limits or not.
     pub at: i64,
 }
 
@@ -24,13 +26,16 @@ impl Model for DraftMulticast {
     } };
 }
 
-/// A link as it is written.
+/// A link as it is written: what goes from the sender to the group `to` takes `least` to `most` ticks,
+/// be these a range or not.
 #[derive(Debug, Drop)]
 pub struct DraftLink {
     /// The group that sends, or none where a client does.
     pub sender: Option<Name>,
     pub to: Name,
+    /// The least delay, in ticks.
     pub least: i64,
+    /// The greatest delay, in ticks.
     pub most: i64,
 }
 
@@ -47,14 +52,21 @@ impl Model for DraftLink {
     } };
 }
 
-/// A scenario as it is written, of the right shape and before any other rule is asked.
+/// A scenario as it is written, with names in place of numbers, before any rule is asked of it
+/// (docs/FORMATS.md, "Scenario text"). `Scenario::from_draft` makes the scenario of it.
 #[derive(Debug, Drop)]
 pub struct DraftScenario {
+    /// D, the greatest delay of a packet, in ticks.
     pub delay: i64,
+    /// The names of the groups, in the order of their numbers.
     pub groups: Vec<Name>,
+    /// The links, in any order.
     pub links: Vec<DraftLink>,
+    /// The messages, in the order of their numbers.
     pub multicasts: Vec<DraftMulticast>,
+    /// The name of the message of which the latency is asked.
     pub target_message: Name,
+    /// The name of the group at which it is asked.
     pub target_group: Name,
 }
 
@@ -70,25 +82,5 @@ impl Model for DraftScenario {
       messages = d.multicasts.items;
       target_message = d.target_message;
       target_group = d.target_group;
-    } };
-}
-
-/// What is written in a scenario text: the scenario, and the schedule where it is given.
-#[derive(Debug, Drop)]
-pub struct DraftInput {
-    pub scenario: DraftScenario,
-    /// The members of the array, whatever they are.
-    pub schedule: Option<Vec<i64>>,
-}
-
-impl Model for DraftInput {
-    ghost use Rattle.std.specs.Prelude.{option_map};
-    ghost use Rattle.convoy_scenario.specs.Shape.{Written};
-
-    ghost Value = { Written };
-
-    ghost view = { λ i. record {
-      draft = i.scenario;
-      schedule = option_map (λ delays. delays.items) i.schedule;
     } };
 }

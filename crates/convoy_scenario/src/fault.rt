@@ -87,7 +87,7 @@ pub enum ScenarioFault {
 
 impl Key {
     ghost use Rattle.std.specs.Prelude.{◌≡◌};
-    ghost use Rattle.convoy_scenario.specs.Shape.{key_word};
+    ghost use Rattle.convoy_scenario.specs.Keys.{key_word};
 
     /// The key as a scenario text has it, and `unknown` for any other.
     pub fn word(self) -> &'static str

@@ -1,13 +1,8 @@
-//! The laws of drafts, of scenario texts, of words, of lines and of the lines of scenarios. Each is
-//! the one clause of a function that does nothing; a caller that needs the law calls the function.
+//! The laws of drafts and of scenarios. Each is the one clause of a function that does nothing; a caller
+//! that needs the law calls the function.
 
-ghost use Rattle.convoy_scenario.specs.Laws.{DraftsGiveScenarios, ScenariosHaveDrafts, TextsGiveScenarios};
-ghost use Rattle.convoy_scenario.specs.Laws.{LinksAreFew, ScenarioLinesAreLines, ScenariosAreTheirLines};
-
-use convoy_lines::laws::{
-    decimals_are_words, labelled_lines, number_lines, numbers_are_decimals, words_make_lines,
-    words_of_lines,
-};
+ghost use Rattle.convoy_scenario.specs.Laws.{DraftsGiveScenarios, ScenariosHaveDrafts, LinksHaveDrafts, TargetsAreGroups, LinksAreFew};
+ghost use Rattle.convoy_scenario.specs.Laws.{JudgedRulesHold, DifferentNamesAreDistinct, NamesHavePlaces, TargetsAreNamed, OrderedLinksStay};
 
 /// What is made of a draft is a well-formed scenario.
 pub fn drafts_give_scenarios()
@@ -19,9 +14,14 @@ pub fn scenarios_have_drafts()
     ensures { ScenariosHaveDrafts }
 {}
 
-/// What a text is read as is a well-formed scenario.
-pub fn texts_give_scenarios()
-    ensures { TextsGiveScenarios }
+/// The links of a well-formed scenario are those of its draft, all of them and in their order.
+pub fn links_have_drafts()
+    ensures { LinksHaveDrafts }
+{}
+
+/// The target's group of a well-formed scenario is a group.
+pub fn targets_are_groups()
+    ensures { TargetsAreGroups }
 {}
 
 /// A well-formed scenario has at most `MOST_LINKS` links.
@@ -29,27 +29,27 @@ pub fn links_are_few()
     ensures { LinksAreFew }
 {}
 
-/// The lines of a well-formed scenario are lines: none has a byte 10 in it.
-pub fn scenario_lines_are_lines()
-    ensures { ScenarioLinesAreLines }
-{
-    numbers_are_decimals();
-    decimals_are_words();
-    words_of_lines();
-    words_make_lines();
-    labelled_lines();
-    number_lines();
-}
+/// Where no rule of a list has a fault, each of them holds.
+pub fn judged_rules_hold()
+    ensures { JudgedRulesHold }
+{}
 
-/// The lines of a well-formed scenario are read as that scenario, whatever comes after them, and no
-/// other lines are.
-pub fn scenarios_are_their_lines()
-    ensures { ScenariosAreTheirLines }
-{
-    numbers_are_decimals();
-    decimals_are_words();
-    words_of_lines();
-    words_make_lines();
-    labelled_lines();
-    number_lines();
-}
+/// Names of which no two are the same are distinct.
+pub fn different_names_are_distinct()
+    ensures { DifferentNamesAreDistinct }
+{}
+
+/// A name that is among others stands at its place.
+pub fn names_have_places()
+    ensures { NamesHavePlaces }
+{}
+
+/// The target of what is made of a draft has the names that are written there.
+pub fn targets_are_named()
+    ensures { TargetsAreNamed }
+{}
+
+/// Links that ascend, of which none has the whole range, stay as they are where they are put in order.
+pub fn ordered_links_stay()
+    ensures { OrderedLinksStay }
+{}

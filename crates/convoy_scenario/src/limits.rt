@@ -15,7 +15,3 @@ pub const GREATEST_AT: u32 = 1_000_000;
 
 /// How many bytes a name has at most.
 pub const LONGEST_NAME: usize = 16;
-
-/// How many names of one line a reader of lines keeps at most: one more than there are groups at most,
-/// so that a line with more names is one of no scenario, and the names kept of it show why.
-pub const MOST_KEPT_NAMES: usize = MOST_GROUPS + 1;

@@ -1,12 +1,14 @@
 ghost use Rattle.std.specs.Prelude.{◌≡◌, IfOk};
 ghost use Rattle.std.specs.Str.{bytes_eq};
+ghost use Rattle.convoy_scenario.specs.Checks.{is_among};
 ghost use Rattle.convoy_scenario.specs.WellFormed.{is_name, is_group_name, is_letter, is_name_byte};
 
 use super::limits::LONGEST_NAME;
 use std::alloc::{AllocError, Global};
 use std::marker::Model;
 
-/// A name as it is written, good or not.
+/// A name as it is written, be it one that a group or a message may have or not (docs/FORMATS.md,
+/// "Scenario text").
 #[derive(Debug, Drop)]
 pub struct Name {
     text: String,
@@ -22,7 +24,7 @@ impl Model for Name {
 }
 
 impl Name {
-    /// The name with this text, good or not. Fails where memory runs out, and else never.
+    /// The name with this text, whatever it is. Fails where memory runs out, and else never.
     pub fn new(alloc: Global, text: &str) -> Result<Name, AllocError>
         ensures { IfOk result (λ name. name ≡ text.now) }
     {
@@ -50,6 +52,13 @@ impl Name {
         ensures { result ≡ bytes_eq self.now other.now }
     {
         self.as_str() == other.as_str()
+    }
+
+    /// Whether this is one of the names.
+    pub fn is_among(&self, names: &[Name]) -> bool
+        ensures { result ≡ is_among self.now names.now }
+    {
+        names.iter().any(|other| self.is_same(other))
     }
 
     /// Whether a message may have this name.

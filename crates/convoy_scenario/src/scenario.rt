@@ -105,8 +105,12 @@ impl Scenario {
         Scenario::from_draft(alloc, parts.draft(alloc)?)
     }
 
-    /// The scenario of a draft, or the first rule that the draft breaks.
-    pub(crate) fn from_draft(alloc: Global, draft: DraftScenario) -> Result<Scenario, ScenarioFault>
+    /// The scenario of a draft, with numbers in place of names (docs/FORMATS.md, "Scenario text").
+    ///
+    /// Where the draft breaks rules, the answer is the fault of the first, in the order of
+    /// `ScenarioFault`, never `NotToml` or `Shape`; where memory runs out, it is
+    /// `ScenarioFault::Memory`, and says nothing of the draft.
+    pub fn from_draft(alloc: Global, draft: DraftScenario) -> Result<Scenario, ScenarioFault>
         ensures { IsUnlessMemory ScenarioFault.Memory (scenario_of_draft draft) result }
     {
         check(&draft)?;
@@ -135,7 +139,7 @@ impl Scenario {
         ensures { IfOk result (λ copy. copy ≡ self.now) }
     {
         let groups = copy_names(*self.groups.allocator(), &self.groups)?;
-        let links = copy_links(*self.links.allocator(), &self.links)?;
+        let links = Vec::from_slice(*self.links.allocator(), &self.links)?;
         let multicasts = copy_multicasts(*self.multicasts.allocator(), &self.multicasts)?;
         Ok(Scenario {
             delay: self.delay,
@@ -181,7 +185,7 @@ impl Scenario {
 
     /// The links whose range is not 1 to D, in ascending order: by sender, a client first, and then by
     /// the group that they lead to.
-    pub(crate) fn links(&self) -> &[Link]
+    pub fn links(&self) -> &[Link]
         ensures value { result.now ≡ self.now.links }
         ensures lawful { IsScenario self.now }
     {
@@ -270,17 +274,6 @@ fn copy_names(alloc: Global, names: &[Name]) -> Result<Vec<Name>, AllocError>
     let mut copies = Vec::with_capacity(alloc, names.len())?;
     for name in names {
         copies.push(name.copy()?)?;
-    }
-    Ok(copies)
-}
-
-/// The same links, in memory of their own.
-fn copy_links(alloc: Global, links: &[Link]) -> Result<Vec<Link>, AllocError>
-    ensures { IfOk result (λ copies. copies.items ≡ links.now) }
-{
-    let mut copies = Vec::with_capacity(alloc, links.len())?;
-    for link in links {
-        copies.push(link.copy())?;
     }
     Ok(copies)
 }

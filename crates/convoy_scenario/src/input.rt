@@ -1,9 +1,0 @@
-use super::scenario::Scenario;
-
-/// What a scenario text holds.
-#[derive(Debug, Drop)]
-pub struct Input {
-    pub scenario: Scenario,
-    /// The delays of one run in the order of the packets, where the text gives them.
-    pub schedule: Option<Vec<i64>>,
-}

@@ -1,0 +1,294 @@
+-- The lines of a scenario give with what is kept of them what they give whole.
+use Rattle.std.proofs.Common.{◌≡◌, ◌⊎◌, ℕ, ◌≤◌, nat_le, ◌&&◌, Bool, true, false, cond, List, [], ◌∷◌, length, map, take, Option, Some, None, ok_or, option_map, Result, Ok, Err, refl, ap, sym, ◌∙◌, arith, inl, inr, codes, leb-true}
+use Rattle.std.specs.List.{list_all}
+use Rattle.std.proofs.lemmas.Bool.{and_parts, cases_Bool, cases_lt, false≢true, false_from_ne_true}
+use Rattle.std.proofs.lemmas.List.{take_all, length-map, length-take-le}
+use Rattle.convoy_scenario.specs.declared.fault.ScenarioFault.{ScenarioFault}
+use Rattle.convoy_scenario.specs.declared.limits.TheConstants.{MOST_GROUPS, MOST_MULTICASTS}
+use Rattle.convoy_scenario_lines.specs.declared.line_fault.Expected.TheVariants.{Delay, Groups, Link, Multicast, Target}
+use Rattle.convoy_scenario_lines.specs.declared.line_fault.LineFault.{LineFault}
+use Rattle.convoy_scenario_lines.specs.declared.line_fault.LineFault.TheVariants as faults
+use Rattle.convoy_scenario_lines.specs.declared.version.Version.{Version}
+use Rattle.convoy_lines.specs.Labels.{number_in}
+use Rattle.convoy_lines.specs.Places.{Place, line_at, past_line}
+use Rattle.convoy_lines.specs.Results.{◌>>=◌}
+use Rattle.convoy_scenario.specs.Checks.{Check, is_count, all_differ, is_message, messages_differ, knows, is_target_addressed, checks, judge}
+use Rattle.convoy_scenario.specs.Draft.{Draft, DraftLink, DraftMessage}
+use Rattle.convoy_scenario.specs.Laws.{DifferentNamesAreDistinct, JudgedRulesHold}
+use Rattle.convoy_scenario_lines.specs.Keeping.{kept_groups, kept_message, kept_groups_in, kept_multicast_in, kept_messages_at, kept_scenario_at}
+use Rattle.convoy_scenario_lines.specs.LineForms.{groups_in, multicast_in, target_in}
+use Rattle.convoy_scenario_lines.specs.LineReading.{form_at, links_at, messages_at, draft_of, told, first_misplaced_link, first_unordered, where_ordered, scenario_at}
+use Rattle.convoy_scenario.specs.Numbering.{scenario_of_draft}
+use Rattle.convoy_scenario.specs.Scenario.{Scenario}
+use Rattle.convoy_scenario_lines.proofs.KeptNames.{knows_kept, differ_kept, kept_same, some_kept}
+
+-- ---- the checks
+
+-- a draft with what is kept of its messages, where these are the groups that are kept
+abbrev kept_by : List (List ℕ) → Draft → Draft
+kept_by groups draft = record {
+  delay = draft.delay;
+  groups = groups;
+  links = draft.links;
+  messages = map (kept_message groups) draft.messages;
+  target_message = draft.target_message;
+  target_group = draft.target_group;
+}
+
+abbrev kept_draft : Draft → Draft
+kept_draft draft = kept_by (kept_groups draft.groups) draft
+
+-- each rule holds where the other does, and has its fault, as long as the rules before them hold
+abbrev Alike : List Check → List Check → Type 0
+Alike [] [] = Unit {0}
+Alike (b ∷ bs) (c ∷ cs) = (b.0 ≡ c.0) × (b.1 ≡ c.1) × (c.0 ≡ true → Alike bs cs)
+Alike [] (c ∷ cs) = ⊥
+Alike (b ∷ bs) [] = ⊥
+
+next_same : (b c : Bool) (f g : ScenarioFault) (x y : Result (Unit {0}) ScenarioFault) → b ≡ c → f ≡ g → (c ≡ true → x ≡ y) → cond b x (Err f) ≡ cond c y (Err g)
+next_same b true f g x y e same-fault same = rw e (same refl)
+next_same b false f g x y e same-fault same = rw e (ap (λ (fault : ScenarioFault). Err fault) same-fault)
+
+same_judged : (bs cs : List Check) → Alike bs cs → judge bs ≡ judge cs
+same_judged [] [] alike = refl
+same_judged (b ∷ bs) (c ∷ cs) alike = next_same b.0 c.0 b.1 c.1 (judge bs) (judge cs) alike.0 alike.1 (λ holds. same_judged bs cs (alike.2 holds))
+same_judged [] (c ∷ cs) alike = absurd alike
+same_judged (b ∷ bs) [] alike = absurd alike
+
+all_same : (p q : DraftMessage → Bool) (f : DraftMessage → DraftMessage) (ms : List DraftMessage) → ((m : DraftMessage) → p (f m) ≡ q m) → list_all p (map f ms) ≡ list_all q ms
+all_same p q f [] same = refl
+all_same p q f (m ∷ ms) same = rw (same m, all_same p q f ms same) refl
+
+all_same_where : (r p q : DraftMessage → Bool) (f : DraftMessage → DraftMessage) (ms : List DraftMessage) → list_all r ms ≡ true → ((m : DraftMessage) → r m ≡ true → p (f m) ≡ q m) → list_all p (map f ms) ≡ list_all q ms
+all_same_where r p q f [] holds same = refl
+all_same_where r p q f (m ∷ ms) holds same =
+    let parts = and_parts (r m) (list_all r ms) holds in
+    rw (same m parts.0, all_same_where r p q f ms parts.1 same) refl
+
+named_same : (groups : List (List ℕ)) (name : List ℕ) (ms : List DraftMessage) → is_message name (map (kept_message groups) ms) ≡ is_message name ms
+named_same groups name [] = refl
+named_same groups name (m ∷ ms) = rw (named_same groups name ms) refl
+
+differ_same : (groups : List (List ℕ)) (ms : List DraftMessage) → messages_differ (map (kept_message groups) ms) ≡ messages_differ ms
+differ_same groups [] = refl
+differ_same groups (m ∷ ms) = rw (named_same groups m.name ms, differ_same groups ms) refl
+
+-- all that is known and differs is kept
+whole : (distinct : DifferentNamesAreDistinct) (groups : List (List ℕ)) (ms : List DraftMessage) → length groups ≤ 8 → list_all (knows groups) ms ≡ true → list_all (λ m. all_differ m.to) ms ≡ true → map (kept_message groups) ms ≡ ms
+whole distinct groups [] few known differ = refl
+whole distinct groups (m ∷ ms) few known differ =
+    let a = and_parts (knows groups m) (list_all (knows groups) ms) known in
+    let b = and_parts (all_differ m.to) (list_all (λ x. all_differ x.to) ms) differ in
+    let first = kept_same distinct groups m few a.0 b.0 in
+    let rest = whole distinct groups ms few a.1 b.1 in
+    ap (λ x. x ∷ map (kept_message groups) ms) first ∙ ap (λ xs. m ∷ xs) rest
+
+abbrev with_messages : Draft → List DraftMessage → Draft
+with_messages draft ms = record { delay = draft.delay; groups = draft.groups; links = draft.links; messages = ms; target_message = draft.target_message; target_group = draft.target_group }
+
+alike_few : (distinct : DifferentNamesAreDistinct) (draft : Draft) → length draft.groups ≤ 8 → Alike (checks (kept_by draft.groups draft)) (checks draft)
+alike_few distinct draft few =
+    let keep = kept_message draft.groups in (
+      refl,
+      refl,
+      λ delay. (
+        refl,
+        refl,
+        λ groups. (
+          ap (λ n. nat_le 1 n && nat_le n MOST_MULTICASTS) (length-map draft.messages keep),
+          refl,
+          λ count. (
+            all_same _ _ keep draft.messages (λ m. refl),
+            refl,
+            λ at. (
+              refl,
+              refl,
+              λ ranges. (
+                refl,
+                refl,
+                λ group_names. (
+                  all_same _ _ keep draft.messages (λ m. refl),
+                  refl,
+                  λ message_names. (
+                    refl,
+                    refl,
+                    λ groups_differ. (
+                      differ_same draft.groups draft.messages,
+                      refl,
+                      λ messages_differ. (
+                        refl,
+                        refl,
+                        λ links_differ. (
+                          all_same _ _ keep draft.messages (knows_kept draft.groups),
+                          refl,
+                          λ known. (
+                            refl,
+                            refl,
+                            λ target_group. (
+                              refl,
+                              refl,
+                              λ ends. (
+                                all_same _ _ keep draft.messages (λ m. some_kept draft.groups m.to),
+                                refl,
+                                λ somewhere. (
+                                  all_same_where (knows draft.groups) _ _ keep draft.messages known (λ m. differ_kept distinct draft.groups m few),
+                                  refl,
+                                  λ differ.
+                                      let same = whole distinct draft.groups draft.messages few known differ in (
+                                        ap (is_message draft.target_message) same,
+                                        refl,
+                                        λ target. (
+                                          ap (λ ms. is_target_addressed (with_messages draft ms)) same,
+                                          refl,
+                                          λ addressed. (
+                                            refl,
+                                            refl,
+                                            λ elsewhere. tt,
+                                          ),
+                                        ),
+                                      ),
+                                ),
+                              ),
+                            ),
+                          ),
+                        ),
+                      ),
+                    ),
+                  ),
+                ),
+              ),
+            ),
+          ),
+        ),
+      ),
+    )
+
+-- as many are too many
+many_kept : (groups : List (List ℕ)) → is_count MOST_GROUPS (kept_groups groups) ≡ is_count MOST_GROUPS groups
+many_kept groups =
+    elim (cases_lt 9 (length groups)) [
+      | inl long ↦
+          let nine : length (take 9 groups) ≡ 9 = length-take-le 9 groups (omega arith) in
+          let front : is_count MOST_GROUPS (kept_groups groups) ≡ false = rw nine refl in
+          let over : nat_le (length groups) 8 ≡ false = false_from_ne_true (nat_le (length groups) 8) (λ e. let most = leb-true (length groups) 8 e in absurd (omega arith)) in
+          let all : is_count MOST_GROUPS groups ≡ false = false_from_ne_true (is_count MOST_GROUPS groups) (λ e. absurd (false≢true (sym over ∙ (and_parts (nat_le 1 (length groups)) _ e).1))) in
+          front ∙ sym all
+      | inr short ↦ ap (is_count MOST_GROUPS) (take_all 9 groups short)
+    ]
+
+-- the checks tell of what is kept what they tell of the whole
+judged : (distinct : DifferentNamesAreDistinct) (draft : Draft) → judge (checks (kept_draft draft)) ≡ judge (checks draft)
+judged distinct draft =
+    elim (cases_Bool (is_count MOST_GROUPS draft.groups)) [
+      | inl count ↦
+          let few = leb-true (length draft.groups) 8 (and_parts (nat_le 1 (length draft.groups)) _ count).1 in
+          let groups : kept_groups draft.groups ≡ draft.groups = take_all 9 draft.groups (omega arith) in
+          ap (λ gs. judge (checks (kept_by gs draft))) groups ∙ same_judged (checks (kept_by draft.groups draft)) (checks draft) (alike_few distinct draft few)
+      | inr many ↦
+          same_judged (checks (kept_draft draft)) (checks draft) (refl, refl, λ delay. (many_kept draft.groups, refl, λ count. absurd (false≢true (sym many ∙ count))))
+    ]
+
+-- where they hold, all is kept
+all_kept : (hold : JudgedRulesHold) (distinct : DifferentNamesAreDistinct) (draft : Draft) → judge (checks draft) ≡ Ok tt → kept_draft draft ≡ draft
+all_kept hold distinct draft holds =
+    let a = hold (checks draft) holds in
+    let few = leb-true (length draft.groups) 8 (and_parts (nat_le 1 (length draft.groups)) _ a.1.0).1 in
+    let groups : kept_groups draft.groups ≡ draft.groups = take_all 9 draft.groups (omega arith) in
+    let c = a.1.1.1.1.1.1.1.1.1.1 in
+    let messages = whole distinct draft.groups draft.messages few c.0 c.1.1.1.1.0 in
+    ap (λ gs. kept_by gs draft) groups ∙ ap (with_messages draft) messages
+
+-- ---- the lines
+
+-- what a draft says, where the first line `link` and the first line `multicast` have these numbers
+abbrev said : ℕ → ℕ → Place → Draft → Result (Scenario × Place) LineFault
+said first_link first past draft =
+    told (scenario_of_draft draft) >>= λ scenario. where_ordered Link (first_misplaced_link first_link draft) scenario >>= λ linked.
+    where_ordered Multicast (first_unordered draft.groups first draft.messages) linked >>= λ ordered. Ok (ordered, past)
+
+cases_judge : (judged : Result (Unit {0}) ScenarioFault) → (judged ≡ Ok tt) ⊎ ((fault : ScenarioFault) × (judged ≡ Err fault))
+cases_judge (Ok x) = inl refl
+cases_judge (Err fault) = inr (fault, refl)
+
+said_same : (hold : JudgedRulesHold) (distinct : DifferentNamesAreDistinct) (first_link first : ℕ) (past : Place) (draft : Draft) → said first_link first past (kept_draft draft) ≡ said first_link first past draft
+said_same hold distinct first_link first past draft =
+    elim (cases_judge (judge (checks draft))) [
+      | inl holds ↦ ap (said first_link first past) (all_kept hold distinct draft holds)
+      | inr faulty ↦
+          let kept : judge (checks (kept_draft draft)) ≡ Err faulty.0 = judged distinct draft ∙ faulty.1 in
+          let left : said first_link first past (kept_draft draft) ≡ Err (faults.Scenario faulty.0) = rw kept refl in
+          let right : said first_link first past draft ≡ Err (faults.Scenario faulty.0) = rw faulty.1 refl in
+          left ∙ sym right
+    ]
+
+then_same : {A B : Type 0} (r : Result A LineFault) (f g : A → Result B LineFault) → ((x : A) → f x ≡ g x) → (r >>= f) ≡ (r >>= g)
+then_same (Ok x) f g same = same x
+then_same (Err fault) f g same = refl
+
+then_kept : {A B C : Type 0} (r : Result A LineFault) (keep : A → B) (f : B → Result C LineFault) → ((r >>= λ x. Ok (keep x)) >>= f) ≡ (r >>= λ x. f (keep x))
+then_kept (Ok x) keep f = refl
+then_kept (Err fault) keep f = refl
+
+-- what a line said, and the place after it
+abbrev before : {A : Type 0} → Place → A → Result (A × Place) LineFault
+before past value = Ok (value, past)
+
+abbrev kept : {A B : Type 0} → (A → B) → A × Place → B × Place
+kept keep next = (keep next.0, next.1)
+
+abbrev kept_after : {A B : Type 0} → (A → B) → A × Place → Result (B × Place) LineFault
+kept_after keep next = Ok (kept keep next)
+
+-- what is kept of a line is what its form gives, kept
+form_kept : {A B : Type 0} (line : Option (List ℕ)) (wrong : LineFault) (past : Place) (form : List ℕ → Option A) (keep : A → B)
+    → (ok_or line wrong >>= λ l. ok_or (option_map keep (form l)) wrong >>= before past) ≡ ((ok_or line wrong >>= λ l. ok_or (form l) wrong >>= before past) >>= kept_after keep)
+form_kept None wrong past form keep = refl
+form_kept (Some l) wrong past form keep =
+    elim (form l) as (λ m. (ok_or (option_map keep m) wrong >>= before past) ≡ ((ok_or m wrong >>= before past) >>= kept_after keep)) [
+      | None ↦ refl
+      | Some value ↦ refl
+    ]
+
+abbrev from_messages : ℕ → List (List ℕ) → ℕ → List DraftLink → ℕ → List DraftMessage × Place → Result (Scenario × Place) LineFault
+from_messages delay groups first_link links first messages =
+    form_at Target target_in messages.1 >>= λ target. said first_link first target.1 (draft_of delay groups links messages.0 target.0)
+
+messages_kept : (hold : JudgedRulesHold) (distinct : DifferentNamesAreDistinct) (delay : ℕ) (groups : List (List ℕ)) (first_link : ℕ) (links : List DraftLink) (first : ℕ) (read : Result (List DraftMessage × Place) LineFault)
+    → ((read >>= λ messages. Ok (map (kept_message (kept_groups groups)) messages.0, messages.1)) >>= from_messages delay (kept_groups groups) first_link links first) ≡ (read >>= from_messages delay groups first_link links first)
+messages_kept hold distinct delay groups first_link links first (Err fault) = refl
+messages_kept hold distinct delay groups first_link links first (Ok messages) =
+    then_same (form_at Target target_in messages.1)
+    (λ target. said first_link first target.1 (draft_of delay (kept_groups groups) links (map (kept_message (kept_groups groups)) messages.0) target.0))
+    (λ target. said first_link first target.1 (draft_of delay groups links messages.0 target.0))
+    (λ target. said_same hold distinct first_link first target.1 (draft_of delay groups links messages.0 target.0))
+
+abbrev from_groups : Version → ℕ → List (List ℕ) × Place → Result (Scenario × Place) LineFault
+from_groups version delay groups =
+    links_at version 0 groups.1 >>= λ links. messages_at 0 links.1 >>= from_messages delay groups.0 groups.1.number links.0 links.1.number
+
+abbrev from_kept : Version → ℕ → List (List ℕ) × Place → Result (Scenario × Place) LineFault
+from_kept version delay groups =
+    links_at version 0 groups.1 >>= λ links. kept_messages_at groups.0 0 links.1 >>= from_messages delay groups.0 groups.1.number links.0 links.1.number
+
+groups_kept : (hold : JudgedRulesHold) (distinct : DifferentNamesAreDistinct) (version : Version) (delay : ℕ) (place : Place) → (form_at Groups kept_groups_in place >>= from_kept version delay) ≡ (form_at Groups groups_in place >>= from_groups version delay)
+groups_kept hold distinct version delay place =
+    ap (λ r. r >>= from_kept version delay) (form_kept (line_at place) (faults.Line place.number Groups) (past_line place) groups_in kept_groups)
+    ∙ then_kept (form_at Groups groups_in place) (kept kept_groups) (from_kept version delay)
+    ∙ then_same (form_at Groups groups_in place) (λ groups. from_kept version delay (kept kept_groups groups)) (from_groups version delay)
+    (λ groups. then_same (links_at version 0 groups.1)
+    (λ links. kept_messages_at (kept_groups groups.0) 0 links.1 >>= from_messages delay (kept_groups groups.0) groups.1.number links.0 links.1.number)
+    (λ links. messages_at 0 links.1 >>= from_messages delay groups.0 groups.1.number links.0 links.1.number)
+    (λ links. messages_kept hold distinct delay groups.0 groups.1.number links.0 links.1.number (messages_at 0 links.1)))
+
+-- what the lines give with what is kept of them is what they give whole
+pub kept_scenario : (hold : JudgedRulesHold) (distinct : DifferentNamesAreDistinct) (version : Version) (place : Place) → kept_scenario_at version place ≡ scenario_at version place
+unfolding kept_scenario_at scenario_at
+kept_scenario hold distinct version place =
+    then_same (form_at Delay (number_in (codes "delay")) place)
+    (λ delay. form_at Groups kept_groups_in delay.1 >>= from_kept version delay.0)
+    (λ delay. form_at Groups groups_in delay.1 >>= from_groups version delay.0)
+    (λ delay. groups_kept hold distinct version delay.0 delay.1)
+
+pub multicast_kept : (groups : List (List ℕ)) (place : Place)
+    → form_at Multicast (kept_multicast_in groups) place ≡ (form_at Multicast multicast_in place >>= λ next. Ok (kept_message groups next.0, next.1))
+multicast_kept groups place = form_kept (line_at place) (faults.Line place.number Multicast) (past_line place) multicast_in (kept_message groups)

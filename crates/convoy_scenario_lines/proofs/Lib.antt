@@ -1,0 +1,11 @@
+pub mod LinkOrder
+pub mod Links
+pub mod KeptNames
+pub mod KeptLines
+pub mod Messages
+pub mod Texts
+pub mod FormLaws
+pub mod LineLaws
+pub mod DraftLaws
+pub mod ScenarioTakes
+pub mod ScenarioAgain

@@ -1,0 +1,333 @@
+-- The lines of a scenario are read again.
+use Rattle.std.proofs.Common.{◌≡◌, ℕ, zero, suc, ◌+◌, ◌<◌, ◌≤◌, ◌==◌, ◌&&◌, ◌||◌, not, true, false, leb, le-leb, List, [], ◌∷◌, ◌++◌, length, get_or, map, filter, All, Option, Some, None, Result, Ok, refl, ap, sym, ◌∙◌, arith, inl, inr, codes, decimal}
+use Rattle.std.specs.List.{list_all}
+use Rattle.std.specs.Str.{bytes_eq}
+use Rattle.std.proofs.lemmas.Bool.{and_parts, and_from, or_cases, or_from, or_right, eqb-true, ne_eqb, leb-true, not-true, false≢true}
+use Rattle.std.proofs.lemmas.List.Elements.{All-head, All-tail, All-cons, All-get_or}
+use Rattle.std.proofs.lemmas.Slice.Eq.{slice_eq-Decides, bytes_eq-Decides}
+use Rattle.std.proofs.lemmas.Str.{IsUtf8-from_ascii, is_utf8-from_IsUtf8}
+use Rattle.std.specs.Str.{IsAscii}
+use Rattle.convoy_scenario.specs.declared.limits.TheConstants.{MOST_LINKS, MOST_MULTICASTS}
+use Rattle.convoy_scenario_lines.specs.declared.line_fault.Expected.{Expected}
+use Rattle.convoy_scenario_lines.specs.declared.line_fault.Expected.TheVariants.{Delay, Groups, Link, Multicast, Target}
+use Rattle.convoy_scenario_lines.specs.declared.line_fault.LineFault.{LineFault}
+use Rattle.convoy_scenario_lines.specs.declared.version.Version.{Version}
+use Rattle.convoy_scenario_lines.specs.declared.version.Version.TheVariants.{One, Two}
+use Rattle.convoy_scenario.specs.declared.sender.Sender.{Sender}
+use Rattle.convoy_scenario.specs.declared.sender.Sender.TheVariants.{Client, Group}
+use Rattle.convoy_scenario.specs.Scenario as plans
+use Rattle.convoy_scenario.specs.Scenario.{Scenario, Message, message_at, group_name_at, no_message}
+use Rattle.convoy_scenario.specs.WellFormed.{is_letter, is_digit, is_name_byte, is_name, is_group_name, client_word, IsSender, IsLink, IsMulticast, IsScenario}
+use Rattle.convoy_scenario.specs.Checks.{checks, is_among, judge}
+use Rattle.convoy_scenario.specs.Laws.{LinksAreFew}
+use Rattle.convoy_scenario_lines.specs.Laws.{CanSay}
+use Rattle.convoy_scenario.specs.Numbering.{delay_of_draft, message_of, numbers_of, scenario_of, scenario_of_draft}
+use Rattle.convoy_scenario_lines.specs.Lines.{delay_line, groups_line, link_line, multicast_line, target_line, scenario_lines}
+use Rattle.convoy_lines.specs.Labels.{greatest_number, begins_with, number_in}
+use Rattle.convoy_scenario_lines.specs.LineForms.{name_of, named_sender, greatest_delay_number, groups_in, link_in, multicast_in, target_in}
+use Rattle.convoy_lines.specs.Words.{Lacks, words_of}
+use Rattle.convoy_lines.specs.Results.{◌>>=◌}
+use Rattle.convoy_lines.specs.Places.{Place, upcoming}
+use Rattle.convoy_scenario_lines.specs.LineReading.{form_at, is_link_due, links_in, links_at, first_misplaced_link, is_multicast_due, messages_in, messages_at, told, is_ordered, first_unordered, where_ordered, scenario_at}
+use Rattle.convoy_scenario.specs.Naming.{draft_for, draft_link, draft_message, sender_name, sender_word}
+use Rattle.convoy_scenario_lines.proofs.DraftLaws.{DraftLaws}
+use Rattle.convoy_scenario_lines.proofs.LinkOrder.{none_misplaced}
+use Rattle.convoy_scenario_lines.proofs.ScenarioTakes.{of_draft, named, count_lines, lines_before, after_delay, after_groups, after_links, after_messages, after_target}
+use Rattle.convoy_lines.specs.Laws.{IsWord}
+use Rattle.convoy_scenario_lines.proofs.LineLaws.{LineLaws, AreWords, AreLines, delay_word, groups_word, link_word, multicast_word, target_word, number_again, decimal_word, words_again, line_made, label_again, number_line_again}
+
+-- ---- names are words
+
+byte_between : (c : ℕ) → is_name_byte c ≡ true → (45 ≤ c) × (c < 128)
+byte_between c e =
+    elim (or_cases (is_letter c || is_digit c || c == 95) (c == 45) e) [
+      | inl a ↦ elim (or_cases (is_letter c || is_digit c) (c == 95) a) [
+        | inl b ↦ elim (or_cases (is_letter c) (is_digit c) b) [
+          | inl letter ↦ let p = and_parts (leb 97 c) (leb c 122) letter in (omega (arith, leb-true 97 c p.0), omega (arith, leb-true c 122 p.1))
+          | inr digit ↦ let p = and_parts (leb 48 c) (leb c 57) digit in (omega (arith, leb-true 48 c p.0), omega (arith, leb-true c 57 p.1))
+        ]
+        | inr underscore ↦ let is : c ≡ 95 = eqb-true c 95 underscore in (omega arith, omega arith)
+      ]
+      | inr dash ↦ let is : c ≡ 45 = eqb-true c 45 dash in (omega arith, omega arith)
+    ]
+
+bytes_lack : (byte : ℕ) (cs : List ℕ) → byte < 45 → list_all is_name_byte cs ≡ true → Lacks byte cs
+bytes_lack byte [] low all = refl
+bytes_lack byte (c ∷ cs) low all =
+    let p = and_parts (is_name_byte c) (list_all is_name_byte cs) all in
+    or_from _ _ (ne_eqb c byte (λ e. omega (arith, (byte_between c p.0).0))) (bytes_lack byte cs low p.1)
+
+bytes_ascii : (cs : List ℕ) → list_all is_name_byte cs ≡ true → IsAscii cs
+bytes_ascii [] all i = omega arith
+bytes_ascii (c ∷ cs) all zero = let p = and_parts (is_name_byte c) (list_all is_name_byte cs) all in (byte_between c p.0).1
+bytes_ascii (c ∷ cs) all (suc i) = let p = and_parts (is_name_byte c) (list_all is_name_byte cs) all in bytes_ascii cs p.1 i
+
+letter_byte : (c : ℕ) → is_letter c ≡ true → is_name_byte c ≡ true
+letter_byte c e = rw e refl
+
+name_bytes : (name : List ℕ) → is_name name ≡ true → (0 < length name) × (list_all is_name_byte name ≡ true)
+name_bytes [] e = absurd (false≢true e)
+name_bytes (c ∷ cs) e =
+    let p = and_parts (is_letter c && list_all is_name_byte cs) _ e in
+    let q = and_parts (is_letter c) (list_all is_name_byte cs) p.0 in
+    (omega arith, and_from _ _ (letter_byte c q.0) q.1)
+
+name_word : (name : List ℕ) → is_name name ≡ true → IsWord name
+name_word name e =
+    let b = name_bytes name e in
+    record { some = b.0; spaceless = bytes_lack 32 name (omega arith) b.1; endless = bytes_lack 10 name (omega arith) b.1 }
+
+name_again : (name : List ℕ) → is_name name ≡ true → name_of name ≡ name
+name_again name e =
+    let utf8 = is_utf8-from_IsUtf8 name (IsUtf8-from_ascii name (bytes_ascii name (name_bytes name e).1)) in
+    rw utf8 refl
+
+group_name : (name : List ℕ) → is_group_name name ≡ true → (is_name name ≡ true) × (bytes_eq name client_word ≡ false)
+group_name name e = let p = and_parts (is_name name) (not (bytes_eq name client_word)) e in (p.0, not-true _ p.1)
+
+names_words : (names : List (List ℕ)) → All (λ name. is_group_name name ≡ true) names → AreWords names × (map name_of names ≡ names)
+names_words [] all = (tt, refl)
+names_words (n ∷ ns) all =
+    let g = group_name n (All-head (λ name. is_group_name name ≡ true) n ns all) in
+    let rest = names_words ns (All-tail (λ name. is_group_name name ≡ true) n ns all) in
+    ((name_word n g.0, rest.0), rw (name_again n g.0, rest.1) refl)
+
+at_numbers : (groups : List (List ℕ)) (ds : List ℕ) → All (λ name. is_group_name name ≡ true) groups → All (λ d. d < length groups) ds → All (λ name. is_group_name name ≡ true) (map (λ d. get_or groups d []) ds)
+at_numbers groups [] all known = λ k d within. absurd (omega arith)
+at_numbers groups (g ∷ ds) all known =
+    All-cons (λ name. is_group_name name ≡ true) (get_or groups g []) (map (λ d. get_or groups d []) ds) (All-get_or (λ name. is_group_name name ≡ true) groups g [] (All-head (λ h. h < length groups) g ds known) all)
+    (at_numbers groups ds all (All-tail (λ h. h < length groups) g ds known))
+
+-- ---- lines
+
+client_is : IsWord client_word
+client_is = record { some = omega arith; spaceless = refl; endless = refl }
+
+module _ (laws : LineLaws) where
+  delay_again : (plan : Scenario) → IsScenario plan → number_in (codes "delay") (delay_line plan) ≡ Some plan.delay
+  delay_again plan s = number_line_again laws (codes "delay") plan.delay delay_word (omega (arith, s.delay_high))
+
+  groups_again : (plan : Scenario) → IsScenario plan → groups_in (groups_line plan) ≡ Some plan.groups
+  groups_again plan s =
+      let names = names_words plan.groups s.group_names in
+      rw (label_again laws (codes "groups") plan.groups groups_word names.0, le-leb 1 (length plan.groups) s.groups_low, names.1) refl
+
+  sender_is : (plan : Scenario) (s : Sender) → All (λ name. is_group_name name ≡ true) plan.groups → IsSender (length plan.groups) s → IsWord (sender_word plan s) × (named_sender (sender_word plan s) ≡ sender_name plan s)
+  sender_is plan Client all is = (client_is, refl)
+  sender_is plan (Group g) all is =
+      let n = group_name (group_name_at plan g) (All-get_or (λ name. is_group_name name ≡ true) plan.groups g [] is all) in
+      (name_word (group_name_at plan g) n.0, rw (n.1, name_again (group_name_at plan g) n.0) refl)
+
+  link_words : (plan : Scenario) (l : plans.Link) → IsScenario plan → IsLink (length plan.groups) plan.delay l → AreWords (sender_word plan l.sender ∷ group_name_at plan l.to ∷ decimal l.least ∷ decimal l.most ∷ [])
+  link_words plan l s is =
+      let to = group_name (group_name_at plan l.to) (All-get_or (λ name. is_group_name name ≡ true) plan.groups l.to [] is.to s.group_names) in
+      let sender = sender_is plan l.sender s.group_names is.sender in
+      (sender.0, (name_word (group_name_at plan l.to) to.0, (decimal_word laws l.least (omega (arith, is.ordered, is.high, s.delay_high)), (decimal_word laws l.most (omega (arith, is.high, s.delay_high)), tt))))
+
+  link_line_again : (plan : Scenario) (l : plans.Link) → IsScenario plan → IsLink (length plan.groups) plan.delay l → link_in (link_line plan l) ≡ Some (draft_link plan l)
+  link_line_again plan l s is =
+      let to = group_name (group_name_at plan l.to) (All-get_or (λ name. is_group_name name ≡ true) plan.groups l.to [] is.to s.group_names) in
+      let sender = sender_is plan l.sender s.group_names is.sender in
+      let words = label_again laws (codes "link") (sender_word plan l.sender ∷ group_name_at plan l.to ∷ decimal l.least ∷ decimal l.most ∷ []) link_word (link_words plan l s is) in
+      rw (words, number_again laws greatest_delay_number l.least (omega arith) (omega (arith, is.ordered, is.high, s.delay_high)), number_again laws greatest_delay_number l.most (omega arith) (omega (arith, is.high, s.delay_high)), sender.1, name_again (group_name_at plan l.to) to.0) refl
+
+  pub message_line_again : (plan : Scenario) (m : Message) → IsScenario plan → IsMulticast (length plan.groups) m → multicast_in (multicast_line plan m) ≡ Some (draft_message plan m)
+  message_line_again plan m s is =
+      let sender = sender_is plan m.sender s.group_names is.sender in
+      let to = names_words (map (group_name_at plan) m.destinations) (at_numbers plan.groups m.destinations s.group_names is.known) in
+      let words = label_again laws (codes "multicast") (m.name ∷ sender_word plan m.sender ∷ decimal m.at ∷ map (group_name_at plan) m.destinations) multicast_word
+      (name_word m.name is.name, (sender.0, (decimal_word laws m.at (omega (arith, is.at)), to.0))) in
+      rw (words, number_again laws greatest_number m.at (omega arith) (omega (arith, is.at)), name_again m.name is.name, sender.1, to.1) refl
+
+  target_name_is : (plan : Scenario) → IsScenario plan → is_name (message_at plan plan.target_message).name ≡ true
+  target_name_is plan s = (All-get_or (IsMulticast (length plan.groups)) plan.multicasts plan.target_message no_message s.target s.messages).name
+
+  target_line_again : (plan : Scenario) → IsScenario plan → plan.target_group < length plan.groups → target_in (target_line plan) ≡ Some ((message_at plan plan.target_message).name, group_name_at plan plan.target_group)
+  target_line_again plan s within =
+      let m = target_name_is plan s in
+      let g = group_name (group_name_at plan plan.target_group) (All-get_or (λ name. is_group_name name ≡ true) plan.groups plan.target_group [] within s.group_names) in
+      rw (label_again laws (codes "target") ((message_at plan plan.target_message).name ∷ group_name_at plan plan.target_group ∷ []) target_word (name_word _ m, (name_word _ g.0, tt)), name_again _ m, name_again _ g.0) refl
+
+  -- ---- lines, one after another
+
+  -- the scenario of its draft
+  numbered_again : (drafts : DraftLaws) (plan : Scenario) → IsScenario plan → scenario_of (draft_for plan) ≡ plan
+  numbered_again drafts plan s = (of_draft (judge (checks (draft_for plan))) (scenario_of (draft_for plan)) plan (ap told (drafts.drafted plan s))).1
+
+  ordered_again : (plan : Scenario) (m : Message) → message_of plan.groups (draft_message plan m) ≡ m → is_ordered plan.groups (draft_message plan m) ≡ true
+  ordered_again plan m again =
+      let to : List (List ℕ) = map (group_name_at plan) m.destinations in
+      let numbers : numbers_of plan.groups to ≡ m.destinations = ap (λ (n : Message). n.destinations) again in
+      let listed : filter (λ group. is_among group to) plan.groups ≡ to =
+      sym (named plan.groups to) ∙ ap (map (λ g. get_or plan.groups g [])) numbers in
+      (slice_eq-Decides bytes_eq-Decides to (filter (λ group. is_among group to) plan.groups) _ refl).1 (sym listed)
+
+  none_unordered : (plan : Scenario) (number : ℕ) (ms : List Message) → map (message_of plan.groups) (map (draft_message plan) ms) ≡ ms → first_unordered plan.groups number (map (draft_message plan) ms) ≡ None
+  none_unordered plan number [] again = refl
+  none_unordered plan number (m ∷ ms) again =
+      let first : message_of plan.groups (draft_message plan m) ≡ m = cc in
+      let rest : map (message_of plan.groups) (map (draft_message plan) ms) ≡ ms = cc in
+      rw (ordered_again plan m first) (none_unordered plan (number + 1) ms rest)
+
+  begins : (plan : Scenario) (m : Message) → IsScenario plan → IsMulticast (length plan.groups) m → begins_with (codes "multicast") (words_of (multicast_line plan m)) ≡ true
+  begins plan m s is =
+      let sender = sender_is plan m.sender s.group_names is.sender in
+      let to = names_words (map (group_name_at plan) m.destinations) (at_numbers plan.groups m.destinations s.group_names is.known) in
+      ap (begins_with (codes "multicast")) (words_again laws (codes "multicast") (m.name ∷ sender_word plan m.sender ∷ decimal m.at ∷ map (group_name_at plan) m.destinations) multicast_word
+      (name_word m.name is.name, (sender.0, (decimal_word laws m.at (omega (arith, is.at)), to.0))))
+
+  not_due : (plan : Scenario) → IsScenario plan → plan.target_group < length plan.groups → (n : ℕ) → 0 < n → is_multicast_due n (target_line plan) ≡ false
+  not_due plan s within n some =
+      let m = target_name_is plan s in
+      let g = group_name (group_name_at plan plan.target_group) (All-get_or (λ name. is_group_name name ≡ true) plan.groups plan.target_group [] within s.group_names) in
+      let words = words_again laws (codes "target") ((message_at plan plan.target_message).name ∷ group_name_at plan plan.target_group ∷ []) target_word (name_word _ m, (name_word _ g.0, tt)) in
+      or_from (n == 0) (begins_with (codes "multicast") (words_of (target_line plan))) (ne_eqb n 0 (λ e. omega arith)) (ap (begins_with (codes "multicast")) words)
+
+  -- a line `multicast` is no line `link`
+  no_link : (plan : Scenario) (m : Message) → IsScenario plan → IsMulticast (length plan.groups) m → (version : Version) → is_link_due version (multicast_line plan m) ≡ false
+  no_link plan m s is One = refl
+  no_link plan m s is Two =
+      let sender = sender_is plan m.sender s.group_names is.sender in
+      let to = names_words (map (group_name_at plan) m.destinations) (at_numbers plan.groups m.destinations s.group_names is.known) in
+      ap (begins_with (codes "link")) (words_again laws (codes "multicast") (m.name ∷ sender_word plan m.sender ∷ decimal m.at ∷ map (group_name_at plan) m.destinations) multicast_word
+      (name_word m.name is.name, (sender.0, (decimal_word laws m.at (omega (arith, is.at)), to.0))))
+
+  -- the first line after those of the links
+  none_due : (plan : Scenario) (ms : List Message) (t : List ℕ) (more : List (List ℕ)) (rest : List ℕ) (number : ℕ) (version : Version) → IsScenario plan → All (IsMulticast (length plan.groups)) ms → 1 ≤ length ms
+      → is_link_due version (upcoming (record { ended = map (multicast_line plan) ms ++ t ∷ more; rest = rest; number = number })) ≡ false
+  none_due plan [] t more rest number version s are some = absurd (omega arith)
+  none_due plan (m ∷ ms) t more rest number version s are some = no_link plan m s (All-head (IsMulticast (length plan.groups)) m ms are) version
+
+  over : (version : Version) (count number : ℕ) (rest : List ℕ) (lines : List (List ℕ)) → is_link_due version (upcoming (record { ended = lines; rest = rest; number = number })) ≡ false
+      → links_in version count number rest lines ≡ Ok ([], record { ended = lines; rest = rest; number = number })
+  unfolding links_in
+  over version count number rest [] other = rw other refl
+  over version count number rest (line ∷ lines) other = rw other refl
+
+  link_begins : (plan : Scenario) (l : plans.Link) → IsScenario plan → IsLink (length plan.groups) plan.delay l → is_link_due Two (link_line plan l) ≡ true
+  link_begins plan l s is =
+      ap (begins_with (codes "link")) (words_again laws (codes "link") (sender_word plan l.sender ∷ group_name_at plan l.to ∷ decimal l.least ∷ decimal l.most ∷ []) link_word (link_words plan l s is))
+
+  lines_of_links : (plan : Scenario) (ls : List plans.Link) (lines : List (List ℕ)) (rest : List ℕ) (count number : ℕ) → IsScenario plan → All (IsLink (length plan.groups) plan.delay) ls
+      → ((n : ℕ) → is_link_due Two (upcoming (record { ended = lines; rest = rest; number = n })) ≡ false) → count + length ls ≤ MOST_LINKS
+      → links_in Two count number rest (map (link_line plan) ls ++ lines) ≡ Ok (map (draft_link plan) ls, record { ended = lines; rest = rest; number = number + length ls })
+  unfolding links_in
+  lines_of_links plan [] lines rest count number s are other few =
+      let e : number + 0 ≡ number = omega arith in
+      rw e (over Two count number rest lines (other number))
+  lines_of_links plan (l ∷ ls) lines rest count number s are other few =
+      let is = All-head (IsLink (length plan.groups) plan.delay) l ls are in
+      let e : number + suc (length ls) ≡ (number + 1) + length ls = omega arith in
+      let below : (count == MOST_LINKS) ≡ false = ne_eqb count MOST_LINKS (λ e. omega arith) in
+      rw (link_begins plan l s is, link_line_again plan l s is, below, lines_of_links plan ls lines rest (count + 1) (number + 1) s (All-tail (IsLink (length plan.groups) plan.delay) l ls are) other (omega arith), e) refl
+
+  pub links_read : (few : LinksAreFew) (version : Version) (plan : Scenario) (t : List ℕ) (more : List (List ℕ)) (rest : List ℕ) (number : ℕ) → IsScenario plan → CanSay version plan
+      → links_in version 0 number rest (map (link_line plan) plan.links ++ (map (multicast_line plan) plan.multicasts ++ t ∷ more))
+      ≡ Ok (map (draft_link plan) plan.links, record { ended = map (multicast_line plan) plan.multicasts ++ t ∷ more; rest = rest; number = number + length plan.links })
+  links_read few One plan t more rest number s none =
+      let lines = map (multicast_line plan) plan.multicasts ++ t ∷ more in
+      let e : number + 0 ≡ number = omega arith in
+      rw (none, e) (over One 0 number rest lines refl)
+  links_read few Two plan t more rest number s any =
+      lines_of_links plan plan.links (map (multicast_line plan) plan.multicasts ++ t ∷ more) rest 0 number s s.links (λ n. none_due plan plan.multicasts t more rest n Two s s.messages s.multicasts_low)
+      (omega (arith, few plan s))
+
+  -- no link is out of order
+  none_astray : (drafts : DraftLaws) (plan : Scenario) (number : ℕ) → IsScenario plan → first_misplaced_link number (draft_for plan) ≡ None
+  none_astray drafts plan number s =
+      let delay : delay_of_draft (draft_for plan) ≡ plan.delay = ap (λ (p : Scenario). p.delay) (numbered_again drafts plan s) in
+      rw (delay, drafts.links plan s) (none_misplaced (length plan.groups) plan.delay None number plan.links s.ascending s.links)
+
+  messages_again : (plan : Scenario) (ms : List Message) (t : List ℕ) (more : List (List ℕ)) (rest : List ℕ) (count number : ℕ) → IsScenario plan → All (IsMulticast (length plan.groups)) ms
+      → ((n : ℕ) → 0 < n → is_multicast_due n t ≡ false) → count + length ms ≤ MOST_MULTICASTS → 0 < count + length ms
+      → messages_in count number rest (map (multicast_line plan) ms ++ t ∷ more) ≡ Ok (map (draft_message plan) ms, record { ended = t ∷ more; rest = rest; number = number + length ms })
+  unfolding messages_in
+  messages_again plan [] t more rest count number s are other few some =
+      let e : number + 0 ≡ number = omega arith in
+      rw (other count (omega arith), e) refl
+  messages_again plan (m ∷ ms) t more rest count number s are other few some =
+      let is = All-head (IsMulticast (length plan.groups)) m ms are in
+      let due : is_multicast_due count (multicast_line plan m) ≡ true = or_right (count == 0) _ (begins plan m s is) in
+      let below : (count == MOST_MULTICASTS) ≡ false = ne_eqb count MOST_MULTICASTS (λ e. omega arith) in
+      let e : number + suc (length ms) ≡ (number + 1) + length ms = omega arith in
+      rw (due, message_line_again plan m s is, below, messages_again plan ms t more rest (count + 1) (number + 1) s (All-tail (IsMulticast (length plan.groups)) m ms are) other (omega arith) (omega arith), e) refl
+
+  then_ok : {A B : Type 0} (r : Result A LineFault) (f : A → Result B LineFault) (x : A) (y : Result B LineFault) → r ≡ Ok x → f x ≡ y → (r >>= f) ≡ y
+  then_ok r f x y e g = ap (λ z. z >>= f) e ∙ g
+
+  form_again : {A : Type 0} (expected : Expected) (form : List ℕ → Option A) (number : ℕ) (rest line : List ℕ) (lines : List (List ℕ)) (x : A) → form line ≡ Some x
+      → form_at expected form (record { ended = line ∷ lines; rest = rest; number = number }) ≡ Ok (x, record { ended = lines; rest = rest; number = number + 1 })
+  form_again expected form number rest line lines x e = rw e refl
+
+  pub scenario_again : (drafts : DraftLaws) (version : Version) (plan : Scenario) (number : ℕ) (rest : List ℕ) (more : List (List ℕ)) → IsScenario plan → CanSay version plan → plan.target_group < length plan.groups
+      → scenario_at version (record { ended = scenario_lines plan ++ more; rest = rest; number = number }) ≡ Ok (plan, record { ended = more; rest = rest; number = number + length (scenario_lines plan) })
+  unfolding scenario_at
+  scenario_again drafts version plan number rest more s said within =
+      let ms = map (draft_message plan) plan.multicasts in
+      let ls = map (draft_link plan) plan.links in
+      let target : List ℕ × List ℕ = ((message_at plan plan.target_message).name, group_name_at plan plan.target_group) in
+      let count = length plan.multicasts in
+      let many = length plan.links in
+      let lines : List (List ℕ) = map (multicast_line plan) plan.multicasts ++ target_line plan ∷ more in
+      let linked : List (List ℕ) = map (link_line plan) plan.links ++ lines in
+      let p0 : Place = record { ended = delay_line plan ∷ groups_line plan ∷ linked; rest = rest; number = number } in
+      let p1 : Place = record { ended = groups_line plan ∷ linked; rest = rest; number = number + 1 } in
+      let p2 : Place = record { ended = linked; rest = rest; number = number + 1 + 1 } in
+      let p3 : Place = record { ended = lines; rest = rest; number = number + 1 + 1 + many } in
+      let p4 : Place = record { ended = target_line plan ∷ more; rest = rest; number = number + 1 + 1 + many + count } in
+      let p5 : Place = record { ended = more; rest = rest; number = number + 1 + 1 + many + count + 1 } in
+      let start : record { ended = scenario_lines plan ++ more; rest = rest; number = number } ≡ p0 =
+      ap (λ (ls : List (List ℕ)). record { ended = ls; rest = rest; number = number }) (lines_before plan more) in
+      let read : scenario_at version p0 ≡ Ok (plan, p5) =
+      then_ok (form_at Delay (number_in (codes "delay")) p0) (after_delay version)
+      (plan.delay, p1) (Ok (plan, p5)) (form_again Delay (number_in (codes "delay")) number rest (delay_line plan) (groups_line plan ∷ linked) plan.delay (delay_again plan s))
+      (then_ok (form_at Groups groups_in p1) (after_groups version plan.delay)
+      (plan.groups, p2) (Ok (plan, p5)) (form_again Groups groups_in (number + 1) rest (groups_line plan) linked plan.groups (groups_again plan s))
+      (then_ok (links_at version 0 p2) (after_links plan.delay p2.number plan.groups)
+      (ls, p3) (Ok (plan, p5)) (links_read drafts.few version plan (target_line plan) more rest (number + 1 + 1) s said)
+      (then_ok (messages_at 0 p3) (after_messages plan.delay p2.number plan.groups ls p3.number)
+      (ms, p4) (Ok (plan, p5)) (messages_again plan plan.multicasts (target_line plan) more rest 0 p3.number s s.messages (not_due plan s within) (omega (arith, s.multicasts_high)) (omega (arith, s.multicasts_low)))
+      (then_ok (form_at Target target_in p4) (after_target plan.delay p2.number plan.groups ls p3.number ms)
+      (target, p5) (Ok (plan, p5)) (form_again Target target_in p4.number rest (target_line plan) more target (target_line_again plan s within))
+      (then_ok (told (scenario_of_draft (draft_for plan))) (λ plan'. where_ordered Link (first_misplaced_link p2.number (draft_for plan)) plan' >>= λ linked. where_ordered Multicast (first_unordered plan.groups p3.number ms) linked >>= λ ordered. Ok (ordered, p5))
+      plan (Ok (plan, p5)) (ap told (drafts.drafted plan s))
+      (ap (λ o. where_ordered Link o plan >>= λ linked. where_ordered Multicast (first_unordered plan.groups p3.number ms) linked >>= λ ordered. Ok (ordered, p5)) (none_astray drafts plan p2.number s)
+      ∙ ap (λ o. where_ordered Multicast o plan >>= λ ordered. Ok (ordered, p5)) (none_unordered plan p3.number plan.multicasts (ap (λ (p : Scenario). p.multicasts) (numbered_again drafts plan s))))))))) in
+      let past : p5.number ≡ number + length (scenario_lines plan) = omega (arith, count_lines plan) in
+      ap (scenario_at version) start ∙ read ∙ ap (λ n. Ok (plan, record { ended = more; rest = rest; number = n })) past
+
+  -- ---- no line has a byte 10 in it
+
+  pub lines_append : (xs ys : List (List ℕ)) → AreLines xs → AreLines ys → AreLines (xs ++ ys)
+  lines_append [] ys a b = b
+  lines_append (x ∷ xs) ys a b = (a.0, lines_append xs ys a.1 b)
+
+  message_lines : (plan : Scenario) (ms : List Message) → IsScenario plan → All (IsMulticast (length plan.groups)) ms → AreLines (map (multicast_line plan) ms)
+  message_lines plan [] s are = tt
+  message_lines plan (m ∷ ms) s are =
+      let is = All-head (IsMulticast (length plan.groups)) m ms are in
+      let sender = sender_is plan m.sender s.group_names is.sender in
+      let to = names_words (map (group_name_at plan) m.destinations) (at_numbers plan.groups m.destinations s.group_names is.known) in (
+        line_made laws (codes "multicast") (m.name ∷ sender_word plan m.sender ∷ decimal m.at ∷ map (group_name_at plan) m.destinations) multicast_word
+            (name_word m.name is.name, (sender.0, (decimal_word laws m.at (omega (arith, is.at)), to.0))),
+        message_lines plan ms s (All-tail (IsMulticast (length plan.groups)) m ms are),
+      )
+
+  link_lines : (plan : Scenario) (ls : List plans.Link) → IsScenario plan → All (IsLink (length plan.groups) plan.delay) ls → AreLines (map (link_line plan) ls)
+  link_lines plan [] s are = tt
+  link_lines plan (l ∷ ls) s are =
+      let is = All-head (IsLink (length plan.groups) plan.delay) l ls are in
+      (line_made laws (codes "link") (sender_word plan l.sender ∷ group_name_at plan l.to ∷ decimal l.least ∷ decimal l.most ∷ []) link_word (link_words plan l s is), link_lines plan ls s (All-tail (IsLink (length plan.groups) plan.delay) l ls are))
+
+  pub scenario_lines_are : (plan : Scenario) → IsScenario plan → plan.target_group < length plan.groups → AreLines (scenario_lines plan)
+  scenario_lines_are plan s within =
+      let m = target_name_is plan s in
+      let g = group_name (group_name_at plan plan.target_group) (All-get_or (λ name. is_group_name name ≡ true) plan.groups plan.target_group [] within s.group_names) in
+      let target : Lacks 10 (target_line plan) = line_made laws (codes "target") ((message_at plan plan.target_message).name ∷ group_name_at plan plan.target_group ∷ []) target_word (name_word _ m, (name_word _ g.0, tt)) in (
+        line_made laws (codes "delay") (decimal plan.delay ∷ []) delay_word (decimal_word laws plan.delay (omega (arith, s.delay_high)), tt),
+        (
+          line_made laws (codes "groups") plan.groups groups_word (names_words plan.groups s.group_names).0,
+          lines_append (map (link_line plan) plan.links) (map (multicast_line plan) plan.multicasts ++ target_line plan ∷ []) (link_lines plan plan.links s s.links)
+              (lines_append (map (multicast_line plan) plan.multicasts) (target_line plan ∷ []) (message_lines plan plan.multicasts s s.messages) (target, tt)),
+        ),
+      )

@@ -1,0 +1,441 @@
+-- A scenario that is read from lines: the lines are those of the scenario.
+use Rattle.std.proofs.Common.{◌≡◌, ℕ, ℤ, pos, negsuc, int_le, ◌&&◌, ◌+◌, ◌<◌, ◌==◌, if◌then◌else◌, Bool, true, false, cond, leb, List, [], ◌∷◌, ◌++◌, length, get_or, map, filter, Option, Some, None, ok_or, Result, Ok, Err, refl, ap, sym, subst, ◌∙◌, arith, inl, inr, codes, decimal, add-zero, add-one, append_assoc}
+use Rattle.std.specs.List.{list_all, AllByRecursion, AllZip, range_with_len}
+use Rattle.std.specs.Result.{result_and}
+use Rattle.std.specs.Str.{bytes_eq}
+use Rattle.std.proofs.lemmas.Bool.{and_parts, and_from, cases_Bool, false≢true, le-leb, leb-true}
+use Rattle.std.proofs.lemmas.List.{length-append, length-map}
+use Rattle.std.proofs.lemmas.Slice.Eq.{slice_eq-Decides, bytes_eq-Decides}
+use Rattle.convoy_scenario.specs.declared.fault.ScenarioFault.{ScenarioFault}
+use Rattle.convoy_scenario.specs.declared.limits.TheConstants.{GREATEST_AT, GREATEST_DELAY, MOST_LINKS, MOST_MULTICASTS}
+use Rattle.convoy_scenario_lines.specs.declared.line_fault.Expected.{Expected}
+use Rattle.convoy_scenario_lines.specs.declared.line_fault.Expected.TheVariants.{Delay, Groups, Link, Multicast, Target}
+use Rattle.convoy_scenario_lines.specs.declared.line_fault.LineFault.{LineFault}
+use Rattle.convoy_scenario_lines.specs.declared.line_fault.LineFault.TheVariants as faults
+use Rattle.convoy_scenario_lines.specs.declared.version.Version.{Version}
+use Rattle.convoy_scenario_lines.specs.declared.version.Version.TheVariants.{One, Two}
+use Rattle.convoy_scenario.specs.declared.fault.ScenarioFault.TheVariants.{OverLimit}
+use Rattle.convoy_scenario.specs.declared.fault.Limit.TheVariants as limit
+use Rattle.convoy_scenario.specs.Draft.{Draft, DraftLink, DraftMessage}
+use Rattle.convoy_scenario.specs.Laws.{NamesHavePlaces}
+use Rattle.convoy_scenario.specs.Naming.{sender_word}
+use Rattle.convoy_scenario.specs.Scenario.{Scenario, message_at}
+use Rattle.convoy_scenario.specs.WellFormed.{is_name, is_group_name, client_word, IsScenario}
+use Rattle.convoy_scenario_lines.specs.Laws.{CanSay, IsBetween}
+use Rattle.convoy_scenario.specs.Checks.{checks, judge, is_within, is_among, is_known_sender, knows, has_range, knows_link, is_message}
+use Rattle.convoy_scenario.specs.Numbering as numbering
+use Rattle.convoy_scenario.specs.Numbering.{place, ticks, numbers_of, link_of, message_of, in_order, delay_of_draft, links_of_draft, scenario_of, scenario_of_draft}
+use Rattle.convoy_lines.specs.Texts.{line_of}
+use Rattle.convoy_scenario_lines.specs.Lines.{delay_line, groups_line, link_line, multicast_line, target_line, scenario_lines}
+use Rattle.convoy_lines.specs.Labels.{number_in}
+use Rattle.convoy_scenario_lines.specs.LineForms.{name_of, named_sender, groups_in, link_in, multicast_in, target_in}
+use Rattle.convoy_lines.specs.Results.{◌>>=◌}
+use Rattle.convoy_lines.specs.Places.{Place}
+use Rattle.convoy_scenario_lines.specs.LineReading.{form_at, is_link_due, links_in, links_at, first_misplaced_link, messages_in, messages_at, is_multicast_due, draft_of, told, is_ordered, first_unordered, where_ordered, scenario_at}
+use Rattle.convoy_scenario_lines.proofs.FormLaws.{Says, SaysLink, link_takes, message_takes, name_takes, names_take, groups_take, target_takes}
+use Rattle.convoy_scenario_lines.proofs.DraftLaws.{DraftLaws}
+use Rattle.convoy_scenario_lines.proofs.LineLaws.{LineLaws, delay_word, number_line_takes}
+use Rattle.convoy_scenario_lines.proofs.LinkOrder.{placed}
+
+-- ---- the destinations
+
+pub picks : (p : List ℕ → Bool) (f : ℕ → List ℕ) (a : ℕ) (xs : List (List ℕ)) → ((i : ℕ) → i < length xs → f (a + i) ≡ get_or xs i [])
+    → map f (filter (λ g. p (f g)) (range_with_len a (length xs))) ≡ filter p xs
+picks p f a [] same = refl
+picks p f a (x ∷ xs) same =
+    let here : f a ≡ x = ap f (sym (add-zero a)) ∙ same 0 (omega arith) in
+    let rest = picks p f (a + 1) xs (λ i within. let e : (a + 1) + i ≡ a + (i + 1) = omega arith in ap f e ∙ same (i + 1) (omega arith) ∙ rw add-one refl) in
+    elim (cases_Bool (p x)) [
+      | inl kept ↦ let test : p (f a) ≡ true = ap p here ∙ kept in rw (test, kept) (ap (λ n. n ∷ map f (filter (λ g. p (f g)) (range_with_len (a + 1) (length xs)))) here ∙ ap (λ t. x ∷ t) rest)
+      | inr left ↦ let test : p (f a) ≡ false = ap p here ∙ left in rw (test, left) rest
+    ]
+
+-- the names of the numbers of the groups that are named
+pub named : (groups to : List (List ℕ)) → map (λ g. get_or groups g []) (numbers_of groups to) ≡ filter (λ group. is_among group to) groups
+named groups to = picks (λ group. is_among group to) (λ g. get_or groups g []) 0 groups (λ i within. let e : 0 + i ≡ i = omega arith in ap (λ n. get_or groups n []) e)
+
+pub name_some : (name : List ℕ) → is_name name ≡ true → 0 < length name
+name_some [] e = absurd (false≢true e)
+name_some (c ∷ cs) e = omega arith
+
+pub groups_some : (groups : List (List ℕ)) → list_all is_group_name groups ≡ true → AllByRecursion (λ name. 0 < length name) groups
+groups_some [] e = tt
+groups_some (g ∷ gs) e =
+    let parts = and_parts (is_group_name g) (list_all is_group_name gs) e in
+    (name_some g (and_parts (is_name g) _ parts.0).0, groups_some gs parts.1)
+
+filter_some : (p : List ℕ → Bool) (xs : List (List ℕ)) → AllByRecursion (λ name. 0 < length name) xs → AllByRecursion (λ name. 0 < length name) (filter p xs)
+filter_some p [] some = tt
+filter_some p (x ∷ xs) some =
+    elim (p x) as (λ b. AllByRecursion (λ name. 0 < length name) (cond b (x ∷ filter p xs) (filter p xs))) [
+      | true ↦ (some.0, filter_some p xs some.1)
+      | false ↦ filter_some p xs some.1
+    ]
+
+-- a name among groups has a byte
+among_some : (name : List ℕ) (groups : List (List ℕ)) → is_among name groups ≡ true → AllByRecursion (λ name. 0 < length name) groups → 0 < length name
+among_some name [] e some = absurd (false≢true e)
+among_some name (g ∷ gs) e some =
+    elim (cases_Bool (bytes_eq name g)) [
+      | inl here ↦ rw ((bytes_eq-Decides name g).0 here) some.0
+      | inr other ↦ let later : is_among name gs ≡ true = rw other at e in among_some name gs later some.1
+    ]
+
+-- ---- a message
+
+sender_is : (places : NamesHavePlaces) (draft : Draft) (from : List ℕ) → AllByRecursion (λ name. 0 < length name) draft.groups → is_known_sender draft.groups (named_sender from) ≡ true
+    → from ≡ sender_word (scenario_of draft) (numbering.sender_of draft.groups (named_sender from))
+sender_is places draft from some known =
+    elim (cases_Bool (bytes_eq from client_word)) [
+      | inl client ↦ rw client ((bytes_eq-Decides from client_word).0 client)
+      | inr group ↦
+          let among : is_among (name_of from) draft.groups ≡ true = rw group at known in
+          rw group (name_takes from (among_some (name_of from) draft.groups among some) ∙ sym (places (name_of from) draft.groups among))
+    ]
+
+tick_is : (most t : ℕ) → is_within 0 most (pos t) ≡ true → decimal t ≡ decimal (ticks most (pos t))
+tick_is most t e = rw e refl
+
+to_is : (groups : List (List ℕ)) (message : DraftMessage) (to : List (List ℕ)) → AllByRecursion (λ name. 0 < length name) groups → is_ordered groups message ≡ true → message.to ≡ map name_of to
+    → to ≡ map (λ g. get_or groups g []) (numbers_of groups message.to)
+to_is groups message to some ordered said =
+    let listed : message.to ≡ filter (λ group. is_among group message.to) groups = (slice_eq-Decides bytes_eq-Decides message.to _ _ refl).0 ordered in
+    let all : AllByRecursion (λ name. 0 < length name) (map name_of to) = subst (AllByRecursion (λ name. 0 < length name)) (sym listed ∙ said) (filter_some (λ group. is_among group message.to) groups some) in
+    names_take to all ∙ sym said ∙ listed ∙ sym (named groups message.to)
+
+abbrev four : List ℕ → List ℕ → List ℕ → List (List ℕ) → List ℕ
+four name from tick to = line_of (codes "multicast") (name ∷ from ∷ tick ∷ to)
+
+message_is : (places : NamesHavePlaces) (draft : Draft) (line : List ℕ) (m : DraftMessage) → AllByRecursion (λ name. 0 < length name) draft.groups → is_name m.name ≡ true → knows draft.groups m ≡ true
+    → is_within 0 GREATEST_AT m.at ≡ true → is_ordered draft.groups m ≡ true → Says line m → line ≡ multicast_line (scenario_of draft) (message_of draft.groups m)
+message_is places draft line m some name known within ordered s =
+    let name-said : m.name ≡ name_of s.name = ap (λ (d : DraftMessage). d.name) s.said in
+    let sender-said : m.sender ≡ named_sender s.from = ap (λ (d : DraftMessage). d.sender) s.said in
+    let to-said : m.to ≡ map name_of s.to = ap (λ (d : DraftMessage). d.to) s.said in
+    let at-said : m.at ≡ pos s.tick = ap (λ (d : DraftMessage). d.at) s.said in
+    let name-is : s.name ≡ m.name = name_takes s.name (subst (λ (n : List ℕ). 0 < length n) name-said (name_some m.name name)) ∙ sym name-said in
+    let known-sender : is_known_sender draft.groups (named_sender s.from) ≡ true = subst (λ (o : Option (List ℕ)). is_known_sender draft.groups o ≡ true) sender-said (and_parts (is_known_sender draft.groups m.sender) _ known).0 in
+    let from-is : s.from ≡ sender_word (scenario_of draft) (numbering.sender_of draft.groups m.sender) =
+    sender_is places draft s.from some known-sender ∙ ap (λ o. sender_word (scenario_of draft) (numbering.sender_of draft.groups o)) (sym sender-said) in
+    let tick-is : decimal s.tick ≡ decimal (ticks GREATEST_AT m.at) =
+    tick_is GREATEST_AT s.tick (subst (λ (z : ℤ). is_within 0 GREATEST_AT z ≡ true) at-said within) ∙ ap (λ z. decimal (ticks GREATEST_AT z)) (sym at-said) in
+    let to-is : s.to ≡ map (λ g. get_or draft.groups g []) (numbers_of draft.groups m.to) = to_is draft.groups m s.to some ordered to-said in
+    s.written ∙ ap (λ n. four n s.from (decimal s.tick) s.to) name-is
+    ∙ ap (λ f. four m.name f (decimal s.tick) s.to) from-is
+    ∙ ap (λ t. four m.name (sender_word (scenario_of draft) (numbering.sender_of draft.groups m.sender)) t s.to) tick-is
+    ∙ ap (λ t. four m.name (sender_word (scenario_of draft) (numbering.sender_of draft.groups m.sender)) (decimal (ticks GREATEST_AT m.at)) t) to-is
+
+-- ---- a link
+
+low_and_high : (low high : ℕ) (delay : ℤ) → is_within 1 GREATEST_DELAY delay ≡ true → (int_le (pos 1) (pos low) && int_le (pos low) (pos high) && int_le (pos high) delay) ≡ true
+    → (decimal low ≡ decimal (ticks GREATEST_DELAY (pos low))) × (decimal high ≡ decimal (ticks GREATEST_DELAY (pos high)))
+low_and_high low high (pos d) within h =
+    let p = and_parts (leb 1 d) (leb d GREATEST_DELAY) within in
+    let q = and_parts (leb 1 low && leb low high) (leb high d) h in
+    let r = and_parts (leb 1 low) (leb low high) q.0 in
+    let ordered = leb-true low high r.1 in
+    let under = leb-true high d q.1 in
+    let top = leb-true d GREATEST_DELAY p.1 in (
+      tick_is GREATEST_DELAY low (and_from _ _ (le-leb 0 low (omega arith)) (le-leb low GREATEST_DELAY (omega arith))),
+      tick_is GREATEST_DELAY high (and_from _ _ (le-leb 0 high (omega arith)) (le-leb high GREATEST_DELAY (omega arith))),
+    )
+low_and_high low high (negsuc d) within h = absurd (false≢true within)
+
+abbrev four_words : List ℕ → List ℕ → List ℕ → List ℕ → List ℕ
+four_words from to low high = line_of (codes "link") (from ∷ to ∷ low ∷ high ∷ [])
+
+link_is : (places : NamesHavePlaces) (draft : Draft) (line : List ℕ) (l : DraftLink) → AllByRecursion (λ name. 0 < length name) draft.groups → is_within 1 GREATEST_DELAY draft.delay ≡ true → has_range draft.delay l ≡ true → knows_link draft.groups l ≡ true
+    → SaysLink line l → line ≡ link_line (scenario_of draft) (link_of draft.groups l)
+link_is places draft line l some within range known s =
+    let sender-said : l.sender ≡ named_sender s.from = ap (λ (d : DraftLink). d.sender) s.said in
+    let to-said : l.to ≡ name_of s.to = ap (λ (d : DraftLink). d.to) s.said in
+    let least-said : l.least ≡ pos s.low = ap (λ (d : DraftLink). d.least) s.said in
+    let most-said : l.most ≡ pos s.high = ap (λ (d : DraftLink). d.most) s.said in
+    let parts = and_parts (is_known_sender draft.groups l.sender) (is_among l.to draft.groups) known in
+    let known-sender : is_known_sender draft.groups (named_sender s.from) ≡ true = subst (λ (o : Option (List ℕ)). is_known_sender draft.groups o ≡ true) sender-said parts.0 in
+    let from-is : s.from ≡ sender_word (scenario_of draft) (numbering.sender_of draft.groups l.sender) =
+    sender_is places draft s.from some known-sender ∙ ap (λ o. sender_word (scenario_of draft) (numbering.sender_of draft.groups o)) (sym sender-said) in
+    let to-is : s.to ≡ get_or draft.groups (place l.to draft.groups) [] =
+    name_takes s.to (subst (λ (n : List ℕ). 0 < length n) to-said (among_some l.to draft.groups parts.1 some)) ∙ sym to-said ∙ sym (places l.to draft.groups parts.1) in
+    let ticks-are = low_and_high s.low s.high draft.delay within (subst (λ (z : ℤ). (int_le (pos 1) (pos s.low) && int_le (pos s.low) z && int_le z draft.delay) ≡ true) most-said (subst (λ (z : ℤ). (int_le (pos 1) z && int_le z l.most && int_le l.most draft.delay) ≡ true) least-said range)) in
+    let low-is : decimal s.low ≡ decimal (ticks GREATEST_DELAY l.least) = ticks-are.0 ∙ ap (λ z. decimal (ticks GREATEST_DELAY z)) (sym least-said) in
+    let high-is : decimal s.high ≡ decimal (ticks GREATEST_DELAY l.most) = ticks-are.1 ∙ ap (λ z. decimal (ticks GREATEST_DELAY z)) (sym most-said) in
+    s.written ∙ ap (λ f. four_words f s.to (decimal s.low) (decimal s.high)) from-is
+    ∙ ap (λ t. four_words (sender_word (scenario_of draft) (numbering.sender_of draft.groups l.sender)) t (decimal s.low) (decimal s.high)) to-is
+    ∙ ap (λ w. four_words (sender_word (scenario_of draft) (numbering.sender_of draft.groups l.sender)) (get_or draft.groups (place l.to draft.groups) []) w (decimal s.high)) low-is
+    ∙ ap (λ w. four_words (sender_word (scenario_of draft) (numbering.sender_of draft.groups l.sender)) (get_or draft.groups (place l.to draft.groups) []) (decimal (ticks GREATEST_DELAY l.least)) w) high-is
+
+link_lines_are : (places : NamesHavePlaces) (draft : Draft) (lines : List (List ℕ)) (ls : List DraftLink) → AllByRecursion (λ name. 0 < length name) draft.groups → is_within 1 GREATEST_DELAY draft.delay ≡ true
+    → list_all (has_range draft.delay) ls ≡ true → list_all (knows_link draft.groups) ls ≡ true → AllZip SaysLink lines ls → lines ≡ map (link_line (scenario_of draft)) (map (link_of draft.groups) ls)
+link_lines_are places draft [] [] some within ranges known say = refl
+link_lines_are places draft [] (l ∷ ls) some within ranges known say = absurd say
+link_lines_are places draft (w ∷ ws) [] some within ranges known say = absurd say
+link_lines_are places draft (w ∷ ws) (l ∷ ls) some within ranges known say =
+    let a = and_parts (has_range draft.delay l) (list_all (has_range draft.delay) ls) ranges in
+    let b = and_parts (knows_link draft.groups l) (list_all (knows_link draft.groups) ls) known in
+    let one = link_is places draft w l some within a.0 b.0 say.0 in
+    ap (λ x. x ∷ ws) one ∙ ap (λ t. link_line (scenario_of draft) (link_of draft.groups l) ∷ t) (link_lines_are places draft ws ls some within a.1 b.1 say.1)
+
+-- ---- lines, one after another
+
+pub bind_ok : {A B : Type 0} (r : Result A LineFault) (f : A → Result B LineFault) (y : B) → (r >>= f) ≡ Ok y → (x : A) × (r ≡ Ok x) × (f x ≡ Ok y)
+bind_ok (Ok x) f y e = (x, refl, e)
+bind_ok (Err fault) f y e = absurd cc
+
+pub same_ok : {A : Type 0} (x y : A) → ◌≡◌ {A = Result A LineFault} (Ok x) (Ok y) → x ≡ y
+same_ok x y e = cc
+
+ok_or_takes : {A : Type 0} (o : Option A) (fault : LineFault) (x : A) → ok_or o fault ≡ Ok x → o ≡ Some x
+ok_or_takes None fault x e = absurd cc
+ok_or_takes (Some y) fault x e = ap (λ z. Some z) (same_ok y x e)
+
+-- the form that a line at a place had
+pub record Took {A : Type 0} (form : List ℕ → Option A) (p : Place) (x : A × Place) : Type 0 where
+  pub line : List ℕ
+  pub ended : p.ended ≡ line ∷ x.1.ended
+  pub rest : p.rest ≡ x.1.rest
+  pub number : p.number + 1 ≡ x.1.number
+  pub has : form line ≡ Some x.0
+
+took_at : {A : Type 0} (expected : Expected) (form : List ℕ → Option A) (number : ℕ) (rest : List ℕ) (ended : List (List ℕ)) (x : A × Place)
+    → form_at expected form (record { ended = ended; rest = rest; number = number }) ≡ Ok x → Took form (record { ended = ended; rest = rest; number = number }) x
+took_at expected form number rest [] x e = absurd cc
+took_at {A} expected form number rest (line ∷ lines) x e =
+    let after : Place = record { ended = lines; rest = rest; number = number + 1 } in
+    let a = bind_ok (ok_or (form line) (faults.Line number expected)) (λ value. Ok (value, after)) x e in
+    let same : (a.0, after) ≡ x = same_ok (a.0, after) x a.2 in
+    record {
+      line = line;
+      ended = ap (λ (y : A × Place). line ∷ y.1.ended) same;
+      rest = ap (λ (y : A × Place). y.1.rest) same;
+      number = ap (λ (y : A × Place). y.1.number) same;
+      has = ok_or_takes (form line) (faults.Line number expected) a.0 a.1 ∙ ap (λ (y : A × Place). Some y.0) same;
+    }
+
+pub took : {A : Type 0} (expected : Expected) (form : List ℕ → Option A) (p : Place) (x : A × Place) → form_at expected form p ≡ Ok x → Took form p x
+took expected form p x e = took_at expected form p.number p.rest p.ended x e
+
+-- the lines that say some messages, or links
+pub record TookLines {A : Type 0} (says : List ℕ → A → Type 0) (number : ℕ) (rest : List ℕ) (ended : List (List ℕ)) (x : List A × Place) : Type 0 where
+  pub lines : List (List ℕ)
+  pub before : ended ≡ lines ++ x.1.ended
+  pub after : rest ≡ x.1.rest
+  pub past : number + length x.0 ≡ x.1.number
+  pub say : AllZip says lines x.0
+
+stop : {A : Type 0} (b : Bool) (fault : LineFault) (y x : A) → cond b (Err fault) (Ok y) ≡ Ok x → y ≡ x
+stop true fault y x e = absurd cc
+stop false fault y x e = same_ok y x e
+
+unless : {A : Type 0} (b : Bool) (fault : LineFault) (r : Result A LineFault) (x : A) → cond b (Err fault) r ≡ Ok x → r ≡ Ok x
+unless true fault r x e = absurd cc
+unless false fault r x e = e
+
+pub links_take : (laws : LineLaws) (version : Version) (count number : ℕ) (rest : List ℕ) (ended : List (List ℕ)) (x : List DraftLink × Place) → links_in version count number rest ended ≡ Ok x → TookLines SaysLink number rest ended x
+unfolding links_in
+links_take laws version count number rest [] x e =
+    let same = stop (is_link_due version rest) (faults.Line number Link) ([], record { ended = []; rest = rest; number = number }) x e in
+    subst (TookLines SaysLink number rest []) same (record { lines = []; before = refl; after = refl; past = omega arith; say = tt })
+links_take laws version count number rest (line ∷ lines) x e =
+    elim (cases_Bool (is_link_due version line)) [
+      | inl due ↦
+          let read : (ok_or (link_in line) (faults.Line number Link) >>= λ link. (if count == MOST_LINKS then Err (faults.Scenario (OverLimit limit.Link)) else links_in version (count + 1) (number + 1) rest lines) >>= λ more. Ok (link ∷ more.0, more.1)) ≡ Ok x = rw due at e in
+          let a = bind_ok (ok_or (link_in line) (faults.Line number Link)) (λ link. (if count == MOST_LINKS then Err (faults.Scenario (OverLimit limit.Link)) else links_in version (count + 1) (number + 1) rest lines) >>= λ more. Ok (link ∷ more.0, more.1)) x read in
+          let b = bind_ok (if count == MOST_LINKS then Err (faults.Scenario (OverLimit limit.Link)) else links_in version (count + 1) (number + 1) rest lines) (λ more. Ok (a.0 ∷ more.0, more.1)) x a.2 in
+          let same : (a.0 ∷ b.0.0, b.0.1) ≡ x = same_ok (a.0 ∷ b.0.0, b.0.1) x b.2 in
+          let more = links_take laws version (count + 1) (number + 1) rest lines b.0 (unless (count == MOST_LINKS) (faults.Scenario (OverLimit limit.Link)) _ b.0 b.1) in
+          let says = link_takes laws line a.0 (ok_or_takes (link_in line) (faults.Line number Link) a.0 a.1) in
+          subst (TookLines SaysLink number rest (line ∷ lines)) same (record { lines = line ∷ more.lines; before = ap (λ t. line ∷ t) more.before; after = more.after; past = omega (arith, more.past); say = (says, more.say) })
+      | inr other ↦
+          let read : Ok ([], record { ended = line ∷ lines; rest = rest; number = number }) ≡ Ok x = rw other at e in
+          subst (TookLines SaysLink number rest (line ∷ lines)) (same_ok ([], record { ended = line ∷ lines; rest = rest; number = number }) x read) (record { lines = []; before = refl; after = refl; past = omega arith; say = tt })
+    ]
+
+-- version 1 has no lines `link`
+no_links : (count number : ℕ) (rest : List ℕ) (ended : List (List ℕ)) (x : List DraftLink × Place) → links_in One count number rest ended ≡ Ok x → x.0 ≡ []
+unfolding links_in
+no_links count number rest [] x e = ap (λ (y : List DraftLink × Place). y.0) (sym (same_ok ([], record { ended = []; rest = rest; number = number }) x e))
+no_links count number rest (line ∷ lines) x e = ap (λ (y : List DraftLink × Place). y.0) (sym (same_ok ([], record { ended = line ∷ lines; rest = rest; number = number }) x e))
+
+can_say : (version : Version) (draft : Draft) (count number : ℕ) (rest : List ℕ) (ended : List (List ℕ)) (x : List DraftLink × Place) → x.0 ≡ draft.links → links_in version count number rest ended ≡ Ok x → CanSay version (scenario_of draft)
+can_say One draft count number rest ended x are e = ap (λ (ls : List DraftLink). in_order (delay_of_draft draft) (map (link_of draft.groups) ls)) (sym are ∙ no_links count number rest ended x e)
+can_say Two draft count number rest ended x are e = tt
+
+pub messages_take : (laws : LineLaws) (count number : ℕ) (rest : List ℕ) (ended : List (List ℕ)) (x : List DraftMessage × Place) → messages_in count number rest ended ≡ Ok x → TookLines Says number rest ended x
+unfolding messages_in
+messages_take laws count number rest [] x e =
+    let same = stop (is_multicast_due count rest) (faults.Line number Multicast) ([], record { ended = []; rest = rest; number = number }) x e in
+    subst (TookLines Says number rest []) same (record { lines = []; before = refl; after = refl; past = omega arith; say = tt })
+messages_take laws count number rest (line ∷ lines) x e =
+    elim (cases_Bool (is_multicast_due count line)) [
+      | inl due ↦
+          let read : (ok_or (multicast_in line) (faults.Line number Multicast) >>= λ message. (if count == MOST_MULTICASTS then Err (faults.Scenario (OverLimit limit.Multicasts)) else messages_in (count + 1) (number + 1) rest lines) >>= λ more. Ok (message ∷ more.0, more.1)) ≡ Ok x = rw due at e in
+          let a = bind_ok (ok_or (multicast_in line) (faults.Line number Multicast)) (λ message. (if count == MOST_MULTICASTS then Err (faults.Scenario (OverLimit limit.Multicasts)) else messages_in (count + 1) (number + 1) rest lines) >>= λ more. Ok (message ∷ more.0, more.1)) x read in
+          let b = bind_ok (if count == MOST_MULTICASTS then Err (faults.Scenario (OverLimit limit.Multicasts)) else messages_in (count + 1) (number + 1) rest lines) (λ more. Ok (a.0 ∷ more.0, more.1)) x a.2 in
+          let same : (a.0 ∷ b.0.0, b.0.1) ≡ x = same_ok (a.0 ∷ b.0.0, b.0.1) x b.2 in
+          let more = messages_take laws (count + 1) (number + 1) rest lines b.0 (unless (count == MOST_MULTICASTS) (faults.Scenario (OverLimit limit.Multicasts)) _ b.0 b.1) in
+          let says = message_takes laws line a.0 (ok_or_takes (multicast_in line) (faults.Line number Multicast) a.0 a.1) in
+          subst (TookLines Says number rest (line ∷ lines)) same (record { lines = line ∷ more.lines; before = ap (λ t. line ∷ t) more.before; after = more.after; past = omega (arith, more.past); say = (says, more.say) })
+      | inr other ↦
+          let read : Ok ([], record { ended = line ∷ lines; rest = rest; number = number }) ≡ Ok x = rw other at e in
+          subst (TookLines Says number rest (line ∷ lines)) (same_ok ([], record { ended = line ∷ lines; rest = rest; number = number }) x read) (record { lines = []; before = refl; after = refl; past = omega arith; say = tt })
+    ]
+
+-- all that is asked of each message
+record Fine (draft : Draft) (m : DraftMessage) : Type 0 where
+  name : is_name m.name ≡ true
+  known : knows draft.groups m ≡ true
+  within : is_within 0 GREATEST_AT m.at ≡ true
+  ordered : is_ordered draft.groups m ≡ true
+
+each : (draft : Draft) (ms : List DraftMessage) → list_all (λ m. is_name m.name) ms ≡ true → list_all (knows draft.groups) ms ≡ true → list_all (λ m. is_within 0 GREATEST_AT m.at) ms ≡ true
+    → list_all (is_ordered draft.groups) ms ≡ true → AllByRecursion (Fine draft) ms
+each draft [] a b c d = tt
+each draft (m ∷ ms) a b c d =
+    let a' = and_parts (is_name m.name) (list_all (λ m. is_name m.name) ms) a in
+    let b' = and_parts (knows draft.groups m) (list_all (knows draft.groups) ms) b in
+    let c' = and_parts (is_within 0 GREATEST_AT m.at) (list_all (λ m. is_within 0 GREATEST_AT m.at) ms) c in
+    let d' = and_parts (is_ordered draft.groups m) (list_all (is_ordered draft.groups) ms) d in
+    (record { name = a'.0; known = b'.0; within = c'.0; ordered = d'.0 }, each draft ms a'.1 b'.1 c'.1 d'.1)
+
+lines_are : (places : NamesHavePlaces) (draft : Draft) (lines : List (List ℕ)) (ms : List DraftMessage) → AllByRecursion (λ name. 0 < length name) draft.groups → AllZip Says lines ms → AllByRecursion (Fine draft) ms
+    → lines ≡ map (multicast_line (scenario_of draft)) (map (message_of draft.groups) ms)
+lines_are places draft [] [] some say fine = refl
+lines_are places draft [] (m ∷ ms) some say fine = absurd say
+lines_are places draft (l ∷ ls) [] some say fine = absurd say
+lines_are places draft (l ∷ ls) (m ∷ ms) some say fine =
+    let one = message_is places draft l m some fine.0.name fine.0.known fine.0.within fine.0.ordered say.0 in
+    ap (λ x. x ∷ ls) one ∙ ap (λ t. multicast_line (scenario_of draft) (message_of draft.groups m) ∷ t) (lines_are places draft ls ms some say.1 fine.1)
+
+all_ordered : (groups : List (List ℕ)) (number : ℕ) (ms : List DraftMessage) → first_unordered groups number ms ≡ None → list_all (is_ordered groups) ms ≡ true
+all_ordered groups number [] e = refl
+all_ordered groups number (m ∷ ms) e =
+    elim (cases_Bool (is_ordered groups m)) [
+      | inl fine ↦ let rest : first_unordered groups (number + 1) ms ≡ None = rw fine at e in rw fine (all_ordered groups (number + 1) ms rest)
+      | inr other ↦ let found : Some number ≡ None = rw other at e in absurd cc
+    ]
+
+-- ---- the checks
+
+pub of_draft : (r : Result (Unit {0}) ScenarioFault) (made plan : Scenario) → told (result_and r (Ok made)) ≡ Ok plan → (r ≡ Ok tt) × (made ≡ plan)
+of_draft (Ok u) made plan e = (refl, same_ok made plan e)
+of_draft (Err fault) made plan e = absurd cc
+
+of_order : (expected : Expected) (o : Option ℕ) (plan made : Scenario) → where_ordered expected o plan ≡ Ok made → (o ≡ None) × (plan ≡ made)
+of_order expected None plan made e = (refl, same_ok plan made e)
+of_order expected (Some number) plan made e = absurd cc
+
+delay_is : (d : ℕ) → is_within 1 GREATEST_DELAY (pos d) ≡ true → decimal d ≡ decimal (ticks GREATEST_DELAY (pos d))
+delay_is d e =
+    let parts = and_parts (leb 1 d) (leb d GREATEST_DELAY) e in
+    tick_is GREATEST_DELAY d (and_from (leb 0 d) (leb d GREATEST_DELAY) (le-leb 0 d (omega arith)) parts.1)
+
+name_among : (name : List ℕ) (ms : List DraftMessage) → is_message name ms ≡ true → list_all (λ m. is_name m.name) ms ≡ true → 0 < length name
+name_among name [] e all = absurd (false≢true e)
+name_among name (m ∷ ms) e all =
+    let a = and_parts (is_name m.name) (list_all (λ m. is_name m.name) ms) all in
+    elim (cases_Bool (bytes_eq name m.name)) [
+      | inl here ↦ rw ((bytes_eq-Decides name m.name).0 here) (name_some m.name a.0)
+      | inr other ↦ let later : is_message name ms ≡ true = rw other at e in name_among name ms later a.1
+    ]
+
+-- ---- the scenario
+
+-- as many lines as links and messages, and three
+pub count_lines : (plan : Scenario) → length (scenario_lines plan) ≡ length plan.links + length plan.multicasts + 3
+count_lines plan =
+    let links = length-map plan.links (link_line plan) in
+    let messages = length-map plan.multicasts (multicast_line plan) in
+    let last = length-append (map (multicast_line plan) plan.multicasts) (target_line plan ∷ []) in
+    let all = length-append (map (link_line plan) plan.links) (map (multicast_line plan) plan.multicasts ++ target_line plan ∷ []) in
+    omega arith
+
+-- the lines of a scenario before others
+pub lines_before : (plan : Scenario) (rest : List (List ℕ)) → scenario_lines plan ++ rest ≡ delay_line plan ∷ groups_line plan ∷ (map (link_line plan) plan.links ++ (map (multicast_line plan) plan.multicasts ++ target_line plan ∷ rest))
+lines_before plan rest =
+    ap (λ ls. delay_line plan ∷ groups_line plan ∷ ls)
+    (append_assoc (map (link_line plan) plan.links) (map (multicast_line plan) plan.multicasts ++ target_line plan ∷ []) rest
+    ∙ ap (λ ls. map (link_line plan) plan.links ++ ls) (append_assoc (map (multicast_line plan) plan.multicasts) (target_line plan ∷ []) rest))
+
+made : (draft : Draft) (delay : ℕ) (d g t : List ℕ) (ls ms rest : List (List ℕ)) → draft.delay ≡ pos delay
+    → d ≡ line_of (codes "delay") (decimal delay ∷ []) → decimal delay ≡ decimal (ticks GREATEST_DELAY (pos delay))
+    → g ≡ groups_line (scenario_of draft) → ls ≡ map (link_line (scenario_of draft)) (scenario_of draft).links → ms ≡ map (multicast_line (scenario_of draft)) (scenario_of draft).multicasts → t ≡ target_line (scenario_of draft)
+    → d ∷ g ∷ (ls ++ (ms ++ t ∷ rest)) ≡ scenario_lines (scenario_of draft) ++ rest
+made draft delay d g t ls ms rest said de tick ge le me te =
+    let plan = scenario_of draft in
+    let delay-line : d ≡ delay_line plan = de ∙ ap (λ w. line_of (codes "delay") (w ∷ [])) (tick ∙ ap (λ z. decimal (ticks GREATEST_DELAY z)) (sym said)) in
+    ap (λ l. l ∷ g ∷ (ls ++ (ms ++ t ∷ rest))) delay-line
+    ∙ ap (λ l. delay_line plan ∷ l ∷ (ls ++ (ms ++ t ∷ rest))) ge
+    ∙ ap (λ lines. delay_line plan ∷ groups_line plan ∷ (lines ++ (ms ++ t ∷ rest))) le
+    ∙ ap (λ lines. delay_line plan ∷ groups_line plan ∷ (map (link_line plan) plan.links ++ (lines ++ t ∷ rest))) me
+    ∙ ap (λ l. delay_line plan ∷ groups_line plan ∷ (map (link_line plan) plan.links ++ (map (multicast_line plan) plan.multicasts ++ l ∷ rest))) te
+    ∙ sym (lines_before plan rest)
+
+-- what is read after the target, the messages, the links, the groups and D
+abbrev pub after_target : ℕ → ℕ → List (List ℕ) → List DraftLink → ℕ → List DraftMessage → (List ℕ × List ℕ) × Place → Result (Scenario × Place) LineFault
+after_target delay first groups links number messages target =
+    told (scenario_of_draft (draft_of delay groups links messages target.0)) >>= λ plan. where_ordered Link (first_misplaced_link first (draft_of delay groups links messages target.0)) plan >>= λ linked.
+    where_ordered Multicast (first_unordered groups number messages) linked >>= λ ordered. Ok (ordered, target.1)
+
+abbrev pub after_messages : ℕ → ℕ → List (List ℕ) → List DraftLink → ℕ → List DraftMessage × Place → Result (Scenario × Place) LineFault
+after_messages delay first groups links number messages = form_at Target target_in messages.1 >>= after_target delay first groups links number messages.0
+
+abbrev pub after_links : ℕ → ℕ → List (List ℕ) → List DraftLink × Place → Result (Scenario × Place) LineFault
+after_links delay first groups links = messages_at 0 links.1 >>= after_messages delay first groups links.0 links.1.number
+
+abbrev pub after_groups : Version → ℕ → List (List ℕ) × Place → Result (Scenario × Place) LineFault
+after_groups version delay groups = links_at version 0 groups.1 >>= after_links delay groups.1.number groups.0
+
+abbrev pub after_delay : Version → ℕ × Place → Result (Scenario × Place) LineFault
+after_delay version delay = form_at Groups groups_in delay.1 >>= after_groups version delay.0
+
+pub scenario_takes : (laws : LineLaws) (drafts : DraftLaws) (version : Version) (p : Place) (x : Scenario × Place) → scenario_at version p ≡ Ok x → IsScenario x.0 × CanSay version x.0 × IsBetween x.0 p x.1
+unfolding scenario_at
+scenario_takes laws drafts version p x e =
+    let a = bind_ok (form_at Delay (number_in (codes "delay")) p) (after_delay version) x e in
+    let b = bind_ok (form_at Groups groups_in a.0.1) (after_groups version a.0.0) x a.2 in
+    let k = bind_ok (links_at version 0 b.0.1) (after_links a.0.0 b.0.1.number b.0.0) x b.2 in
+    let c = bind_ok (messages_at 0 k.0.1) (after_messages a.0.0 b.0.1.number b.0.0 k.0.0 k.0.1.number) x k.2 in
+    let d = bind_ok (form_at Target target_in c.0.1) (after_target a.0.0 b.0.1.number b.0.0 k.0.0 k.0.1.number c.0.0) x c.2 in
+    let draft = draft_of a.0.0 b.0.0 k.0.0 c.0.0 d.0.0 in
+    let misplaced = first_misplaced_link b.0.1.number draft in
+    let unordered = first_unordered b.0.0 k.0.1.number c.0.0 in
+    let f = bind_ok (told (scenario_of_draft draft)) (λ plan. where_ordered Link misplaced plan >>= λ linked. where_ordered Multicast unordered linked >>= λ ordered. Ok (ordered, d.0.1)) x d.2 in
+    let h = bind_ok (where_ordered Link misplaced f.0) (λ linked. where_ordered Multicast unordered linked >>= λ ordered. Ok (ordered, d.0.1)) x f.2 in
+    let g = bind_ok (where_ordered Multicast unordered h.0) (λ ordered. Ok (ordered, d.0.1)) x h.2 in
+    let sure = of_draft (judge (checks draft)) (scenario_of draft) f.0 f.1 in
+    let link-order = of_order Link misplaced f.0 h.0 h.1 in
+    let order = of_order Multicast unordered h.0 g.0 g.1 in
+    let same : (scenario_of draft, d.0.1) ≡ x = ap (λ (plan : Scenario). (plan, d.0.1)) (sure.1 ∙ link-order.1 ∙ order.1) ∙ same_ok (g.0, d.0.1) x g.2 in
+    let made-is : scenario_of_draft draft ≡ Ok (scenario_of draft) = rw sure.0 refl in
+    let all = drafts.hold (checks draft) sure.0 in
+    let names = all.1.1.1.1.1 in
+    let references = names.1.1.1.1.1 in
+    let some = groups_some b.0.0 names.0 in
+    let fine = each draft c.0.0 names.1.0 references.0 all.1.1.1.0 (all_ordered b.0.0 k.0.1.number c.0.0 order.0) in
+    let t-delay = took Delay (number_in (codes "delay")) p a.0 a.1 in
+    let t-groups = took Groups groups_in a.0.1 b.0 b.1 in
+    let t-links = links_take laws version 0 b.0.1.number b.0.1.rest b.0.1.ended k.0 k.1 in
+    let t-messages = messages_take laws 0 k.0.1.number k.0.1.rest k.0.1.ended c.0 c.1 in
+    let t-target = took Target target_in c.0.1 d.0 d.1 in
+    let delay = number_line_takes laws (codes "delay") t-delay.line a.0.0 delay_word t-delay.has in
+    let groups = groups_take laws t-groups.line b.0.0 t-groups.has some in
+    let stand = placed (delay_of_draft draft) None b.0.1.number (links_of_draft draft) link-order.0 in
+    let kept : in_order (delay_of_draft draft) (links_of_draft draft) ≡ links_of_draft draft = drafts.stay (delay_of_draft draft) (links_of_draft draft) stand.0 stand.1 in
+    let links : t-links.lines ≡ map (link_line (scenario_of draft)) (scenario_of draft).links =
+    link_lines_are drafts.places draft t-links.lines k.0.0 some all.0 all.1.1.1.1.0 references.1.1.0 t-links.say ∙ ap (map (link_line (scenario_of draft))) (sym kept) in
+    let lines = lines_are drafts.places draft t-messages.lines c.0.0 some t-messages.say fine in
+    let target = target_takes laws t-target.line d.0.0 t-target.has (name_among d.0.0.0 c.0.0 references.1.1.1.1.1.0 names.1.0) (among_some d.0.0.1 b.0.0 references.1.0 some) in
+    let named = drafts.named draft (scenario_of draft) made-is in
+    let target-is : t-target.line ≡ target_line (scenario_of draft) =
+    target ∙ ap (λ w. line_of (codes "target") (w ∷ d.0.0.1 ∷ [])) (sym named.message)
+    ∙ ap (λ w. line_of (codes "target") ((message_at (scenario_of draft) (scenario_of draft).target_message).name ∷ w ∷ [])) (sym named.group) in
+    let stood : p.ended ≡ t-delay.line ∷ t-groups.line ∷ (t-links.lines ++ (t-messages.lines ++ t-target.line ∷ d.0.1.ended)) =
+    t-delay.ended ∙ ap (λ ls. t-delay.line ∷ ls) (t-groups.ended ∙ ap (λ ls. t-groups.line ∷ ls) (t-links.before ∙ ap (λ ls. t-links.lines ++ ls) (t-messages.before ∙ ap (λ ls. t-messages.lines ++ ls) t-target.ended))) in
+    let whole = made draft a.0.0 t-delay.line t-groups.line t-target.line t-links.lines t-messages.lines d.0.1.ended refl delay (delay_is a.0.0 all.0) groups links lines target-is in
+    let messages = length-map c.0.0 (message_of b.0.0) in
+    let linked : length (scenario_of draft).links ≡ length k.0.0 = ap length kept ∙ length-map k.0.0 (link_of b.0.0) in
+    let past : p.number + length (scenario_lines (scenario_of draft)) ≡ d.0.1.number =
+    omega (arith, count_lines (scenario_of draft), messages, linked, t-delay.number, t-groups.number, t-links.past, t-messages.past, t-target.number) in
+    subst (λ (y : Scenario × Place). IsScenario y.0 × CanSay version y.0 × IsBetween y.0 p y.1) same
+    (drafts.formed draft (scenario_of draft) made-is, can_say version draft 0 b.0.1.number b.0.1.rest b.0.1.ended k.0 refl k.1, record { ended = stood ∙ whole; rest = t-delay.rest ∙ t-groups.rest ∙ t-links.after ∙ t-messages.after ∙ t-target.rest; number = past })

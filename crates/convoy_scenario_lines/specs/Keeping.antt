@@ -1,0 +1,61 @@
+-- What a reader keeps of a line with more names than there may be groups. Such a line is one of no scenario, and what is kept of it has the fault of the whole.
+use Rattle.std.specs.Prelude.{ℕ, not, List, [], ◌∷◌, map, take, Option, Some, None, option_map, codes, find, Result, Ok}
+use Rattle.convoy_scenario_lines.specs.declared.line_forms.TheConstants.{MOST_KEPT_NAMES}
+use Rattle.convoy_scenario_lines.specs.declared.line_fault.Expected.TheVariants.{Delay, Groups, Link, Multicast, Target}
+use Rattle.convoy_scenario_lines.specs.declared.line_fault.LineFault.{LineFault}
+use Rattle.convoy_scenario_lines.specs.declared.version.Version.{Version}
+use Rattle.convoy_lines.specs.Labels.{number_in}
+use Rattle.convoy_lines.specs.Places.{Place}
+use Rattle.convoy_lines.specs.Results.{◌>>=◌}
+use Rattle.convoy_scenario.specs.Checks.{is_among}
+use Rattle.convoy_scenario.specs.Draft.{DraftMessage}
+use Rattle.convoy_scenario_lines.specs.LineForms.{groups_in, multicast_in, target_in}
+use Rattle.convoy_scenario_lines.specs.LineReading.{form_at, links_at, messages_at, draft_of, told, first_misplaced_link, first_unordered, where_ordered}
+use Rattle.convoy_scenario.specs.Numbering.{scenario_of_draft}
+use Rattle.convoy_scenario.specs.Scenario.{Scenario}
+
+-- of the groups: the first ones
+abbrev pub kept_groups : List (List ℕ) → List (List ℕ)
+kept_groups groups = take MOST_KEPT_NAMES groups
+
+-- the first of the names that is none of the groups
+abbrev pub first_unknown : List (List ℕ) → List (List ℕ) → Option (List ℕ)
+first_unknown groups names = find (λ name. not (is_among name groups)) names
+
+-- that name alone, or, where there is none, the first ones
+abbrev pub alone_or_first : List (List ℕ) → Option (List ℕ) → List (List ℕ)
+alone_or_first names None = take MOST_KEPT_NAMES names
+alone_or_first names (Some name) = name ∷ []
+
+-- of the destinations of a message: the first that is none of the groups, or else the first ones
+abbrev pub kept_destinations : List (List ℕ) → List (List ℕ) → List (List ℕ)
+kept_destinations groups to = alone_or_first to (first_unknown groups to)
+
+-- of a message: all but its destinations as it is
+abbrev pub kept_message : List (List ℕ) → DraftMessage → DraftMessage
+kept_message groups message = record { name = message.name; sender = message.sender; to = kept_destinations groups message.to; at = message.at }
+
+-- the names that are kept of a line `groups`
+abbrev pub kept_groups_in : List ℕ → Option (List (List ℕ))
+kept_groups_in line = option_map kept_groups (groups_in line)
+
+-- the message that is kept of a line `multicast`
+abbrev pub kept_multicast_in : List (List ℕ) → List ℕ → Option DraftMessage
+kept_multicast_in groups line = option_map (kept_message groups) (multicast_in line)
+
+-- the messages that are kept of the lines `multicast` that come next, after so many
+abbrev pub kept_messages_at : List (List ℕ) → ℕ → Place → Result (List DraftMessage × Place) LineFault
+kept_messages_at groups count place = messages_at count place >>= λ messages. Ok (map (kept_message groups) messages.0, messages.1)
+
+-- What the next lines give with what is kept of them: it is what they give whole.
+unfoldable pub kept_scenario_at : Version → Place → Result (Scenario × Place) LineFault
+kept_scenario_at version place = do
+  delay ← form_at Delay (number_in (codes "delay")) place
+  groups ← form_at Groups kept_groups_in delay.1
+  links ← links_at version 0 groups.1
+  messages ← kept_messages_at groups.0 0 links.1
+  target ← form_at Target target_in messages.1
+  scenario ← told (scenario_of_draft (draft_of delay.0 groups.0 links.0 messages.0 target.0))
+  linked ← where_ordered Link (first_misplaced_link groups.1.number (draft_of delay.0 groups.0 links.0 messages.0 target.0)) scenario
+  ordered ← where_ordered Multicast (first_unordered groups.0 links.1.number messages.0) linked
+  Ok (ordered, target.1)

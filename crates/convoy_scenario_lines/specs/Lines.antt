@@ -1,0 +1,35 @@
+-- The canonical lines of a scenario, from `delay` to `target`: the one text of each.
+use Rattle.std.specs.Prelude.{ℕ, List, [], ◌∷◌, ◌++◌, map, codes, decimal}
+use Rattle.convoy_lines.specs.Texts.{line_of, number_line, text_of}
+use Rattle.convoy_scenario.specs.Naming.{sender_word}
+use Rattle.convoy_scenario.specs.Scenario.{Link, Message, Scenario, message_at, group_name_at}
+
+abbrev pub delay_line : Scenario → List ℕ
+delay_line scenario = number_line (codes "delay") scenario.delay
+
+abbrev pub groups_line : Scenario → List ℕ
+groups_line scenario = line_of (codes "groups") scenario.groups
+
+-- the ends of a link, and its range
+abbrev pub link_line : Scenario → Link → List ℕ
+link_line scenario link = line_of (codes "link")
+    (sender_word scenario link.sender ∷ group_name_at scenario link.to ∷ decimal link.least ∷ decimal link.most ∷ [])
+
+-- name, sender and tick of a message, and its destinations, ascending
+abbrev pub multicast_line : Scenario → Message → List ℕ
+multicast_line scenario message = line_of (codes "multicast")
+    (message.name ∷ sender_word scenario message.sender ∷ decimal message.at ∷ map (group_name_at scenario) message.destinations)
+
+abbrev pub target_line : Scenario → List ℕ
+target_line scenario = line_of (codes "target")
+    ((message_at scenario scenario.target_message).name ∷ group_name_at scenario scenario.target_group ∷ [])
+
+-- the lines of a scenario
+abbrev pub scenario_lines : Scenario → List (List ℕ)
+scenario_lines scenario =
+    delay_line scenario ∷ groups_line scenario
+    ∷ (map (link_line scenario) scenario.links ++ (map (multicast_line scenario) scenario.multicasts ++ target_line scenario ∷ []))
+
+-- the text of a scenario
+abbrev pub scenario_text : Scenario → List ℕ
+scenario_text scenario = text_of (scenario_lines scenario)

@@ -1,0 +1,72 @@
+use convoy_scenario::ScenarioFault;
+use std::alloc::{AllocError, AllocFailed};
+use std::fmt;
+use thiserror::Error;
+
+/// What a line of a certificate text has to be (docs/FORMATS.md, "Certificate text").
+#[derive(Clone, Copy, Debug, PartialEq, Eq)]
+pub enum Expected {
+    Convoy,
+    Delay,
+    Groups,
+    Link,
+    Multicast,
+    Target,
+    Latency,
+    Schedule,
+    Node,
+}
+
+/// Why the lines read are no scenario. Where there are several faults, the first in the order of the
+/// lines is told (docs/FORMATS.md, "Certificate text").
+#[derive(Clone, Copy, Debug, PartialEq, Eq, Error)]
+pub enum LineFault {
+    /// The line of that number, from 1, is absent, is not ended by byte 10, or has not the form that
+    /// was expected there.
+    #[error("line {0} is not a line `{1}`, or is not ended")]
+    Line(usize, Expected),
+    /// The lines have their form, but there is no such scenario.
+    #[error("the lines are no scenario: {0}")]
+    Scenario(ScenarioFault),
+    /// Memory ran out, which says nothing of the text.
+    #[error("out of memory")]
+    Memory,
+}
+
+impl fmt::Display for Expected {
+    fn fmt<W: fmt::Write>(&self, f: &mut fmt::Formatter<W>) -> fmt::Result {
+        f.pad(match self {
+            Expected::Convoy => "convoy",
+            Expected::Delay => "delay",
+            Expected::Groups => "groups",
+            Expected::Link => "link",
+            Expected::Multicast => "multicast",
+            Expected::Target => "target",
+            Expected::Latency => "latency",
+            Expected::Schedule => "schedule",
+            Expected::Node => "node",
+        })
+    }
+}
+
+impl From<AllocError> for LineFault {
+    ghost use Rattle.std.specs.Prelude.{◌≡◌};
+    ghost use Rattle.convoy_scenario_lines.specs.declared.line_fault.LineFault.TheVariants.{Memory};
+
+    ghost from_gives = { λ _ fault. fault ≡ Memory };
+
+    fn from(_error: AllocError) -> LineFault {
+        LineFault::Memory
+    }
+}
+
+impl<T: Drop> From<AllocFailed<T>> for LineFault {
+    ghost use Rattle.std.specs.Prelude.{◌≡◌};
+    ghost use Rattle.convoy_scenario_lines.specs.declared.line_fault.LineFault.TheVariants.{Memory};
+
+    ghost from_gives = { λ _ fault. fault ≡ Memory };
+
+    fn from(_error: AllocFailed<T>) -> LineFault {
+        LineFault::Memory
+    }
+}

@@ -1,0 +1,162 @@
+ghost use Rattle.std.specs.Prelude.{◌≡◌, ◌==◌, Ok, [], ◌∷◌, map, codes, length, option_map, ok_or, IfOk};
+ghost use Rattle.std.specs.Result.{result_map_both};
+ghost use Rattle.convoy_scenario.specs.Checks.{is_among};
+ghost use Rattle.convoy_scenario_lines.specs.Keeping.{kept_groups, kept_destinations, kept_groups_in, kept_multicast_in};
+ghost use Rattle.convoy_scenario.specs.Memory.{IsUnlessMemory};
+ghost use Rattle.convoy_scenario_lines.specs.LineForms.{name_of, named_sender, link_in, target_in};
+
+use super::line_fault::LineFault;
+use convoy_lines::{Words, number_of, words_after};
+use convoy_scenario::{DraftLink, DraftMulticast, MOST_GROUPS, Name};
+use std::alloc::{AllocError, Global};
+
+/// How many names of one line are kept at most: one more than there are groups at most, so that a line
+/// with more names is one of no scenario, and the names kept of it show why.
+pub const MOST_KEPT_NAMES: usize = MOST_GROUPS + 1;
+
+/// A word as the text of a name; one that is not UTF-8, which is no name, as the text of no bytes,
+/// which is none, either.
+fn text_of(word: &[u8]) -> &str
+    ensures { result.now ≡ name_of word.now }
+{
+    match str::from_utf8(word) {
+        Ok(text) => text,
+        Err(_) => "",
+    }
+}
+
+/// A word as a name.
+fn name_of(alloc: Global, word: &[u8]) -> Result<Name, AllocError>
+    ensures { IfOk result (λ name. name ≡ name_of word.now) }
+{
+    Name::new(alloc, text_of(word))
+}
+
+/// The sender that a word names: None for a client.
+fn named_sender(alloc: Global, word: &[u8]) -> Result<Option<Name>, AllocError>
+    ensures { IfOk result (λ sender. sender ≡ named_sender word.now) }
+{
+    if word == b"client".as_slice() {
+        return Ok(None);
+    }
+    Ok(Some(name_of(alloc, word)?))
+}
+
+/// The first of the words that are left, as names.
+fn first_names(alloc: Global, words: Words) -> Result<Vec<Name>, AllocError>
+    ensures { IfOk result (λ names. names.items ≡ kept_groups (map name_of words.entry)) }
+{
+    let mut words = words;
+    let mut names = Vec::new(alloc);
+    while let Some(word) = words.next() {
+        if names.len() == MOST_KEPT_NAMES {
+            return Ok(names);
+        }
+        names.push(name_of(alloc, word)?)?;
+    }
+    Ok(names)
+}
+
+/// Whether a text is one of the names.
+fn is_named(text: &str, names: &[Name]) -> bool
+    ensures { result ≡ is_among text.now names.now }
+{
+    names.iter().any(|name| text == name.as_str())
+}
+
+/// One name.
+fn alone(alloc: Global, word: &[u8]) -> Result<Vec<Name>, AllocError>
+    ensures { IfOk result (λ names. names.items ≡ name_of word.now ∷ []) }
+{
+    let mut names = Vec::new(alloc);
+    names.push(name_of(alloc, word)?)?;
+    Ok(names)
+}
+
+/// Of the words that are left, as names, the first that is none of the groups, or else the first ones.
+fn destinations_of(alloc: Global, groups: &[Name], words: Words) -> Result<Vec<Name>, AllocError>
+    ensures { IfOk result (λ names. names.items ≡ kept_destinations groups.now (map name_of words.entry)) }
+{
+    let mut words = words;
+    let mut names = Vec::new(alloc);
+    while let Some(word) = words.next() {
+        if !is_named(text_of(word), groups) {
+            return alone(alloc, word);
+        }
+        if names.len() < MOST_KEPT_NAMES {
+            names.push(name_of(alloc, word)?)?;
+        }
+    }
+    Ok(names)
+}
+
+/// The names that are kept of a line `groups`; `wrong` where the line has not its form.
+pub fn groups_in(alloc: Global, line: &[u8], wrong: LineFault) -> Result<Vec<Name>, LineFault>
+    ensures { IsUnlessMemory LineFault.Memory (ok_or (kept_groups_in line.now) wrong)
+        (result_map_both (λ groups. groups.items) (λ fault. fault) result) }
+{
+    let words = words_after(line, b"groups").ok_or(wrong)?;
+    let groups = first_names(alloc, words)?;
+    if groups.is_empty() {
+        return Err(wrong);
+    }
+    Ok(groups)
+}
+
+/// The link of a line `link`; `wrong` where the line has not its form.
+pub fn link_in(alloc: Global, line: &[u8], wrong: LineFault) -> Result<DraftLink, LineFault>
+    ensures { IsUnlessMemory LineFault.Memory (ok_or (link_in line.now) wrong) result }
+{
+    let mut words = words_after(line, b"link").ok_or(wrong)?;
+    let from = words.next().ok_or(wrong)?;
+    let to = words.next().ok_or(wrong)?;
+    let least = words.next().ok_or(wrong)?;
+    let most = words.next().ok_or(wrong)?;
+    let least = number_of(least, u32::from(u16::MAX)).ok_or(wrong)?;
+    let most = number_of(most, u32::from(u16::MAX)).ok_or(wrong)?;
+    if !words.are_over() {
+        return Err(wrong);
+    }
+    Ok(DraftLink {
+        sender: named_sender(alloc, from)?,
+        to: name_of(alloc, to)?,
+        least: i64::from(least),
+        most: i64::from(most),
+    })
+}
+
+/// The message of a line `multicast`, with what is kept of its destinations; `wrong` where the line has
+/// not its form.
+pub fn multicast_in(
+    alloc: Global,
+    groups: &[Name],
+    line: &[u8],
+    wrong: LineFault,
+) -> Result<DraftMulticast, LineFault>
+    ensures { IsUnlessMemory LineFault.Memory (ok_or (kept_multicast_in groups.now line.now) wrong) result }
+{
+    let mut words = words_after(line, b"multicast").ok_or(wrong)?;
+    let name = words.next().ok_or(wrong)?;
+    let from = words.next().ok_or(wrong)?;
+    let at = words.next().ok_or(wrong)?;
+    let at = number_of(at, u32::MAX).ok_or(wrong)?;
+    Ok(DraftMulticast {
+        name: name_of(alloc, name)?,
+        sender: named_sender(alloc, from)?,
+        to: destinations_of(alloc, groups, words)?,
+        at: i64::from(at),
+    })
+}
+
+/// The message and the group of a line `target`; `wrong` where the line has not its form.
+pub fn target_in(alloc: Global, line: &[u8], wrong: LineFault) -> Result<(Name, Name), LineFault>
+    ensures { IsUnlessMemory LineFault.Memory (ok_or (target_in line.now) wrong) result }
+{
+    let mut words = words_after(line, b"target").ok_or(wrong)?;
+    let message = words.next().ok_or(wrong)?;
+    let group = words.next().ok_or(wrong)?;
+    if !words.are_over() {
+        return Err(wrong);
+    }
+    Ok((name_of(alloc, message)?, name_of(alloc, group)?))
+}

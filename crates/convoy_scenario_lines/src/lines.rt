@@ -1,0 +1,134 @@
+ghost use Rattle.std.specs.Prelude.{◌≡◌, ◌<◌, ◌++◌, length, map, IfOk, OnOk, OnErr};
+ghost use Rattle.std.specs.List.{flat_map};
+ghost use Rattle.convoy_scenario.specs.Scenario.{message_at, group_name_at};
+ghost use Rattle.convoy_lines.specs.Texts.{ended, spaced, text_of};
+ghost use Rattle.convoy_scenario.specs.Naming.{sender_word};
+ghost use Rattle.convoy_scenario.specs.WellFormed.{IsLink, IsSender};
+ghost use Rattle.convoy_scenario_lines.specs.Lines.{delay_line, groups_line, link_line, multicast_line, target_line, scenario_text};
+
+use convoy_lines::{push_further_word, push_number, push_number_line};
+use convoy_scenario::laws::targets_are_groups;
+use convoy_scenario::{Link, Scenario, Sender};
+use std::alloc::{AllocError, Global};
+
+/// Appends the canonical lines of a scenario, from the line `delay` to the line `target`
+/// (docs/FORMATS.md, "Certificate text"). Where memory runs out, `out` stays as it was.
+pub fn write_lines(alloc: Global, scenario: &Scenario, out: &mut Vec<u8>) -> Result<(), AllocError>
+    ensures ok { OnOk result (out.new.items ≡ out.old.items ++ scenario_text scenario.now) }
+    ensures err { OnErr result (out.new.items ≡ out.old.items) }
+{
+    let text = lines_of(alloc, scenario)?;
+    out.extend_from_slice(&text)
+}
+
+fn lines_of(alloc: Global, scenario: &Scenario) -> Result<Vec<u8>, AllocError>
+    ensures { IfOk result (λ text. text.items ≡ scenario_text scenario.now) }
+{
+    let mut text = Vec::new(alloc);
+    push_number_line(&mut text, "delay", u32::from(scenario.delay()))?;
+    push_groups(&mut text, scenario)?;
+    push_links(&mut text, scenario)?;
+    push_multicasts(&mut text, scenario)?;
+    push_target(&mut text, scenario)?;
+    Ok(text)
+}
+
+fn push_groups(text: &mut Vec<u8>, scenario: &Scenario) -> Result<(), AllocError>
+    ensures { OnOk result (text.new.items ≡ text.old.items ++ ended (groups_line scenario.now)) }
+{
+    text.extend_from_slice(b"groups")?;
+    for g in 0..scenario.group_count() {
+        push_further_word(text, scenario.group_name(g))?;
+    }
+    Ok(text.push(b'\n')?)
+}
+
+fn push_links(text: &mut Vec<u8>, scenario: &Scenario) -> Result<(), AllocError>
+    ensures { OnOk result
+        (text.new.items ≡ text.old.items
+        ++ text_of (map (link_line scenario.now) scenario.now.links)) }
+{
+    for link in scenario.links() {
+        push_link(text, scenario, link)?;
+    }
+    Ok(())
+}
+
+fn push_link(text: &mut Vec<u8>, scenario: &Scenario, link: &Link) -> Result<(), AllocError>
+    requires { IsLink (length scenario.now.groups) scenario.now.delay link.now }
+    ensures { OnOk result
+        (text.new.items ≡ text.old.items ++ ended (link_line scenario.now link.now)) }
+{
+    text.extend_from_slice(b"link")?;
+    push_sender(text, scenario, link.sender)?;
+    push_further_word(text, scenario.group_name(link.to))?;
+    text.push(b' ')?;
+    push_number(text, u32::from(link.least))?;
+    text.push(b' ')?;
+    push_number(text, u32::from(link.most))?;
+    Ok(text.push(b'\n')?)
+}
+
+fn push_multicasts(text: &mut Vec<u8>, scenario: &Scenario) -> Result<(), AllocError>
+    ensures { OnOk result
+        (text.new.items ≡ text.old.items
+        ++ text_of (map (multicast_line scenario.now) scenario.now.multicasts)) }
+{
+    for message in 0..scenario.message_count() {
+        push_multicast(text, scenario, message)?;
+    }
+    Ok(())
+}
+
+fn push_multicast(text: &mut Vec<u8>, scenario: &Scenario, message: usize) -> Result<(), AllocError>
+    requires { message < length scenario.now.multicasts }
+    ensures { OnOk result
+        (text.new.items ≡ text.old.items
+        ++ ended (multicast_line scenario.now (message_at scenario.now message))) }
+{
+    text.extend_from_slice(b"multicast")?;
+    push_further_word(text, scenario.message_name(message))?;
+    push_sender(text, scenario, scenario.sender(message))?;
+    text.push(b' ')?;
+    push_number(text, scenario.issue_tick(message))?;
+    push_destinations(text, scenario, message)?;
+    Ok(text.push(b'\n')?)
+}
+
+fn push_sender(text: &mut Vec<u8>, scenario: &Scenario, sender: Sender) -> Result<(), AllocError>
+    requires { IsSender (length scenario.now.groups) sender }
+    ensures { OnOk result
+        (text.new.items ≡ text.old.items ++ spaced (sender_word scenario.now sender)) }
+{
+    match sender {
+        Sender::Client => push_further_word(text, "client"),
+        Sender::Group(g) => push_further_word(text, scenario.group_name(g)),
+    }
+}
+
+fn push_destinations(
+    text: &mut Vec<u8>,
+    scenario: &Scenario,
+    message: usize,
+) -> Result<(), AllocError>
+    requires { message < length scenario.now.multicasts }
+    ensures { OnOk result
+        (text.new.items ≡ text.old.items
+        ++ flat_map spaced (map (group_name_at scenario.now)
+        (message_at scenario.now message).destinations)) }
+{
+    for g in scenario.destinations(message) {
+        push_further_word(text, scenario.group_name(*g))?;
+    }
+    Ok(())
+}
+
+fn push_target(text: &mut Vec<u8>, scenario: &Scenario) -> Result<(), AllocError>
+    ensures { OnOk result (text.new.items ≡ text.old.items ++ ended (target_line scenario.now)) }
+{
+    targets_are_groups();
+    text.extend_from_slice(b"target")?;
+    push_further_word(text, scenario.message_name(scenario.target_message()))?;
+    push_further_word(text, scenario.group_name(scenario.target_group()))?;
+    Ok(text.push(b'\n')?)
+}

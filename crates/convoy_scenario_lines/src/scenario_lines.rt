@@ -1,0 +1,277 @@
+ghost use Rattle.std.specs.Prelude.{◌≡◌, ◌==◌, ◌≤◌, ◌^◌, Ok, None, codes, map, OnErr};
+ghost use Rattle.std.specs.Cmp.Lexicographic.{pointwise};
+ghost use Rattle.std.specs.Result.{result_map_both};
+ghost use Rattle.convoy_scenario.specs.Memory.{IsUnlessMemory};
+ghost use Rattle.convoy_lines.specs.Labels.{number_in};
+ghost use Rattle.convoy_scenario_lines.specs.Keeping.{kept_groups_in, kept_multicast_in, kept_messages_at, kept_scenario_at};
+ghost use Rattle.convoy_scenario_lines.specs.LineForms.{link_in, target_in};
+ghost use Rattle.convoy_scenario_lines.specs.LineReading.{form_at, is_link_due, links_at, first_misplaced, first_misplaced_link, is_multicast_due, is_ordered, first_unordered, told, scenario_at};
+ghost use Rattle.convoy_lines.specs.Places.{upcoming};
+ghost use Rattle.convoy_scenario.specs.Numbering.{link_of, scenario_of_draft};
+
+use super::line_fault::{Expected, LineFault};
+use super::line_forms::{groups_in, link_in, multicast_in, target_in};
+use super::version::Version;
+use convoy_lines::{LineReader, number_in};
+use convoy_scenario::laws::{different_names_are_distinct, judged_rules_hold};
+use convoy_scenario::{
+    DraftLink, DraftMulticast, DraftScenario, Limit, MOST_LINKS, MOST_MULTICASTS, Name, Scenario,
+    ScenarioFault,
+};
+use std::alloc::Global;
+
+#[cfg(test)]
+mod tests;
+
+/// Reads the lines of a scenario, from `delay` to `target`, as a version has them (docs/FORMATS.md,
+/// "Certificate text").
+///
+/// A fault is the first in the order of the lines: a line that is absent, not ended or not of its
+/// form, or a line `link` past `MOST_LINKS` or a line `multicast` past `MOST_MULTICASTS`; then, at the
+/// line `target`, a scenario that is none; then a line `link` that is out of order or has the range 1
+/// to D; then a line whose destinations are not in the order of the groups. The reader then stands
+/// where it stood, as it does where memory runs out.
+pub fn read_lines(
+    alloc: Global,
+    version: Version,
+    reader: &mut LineReader,
+) -> Result<Scenario, LineFault>
+    ensures value { IsUnlessMemory LineFault.Memory (scenario_at version reader.old)
+        (result_map_both (λ scenario. (scenario, reader.new)) (λ fault. fault) result) }
+    ensures err { OnErr result (reader.new ≡ reader.old) }
+{
+    let mut ahead = reader.copy();
+    let scenario = read_scenario(alloc, version, &mut ahead)?;
+    *reader = ahead;
+    Ok(scenario)
+}
+
+/// Reads the lines of a scenario. After a fault the reader stands somewhere among them.
+fn read_scenario(
+    alloc: Global,
+    version: Version,
+    reader: &mut LineReader,
+) -> Result<Scenario, LineFault>
+    ensures { IsUnlessMemory LineFault.Memory (scenario_at version reader.old)
+        (result_map_both (λ scenario. (scenario, reader.new)) (λ fault. fault) result) }
+{
+    judged_rules_hold();
+    different_names_are_distinct();
+    read_kept(alloc, version, reader)
+}
+
+/// Reads the lines of a scenario, and keeps of a line no more names than show its fault: a line may
+/// have millions of them.
+#[tactic(auto, unfolding(crate::specs::Keeping::kept_scenario_at))]
+fn read_kept(
+    alloc: Global,
+    version: Version,
+    reader: &mut LineReader,
+) -> Result<Scenario, LineFault>
+    ensures { IsUnlessMemory LineFault.Memory (kept_scenario_at version reader.old)
+        (result_map_both (λ scenario. (scenario, reader.new)) (λ fault. fault) result) }
+{
+    let delay = read_delay(reader)?;
+    let groups = read_groups(alloc, reader)?;
+    let first_link = reader.number();
+    let links = read_links(alloc, version, reader)?;
+    let first = reader.number();
+    let multicasts = read_multicasts(alloc, &groups, reader)?;
+    let (target_message, target_group) = read_target(alloc, reader)?;
+    let unordered = first_unordered(&groups, first, &multicasts);
+    let draft = DraftScenario {
+        delay: i64::from(delay),
+        groups,
+        links,
+        multicasts,
+        target_message,
+        target_group,
+    };
+    let misplaced = first_misplaced_link(first_link, &draft);
+    let scenario = scenario_of(alloc, draft)?;
+    if let Some(number) = misplaced {
+        return Err(LineFault::Line(number, Expected::Link));
+    }
+    match unordered {
+        Some(number) => Err(LineFault::Line(number, Expected::Multicast)),
+        None => Ok(scenario),
+    }
+}
+
+fn scenario_of(alloc: Global, draft: DraftScenario) -> Result<Scenario, LineFault>
+    ensures { IsUnlessMemory LineFault.Memory (told (scenario_of_draft draft)) result }
+{
+    match Scenario::from_draft(alloc, draft) {
+        Ok(scenario) => Ok(scenario),
+        Err(ScenarioFault::Memory) => Err(LineFault::Memory),
+        Err(fault) => Err(LineFault::Scenario(fault)),
+    }
+}
+
+fn read_delay(reader: &mut LineReader) -> Result<u32, LineFault>
+    ensures { result_map_both (λ delay. (delay, reader.new)) (λ fault. fault) result
+        ≡ form_at Expected.Delay (number_in (codes "delay")) reader.old }
+{
+    let wrong = LineFault::Line(reader.number(), Expected::Delay);
+    let line = reader.line().ok_or(wrong)?;
+    number_in(line, b"delay").ok_or(wrong)
+}
+
+fn read_groups(alloc: Global, reader: &mut LineReader) -> Result<Vec<Name>, LineFault>
+    ensures { IsUnlessMemory LineFault.Memory (form_at Expected.Groups kept_groups_in reader.old)
+        (result_map_both (λ groups. (groups.items, reader.new)) (λ fault. fault) result) }
+{
+    let wrong = LineFault::Line(reader.number(), Expected::Groups);
+    let line = reader.line().ok_or(wrong)?;
+    groups_in(alloc, line, wrong)
+}
+
+fn read_link(alloc: Global, reader: &mut LineReader) -> Result<DraftLink, LineFault>
+    ensures { IsUnlessMemory LineFault.Memory (form_at Expected.Link link_in reader.old)
+        (result_map_both (λ link. (link, reader.new)) (λ fault. fault) result) }
+{
+    let wrong = LineFault::Line(reader.number(), Expected::Link);
+    let line = reader.line().ok_or(wrong)?;
+    link_in(alloc, line, wrong)
+}
+
+fn read_links(
+    alloc: Global,
+    version: Version,
+    reader: &mut LineReader,
+) -> Result<Vec<DraftLink>, LineFault>
+    ensures { IsUnlessMemory LineFault.Memory (links_at version 0 reader.old)
+        (result_map_both (λ links. (links.items, reader.new)) (λ fault. fault) result) }
+{
+    let mut links = Vec::new(alloc);
+    while is_link_due(version, reader) {
+        let link = read_link(alloc, reader)?;
+        if links.len() == MOST_LINKS {
+            return Err(LineFault::Scenario(ScenarioFault::OverLimit(Limit::Link)));
+        }
+        links.push(link)?;
+    }
+    Ok(links)
+}
+
+/// Whether a line `link` is due: the version has such lines, and what comes next begins with that word.
+fn is_link_due(version: Version, reader: &LineReader) -> bool
+    ensures { result ≡ is_link_due version (upcoming reader.now) }
+{
+    match version {
+        Version::One => false,
+        Version::Two => reader.begins_with(b"link"),
+    }
+}
+
+fn read_multicast(
+    alloc: Global,
+    groups: &[Name],
+    reader: &mut LineReader,
+) -> Result<DraftMulticast, LineFault>
+    ensures { IsUnlessMemory LineFault.Memory
+        (form_at Expected.Multicast (kept_multicast_in groups.now) reader.old)
+        (result_map_both (λ message. (message, reader.new)) (λ fault. fault) result) }
+{
+    let wrong = LineFault::Line(reader.number(), Expected::Multicast);
+    let line = reader.line().ok_or(wrong)?;
+    multicast_in(alloc, groups, line, wrong)
+}
+
+fn read_multicasts(
+    alloc: Global,
+    groups: &[Name],
+    reader: &mut LineReader,
+) -> Result<Vec<DraftMulticast>, LineFault>
+    ensures { IsUnlessMemory LineFault.Memory (kept_messages_at groups.now 0 reader.old)
+        (result_map_both (λ messages. (messages.items, reader.new)) (λ fault. fault) result) }
+{
+    let mut multicasts = Vec::new(alloc);
+    while is_multicast_due(reader, multicasts.len()) {
+        let multicast = read_multicast(alloc, groups, reader)?;
+        if multicasts.len() == MOST_MULTICASTS {
+            return Err(LineFault::Scenario(ScenarioFault::OverLimit(Limit::Multicasts)));
+        }
+        multicasts.push(multicast)?;
+    }
+    Ok(multicasts)
+}
+
+/// Whether a line `multicast` is due after so many: it is the first of them, or what comes next begins
+/// with that word.
+fn is_multicast_due(reader: &LineReader, count: usize) -> bool
+    ensures { result ≡ is_multicast_due count (upcoming reader.now) }
+{
+    count == 0 || reader.begins_with(b"multicast")
+}
+
+fn read_target(alloc: Global, reader: &mut LineReader) -> Result<(Name, Name), LineFault>
+    ensures { IsUnlessMemory LineFault.Memory (form_at Expected.Target target_in reader.old)
+        (result_map_both (λ target. (target, reader.new)) (λ fault. fault) result) }
+{
+    let wrong = LineFault::Line(reader.number(), Expected::Target);
+    let line = reader.line().ok_or(wrong)?;
+    target_in(alloc, line, wrong)
+}
+
+/// The number of the first line `link` that is out of order or has the range 1 to D, where `number` is
+/// that of the first of the lines.
+fn first_misplaced_link(number: usize, draft: &DraftScenario) -> Option<usize>
+    requires { number ≤ 2 ^ 63 }
+    ensures { result ≡ first_misplaced_link number draft.now }
+{
+    first_misplaced(
+        u32::from(draft.delay_ticks()),
+        &draft.groups,
+        number,
+        &draft.links,
+    )
+}
+
+fn first_misplaced(delay: u32, groups: &[Name], number: usize, links: &[DraftLink]) -> Option<usize>
+    requires { number ≤ 2 ^ 63 }
+    ensures { result ≡ first_misplaced delay None number (map (link_of groups.now) links.now) }
+{
+    let mut before = None;
+    for (i, draft) in links.iter().enumerate() {
+        let link = draft.numbered(groups);
+        if !link.follows(&before) || link.is_whole(delay) {
+            return Some(number + i);
+        }
+        before = Some(link);
+    }
+    None
+}
+
+/// The number of the first line whose destinations are not in the order of the groups, where `number`
+/// is that of the first of the lines.
+fn first_unordered(groups: &[Name], number: usize, multicasts: &[DraftMulticast]) -> Option<usize>
+    requires { number ≤ 2 ^ 63 }
+    ensures { result ≡ first_unordered groups.now number multicasts.now }
+{
+    for (i, multicast) in multicasts.iter().enumerate() {
+        if !is_ordered(groups, multicast) {
+            return Some(number + i);
+        }
+    }
+    None
+}
+
+/// Whether the destinations of a message are in the order of the groups.
+fn is_ordered(groups: &[Name], multicast: &DraftMulticast) -> bool
+    ensures { result ≡ is_ordered groups.now multicast.now }
+{
+    let mut rest = multicast.to.as_slice();
+    for group in groups {
+        if group.is_among(&multicast.to) {
+            let Some((first, tail)) = rest.split_first() else {
+                return false;
+            };
+            if !first.is_same(group) {
+                return false;
+            }
+            rest = tail;
+        }
+    }
+    rest.is_empty()
+}

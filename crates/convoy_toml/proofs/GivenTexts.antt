@@ -1,0 +1,34 @@
+-- What is read of a text is a well-formed scenario.
+use Rattle.std.proofs.Common.{◌≡◌, ℕ, List, Result, Ok, Err, refl, subst}
+use Rattle.convoy_lines.specs.Results.{◌>>=◌}
+use Rattle.convoy_scenario.specs.declared.fault.ScenarioFault.{ScenarioFault}
+use Rattle.convoy_scenario.specs.Laws.{DraftsGiveScenarios}
+use Rattle.convoy_scenario.specs.Numbering.{scenario_of_draft}
+use Rattle.convoy_scenario.specs.Scenario.{Scenario}
+use Rattle.convoy_scenario.specs.WellFormed.{IsScenario}
+use Rattle.convoy_toml.specs.Reading.{InputView, table_of_text, input_of_written, input_of_table, input_of_text, scenario_of_input, scenario_of_text}
+use Rattle.convoy_toml.specs.Shape.{written_of_table}
+
+after_ok : {A B : Type 0} (r : Result A ScenarioFault) (f : A → Result B ScenarioFault) (y : B) → (r >>= f) ≡ Ok y → (x : A) × (r ≡ Ok x) × (f x ≡ Ok y)
+after_ok (Ok x) f y e = (x, refl, e)
+after_ok (Err fault) f y e = absurd cc
+
+input_has : (given : Result InputView ScenarioFault) (scenario : Scenario) → scenario_of_input given ≡ Ok scenario → (input : InputView) × (given ≡ Ok input) × (input.scenario ≡ scenario)
+input_has (Ok input) scenario e =
+    let is : ◌≡◌ {A = Result Scenario ScenarioFault} (Ok input.scenario) (Ok scenario) = e in
+    (input, refl, cc)
+input_has (Err fault) scenario e = absurd cc
+
+of_input : (drafts : DraftsGiveScenarios) (text : List ℕ) (input : InputView) → input_of_text text ≡ Ok input → IsScenario input.scenario
+of_input drafts text input e =
+    let table = after_ok (table_of_text text) input_of_table input e in
+    let written = after_ok (written_of_table table.0) input_of_written input table.2 in
+    let given = after_ok (scenario_of_draft written.0.draft) (λ scenario. Ok (record { scenario = scenario; schedule = written.0.schedule })) input written.2 in
+    let is : ◌≡◌ {A = Result InputView ScenarioFault} (Ok (record { scenario = given.0; schedule = written.0.schedule })) (Ok input) = given.2 in
+    let same : record { scenario = given.0; schedule = written.0.schedule } ≡ input = cc in
+    subst (λ (i : InputView). IsScenario i.scenario) same (drafts written.0.draft given.0 given.1)
+
+pub of_text : (drafts : DraftsGiveScenarios) (text : List ℕ) (scenario : Scenario) → scenario_of_text text ≡ Ok scenario → IsScenario scenario
+of_text drafts text scenario e =
+    let has = input_has (input_of_text text) scenario e in
+    subst IsScenario has.2 (of_input drafts text has.0 has.1)

@@ -1,0 +1,3 @@
+mod Rows
+pub mod KeyLemmas
+pub mod GivenTexts

@@ -1,0 +1,53 @@
+-- The scenario of a TOML table, and of a text, with the schedule that is given beside it.
+use Rattle.std.specs.Prelude.{ℕ, ℤ, if◌then◌else◌, List, Option, option_map, ok_or, Result, Ok, Err}
+use Rattle.std.specs.Result.{result_map_both}
+use Rattle.std.specs.Str.{is_utf8}
+use Rattle.toml.specs.Data.{Members}
+use Rattle.toml.specs.Parse.{parse_document}
+use Rattle.convoy_scenario.specs.declared.fault.ScenarioFault.{ScenarioFault}
+use Rattle.convoy_toml.specs.declared.input.Input.{Input}
+use Rattle.convoy_scenario.specs.declared.fault.ScenarioFault.TheVariants.{NotToml}
+use Rattle.convoy_scenario.specs.Scenario.{Scenario}
+use Rattle.convoy_scenario.specs.Numbering.{scenario_of_draft}
+use Rattle.convoy_lines.specs.Results.{◌>>=◌}
+use Rattle.convoy_toml.specs.Shape.{Written, written_of_table}
+
+-- what a text gives: a scenario, and the delays of one run where they stand beside it
+pub record InputView : Type 0 where
+  pub scenario : Scenario
+  pub schedule : Option (List ℤ)
+
+-- the table of a text in UTF-8 that is TOML
+abbrev pub table_of_text : List ℕ → Result Members ScenarioFault
+table_of_text text = if is_utf8 text then ok_or (parse_document text) NotToml else Err NotToml
+
+-- what is given where this is written: the checks are those of the scenario, and the schedule stays as it is written
+abbrev pub input_of_written : Written → Result InputView ScenarioFault
+input_of_written written =
+    scenario_of_draft written.draft >>= λ scenario. Ok (record { scenario = scenario; schedule = written.schedule })
+
+-- what a table gives: its shape first, then the checks
+abbrev pub input_of_table : Members → Result InputView ScenarioFault
+input_of_table table = written_of_table table >>= input_of_written
+
+-- what a text gives
+abbrev pub input_of_text : List ℕ → Result InputView ScenarioFault
+input_of_text text = table_of_text text >>= input_of_table
+
+-- the scenario alone
+abbrev pub scenario_of_input : Result InputView ScenarioFault → Result Scenario ScenarioFault
+scenario_of_input given = result_map_both (λ g. g.scenario) (λ fault. fault) given
+
+-- the scenario of a text
+abbrev pub scenario_of_text : List ℕ → Result Scenario ScenarioFault
+scenario_of_text text = scenario_of_input (input_of_text text)
+
+-- what was read, with the schedule as a list
+abbrev pub input_read : Result Input ScenarioFault → Result InputView ScenarioFault
+input_read (Ok input) = Ok (record { scenario = input.scenario; schedule = option_map (λ delays. delays.items) input.schedule })
+input_read (Err fault) = Err fault
+
+-- what was read, without what stands beside the scenario
+abbrev pub scenario_read : Result Input ScenarioFault → Result Scenario ScenarioFault
+scenario_read (Ok input) = Ok input.scenario
+scenario_read (Err fault) = Err fault

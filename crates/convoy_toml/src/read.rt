@@ -1,0 +1,52 @@
+ghost use Rattle.std.specs.Prelude.{◌≡◌, Ok, IfOk, option_map};
+ghost use Rattle.std.specs.Result.{result_map_both};
+ghost use Rattle.toml.specs.View.{table_view};
+ghost use Rattle.convoy_scenario.specs.Memory.{IsUnlessMemory};
+ghost use Rattle.convoy_toml.specs.Reading.{table_of_text, input_of_text, input_read, scenario_of_text, scenario_read};
+
+use super::input::{DraftInput, Input};
+use super::shape::written_of_table;
+use convoy_scenario::{Scenario, ScenarioFault};
+use std::alloc::Global;
+use toml::Table;
+
+/// Reads a scenario text, which is TOML (docs/FORMATS.md, "Scenario text").
+///
+/// Of a faulty text the first fault is told, in the order of `ScenarioFault`; where memory runs out,
+/// `ScenarioFault::Memory` is the answer, and says nothing of the text. The members of
+/// `schedule` are given as they are written: whether they are delays of the scenario's packets is
+/// not asked here.
+pub fn read_toml(alloc: Global, text: &[u8]) -> Result<Input, ScenarioFault>
+    ensures scenario { IsUnlessMemory ScenarioFault.Memory
+        (scenario_of_text text.now) (scenario_read result) }
+    ensures input { IsUnlessMemory ScenarioFault.Memory
+        (input_of_text text.now) (input_read result) }
+    ensures read { IfOk result (λ input. scenario_of_text text.now ≡ Ok input.scenario) }
+    ensures given { IfOk result (λ input. input_of_text text.now
+        ≡ Ok (record { scenario = input.scenario; schedule = option_map (λ delays. delays.items) input.schedule })) }
+{
+    let table = read_table(alloc, text)?;
+    let written = written_of_table(alloc, &table)?;
+    let DraftInput { scenario, schedule } = written;
+    let scenario = Scenario::from_draft(alloc, scenario)?;
+    Ok(Input { scenario, schedule })
+}
+
+fn read_table(alloc: Global, text: &[u8]) -> Result<Table, ScenarioFault>
+    ensures { IsUnlessMemory ScenarioFault.Memory (table_of_text text.now)
+        (result_map_both table_view (λ fault. fault) result) }
+{
+    match toml::table_from_slice(alloc, text) {
+        Ok(table) => Ok(table),
+        Err(error) => {
+            if error.is_memory() {
+                Err(ScenarioFault::Memory)
+            } else {
+                Err(ScenarioFault::NotToml)
+            }
+        }
+    }
+}
+
+#[cfg(test)]
+mod tests;

@@ -1,0 +1,271 @@
+ghost use Rattle.std.specs.Prelude.{◌≡◌, map, option_map, ok_or};
+ghost use Rattle.std.specs.List.{list_any};
+ghost use Rattle.std.specs.Str.{bytes_eq};
+ghost use Rattle.std.specs.Result.{result_map_both};
+ghost use Rattle.toml.specs.Data.{as_integer, as_str, as_array, as_table, get_member};
+ghost use Rattle.toml.specs.View.{view, array_view, table_view};
+ghost use Rattle.convoy_scenario.specs.Keys.{key_word};
+ghost use Rattle.convoy_scenario.specs.Memory.{IsUnlessMemory};
+ghost use Rattle.convoy_toml.specs.Shape.{all_of, need, need_all, wish, wish_all, has_only, need_only, message_of_table, messages_of, link_of_table, links_of, links_of_table, draft_of_table, written_of_table, listed, listed_if_there, tables_listed};
+
+use super::input::DraftInput;
+use convoy_scenario::{DraftLink, DraftMulticast, DraftScenario, Key, Name, ScenarioFault};
+use std::alloc::Global;
+use toml::value::Array;
+use toml::{Table, Value};
+
+/// The value at a key.
+fn value_at(table: &Table, key: Key) -> Option<&Value>
+    ensures { option_map (λ v. view v.now) result
+        ≡ get_member (key_word key) (table_view table.now) }
+{
+    table.get(key.word())
+}
+
+fn integer(table: &Table, key: Key) -> Result<i64, ScenarioFault>
+    ensures { result ≡ need key as_integer (table_view table.now) }
+{
+    let value = value_at(table, key).ok_or(ScenarioFault::Shape(key))?;
+    value.as_integer().ok_or(ScenarioFault::Shape(key))
+}
+
+fn text(table: &Table, key: Key) -> Result<&str, ScenarioFault>
+    ensures { result_map_both (λ s. s.now) (λ e. e) result
+        ≡ need key as_str (table_view table.now) }
+{
+    let value = value_at(table, key).ok_or(ScenarioFault::Shape(key))?;
+    value.as_str().ok_or(ScenarioFault::Shape(key))
+}
+
+fn array(table: &Table, key: Key) -> Result<&Array, ScenarioFault>
+    ensures { result_map_both (λ a. array_view a.now) (λ e. e) result
+        ≡ need key as_array (table_view table.now) }
+{
+    let value = value_at(table, key).ok_or(ScenarioFault::Shape(key))?;
+    value.as_array().ok_or(ScenarioFault::Shape(key))
+}
+
+fn inner_table(table: &Table, key: Key) -> Result<&Table, ScenarioFault>
+    ensures { result_map_both (λ t. table_view t.now) (λ e. e) result
+        ≡ need key as_table (table_view table.now) }
+{
+    let value = value_at(table, key).ok_or(ScenarioFault::Shape(key))?;
+    value.as_table().ok_or(ScenarioFault::Shape(key))
+}
+
+fn name(alloc: Global, table: &Table, key: Key) -> Result<Name, ScenarioFault>
+    ensures { IsUnlessMemory ScenarioFault.Memory (need key as_str (table_view table.now)) result }
+{
+    let text = text(table, key)?;
+    Ok(Name::new(alloc, text)?)
+}
+
+fn sender(alloc: Global, table: &Table) -> Result<Option<Name>, ScenarioFault>
+    ensures { IsUnlessMemory ScenarioFault.Memory
+        (wish Key.From as_str (table_view table.now)) result }
+{
+    match value_at(table, Key::From) {
+        Some(value) => {
+            let text = value.as_str().ok_or(ScenarioFault::Shape(Key::From))?;
+            Ok(Some(Name::new(alloc, text)?))
+        }
+        None => Ok(None),
+    }
+}
+
+fn names_of(alloc: Global, items: &Array, key: Key) -> Result<Vec<Name>, ScenarioFault>
+    ensures { IsUnlessMemory ScenarioFault.Memory
+        (ok_or (all_of as_str (array_view items.now)) (ScenarioFault.Shape key)) (listed result) }
+{
+    let mut names = Vec::new(alloc);
+    for item in items {
+        let text = item.as_str().ok_or(ScenarioFault::Shape(key))?;
+        names.push(Name::new(alloc, text)?)?;
+    }
+    Ok(names)
+}
+
+fn names(alloc: Global, table: &Table, key: Key) -> Result<Vec<Name>, ScenarioFault>
+    ensures { IsUnlessMemory ScenarioFault.Memory
+        (need_all key as_str (table_view table.now)) (listed result) }
+{
+    let items = array(table, key)?;
+    names_of(alloc, items, key)
+}
+
+fn tables_of<'a>(alloc: Global, items: &'a Array, key: Key) -> Result<Vec<&'a Table>, ScenarioFault>
+    ensures { IsUnlessMemory ScenarioFault.Memory
+        (ok_or (all_of as_table (array_view items.now)) (ScenarioFault.Shape key))
+        (tables_listed result) }
+{
+    let mut tables = Vec::new(alloc);
+    for item in items {
+        let table = item.as_table().ok_or(ScenarioFault::Shape(key))?;
+        tables.push(table)?;
+    }
+    Ok(tables)
+}
+
+fn tables<'a>(alloc: Global, table: &'a Table, key: Key) -> Result<Vec<&'a Table>, ScenarioFault>
+    ensures { IsUnlessMemory ScenarioFault.Memory
+        (need_all key as_table (table_view table.now)) (tables_listed result) }
+{
+    let items = array(table, key)?;
+    tables_of(alloc, items, key)
+}
+
+fn integers_of(alloc: Global, items: &Array, key: Key) -> Result<Vec<i64>, ScenarioFault>
+    ensures { IsUnlessMemory ScenarioFault.Memory
+        (ok_or (all_of as_integer (array_view items.now)) (ScenarioFault.Shape key))
+        (listed result) }
+{
+    let mut integers = Vec::new(alloc);
+    for item in items {
+        integers.push(item.as_integer().ok_or(ScenarioFault::Shape(key))?)?;
+    }
+    Ok(integers)
+}
+
+fn schedule(alloc: Global, table: &Table) -> Result<Option<Vec<i64>>, ScenarioFault>
+    ensures { IsUnlessMemory ScenarioFault.Memory
+        (wish_all Key.Schedule as_integer (table_view table.now)) (listed_if_there result) }
+{
+    let Some(value) = value_at(table, Key::Schedule) else {
+        return Ok(None);
+    };
+    let items = value.as_array().ok_or(ScenarioFault::Shape(Key::Schedule))?;
+    Ok(Some(integers_of(alloc, items, Key::Schedule)?))
+}
+
+fn is_one_of(word: &str, keys: &[Key]) -> bool
+    ensures { result ≡ list_any (λ key. bytes_eq (key_word key) word.now) keys.now }
+{
+    keys.iter().any(|key| key.word() == word)
+}
+
+/// Whether each key of the table is one of these.
+fn has_only(table: &Table, keys: &[Key]) -> bool
+    ensures { result ≡ has_only keys.now (table_view table.now) }
+{
+    table.keys().all(|word| is_one_of(word.as_str(), keys))
+}
+
+fn need_only(table: &Table, keys: &[Key]) -> Result<(), ScenarioFault>
+    ensures { result ≡ need_only keys.now (table_view table.now) }
+{
+    if has_only(table, keys) {
+        Ok(())
+    } else {
+        Err(ScenarioFault::Shape(Key::Unknown))
+    }
+}
+
+fn multicast_of_table(alloc: Global, table: &Table) -> Result<DraftMulticast, ScenarioFault>
+    ensures { IsUnlessMemory ScenarioFault.Memory (message_of_table (table_view table.now)) result }
+{
+    let name = name(alloc, table, Key::Name)?;
+    let sender = sender(alloc, table)?;
+    let to = names(alloc, table, Key::To)?;
+    let at = integer(table, Key::At)?;
+    need_only(table, &[Key::Name, Key::From, Key::To, Key::At])?;
+    Ok(DraftMulticast {
+        name,
+        sender,
+        to,
+        at,
+    })
+}
+
+fn multicasts_of(alloc: Global, tables: &[&Table]) -> Result<Vec<DraftMulticast>, ScenarioFault>
+    ensures { IsUnlessMemory ScenarioFault.Memory
+        (messages_of (map (λ t. table_view t.now) tables.now)) (listed result) }
+{
+    let mut multicasts = Vec::new(alloc);
+    for table in tables {
+        multicasts.push(multicast_of_table(alloc, table)?)?;
+    }
+    Ok(multicasts)
+}
+
+fn link_of_table(alloc: Global, table: &Table) -> Result<DraftLink, ScenarioFault>
+    ensures { IsUnlessMemory ScenarioFault.Memory (link_of_table (table_view table.now)) result }
+{
+    let sender = sender(alloc, table)?;
+    let to = name(alloc, table, Key::To)?;
+    let least = integer(table, Key::Least)?;
+    let most = integer(table, Key::Most)?;
+    need_only(table, &[Key::From, Key::To, Key::Least, Key::Most])?;
+    Ok(DraftLink {
+        sender,
+        to,
+        least,
+        most,
+    })
+}
+
+fn links_of(alloc: Global, tables: &[&Table]) -> Result<Vec<DraftLink>, ScenarioFault>
+    ensures { IsUnlessMemory ScenarioFault.Memory
+        (links_of (map (λ t. table_view t.now) tables.now)) (listed result) }
+{
+    let mut links = Vec::new(alloc);
+    for table in tables {
+        links.push(link_of_table(alloc, table)?)?;
+    }
+    Ok(links)
+}
+
+/// The links of a scenario's table; none where the key is absent.
+fn links_of_table(alloc: Global, table: &Table) -> Result<Vec<DraftLink>, ScenarioFault>
+    ensures { IsUnlessMemory ScenarioFault.Memory
+        (links_of_table (table_view table.now)) (listed result) }
+{
+    let Some(value) = value_at(table, Key::Link) else {
+        return Ok(Vec::new(alloc));
+    };
+    let items = value.as_array().ok_or(ScenarioFault::Shape(Key::Link))?;
+    let tables = tables_of(alloc, items, Key::Link)?;
+    links_of(alloc, &tables)
+}
+
+/// What is written in a table, or the first key that is at fault (docs/FORMATS.md, "Scenario text").
+pub fn written_of_table(alloc: Global, table: &Table) -> Result<DraftInput, ScenarioFault>
+    ensures { IsUnlessMemory ScenarioFault.Memory (written_of_table (table_view table.now)) result }
+{
+    let scenario = draft_of_table(alloc, table)?;
+    let schedule = schedule(alloc, table)?;
+    need_only(
+        table,
+        &[
+            Key::Delay,
+            Key::Groups,
+            Key::Multicast,
+            Key::Target,
+            Key::Link,
+            Key::Schedule,
+        ],
+    )?;
+    Ok(DraftInput { scenario, schedule })
+}
+
+/// The scenario as it is written in a table, whatever else stands there.
+fn draft_of_table(alloc: Global, table: &Table) -> Result<DraftScenario, ScenarioFault>
+    ensures { IsUnlessMemory ScenarioFault.Memory (draft_of_table (table_view table.now)) result }
+{
+    let delay = integer(table, Key::Delay)?;
+    let groups = names(alloc, table, Key::Groups)?;
+    let tables = tables(alloc, table, Key::Multicast)?;
+    let multicasts = multicasts_of(alloc, &tables)?;
+    let target = inner_table(table, Key::Target)?;
+    let target_message = name(alloc, target, Key::Message)?;
+    let target_group = name(alloc, target, Key::Group)?;
+    need_only(target, &[Key::Message, Key::Group])?;
+    let links = links_of_table(alloc, table)?;
+    Ok(DraftScenario {
+        delay,
+        groups,
+        links,
+        multicasts,
+        target_message,
+        target_group,
+    })
+}
