@@ -1,4 +1,5 @@
-use convoy_scenario::{Scenario, read_toml};
+use convoy_scenario::Scenario;
+use convoy_toml::read_toml;
 use std::alloc::Global;
 use std::test::Fail;
 

@@ -4,17 +4,17 @@ use Rattle.std.specs.List.{AllByRecursion, count_by, list_any}
 use Rattle.std.proofs.lemmas.Bool.{and_parts, cases_Bool, eqb-true, ne_eqb, cond-true, le-ltb}
 use Rattle.std.proofs.lemmas.List.{nil_from_length}
 use Rattle.std.proofs.lemmas.List.Elements.{All-head, All-tail}
-use Rattle.convoy_scenario.specs.declared.line_fault.Expected.{Expected}
-use Rattle.convoy_scenario.specs.declared.line_fault.Expected.TheVariants as expected
-use Rattle.convoy_scenario.specs.declared.version.Version.{Version as LinesVersion}
-use Rattle.convoy_scenario.specs.Laws.{CanSay}
+use Rattle.convoy_scenario_lines.specs.declared.line_fault.Expected.{Expected}
+use Rattle.convoy_scenario_lines.specs.declared.line_fault.Expected.TheVariants as expected
+use Rattle.convoy_scenario_lines.specs.declared.version.Version.{Version as LinesVersion}
+use Rattle.convoy_scenario_lines.specs.Laws.{CanSay}
 use Rattle.convoy_scenario.specs.Scenario.{Scenario}
 use Rattle.convoy_scenario.specs.WellFormed.{IsScenario}
 use Rattle.convoy_lines.specs.Labels.{number_in}
 use Rattle.convoy_lines.specs.Laws.{IsWord, IsLine}
 use Rattle.convoy_lines.specs.Places.{Lines, Place, place_before, is_at_end, lines_in}
-use Rattle.convoy_scenario.specs.LineReading.{form_at, scenario_at}
-use Rattle.convoy_scenario.specs.Lines.{scenario_lines}
+use Rattle.convoy_scenario_lines.specs.LineReading.{form_at, scenario_at}
+use Rattle.convoy_scenario_lines.specs.Lines.{scenario_lines}
 use Rattle.convoy_packets.specs.Assignment.{AreWithin, IsAssignment, ranges_of, range_of}
 use Rattle.convoy_packets.proofs.Ranges.{range_within}
 use Rattle.convoy_packets.specs.Packets.{packets_of}

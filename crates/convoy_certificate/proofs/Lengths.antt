@@ -13,7 +13,8 @@ use Rattle.convoy_scenario.specs.declared.limits.TheConstants.{LONGEST_NAME, MOS
 use Rattle.convoy_scenario.specs.declared.sender.Sender.{Sender}
 use Rattle.convoy_scenario.specs.declared.sender.Sender.TheVariants.{Client, Group}
 use Rattle.convoy_lines.specs.Texts.{spaced, line_of, ended, text_of}
-use Rattle.convoy_scenario.specs.Lines.{sender_word, delay_line, groups_line, link_line, multicast_line, target_line, scenario_lines}
+use Rattle.convoy_scenario.specs.Naming.{sender_word}
+use Rattle.convoy_scenario_lines.specs.Lines.{delay_line, groups_line, link_line, multicast_line, target_line, scenario_lines}
 use Rattle.convoy_scenario.specs.Scenario.{Link, Message, Scenario, message_at, group_name_at, no_message}
 use Rattle.convoy_scenario.specs.WellFormed.{is_letter, is_name_byte, is_name, client_word, is_group_name, sender_place, is_before, follows, ascend_after, IsSender, IsLink, IsMulticast, IsScenario}
 use Rattle.convoy_packets.specs.Laws.{PacketsAreFew, DelaysAreOneEach}

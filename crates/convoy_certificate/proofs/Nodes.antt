@@ -1,9 +1,9 @@
 -- The node lines, one after another.
 use Rattle.std.proofs.Common.{◌≡◌, ℕ, ◌+◌, if◌then◌else◌, true, false, List, [], ◌∷◌, ◌++◌, length, Option, Some, None, ok_or, Result, Ok, Err, ◌<◌, arith, refl, sym, ap, ◌∙◌, append_assoc}
 use Rattle.std.proofs.lemmas.List.{append-nil}
-use Rattle.convoy_scenario.specs.declared.line_fault.Expected.TheVariants as expected
+use Rattle.convoy_scenario_lines.specs.declared.line_fault.Expected.TheVariants as expected
 use Rattle.convoy_lines.specs.Places.{Place}
-use Rattle.convoy_scenario.specs.LineReading.{form_at}
+use Rattle.convoy_scenario_lines.specs.LineReading.{form_at}
 use Rattle.convoy_certificate.specs.declared.node.Node.{Node}
 use Rattle.convoy_certificate.specs.declared.version.Version.{Version}
 use Rattle.convoy_certificate.specs.declared.text_fault.TextFault.{TextFault}

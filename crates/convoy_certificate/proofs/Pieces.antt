@@ -3,7 +3,7 @@ use Rattle.std.proofs.Common.{◌≡◌, ℕ, List, [], ◌∷◌, ◌++◌, map
 use Rattle.std.proofs.lemmas.List.{append-nil}
 use Rattle.std.proofs.lemmas.List.Concat.{flat_map-append}
 use Rattle.convoy_lines.specs.Texts.{ended, text_of}
-use Rattle.convoy_scenario.specs.Lines.{scenario_lines, scenario_text}
+use Rattle.convoy_scenario_lines.specs.Lines.{scenario_lines, scenario_text}
 use Rattle.convoy_scenario.specs.Scenario.{Scenario}
 use Rattle.convoy_certificate.specs.declared.node.Node.{Node}
 use Rattle.convoy_certificate.specs.Certificate.{Certificate}

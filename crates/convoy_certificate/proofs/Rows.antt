@@ -1,10 +1,10 @@
 -- Worked rows, computed from the definitions alone.
 use Rattle.std.proofs.Common.{◌≡◌, ℕ, List, [], ◌∷◌, ◌++◌, Some, None, Err, refl, codes}
 use Rattle.std.specs.Fmt.{digits}
-use Rattle.convoy_scenario.specs.declared.line_fault.Expected.TheVariants as expected
+use Rattle.convoy_scenario_lines.specs.declared.line_fault.Expected.TheVariants as expected
 use Rattle.convoy_scenario.specs.declared.sender.Sender.{Sender}
 use Rattle.convoy_scenario.specs.declared.sender.Sender.TheVariants.{Client, Group}
-use Rattle.convoy_scenario.specs.LineReading.{links_in, messages_in, scenario_at}
+use Rattle.convoy_scenario_lines.specs.LineReading.{links_in, messages_in, scenario_at}
 use Rattle.convoy_scenario.specs.Scenario.{Message}
 use Rattle.convoy_packets.specs.Assignment.{ranges_of}
 use Rattle.convoy_packets.specs.Packets.{packets_of}

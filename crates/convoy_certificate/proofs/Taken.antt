@@ -7,15 +7,15 @@ use Rattle.convoy_scenario.specs.Memory.{IsUnlessMemory}
 use Rattle.std.proofs.lemmas.Bool.{and_parts, cases_Bool, eqb-true, eqb-false, false≢true, ltb-false}
 use Rattle.std.proofs.lemmas.List.{nil_from_length}
 use Rattle.std.proofs.lemmas.Option.{cond_some, same_Some}
-use Rattle.convoy_scenario.specs.declared.line_fault.Expected.TheVariants as expected
-use Rattle.convoy_scenario.specs.declared.line_fault.LineFault.{LineFault}
+use Rattle.convoy_scenario_lines.specs.declared.line_fault.Expected.TheVariants as expected
+use Rattle.convoy_scenario_lines.specs.declared.line_fault.LineFault.{LineFault}
 use Rattle.convoy_lines.specs.Labels.{words_after, number_in}
 use Rattle.convoy_lines.specs.Words.{number_of}
 use Rattle.convoy_lines.specs.Places.{Lines, lines_in, Place, place_before, is_at_end}
-use Rattle.convoy_scenario.specs.LineReading.{form_at, scenario_at}
+use Rattle.convoy_scenario_lines.specs.LineReading.{form_at, scenario_at}
 use Rattle.convoy_lines.specs.Texts.{line_of}
-use Rattle.convoy_scenario.specs.Lines.{scenario_lines}
-use Rattle.convoy_scenario.specs.declared.line_fault.Expected.{Expected}
+use Rattle.convoy_scenario_lines.specs.Lines.{scenario_lines}
+use Rattle.convoy_scenario_lines.specs.declared.line_fault.Expected.{Expected}
 use Rattle.convoy_certificate.proofs.LineLaws.{ReadGrounds, latency_word, same_bytes}
 use Rattle.convoy_certificate.proofs.NodeLaws.{neither, leads_more, and_then_takes, map_takes, node_takes}
 use Rattle.convoy_certificate.specs.declared.certificate.TheConstants.{MOST_LEADS, MOST_NODES}

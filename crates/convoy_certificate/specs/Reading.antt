@@ -2,12 +2,12 @@
 use Rattle.std.specs.Prelude.{◌≡◌, ℕ, ◌+◌, ◌≤◌, ◌==◌, nat_le, nat_lt, Bool, true, false, ◌&&◌, ◌||◌, if◌then◌else◌, List, [], ◌∷◌, length, codes, Option, Some, None, ok_or, Result, Ok, Err}
 use Rattle.std.specs.Cmp.Lexicographic.{pointwise}
 use Rattle.std.specs.List.{count_by}
-use Rattle.convoy_scenario.specs.declared.line_fault.Expected.TheVariants as expected
-use Rattle.convoy_scenario.specs.declared.line_fault.LineFault.{LineFault}
-use Rattle.convoy_scenario.specs.declared.line_fault.LineFault.TheVariants as lines
+use Rattle.convoy_scenario_lines.specs.declared.line_fault.Expected.TheVariants as expected
+use Rattle.convoy_scenario_lines.specs.declared.line_fault.LineFault.{LineFault}
+use Rattle.convoy_scenario_lines.specs.declared.line_fault.LineFault.TheVariants as lines
 use Rattle.convoy_lines.specs.Labels.{number_in}
 use Rattle.convoy_lines.specs.Places.{Place, place_before, is_at_end}
-use Rattle.convoy_scenario.specs.LineReading.{form_at, scenario_at}
+use Rattle.convoy_scenario_lines.specs.LineReading.{form_at, scenario_at}
 use Rattle.convoy_lines.specs.Results.{◌>>=◌}
 use Rattle.convoy_scenario.specs.Scenario.{Scenario}
 use Rattle.convoy_packets.specs.Assignment.{ranges_of}

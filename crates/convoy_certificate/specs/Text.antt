@@ -2,9 +2,9 @@
 use Rattle.std.specs.Prelude.{ℕ, ◌==◌, Bool, true, false, ◌&&◌, not, if◌then◌else◌, List, [], ◌∷◌, ◌++◌, length, map, codes, decimal}
 use Rattle.std.specs.List.{list_any}
 use Rattle.convoy_lines.specs.Texts.{line_of, number_line, text_of}
-use Rattle.convoy_scenario.specs.declared.version.Version.{Version as LinesVersion}
-use Rattle.convoy_scenario.specs.declared.version.Version.TheVariants as lines
-use Rattle.convoy_scenario.specs.Lines.{scenario_lines}
+use Rattle.convoy_scenario_lines.specs.declared.version.Version.{Version as LinesVersion}
+use Rattle.convoy_scenario_lines.specs.declared.version.Version.TheVariants as lines
+use Rattle.convoy_scenario_lines.specs.Lines.{scenario_lines}
 use Rattle.convoy_certificate.specs.declared.node.Node.{Node}
 use Rattle.convoy_certificate.specs.declared.node.Node.TheVariants.{Split, Bound, Point, Stamp, Lead}
 use Rattle.convoy_certificate.specs.declared.version.Version.{Version}

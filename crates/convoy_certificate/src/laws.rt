@@ -7,7 +7,7 @@ use convoy_lines::laws::{
     words_make_lines, words_of_lines,
 };
 use convoy_packets::laws::{delays_are_one_each, packets_are_few};
-use convoy_scenario::laws::{scenario_lines_are_lines, scenarios_are_their_lines};
+use convoy_scenario_lines::laws::{scenario_lines_are_lines, scenarios_are_their_lines};
 
 /// Two certificates with one text are equal.
 pub fn texts_differ()

@@ -4,7 +4,7 @@ ghost use Rattle.std.specs.List.{All};
 ghost use Rattle.std.specs.Result.{result_map_both};
 ghost use Rattle.convoy_scenario.specs.Memory.{IsUnlessMemory};
 ghost use Rattle.convoy_lines.specs.Labels.{number_in};
-ghost use Rattle.convoy_scenario.specs.LineReading.{form_at, scenario_at};
+ghost use Rattle.convoy_scenario_lines.specs.LineReading.{form_at, scenario_at};
 ghost use Rattle.convoy_certificate.specs.Certificate.{Certificate, IsCertificate, IsNode};
 ghost use Rattle.convoy_certificate.specs.Forms.{version_in, schedule_in, node_or_end};
 ghost use Rattle.convoy_certificate.specs.Reading.{in_text, is_same_version, is_within, are_too_many, leads_with, nodes_at, certificate_of, IsTextOf};
@@ -18,7 +18,8 @@ use super::text_fault::TextFault;
 use super::version::Version;
 use convoy_lines::{LineReader, number_in};
 use convoy_packets::{Delays, PacketTable};
-use convoy_scenario::{Expected, Scenario, read_lines};
+use convoy_scenario::Scenario;
+use convoy_scenario_lines::{Expected, read_lines};
 use std::alloc::Global;
 
 /// Reads the text of a certificate (docs/FORMATS.md, "Certificate text").

@@ -3,7 +3,9 @@ ghost use Rattle.convoy_packets.specs.Assignment.{AreWithin};
 
 use super::*;
 use convoy_packets::{Delays, PacketTable};
-use convoy_scenario::{Expected, ScenarioFault, read_toml};
+use convoy_scenario::ScenarioFault;
+use convoy_scenario_lines::Expected;
+use convoy_toml::read_toml;
 use std::alloc::Global;
 use std::process::Abort;
 use std::test::Fail;

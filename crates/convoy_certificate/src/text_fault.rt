@@ -1,4 +1,5 @@
-use convoy_scenario::{Expected, LineFault, ScenarioFault};
+use convoy_scenario::ScenarioFault;
+use convoy_scenario_lines::{Expected, LineFault};
 use std::alloc::{AllocError, AllocFailed};
 use thiserror::Error;
 

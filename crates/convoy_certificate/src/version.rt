@@ -1,4 +1,4 @@
-use convoy_scenario::Version as LinesVersion;
+use convoy_scenario_lines::Version as LinesVersion;
 
 /// A version of the text of a certificate (docs/FORMATS.md, "Certificate text").
 #[derive(Clone, Copy, Debug, PartialEq, Eq)]

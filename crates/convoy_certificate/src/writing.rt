@@ -6,7 +6,7 @@ use super::certificate::Certificate;
 use super::node::Node;
 use super::version::Version;
 use convoy_lines::{push_number, push_number_line};
-use convoy_scenario::write_lines;
+use convoy_scenario_lines::write_lines;
 use std::alloc::{AllocError, Global};
 
 /// Appends the text of a certificate (docs/FORMATS.md, "Certificate text"). Where memory runs out,

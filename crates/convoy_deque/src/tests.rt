@@ -5,7 +5,7 @@ ghost use Rattle.std.specs.Prelude.{◌≡◌};
 use super::{Owner, Thief};
 use convoy_intervals::Tracked;
 use convoy_packets::PacketTable;
-use convoy_scenario::read_toml;
+use convoy_toml::read_toml;
 use crossbeam_deque::Steal;
 use std::process::Abort;
 use std::test::Fail;

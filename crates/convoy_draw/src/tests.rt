@@ -3,8 +3,9 @@
 use super::rows::Rows;
 use super::{Picture, write_drawing};
 use convoy_packets::{Delays, Packet, PacketTable};
-use convoy_scenario::{Scenario, Sender, read_toml};
+use convoy_scenario::{Scenario, Sender};
 use convoy_sim::simulate;
+use convoy_toml::read_toml;
 use std::alloc::Global;
 use std::test::Fail;
 

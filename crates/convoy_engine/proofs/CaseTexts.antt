@@ -1,7 +1,7 @@
 -- What is written for the case of a text, from what was read, and the numbers of its faults.
 use Rattle.std.proofs.Common.{◌≡◌, ◌≤◌, lit≤, inl, inr, ℕ, ℤ, List, Option, Some, None, Result, Ok, Err, refl, arith}
 use Rattle.std.specs.Result.{result_map_both}
-use Rattle.convoy_scenario.specs.Reading.{InputView, input_of_text}
+use Rattle.convoy_toml.specs.Reading.{InputView, input_of_text}
 use Rattle.convoy_scenario.specs.declared.fault.ScenarioFault.{ScenarioFault}
 use Rattle.convoy_packets.specs.Assignment.{ranges_of}
 use Rattle.convoy_packets.specs.Given.{schedule_of}

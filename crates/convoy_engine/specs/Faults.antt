@@ -2,7 +2,7 @@
 use Rattle.std.specs.Prelude.{ℕ, ◌≤◌, List, [], ◌∷◌, ◌++◌, length, codes, decimal}
 use Rattle.convoy_packets.specs.declared.fault.ListFault.{ListFault}
 use Rattle.convoy_packets.specs.declared.fault.ListFault.TheVariants as lists
-use Rattle.convoy_scenario.specs.Shape.{key_word}
+use Rattle.convoy_scenario.specs.Keys.{key_word}
 use Rattle.convoy_scenario.specs.declared.fault.Limit.{Limit}
 use Rattle.convoy_scenario.specs.declared.fault.Limit.TheVariants as limits
 use Rattle.convoy_scenario.specs.declared.fault.ScenarioFault.{ScenarioFault}

@@ -2,7 +2,7 @@
 use Rattle.std.specs.Prelude.{ℕ, List, ◌++◌, Result}
 use Rattle.std.specs.Result.{result_map_both}
 use Rattle.convoy_lines.specs.Texts.{ended}
-use Rattle.convoy_scenario.specs.Reading.{scenario_of_text}
+use Rattle.convoy_toml.specs.Reading.{scenario_of_text}
 use Rattle.convoy_scenario.specs.Scenario.{Scenario}
 use Rattle.convoy_packets.specs.Assignment.{ranges_of}
 use Rattle.convoy_packets.specs.Table.{least_of}

@@ -1,9 +1,11 @@
 -- what a reader has to know of the crates below
 pub use Rattle.convoy_scenario.specs.Scenario
 pub use Rattle.convoy_scenario.specs.WellFormed
-pub use Rattle.convoy_scenario.specs.Lines as ScenarioLines
-pub use Rattle.convoy_scenario.specs.Reading
-pub use Rattle.convoy_scenario.specs.Shape
+pub use Rattle.convoy_scenario.specs.Naming
+pub use Rattle.convoy_scenario_lines.specs.Lines as ScenarioLines
+pub use Rattle.convoy_toml.specs.Reading
+pub use Rattle.convoy_scenario.specs.Keys
+pub use Rattle.convoy_toml.specs.Shape
 pub use Rattle.convoy_scenario.specs.Memory
 pub use Rattle.convoy_jobs.specs.Jobs
 pub use Rattle.convoy_packets.specs.Assignment

@@ -1,7 +1,7 @@
 -- What the command `packets` writes.
 use Rattle.std.specs.Prelude.{ℕ, List, Result}
 use Rattle.std.specs.Result.{result_map_both}
-use Rattle.convoy_scenario.specs.Reading.{scenario_of_text}
+use Rattle.convoy_toml.specs.Reading.{scenario_of_text}
 use Rattle.convoy_certificate.specs.Certificate.{Certificate}
 use Rattle.convoy_explain.specs.PacketLists.{packets_text, scheduled_packets_text}
 use Rattle.convoy_engine.specs.declared.fault.Fault.{Fault}

@@ -1,7 +1,7 @@
 -- The number and the text of each refusal of a certificate, and its line.
 use Rattle.std.specs.Prelude.{ℕ, List, [], ◌∷◌, ◌++◌, codes, decimal}
-use Rattle.convoy_scenario.specs.declared.line_fault.Expected.{Expected}
-use Rattle.convoy_scenario.specs.declared.line_fault.Expected.TheVariants as lines
+use Rattle.convoy_scenario_lines.specs.declared.line_fault.Expected.{Expected}
+use Rattle.convoy_scenario_lines.specs.declared.line_fault.Expected.TheVariants as lines
 use Rattle.convoy_scenario.specs.declared.fault.ScenarioFault.{ScenarioFault}
 use Rattle.convoy_certificate.specs.declared.text_fault.TextFault.{TextFault}
 use Rattle.convoy_certificate.specs.declared.text_fault.TextFault.TheVariants as texts

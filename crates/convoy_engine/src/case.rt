@@ -9,7 +9,8 @@ ghost use Rattle.convoy_engine.specs.Cases.{case_of_text, chosen_schedule};
 
 use super::fault::Fault;
 use convoy_packets::{Delays, PacketTable};
-use convoy_scenario::{Input, Scenario, read_toml};
+use convoy_scenario::Scenario;
+use convoy_toml::{Input, read_toml};
 use std::alloc::Global;
 
 /// A scenario with its packet table, and the schedule of one run of it.

@@ -13,8 +13,9 @@ use super::fault::Fault;
 use convoy_certificate::push_schedule;
 use convoy_lines::push_number_line;
 use convoy_packets::{Delays, PacketTable};
-use convoy_scenario::{Scenario, read_toml};
+use convoy_scenario::Scenario;
 use convoy_sim::latency;
+use convoy_toml::read_toml;
 use std::alloc::{AllocError, Global};
 
 /// The command `first`: reads a scenario to the end of the source, and writes the latency in ticks

@@ -24,7 +24,8 @@ use super::reading::LONGEST_JOB;
 use convoy_certificate::read;
 use convoy_explain::{write_packets, write_scheduled_packets};
 use convoy_packets::PacketTable;
-use convoy_scenario::{Scenario, read_toml};
+use convoy_scenario::Scenario;
+use convoy_toml::read_toml;
 use std::alloc::{AllocError, Global};
 
 /// The command `packets`: reads a scenario to the end of the source, and writes a line for each of its

@@ -4,7 +4,8 @@ ghost use Rattle.convoy_engine.specs.Refusals.{line_word, refused_line, row_of_c
 use super::fault::{Ending, Fault, row};
 use convoy_certificate::TextFault;
 use convoy_checker::Refused;
-use convoy_scenario::{Expected, ScenarioFault};
+use convoy_scenario::ScenarioFault;
+use convoy_scenario_lines::Expected;
 use std::alloc::{AllocError, Global};
 
 /// Why a certificate is refused. Each has a number and a line of its own (docs/FORMATS.md,

@@ -1,6 +1,6 @@
 -- what a reader has to know of the crates below
 pub use Rattle.convoy_scenario.specs.Scenario
-pub use Rattle.convoy_scenario.specs.Lines as ScenarioLines
+pub use Rattle.convoy_scenario.specs.Naming
 pub use Rattle.convoy_packets.specs.Packets
 pub use Rattle.convoy_packets.specs.Assignment
 pub use Rattle.convoy_packets.specs.Table

@@ -2,7 +2,7 @@
 use Rattle.std.specs.Prelude.{ℕ, List, [], ◌∷◌, ◌++◌, Option, Some, None, codes, decimal, slice_index}
 use Rattle.std.specs.List.{flat_map, enumerate_from}
 use Rattle.convoy_scenario.specs.Scenario.{Scenario, message_at, group_name_at}
-use Rattle.convoy_scenario.specs.Lines.{sender_word}
+use Rattle.convoy_scenario.specs.Naming.{sender_word}
 use Rattle.convoy_packets.specs.declared.packet.Packet.{Packet}
 use Rattle.convoy_packets.specs.declared.packet.Packet.TheVariants.{Multicast, Propose}
 use Rattle.convoy_packets.specs.Packets.{packets_of}

@@ -4,7 +4,7 @@ ghost use Rattle.convoy_packets.specs.Assignment.{IsAssignment, range_of};
 ghost use Rattle.convoy_packets.specs.Table.{table_of};
 ghost use Rattle.convoy_explain.specs.PacketLists.{packet_line, packet_text, packets_text, scheduled_packets_text};
 ghost use Rattle.convoy_explain.specs.PacketLists.{taken_text};
-ghost use Rattle.convoy_scenario.specs.Lines.{sender_word};
+ghost use Rattle.convoy_scenario.specs.Naming.{sender_word};
 ghost use Rattle.convoy_scenario.specs.Scenario.{message_at};
 
 use super::telling::{group_name, message_name};

@@ -7,7 +7,8 @@ use super::schedules::hint_for_schedule;
 use super::tree_hints::hint_for_refusal;
 use convoy_certificate::{TextFault, read};
 use convoy_lines::LineReader;
-use convoy_scenario::{Expected, ScenarioFault};
+use convoy_scenario::ScenarioFault;
+use convoy_scenario_lines::Expected;
 use std::alloc::{AllocError, Global};
 
 /// Why a certificate is refused, in one line `hint: ..`: by its text, which may have been cut where it

@@ -1,7 +1,8 @@
 use super::counting::noun;
 use super::scenario_hints::hint_for_fault;
 use convoy_jobs::{JobFault, Splitter};
-use convoy_scenario::{ScenarioFault, read_toml};
+use convoy_scenario::ScenarioFault;
+use convoy_toml::read_toml;
 use std::alloc::{AllocError, Global};
 
 /// A job of a batch: its number, and the number of its first line in the text, both from 1.

@@ -10,7 +10,8 @@ use super::schedules::hint_for_schedule;
 use super::shape::hint_for_shape;
 use super::sketch::{Sketch, sketch_of_table};
 use super::spot::spot_at;
-use convoy_scenario::{Input, ScenarioFault, read_toml};
+use convoy_scenario::ScenarioFault;
+use convoy_toml::{Input, read_toml};
 use std::alloc::{AllocError, Global};
 use toml::de::Error;
 

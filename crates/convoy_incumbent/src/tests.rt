@@ -5,8 +5,9 @@ ghost use Rattle.convoy_packets.specs.Table.{table_of};
 
 use super::{Board, CloseFault, Hand};
 use convoy_packets::{Delays, PacketTable};
-use convoy_scenario::{Scenario, read_toml};
+use convoy_scenario::Scenario;
 use convoy_sim::Record;
+use convoy_toml::read_toml;
 use std::alloc::Global;
 use std::process::Abort;
 use std::sync::Wait;

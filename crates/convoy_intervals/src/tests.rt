@@ -5,7 +5,8 @@ ghost use Rattle.convoy_intervals.specs.Boxes.{IsBox};
 
 use super::{DelayBox, Span, Tracked, bound};
 use convoy_packets::PacketTable;
-use convoy_scenario::{Scenario, read_toml};
+use convoy_scenario::Scenario;
+use convoy_toml::read_toml;
 use std::alloc::{AllocError, Global};
 use std::process::Abort;
 use std::test::Fail;

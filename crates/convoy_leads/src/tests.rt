@@ -1,7 +1,8 @@
 use super::Leads;
 use convoy_intervals::DelayBox;
 use convoy_packets::PacketTable;
-use convoy_scenario::{Scenario, read_toml};
+use convoy_scenario::Scenario;
+use convoy_toml::read_toml;
 use std::alloc::{AllocError, Global};
 use std::test::Fail;
 

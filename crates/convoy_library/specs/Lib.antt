@@ -4,8 +4,12 @@ pub use Rattle.convoy_scenario.specs.Scenario
 pub use Rattle.convoy_scenario.specs.WellFormed
 pub use Rattle.convoy_scenario.specs.Draft
 pub use Rattle.convoy_scenario.specs.Numbering
-pub use Rattle.convoy_scenario.specs.Reading
+pub use Rattle.convoy_toml.specs.Reading
 pub use Rattle.convoy_scenario.specs.declared.fault.ScenarioFault
+-- the lines of a scenario in a certificate
+pub use Rattle.convoy_scenario_lines.specs.Lines as ScenarioLines
+pub use Rattle.convoy_scenario_lines.specs.LineReading
+pub use Rattle.convoy_scenario_lines.specs.declared.line_fault.LineFault
 -- packets and schedules
 pub use Rattle.convoy_packets.specs.Packets
 pub use Rattle.convoy_packets.specs.Assignment

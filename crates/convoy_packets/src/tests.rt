@@ -1,5 +1,6 @@
 use super::{Delays, ListFault, MOST_PACKETS, Packet, PacketTable};
-use convoy_scenario::{Scenario, ScenarioFault, read_toml};
+use convoy_scenario::{Scenario, ScenarioFault};
+use convoy_toml::read_toml;
 use std::alloc::Global;
 use std::test::Fail;
 

@@ -2,8 +2,8 @@
 
 use super::seek;
 use convoy_packets::{Delays, PacketTable};
-use convoy_scenario::read_toml;
 use convoy_sim::Record;
+use convoy_toml::read_toml;
 use std::alloc::Global;
 use std::test::Fail;
 

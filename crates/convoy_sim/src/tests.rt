@@ -6,7 +6,8 @@ ghost use Rattle.convoy_packets.specs.Table.{table_of};
 
 use super::{Proposal, Record, Run, Timestamp, latency, simulate};
 use convoy_packets::{Delays, PacketTable};
-use convoy_scenario::{Scenario, read_toml};
+use convoy_scenario::Scenario;
+use convoy_toml::read_toml;
 use std::alloc::{AllocError, Global};
 use std::process::Abort;
 use std::test::Fail;

@@ -1,7 +1,8 @@
 use super::{stamp_bound, stamp_bound_of};
 use convoy_intervals::{DelayBox, Tracked, bound};
 use convoy_packets::PacketTable;
-use convoy_scenario::{Scenario, read_toml};
+use convoy_scenario::Scenario;
+use convoy_toml::read_toml;
 use std::alloc::{AllocError, Global};
 use std::test::Fail;
 

@@ -2,8 +2,8 @@
 
 use super::write_timeline;
 use convoy_packets::{Delays, PacketTable};
-use convoy_scenario::read_toml;
 use convoy_sim::simulate;
+use convoy_toml::read_toml;
 use std::alloc::Global;
 use std::test::Fail;
 

@@ -7,7 +7,9 @@ use super::{
 use convoy_library::certificate::TextFault;
 use convoy_library::checker::Refused;
 use convoy_library::packets::ListFault;
-use convoy_library::scenario::{Expected, Limit, Scenario, ScenarioFault, read_toml};
+use convoy_library::scenario::{Limit, Scenario, ScenarioFault};
+use convoy_library::scenario_lines::Expected;
+use convoy_library::toml::read_toml;
 use std::alloc::Global;
 use std::test::Fail;
 
