@@ -13,15 +13,13 @@ use Rattle.convoy_sim.specs.Laws.{ahead_of}
 use Rattle.convoy_sim.proofs.Membership.{IsIn, in-filter, in_of_filter, in_greatest, greatest_most}
 use Rattle.convoy_sim.proofs.Addressed.{in_of_goes, goes_from_in, in-addressed, goes_of_addressed, in_of_ahead}
 use Rattle.convoy_intervals.specs.Bounds.{Tables, rivals, tables_of, plain_bound}
-use Rattle.convoy_intervals.specs.Laws.{MembersAreEnclosed}
 use Rattle.convoy_leads.specs.Below.{LawsBelow}
-use Rattle.convoy_leads.specs.Windows.{LeadTables, EnclosesAll, Windows, tables_by, windows_of, with_arrival}
+use Rattle.convoy_sure.specs.Windows.{LeadTables, EnclosesAll, Windows, tables_by, windows_of, with_arrival}
+use Rattle.convoy_sure.specs.Laws.{WindowsAreTables, WindowsEncloseMembers}
 use Rattle.convoy_leads.specs.Leads.{is_led}
 use Rattle.convoy_leads.specs.Closing.{is_behind, is_behind_by, is_behind_target, is_behind_after, is_behind_late, closes_by_leads}
 use Rattle.convoy_leads.specs.Laws.{ClosedHoldsOverWindows, LeadsHold, ClosesAtPlain}
 use Rattle.convoy_leads.proofs.LedLaw.{list_all_in, led_is_behind}
-use Rattle.convoy_leads.proofs.WindowLaws.{entry_is, windows_enclose, arrival_cut}
-use Rattle.convoy_leads.proofs.MemberDelays.{least_delay, greatest_delay}
 
 -- one of some numbers reaches what the greatest of them does
 reached : (f : ℕ → ℕ) (b : ℕ) (x : ℕ) (xs : List ℕ) → IsIn x xs → b ≤ greatest (map f xs) → ((y : ℕ) → IsIn y xs → b ≤ f y → ⊥) → ⊥
@@ -74,7 +72,7 @@ module _ (below : LawsBelow) (scenario : Scenario) (delays : Schedule) (well : I
             let less : last < tick = ltb-true last tick e in
             let high : arrive scenario delays m k ≤ last = enclosed.times.arrival_high m k goes in
             omega arith
-        | inr e ↦ not_behind cut (arrival_cut scenario delays windows m k tick well enclosed goes late) e
+        | inr e ↦ not_behind cut (below.cuts scenario delays windows m k tick well enclosed goes late) e
       ]
 
   not_behind_after : (windows : Windows) → EnclosesAll scenario delays (tables_by windows) → (k tick : ℕ) → GoesTo scenario n k
@@ -83,7 +81,7 @@ module _ (below : LawsBelow) (scenario : Scenario) (delays : Schedule) (well : I
       let t : ℕ = scenario.target_message in
       let g : ℕ = scenario.target_group in
       let cut : Windows = with_arrival scenario windows n k tick in
-      let all : EnclosesAll scenario delays (tables_by cut) = arrival_cut scenario delays windows n k tick well enclosed goes late in
+      let all : EnclosesAll scenario delays (tables_by cut) = below.cuts scenario delays windows n k tick well enclosed goes late in
       let low : ℕ = (tables_by cut).times.least_arrival n g in
       elim (or_cases (is_behind_by scenario windows n n k tick) (list_all (is_behind_target scenario cut n) (message_at scenario t).destinations) out) [
         | inl e ↦ not_behind_by windows enclosed n k tick goes late e
@@ -142,23 +140,19 @@ closed_holds below scenario delays windows latency well enclosed closed =
     let all = greatest_most (λ n. settle scenario delays n g) (at + latency) (t ∷ ahead_of scenario delays t g) each in
     omega (arith, below.delivery scenario delays well t g well.addressed)
 
-pub leads_hold : ClosedHoldsOverWindows → MembersAreEnclosed → LeadsHold
+pub leads_hold : ClosedHoldsOverWindows → WindowsEncloseMembers → LeadsHold
 unfolding closes_by_leads
 leads_hold holds enclosed scenario ranges delays latency well member closed =
-    holds scenario delays (windows_of scenario ranges) latency well
-    (windows_enclose scenario ranges delays well (enclosed scenario ranges delays member)
-    (λ m h g. least_delay scenario ranges delays member (Propose m h g))
-    (λ m h g. greatest_delay scenario ranges delays member (Propose m h g)))
-    closed
+    holds scenario delays (windows_of scenario ranges) latency well (enclosed scenario ranges delays well member) closed
 
 -- ---- the plain bound
 all_from : {X : Type 0} (p : X → Bool) (xs : List X) → ((x : X) → IsIn x xs → p x ≡ true) → list_all p xs ≡ true
 all_from p [] each = refl
 all_from p (x ∷ xs) each = and_from (p x) (list_all p xs) (each x (inl refl)) (all_from p xs (λ y i. each y (inr i)))
 
-pub closes_at_plain : ClosesAtPlain
+pub closes_at_plain : WindowsAreTables → ClosesAtPlain
 unfolding closes_by_leads plain_bound
-closes_at_plain scenario ranges well =
+closes_at_plain same scenario ranges well =
     let t : ℕ = scenario.target_message in
     let g : ℕ = scenario.target_group in
     let at : ℕ = (message_at scenario t).at in
@@ -168,7 +162,7 @@ closes_at_plain scenario ranges well =
     let high : ℕ → ℕ = λ n. box.greatest_settling n g in
     let all : List ℕ = t ∷ rivals scenario box in
     let tick : ℕ = at + (greatest (map high all) - at) + 1 in
-    let entry : (n : ℕ) → GoesTo scenario n g → times.greatest_settling n g ≡ high n = λ n goes. entry_is scenario box.greatest_settling well n g goes in
+    let entry : (n : ℕ) → GoesTo scenario n g → times.greatest_settling n g ≡ high n = λ n goes. (same scenario ranges well n g goes).greatest_settling in
     let less : (n : ℕ) → GoesTo scenario n g → IsIn n all → nat_lt (times.greatest_settling n g) tick ≡ true = λ n goes i.
     let most : high n ≤ greatest (map high all) = in_greatest high n all i in
     lt-ltb (times.greatest_settling n g) tick (omega (arith, entry n goes)) in
@@ -179,7 +173,7 @@ closes_at_plain scenario ranges well =
     let r = in_of_filter test n (addressed_to scenario g) i in
     let goes : GoesTo scenario n g = goes_of_addressed scenario n g r.0 in
     let soon : box.least_arrival n g ≤ box.greatest_settling t g =
-    subst (λ a. a ≤ box.greatest_settling t g) (entry_is scenario box.least_arrival well n g goes)
+    subst (λ a. a ≤ box.greatest_settling t g) (same scenario ranges well n g goes).least_arrival
     (subst (λ b. times.least_arrival n g ≤ b) (entry t well.addressed) (leb-true (times.least_arrival n g) (times.greatest_settling t g) r.1)) in
     let rival : IsIn n (rivals scenario box) = in-filter (λ k. nat_le (box.least_arrival k g) (box.greatest_settling t g)) n (addressed_to scenario g) r.0
     (le-leb (box.least_arrival n g) (box.greatest_settling t g) soon) in

@@ -5,8 +5,8 @@ use Rattle.convoy_scenario.specs.Scenario.{Scenario}
 use Rattle.convoy_sim.specs.Times.{Tick}
 use Rattle.convoy_stamps.specs.declared.pair.Pair.{Pair}
 use Rattle.convoy_stamps.specs.Reach.{pairs_of}
-use Rattle.convoy_leads.specs.Windows.{LeadTables}
-use Rattle.convoy_leads.specs.SureLeads.{Sure}
+use Rattle.convoy_sure.specs.Windows.{LeadTables}
+use Rattle.convoy_sure.specs.SureLeads.{Sure}
 use Rattle.convoy_leads.specs.Leads.{Start, add_start, may_commit, start_of, starts_before, with_start}
 
 module _ (scenario : Scenario) (tables : LeadTables) (sure : Sure) (barring : Bool) where

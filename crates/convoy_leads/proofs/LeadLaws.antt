@@ -17,12 +17,12 @@ use Rattle.convoy_stamps.specs.declared.pair.Pair.{Pair}
 use Rattle.convoy_stamps.specs.Reach.{pair_of, pairs_of}
 use Rattle.convoy_stamps.proofs.Pairs.{in-pairs}
 use Rattle.convoy_leads.specs.Below.{LawsBelow}
-use Rattle.convoy_leads.specs.Windows.{LeadTables, EnclosesAll}
-use Rattle.convoy_leads.specs.SureLeads.{Sure, is_earlier, sure_after, sure_later, lead_at, top_of}
+use Rattle.convoy_sure.specs.Windows.{LeadTables, EnclosesAll}
+use Rattle.convoy_sure.specs.SureLeads.{Sure, is_earlier, sure_after, sure_later, lead_at, top_of}
+use Rattle.convoy_sure.specs.Laws.{IsSure}
 use Rattle.convoy_leads.specs.Leads.{window, may_arrive, arrivals_since, Start, barred_at, value_for, clock_since, clock_from, may_start, stamp_high, stamp_for, raise_high, may_commit, covers_all, covers, start_of, with_start, add_start, starts_before}
 use Rattle.convoy_leads.proofs.Times.{tick_of_commit, parts_of_arrivals, within_all}
-use Rattle.convoy_leads.proofs.SureLaws.{own, AreSure, top_sure, after_rises, later_rises}
-use Rattle.convoy_leads.proofs.Tops.{within_cap, within_window}
+use Rattle.convoy_leads.proofs.Caps.{within_cap, within_window}
 
 in_max : (a x : ℕ) (xs : List ℕ) → IsIn x xs → x ≤ fold max a xs
 in_max a x [] h = absurd h
@@ -59,14 +59,18 @@ proposed scenario delays tables enclosed c f g goes at =
     let low = enclosed.proposals_low c f g goes at in
     omega arith
 
-module _ (below_laws : LawsBelow) (scenario : Scenario) (delays : Schedule) (tables : LeadTables) (well : IsScenario scenario) (enclosed : EnclosesAll scenario delays tables) (n : ℕ) (goes_n : GoesTo scenario n scenario.target_group)
-    (sure : Sure) (leads : AreSure below_laws scenario delays tables.times well enclosed.times n goes_n sure.leads) (low : sure.time ≤ own below_laws scenario delays tables.times well enclosed.times n goes_n) where
+module _ (below_laws : LawsBelow) (scenario : Scenario) (delays : Schedule) (tables : LeadTables) (well : IsScenario scenario) (enclosed : EnclosesAll scenario delays tables) (n : ℕ)
+    (sure : Sure) (holds : IsSure scenario delays tables.times n sure) where
   abbrev pub time : ℕ → ℕ → ℕ
   time m g = (local_stamp scenario delays m g).time
 
-  -- what is left of the message's time above its sure time
+  -- the time that all is measured against
+  abbrev pub own : ℕ
+  own = time n scenario.target_group
+
+  -- what is left of it above the message's sure time
   abbrev pub rest : ℕ
-  rest = (local_stamp scenario delays n scenario.target_group).time - sure.time
+  rest = own - sure.time
 
   -- message x is committed nowhere before that tick
   abbrev pub IsClear : ℕ → ℕ → Type 0
@@ -140,9 +144,9 @@ module _ (below_laws : LawsBelow) (scenario : Scenario) (delays : Schedule) (tab
       → time q h ≤ rest + stamp_high scenario tables.times sure starts x q h tick
   stamp_within starts by have x q h tick goes l m clear_t clear_x =
       let most = within_all below_laws scenario delays well tables.times enclosed.times q h goes in
-      let here = within_cap (own below_laws scenario delays tables.times well enclosed.times n goes_n) sure.time
+      let here = within_cap own sure.time
       (max (lead_at sure.leads q h) (top_of (λ z. lead_at sure.leads z h) (sure_after scenario tables.times tick q h)))
-      (greatest all + 1) (local_stamp scenario delays q h).time low (counted_out (below_laws.raise scenario delays well q h goes)) caps in
+      (greatest all + 1) (local_stamp scenario delays q h).time holds.time_holds (counted_out (below_laws.raise scenario delays well q h goes)) caps in
       omega arith where
         lead_here : ℕ → ℕ
         lead_here z = lead_at sure.leads z h
@@ -152,12 +156,10 @@ module _ (below_laws : LawsBelow) (scenario : Scenario) (delays : Schedule) (tab
             ∷ map (clock_from scenario tables.times sure x q h tick) starts
 
         caps : max (lead_at sure.leads q h) (top_of (λ z. lead_at sure.leads z h) (sure_after scenario tables.times tick q h))
-            ≤ (own below_laws scenario delays tables.times well enclosed.times n goes_n + 1) - (local_stamp scenario delays q h).time
+            ≤ (own + 1) - (local_stamp scenario delays q h).time
         caps =
-            let here = leads q h goes in
-            let after = top_sure below_laws scenario delays tables.times well enclosed.times n goes_n sure.leads leads h (local_stamp scenario delays q h).time
-            (λ z. is_earlier tick q (tables.times.least_arrival z h) z)
-            (after_rises below_laws scenario delays tables.times well enclosed.times n goes_n q h tick goes l) in
+            let here = holds.leads_hold q h goes in
+            let after = holds.after_holds q h tick goes l in
             omega arith
 
         below : ℕ
@@ -166,18 +168,18 @@ module _ (below_laws : LawsBelow) (scenario : Scenario) (delays : Schedule) (tab
         clear_of_q : (tick : ℕ) → tick ≤ arrive scenario delays q h → IsClear q tick
         clear_of_q t b k to = let s = below_laws.before_commit scenario delays q k h goes in omega arith
 
-        by_window : (since v value : ℕ) (zs : List ℕ) → v ≤ (own below_laws scenario delays tables.times well enclosed.times n goes_n - sure.time) + value
+        by_window : (since v value : ℕ) (zs : List ℕ) → v ≤ (own - sure.time) + value
             → ((u z : ℕ) → IsCounted scenario delays q h since u z → IsIn z zs) → ((z : ℕ) → IsIn z zs → GoesTo scenario z h)
             → ((u : ℕ) → v < u → u < (local_stamp scenario delays q h).time → (z : ℕ) × IsCounted scenario delays q h since u z)
-            → below ≤ (own below_laws scenario delays tables.times well enclosed.times n goes_n - sure.time) + window sure.time (λ z. lead_at sure.leads z h) zs value
+            → below ≤ (own - sure.time) + window sure.time (λ z. lead_at sure.leads z h) zs value
         by_window since v value zs start there to counts =
-            within_window (λ z. (local_stamp scenario delays z h).time) (λ z. lead_at sure.leads z h) zs (own below_laws scenario delays tables.times well enclosed.times n goes_n)
-            sure.time value v below low start
+            within_window (λ z. (local_stamp scenario delays z h).time) (λ z. lead_at sure.leads z h) zs own
+            sure.time value v below holds.time_holds start
             (λ u a b. let r = counts u a (omega arith) in (r.0, there u r.0 r.1, r.1.stamp))
-            (λ z i. leads z h (to z i))
+            (λ z i. holds.leads_hold z h (to z i))
 
         counted_out : (v : ℕ) × (since : ℕ) × IsLastRaise scenario delays q h v since
-            → (local_stamp scenario delays q h).time ≤ (own below_laws scenario delays tables.times well enclosed.times n goes_n - sure.time) + (greatest all + 1)
+            → (local_stamp scenario delays q h).time ≤ (own - sure.time) + (greatest all + 1)
         counted_out r = elim r.2.by [
           | inl none ↦
               let w = by_window r.1 r.0 0 (arrivals_since scenario tables.times tick q h 0) (omega (arith, none.0))
@@ -237,13 +239,11 @@ module _ (below_laws : LawsBelow) (scenario : Scenario) (delays : Schedule) (tab
       let here = stamp_within starts tick have x c f most to (omega arith) (omega arith) (sooner scenario.target_message clear_t) (sooner x clear_x) in
       let all = in_greatest (stamp_for scenario tables sure starts tick x c g) f (message_at scenario c).destinations (in_of_goes scenario c f to) in
       let value_is = cond-false (f == g) 0 (stamp_high scenario tables.times sure starts x c f most) (false_from_ne_true (f == g) (λ t. away (eqb-true f g t))) in
-      let caps = top_sure below_laws scenario delays tables.times well enclosed.times n goes_n sure.leads leads g (local_stamp scenario delays c f).time
-      (λ z. nat_lt tick (tables.times.least_arrival z g))
-      (later_rises below_laws scenario delays tables.times well enclosed.times n goes_n c f g tick to goes (omega arith)) in
-      within_cap (own below_laws scenario delays tables.times well enclosed.times n goes_n) sure.time
+      let caps = holds.later_holds c f g tick to goes (omega arith) in
+      within_cap own sure.time
       (top_of (λ z. lead_at sure.leads z g) (sure_later scenario tables.times tick g))
       (greatest (map (stamp_for scenario tables sure starts tick x c g) (message_at scenario c).destinations))
-      (local_stamp scenario delays c f).time low (omega arith) caps
+      (local_stamp scenario delays c f).time holds.time_holds (omega arith) caps
 
   -- a start for a commit, at its tick
   start_now : (barring : Bool) (starts : List Start) (tick c g : ℕ) → HaveStarts starts tick → GoesTo scenario c g → settle scenario delays c g ≡ tick

@@ -12,10 +12,10 @@ use Rattle.convoy_sim.specs.Stamps.{is_less, local_stamp, final_stamp}
 use Rattle.convoy_sim.proofs.Membership.{IsIn, in_greatest}
 use Rattle.convoy_sim.proofs.Addressed.{in_of_goes}
 use Rattle.convoy_leads.specs.Below.{LawsBelow}
-use Rattle.convoy_leads.specs.Windows.{LeadTables, EnclosesAll}
-use Rattle.convoy_leads.specs.SureLeads.{Sure, sure_of, is_earlier, leads_of}
+use Rattle.convoy_sure.specs.Windows.{LeadTables, EnclosesAll}
+use Rattle.convoy_sure.specs.SureLeads.{Sure, sure_of, is_earlier}
+use Rattle.convoy_sure.specs.Laws.{IsSure}
 use Rattle.convoy_leads.specs.Leads.{Start, stamp_high, starts_before, last_arrival, is_surely_less, is_led}
-use Rattle.convoy_leads.proofs.SureLaws.{leads_sure, time_sure, after_rises}
 use Rattle.convoy_leads.proofs.LeadLaws.{stamp_within, have_starts}
 
 pub list_all_in : {X : Type 0} (p : X → Bool) (x : X) (xs : List X) → list_all p xs ≡ true → IsIn x xs → p x ≡ true
@@ -48,13 +48,12 @@ led_is_behind below scenario delays tables well enclosed barring n goes ahead le
     let f = below.is_local scenario delays well t well.target in
     let h : ℕ = f.0 in
     let less : is_less (local_stamp scenario delays n g) (local_stamp scenario delays t h) ≡ true = subst (λ s. is_less (local_stamp scenario delays n g) s ≡ true) (sym f.2) ahead in
-    let leads = leads_sure below scenario delays tables.times well enclosed.times n goes in
-    let low = time_sure below scenario delays tables.times well enclosed.times n goes (leads_of scenario tables.times n) leads in
+    let holds : IsSure scenario delays tables.times n sure = below.sure scenario delays tables.times well enclosed.times n goes in
     elim (or_cases (h == g) (is_surely_less scenario tables.times sure starts h)
     (list_all_in test h (message_at scenario t).destinations parts.1 (in_of_goes scenario t h f.1))) [
       | inl e ↦
           let same : h ≡ g = eqb-true h g e in
-          let here = after_rises below scenario delays tables.times well enclosed.times n goes t g (tables.times.greatest_arrival t g) well.addressed
+          let here = below.arrivals_rise scenario delays tables.times well enclosed.times t g (tables.times.greatest_arrival t g) well.addressed
           (enclosed.times.arrival_high t g well.addressed) n goes parts.0 in
           not_ahead_here (local_stamp scenario delays n g) (local_stamp scenario delays t g)
           (subst (λ k. is_less (local_stamp scenario delays n g) (local_stamp scenario delays t k) ≡ true) same less) here
@@ -63,9 +62,9 @@ led_is_behind below scenario delays tables well enclosed barring n goes ahead le
           let last : tables.times.greatest_arrival t h ≤ last_arrival scenario tables.times =
           in_greatest (λ k. tables.times.greatest_arrival t k) h (message_at scenario t).destinations (in_of_goes scenario t h f.1) in
           let clear = λ (k : ℕ) (to : GoesTo scenario t k). below.before_commit scenario delays t k h f.1 in
-          let most = stamp_within below scenario delays tables well enclosed n goes sure leads low starts (last_arrival scenario tables.times)
-          (have_starts below scenario delays tables well enclosed n goes sure leads low barring (last_arrival scenario tables.times))
+          let most = stamp_within below scenario delays tables well enclosed n sure holds starts (last_arrival scenario tables.times)
+          (have_starts below scenario delays tables well enclosed n sure holds barring (last_arrival scenario tables.times))
           t t h (tables.times.greatest_arrival t h) f.1 late (omega arith) clear clear in
           not_ahead (local_stamp scenario delays n g) (local_stamp scenario delays t h) sure.time (high h) g h less
-          (below.names scenario delays well n g goes) (below.names scenario delays well t h f.1) low most e
+          (below.names scenario delays well n g goes) (below.names scenario delays well t h f.1) holds.time_holds most e
     ]

@@ -1,8 +1,8 @@
 -- The two tests of whether a message is led, where it surely arrives behind the target and where it may not.
 use Rattle.std.proofs.Common.{◌≡◌, ℕ, Bool, true, false, ◌&&◌, ◌||◌, ap, ap₂, refl, ◌∙◌}
 use Rattle.convoy_scenario.specs.Scenario.{Scenario}
-use Rattle.convoy_leads.specs.Windows.{LeadTables}
-use Rattle.convoy_leads.specs.SureLeads.{is_earlier, sure_of}
+use Rattle.convoy_sure.specs.Windows.{LeadTables}
+use Rattle.convoy_sure.specs.SureLeads.{is_earlier, sure_of}
 use Rattle.convoy_leads.specs.Leads.{is_led}
 use Rattle.convoy_leads.specs.Tests.{is_less_elsewhere}
 

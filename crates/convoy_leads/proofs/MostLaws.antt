@@ -12,8 +12,8 @@ use Rattle.convoy_scenario.specs.WellFormed.{IsScenario}
 use Rattle.convoy_sim.specs.Times.{Tick}
 use Rattle.convoy_intervals.specs.Bounds.{Tables}
 use Rattle.convoy_stamps.specs.declared.pair.Pair.{Pair}
-use Rattle.convoy_leads.specs.Windows.{LeadTables}
-use Rattle.convoy_leads.specs.SureLeads.{Sure, pair_count}
+use Rattle.convoy_sure.specs.Windows.{LeadTables}
+use Rattle.convoy_sure.specs.SureLeads.{Sure, pair_count}
 use Rattle.convoy_leads.specs.Leads.{Start, arrives_by, capped, clock_alone, clock_from, clock_high, clock_since, covers, lead_by, raise_high, stamp_for, stamp_high, start_of, with_start}
 use Rattle.convoy_leads.specs.Mosts.{AreFor, AreTold, IsTold, Told, may_precede}
 

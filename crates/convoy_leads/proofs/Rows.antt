@@ -8,8 +8,8 @@ use Rattle.convoy_sim.specs.Times.{arrive, settle}
 use Rattle.convoy_sim.proofs.RowScenarios.{message, base_with, base, swapped, raised_twice}
 use Rattle.convoy_intervals.specs.Boxes.{root_of}
 use Rattle.convoy_intervals.specs.Bounds.{plain_bound}
-use Rattle.convoy_leads.specs.Windows.{tables_by, windows_of}
-use Rattle.convoy_leads.specs.SureLeads.{leads_of, sure_time}
+use Rattle.convoy_sure.specs.Windows.{tables_by, windows_of}
+use Rattle.convoy_sure.specs.SureLeads.{leads_of, sure_time}
 use Rattle.convoy_leads.specs.Leads.{is_led}
 use Rattle.convoy_leads.specs.Closing.{is_behind, closes_by_leads}
 

@@ -5,7 +5,7 @@ use Rattle.convoy_scenario.specs.Scenario.{Scenario, message_at}
 use Rattle.convoy_sim.specs.Times.{Tick}
 use Rattle.convoy_intervals.specs.Boxes.{Box}
 use Rattle.convoy_intervals.specs.Bounds.{rivals}
-use Rattle.convoy_leads.specs.Windows.{LeadTables, Windows, tables_by, windows_of, with_arrival}
+use Rattle.convoy_sure.specs.Windows.{LeadTables, Windows, tables_by, windows_of, with_arrival}
 use Rattle.convoy_leads.specs.Leads.{is_led}
 
 -- message n surely arrives after the target is committed, or its stamp is surely greater than the target's: at first with no message barred, and then with each

@@ -1,30 +1,13 @@
 -- What is proved of leads. Each is the one clause of the function of its name in the crate's module `laws`.
-use Rattle.std.specs.Prelude.{ℕ, ◌+◌, ◌<◌, ◌≤◌, IsTrue}
-use Rattle.convoy_scenario.specs.Scenario.{Scenario, GoesTo}
+use Rattle.std.specs.Prelude.{ℕ, ◌≤◌, IsTrue}
+use Rattle.convoy_scenario.specs.Scenario.{Scenario}
 use Rattle.convoy_scenario.specs.WellFormed.{IsScenario}
 use Rattle.convoy_packets.specs.Assignment.{Schedule}
-use Rattle.convoy_sim.specs.Stamps.{local_stamp}
 use Rattle.convoy_sim.specs.Delivery.{latency_of}
 use Rattle.convoy_intervals.specs.Boxes.{Box, IsIn}
-use Rattle.convoy_intervals.specs.Bounds.{Tables, Encloses, plain_bound}
-use Rattle.convoy_leads.specs.Windows.{EnclosesAll, Windows, tables_by}
-use Rattle.convoy_leads.specs.SureLeads.{lead_at, leads_of, sure_time}
+use Rattle.convoy_intervals.specs.Bounds.{plain_bound}
+use Rattle.convoy_sure.specs.Windows.{EnclosesAll, Windows, tables_by}
 use Rattle.convoy_leads.specs.Closing.{closes_over, closes_by_leads}
-
--- the stamp of message n at the target's group has at least the lead over each other one that its table of leads says, ..
-abbrev pub HasLeads : Scenario → Schedule → Tables → ℕ → Type 0
-HasLeads scenario delays tables n =
-    (q g : ℕ) → GoesTo scenario q g → 0 < lead_at (leads_of scenario tables n) q g
-    → (local_stamp scenario delays q g).time + lead_at (leads_of scenario tables n) q g
-    ≤ (local_stamp scenario delays n scenario.target_group).time + 1
-
--- .. and it has at least its sure time, over any tables that enclose arrival and settling
-abbrev pub SureLeadsHold : Type 0
-SureLeadsHold =
-    (scenario : Scenario) (delays : Schedule) (tables : Tables) → IsScenario scenario → Encloses scenario delays tables
-    → (n : ℕ) → GoesTo scenario n scenario.target_group
-    → HasLeads scenario delays tables n
-    × (sure_time scenario (leads_of scenario tables n) ≤ (local_stamp scenario delays n scenario.target_group).time)
 
 -- where windows enclose a schedule and are closed for a latency, it has no greater one
 abbrev pub ClosedHoldsOverWindows : Type 0

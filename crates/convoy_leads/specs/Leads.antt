@@ -8,8 +8,8 @@ use Rattle.convoy_sim.specs.Delivery.{addressed_to}
 use Rattle.convoy_intervals.specs.Bounds.{Tables}
 use Rattle.convoy_stamps.specs.declared.pair.Pair.{Pair}
 use Rattle.convoy_stamps.specs.Reach.{pairs_of}
-use Rattle.convoy_leads.specs.Windows.{LeadTables}
-use Rattle.convoy_leads.specs.SureLeads.{Sure, sure_of, pair_count, is_earlier, sure_after, sure_later, lead_at, top_of}
+use Rattle.convoy_sure.specs.Windows.{LeadTables}
+use Rattle.convoy_sure.specs.SureLeads.{Sure, sure_of, pair_count, is_earlier, sure_after, sure_later, lead_at, top_of}
 
 -- a number no greater than such a lead leaves room for
 abbrev pub capped : ℕ → ℕ → ℕ → ℕ

@@ -11,9 +11,9 @@ pub use Rattle.convoy_sim.specs.Delivery
 pub use Rattle.convoy_intervals.specs.Boxes
 pub use Rattle.convoy_intervals.specs.Bounds
 pub use Rattle.convoy_stamps.specs.Reach
--- What a caller of leads reads: the windows of a box, sure leads, leads, what it is to be closed by leads, and the laws of these.
-pub mod Windows
-pub mod SureLeads
+pub use Rattle.convoy_sure.specs.Windows
+pub use Rattle.convoy_sure.specs.SureLeads
+-- What a caller of leads reads: leads, what it is to be closed by leads, and the laws of these.
 pub mod Leads
 pub mod Closing
 pub mod Laws

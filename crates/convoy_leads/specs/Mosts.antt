@@ -3,7 +3,7 @@ use Rattle.std.specs.Prelude.{ℕ, ◌≡◌, ◌≤◌, ◌<◌, ◌==◌, nat_
 use Rattle.convoy_scenario.specs.Scenario.{Scenario, message_numbers}
 use Rattle.convoy_sim.specs.Times.{Tick}
 use Rattle.convoy_intervals.specs.Bounds.{Tables}
-use Rattle.convoy_leads.specs.SureLeads.{Sure}
+use Rattle.convoy_sure.specs.SureLeads.{Sure}
 use Rattle.convoy_leads.specs.Leads.{Start, stamp_high}
 
 -- the messages that are barred, each in turn: all, or the target alone

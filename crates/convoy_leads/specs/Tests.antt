@@ -3,8 +3,8 @@ use Rattle.std.specs.Prelude.{◌==◌, Bool, ◌||◌, List}
 use Rattle.std.specs.List.{list_all}
 use Rattle.convoy_scenario.specs.Scenario.{Scenario, message_at}
 use Rattle.convoy_intervals.specs.Bounds.{Tables}
-use Rattle.convoy_leads.specs.Windows.{LeadTables}
-use Rattle.convoy_leads.specs.SureLeads.{Sure}
+use Rattle.convoy_sure.specs.Windows.{LeadTables}
+use Rattle.convoy_sure.specs.SureLeads.{Sure}
 use Rattle.convoy_leads.specs.Leads.{Start, is_surely_less, last_arrival, starts_before}
 
 -- by these starts each stamp of the target elsewhere is surely less than that of a message of which this is sure

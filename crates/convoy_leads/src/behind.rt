@@ -3,23 +3,20 @@ ghost use Rattle.std.specs.List.{list_all};
 ghost use Rattle.convoy_scenario.specs.declared.limits.TheConstants.{MOST_GROUPS, MOST_MULTICASTS};
 ghost use Rattle.convoy_scenario.specs.Scenario.{message_at};
 ghost use Rattle.convoy_intervals.specs.Bounds.{rivals};
-ghost use Rattle.convoy_leads.specs.SureLeads.{is_earlier, sure_of};
-ghost use Rattle.convoy_leads.specs.Windows.{tables_by, with_arrival};
+ghost use Rattle.convoy_sure.specs.SureLeads.{is_earlier, sure_of};
+ghost use Rattle.convoy_sure.specs.Windows.{tables_by, with_arrival};
 ghost use Rattle.convoy_leads.specs.Leads.{is_led};
 ghost use Rattle.convoy_leads.specs.Tests.{is_less_elsewhere};
 ghost use Rattle.convoy_leads.specs.Closing.{closes_over, is_behind, is_behind_after, is_behind_by};
 ghost use Rattle.convoy_leads.specs.Closing.{is_behind_late, is_behind_target};
 
 use super::case::Case;
-use super::messages::Messages;
-use super::pairs::{last_first, target_group};
-use super::stamps::destinations;
 use super::start::Start;
-use super::sure::Sure;
-use super::sure_arrivals::is_earlier;
 use super::told::Told;
-use super::windows::{LAST_ARRIVAL, Windows};
 use convoy_scenario::{MOST_GROUPS, MOST_MULTICASTS};
+use convoy_sure::{
+    LAST_ARRIVAL, Messages, Sure, Windows, destinations, is_earlier, sure_of, target_group,
+};
 use std::alloc::{AllocError, Global};
 
 /// Memory that tests use, one after the other.
@@ -48,9 +45,14 @@ impl<'a> Case<'a> {
         ensures { IfOk result (λ sure. sure ≡ sure_of self.now.scenario.now
             (tables_by windows.now).times n) }
     {
-        let sorted = last_first(alloc, windows, self.scenario, &self.pairs)?;
-        let scene = self.scene(windows);
-        scene.sure_of(alloc, &sorted, n)
+        sure_of(
+            alloc,
+            self.scenario,
+            &self.audiences,
+            &self.pairs,
+            windows,
+            n,
+        )
     }
 
     /// Whether a message surely arrives at the target's group after the target.

@@ -6,14 +6,10 @@ ghost use Rattle.convoy_sim.specs.Delivery.{addressed_to};
 ghost use Rattle.convoy_stamps.specs.Reach.{pairs_of};
 ghost use Rattle.convoy_leads.specs.Mosts.{bars_of};
 
-use super::messages::{Messages, all_messages, audiences, one_message};
-use super::pairs::list_pairs;
 use super::setting::Setting;
-use super::sure::Sure;
-use super::sure_leads::Scene;
-use super::windows::Windows;
 use convoy_scenario::{MOST_GROUPS, MOST_MULTICASTS, Scenario};
 use convoy_stamps::Pair;
+use convoy_sure::{Messages, Sure, Windows, all_messages, audiences, list_pairs, one_message};
 use std::alloc::{AllocError, Global};
 
 /// A scenario with what follows from it alone, whatever the box: the messages that go to each group,
@@ -80,19 +76,6 @@ impl<'a> Case<'a> {
             self.each_message.numbers()
         } else {
             self.target_alone.numbers()
-        }
-    }
-
-    /// The case with windows.
-    pub(crate) fn scene(&'a self, windows: &'a Windows) -> Scene<'a>
-        ensures scenario { result.scenario.now ≡ self.now.scenario.now }
-        ensures windows { result.windows.now ≡ windows.now }
-    {
-        Scene {
-            scenario: self.scenario,
-            audiences: &self.audiences,
-            windows,
-            stamps: self.pairs.len() as u32,
         }
     }
 

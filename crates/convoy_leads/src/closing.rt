@@ -7,10 +7,10 @@ ghost use Rattle.convoy_leads.specs.Closing.{closes_by_leads};
 use super::behind::Memory;
 use super::case::Case;
 use super::laws::leads_hold;
-use super::windows::Windows;
 use convoy_intervals::DelayBox;
 use convoy_packets::PacketTable;
 use convoy_scenario::Scenario;
+use convoy_sure::Windows;
 use std::alloc::{AllocError, Global};
 
 /// Tests boxes by leads, of any scenarios. A test gives back all the memory that it takes.

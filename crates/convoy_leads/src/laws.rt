@@ -2,16 +2,18 @@
 //! law calls the function.
 
 ghost use Rattle.convoy_leads.specs.Below.{LawsBelow};
-ghost use Rattle.convoy_leads.specs.Laws.{SureLeadsHold, ClosedHoldsOverWindows};
-ghost use Rattle.convoy_leads.specs.Laws.{LeadsHold, ClosesAtPlain};
+ghost use Rattle.convoy_leads.specs.Laws.{ClosedHoldsOverWindows, LeadsHold, ClosesAtPlain};
 
-use convoy_intervals::laws::members_are_enclosed;
 use convoy_sim::laws::{
     arrives_before_commit, delivery_law, earlier_arrives_before_commit, final_stamp_is_local,
-    last_raise, local_stamp_names_group, no_local_stamp_is_greater, stamps_rise,
-    stamps_rise_past_commit,
+    last_raise, local_stamp_names_group,
 };
 use convoy_stamps::laws::stamps_within_reach;
+pub use convoy_sure::laws::sure_leads_hold;
+use convoy_sure::laws::{
+    cuts_enclose, sure_arrivals_rise, what_is_sure_holds, windows_are_tables,
+    windows_enclose_members,
+};
 
 /// The laws of the crates below on which those of leads stand.
 fn laws_below()
@@ -20,21 +22,13 @@ fn laws_below()
     delivery_law();
     earlier_arrives_before_commit();
     arrives_before_commit();
-    stamps_rise();
-    stamps_rise_past_commit();
     local_stamp_names_group();
     final_stamp_is_local();
-    no_local_stamp_is_greater();
     last_raise();
     stamps_within_reach();
-}
-
-/// The stamp of a message at the target's group exceeds each other stamp by what its table of leads
-/// says, and has at least its sure time.
-pub fn sure_leads_hold()
-    ensures { SureLeadsHold }
-{
-    laws_below();
+    cuts_enclose();
+    sure_arrivals_rise();
+    what_is_sure_holds();
 }
 
 /// Where windows enclose a schedule and are closed for a latency, the schedule has no greater one.
@@ -49,11 +43,12 @@ pub fn leads_hold()
     ensures { LeadsHold }
 {
     closed_holds_over_windows();
-    members_are_enclosed();
+    windows_enclose_members();
 }
 
 /// Leads close each box for its plain bound.
-#[tactic(auto, using(crate::proofs::ClosingLaws::closes_at_plain))]
 pub fn closes_at_plain()
     ensures { ClosesAtPlain }
-{}
+{
+    windows_are_tables();
+}

@@ -1,17 +1,17 @@
 ghost use Rattle.std.specs.Prelude.{◌≡◌, ◌<◌, ◌≤◌, ◌==◌, ◌||◌, length, All, IfOk};
 ghost use Rattle.convoy_scenario.specs.declared.limits.TheConstants.{MOST_GROUPS, MOST_MULTICASTS};
 ghost use Rattle.convoy_stamps.specs.Reach.{pairs_of};
-ghost use Rattle.convoy_leads.specs.Windows.{tables_by};
+ghost use Rattle.convoy_sure.specs.Windows.{tables_by};
 ghost use Rattle.convoy_leads.specs.Leads.{is_surely_less, last_arrival};
 ghost use Rattle.convoy_leads.specs.Tests.{is_less_by, is_less_elsewhere};
 
 use super::setting::Setting;
-use super::stamps::{destinations, greater};
 use super::start::Start;
 use super::told::Told;
 use convoy_scenario::{MOST_GROUPS, MOST_MULTICASTS};
 use convoy_sim::Timestamp;
 use convoy_stamps::Pair;
+use convoy_sure::destinations;
 use std::alloc::AllocError;
 
 impl<'a> Setting<'a> {
@@ -21,9 +21,9 @@ impl<'a> Setting<'a> {
             (tables_by self.now.windows.now).times }
     {
         let target = self.scenario.target_message();
-        let mut last = 0;
+        let mut last: u32 = 0;
         for group in destinations(self.scenario, target) {
-            last = greater(last, self.windows.greatest_arrival(target, *group));
+            last = last.max(self.windows.greatest_arrival(target, *group));
         }
         last
     }

@@ -2,16 +2,13 @@ ghost use Rattle.std.specs.Prelude.{◌≡◌, ℕ, ◌*◌, ◌<◌, ◌≤◌,
 ghost use Rattle.std.specs.List.{filter, range_with_len};
 ghost use Rattle.convoy_scenario.specs.declared.limits.TheConstants.{MOST_GROUPS, MOST_MULTICASTS};
 ghost use Rattle.convoy_sim.specs.Delivery.{addressed_to};
-ghost use Rattle.convoy_leads.specs.SureLeads.{pair_count, sure_after, sure_later};
-ghost use Rattle.convoy_leads.specs.Windows.{tables_by};
+ghost use Rattle.convoy_sure.specs.SureLeads.{pair_count, sure_after, sure_later};
+ghost use Rattle.convoy_sure.specs.Windows.{tables_by};
 ghost use Rattle.convoy_leads.specs.Leads.{arrivals_since, may_arrive};
 ghost use Rattle.convoy_leads.specs.Mosts.{bars_of};
 
-use super::messages::Messages;
-use super::sure::Sure;
-use super::sure_arrivals::{is_earlier, those_after, those_later};
-use super::windows::Windows;
 use convoy_scenario::{MOST_GROUPS, MOST_MULTICASTS, Scenario};
+use convoy_sure::{Messages, Sure, Windows, is_earlier, those_after, those_later};
 
 /// What the most of stamps is told from: a scenario, with the messages that go to each group and how
 /// many local stamps there are; the windows of a box; what is sure of one message; and the messages that

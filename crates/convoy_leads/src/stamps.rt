@@ -1,21 +1,19 @@
 ghost use Rattle.std.specs.Prelude.{◌≡◌, ℕ, ◌+◌, ◌*◌, ◌<◌, ◌≤◌, ◌==◌, not, max, min, length, map, slice_index, All};
 ghost use Rattle.std.specs.List.{filter};
 ghost use Rattle.convoy_scenario.specs.declared.limits.TheConstants.{MOST_GROUPS, MOST_MULTICASTS};
-ghost use Rattle.convoy_scenario.specs.Scenario.{message_at};
-ghost use Rattle.convoy_leads.specs.SureLeads.{lead_at, sure_later, top_of};
-ghost use Rattle.convoy_leads.specs.Windows.{tables_by};
+ghost use Rattle.convoy_sure.specs.SureLeads.{lead_at, sure_later, top_of};
+ghost use Rattle.convoy_sure.specs.Windows.{tables_by};
 ghost use Rattle.convoy_leads.specs.Leads.{arrivals_since, arrives_by, capped, clock_alone, clock_from};
 ghost use Rattle.convoy_leads.specs.Leads.{clock_high, lead_by, raise_high, stamp_high, value_for, window};
 ghost use Rattle.convoy_leads.specs.Mosts.{AreFor, AreTold, may_precede};
 
-use super::messages::Messages;
 use super::mosts::{Mosts, cap_all, level, raise_all};
-use super::ranks::top_of;
 use super::setting::{Setting, without};
 use super::start::Start;
 use super::told::Told;
-use super::window::{capped, lead_at, window};
-use convoy_scenario::{MOST_GROUPS, MOST_MULTICASTS, Scenario};
+use super::window::{capped, window};
+use convoy_scenario::{MOST_GROUPS, MOST_MULTICASTS};
+use convoy_sure::{Messages, destinations, lead_at, top_of};
 
 /// Whether a start may come before message `q` arrives at a group by that tick.
 fn may_precede(q: usize, group: usize, tick: u32, start: &Start) -> bool
@@ -31,24 +29,6 @@ struct Rise {
     others: Messages,
     value: u32,
     clock: u32,
-}
-
-/// The greater of two numbers.
-pub(crate) fn greater(a: u32, b: u32) -> u32
-    ensures { result ≡ max a b }
-{
-    if a < b { b } else { a }
-}
-
-/// The groups that a message goes to.
-#[tactic(auto, using(crate::proofs::Known::destinations_low))]
-pub(crate) fn destinations(scenario: &Scenario, message: usize) -> &[usize]
-    requires { message < length scenario.now.multicasts }
-    ensures value { result.now ≡ (message_at scenario.now message).destinations }
-    ensures known { All (λ g. g < MOST_GROUPS) result.now }
-    ensures few { message < MOST_MULTICASTS }
-{
-    scenario.destinations(message)
 }
 
 impl<'a> Setting<'a> {
@@ -183,10 +163,7 @@ impl<'a> Setting<'a> {
             (tables_by self.now.windows.now).times self.now.sure.now q group tick }
     {
         let after = self.sure_after(tick, q, group);
-        greater(
-            lead_at(self.sure.leads(), q, group),
-            self.top_of(group, &after),
-        )
+        lead_at(self.sure.leads(), q, group).max(self.top_of(group, &after))
     }
 
     /// Turns the most of clocks into that of the stamps that they give, over which there is such a lead.

@@ -2,7 +2,7 @@ ghost use Rattle.std.specs.Prelude.{◌≡◌, ℕ, ◌*◌, ◌<◌, ◌≤◌,
 ghost use Rattle.std.specs.List.{fold};
 ghost use Rattle.convoy_scenario.specs.declared.limits.TheConstants.{MOST_GROUPS};
 ghost use Rattle.convoy_stamps.specs.Reach.{pairs_of};
-ghost use Rattle.convoy_leads.specs.Windows.{tables_by};
+ghost use Rattle.convoy_sure.specs.Windows.{tables_by};
 ghost use Rattle.convoy_leads.specs.Leads.{may_commit, start_of, with_start, add_start, starts_before};
 ghost use Rattle.convoy_leads.specs.Mosts.{AreTold};
 

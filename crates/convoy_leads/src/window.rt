@@ -1,21 +1,10 @@
 ghost use Rattle.std.specs.Prelude.{◌≡◌, ℕ, ◌+◌, ◌-◌, ◌*◌, ◌<◌, ◌≤◌, length, All};
 ghost use Rattle.std.specs.List.{filter};
-ghost use Rattle.convoy_leads.specs.SureLeads.{lead_at};
+ghost use Rattle.convoy_sure.specs.SureLeads.{lead_at};
 ghost use Rattle.convoy_leads.specs.Leads.{capped, may_be_above, room_above, window};
 
 use convoy_scenario::{MOST_GROUPS, MOST_MULTICASTS};
-
-/// One more than the lead over a message at a group, 0 where none is known.
-pub(crate) fn lead_at(leads: &[u32], message: usize, group: usize) -> u32
-    requires message { message < MOST_MULTICASTS }
-    requires group { group < MOST_GROUPS }
-    ensures { result ≡ lead_at leads.now message group }
-{
-    leads
-        .get(message * MOST_GROUPS + group)
-        .copied()
-        .unwrap_or(0)
-}
+use convoy_sure::lead_at;
 
 /// A number no greater than such a lead leaves room for.
 pub(crate) fn capped(sure: u32, lead: u32, value: u32) -> u32

@@ -3,4 +3,4 @@ use Rattle.convoy_leads.proofs.laws.leads_hold.Goals as goal
 
 pub returns : goal.returns
 returns c scenario ranges delays latency well member closed =
-    leads_hold c.closed_holds_over_windows.ensures c.members_are_enclosed.ensures scenario ranges delays latency well member closed
+    leads_hold c.closed_holds_over_windows.ensures c.windows_enclose_members.ensures scenario ranges delays latency well member closed

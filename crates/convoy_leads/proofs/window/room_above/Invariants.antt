@@ -1,5 +1,5 @@
 use Rattle.std.proofs.Common.{◌≡◌, ◌≤◌, ◌+◌, take, length, filter}
-use Rattle.convoy_leads.specs.SureLeads.{lead_at}
+use Rattle.convoy_sure.specs.SureLeads.{lead_at}
 use Rattle.convoy_leads.specs.Leads.{may_be_above}
 use Rattle.convoy_leads.proofs.window.room_above.Given as goal
 

@@ -1,6 +1,6 @@
 use Rattle.std.proofs.Common.{◌≡◌, ◌≤◌, ◌+◌, ◌-◌, map, fold, min}
 use Rattle.std.specs.List.{range_with_len}
-use Rattle.convoy_leads.specs.SureLeads.{lead_at}
+use Rattle.convoy_sure.specs.SureLeads.{lead_at}
 use Rattle.convoy_leads.specs.Leads.{room_above}
 use Rattle.convoy_leads.proofs.window.window.Given as goal
 

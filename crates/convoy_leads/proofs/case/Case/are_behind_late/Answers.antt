@@ -1,5 +1,5 @@
 use Rattle.std.proofs.Common.{◌∙◌}
-use Rattle.convoy_leads.specs.Windows.{tables_by}
+use Rattle.convoy_sure.specs.Windows.{tables_by}
 use Rattle.convoy_leads.proofs.Rivals.{rival_known}
 use Rattle.convoy_leads.proofs.case.Case.are_behind_late.Goals as goal
 

@@ -1,5 +1,5 @@
 use Rattle.std.proofs.Common.{◌≡◌, Bool, IfOk, sym, subst, ◌∙◌}
-use Rattle.convoy_leads.specs.Windows.{tables_by}
+use Rattle.convoy_sure.specs.Windows.{tables_by}
 use Rattle.convoy_leads.proofs.LedTests.{led_if_behind, not_led}
 use Rattle.convoy_leads.proofs.case.Case.is_led.Goals as goal
 

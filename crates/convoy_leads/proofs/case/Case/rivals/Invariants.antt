@@ -1,5 +1,5 @@
 use Rattle.std.proofs.Common.{◌≡◌, ◌≤◌, nat_le, length, filter, take}
-use Rattle.convoy_leads.specs.Windows.{tables_by}
+use Rattle.convoy_sure.specs.Windows.{tables_by}
 use Rattle.convoy_leads.proofs.case.Case.rivals.Given as goal
 
 abbrev pub invariant-loop-n : goal.invariant-loop-n

@@ -1,6 +1,6 @@
 use Rattle.std.proofs.Common.{◌≡◌, IsTrue, subst}
 use Rattle.convoy_scenario.specs.Scenario.{Scenario}
-use Rattle.convoy_leads.specs.Windows.{Windows}
+use Rattle.convoy_sure.specs.Windows.{Windows}
 use Rattle.convoy_leads.specs.Closing.{closes_over, closes_by_leads}
 use Rattle.convoy_leads.proofs.closing.Leads.closes.Goals as goal
 

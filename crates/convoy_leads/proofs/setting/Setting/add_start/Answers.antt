@@ -1,6 +1,6 @@
 use Rattle.std.proofs.Common.{List, ◌≡◌, true, sym, ap, subst, ◌∙◌}
 use Rattle.std.proofs.lemmas.Bool.{cond-true}
-use Rattle.convoy_leads.specs.Windows.{tables_by}
+use Rattle.convoy_sure.specs.Windows.{tables_by}
 use Rattle.convoy_leads.specs.Leads.{Start, may_commit, start_of, with_start}
 use Rattle.convoy_leads.specs.Mosts.{AreTold}
 use Rattle.convoy_leads.proofs.MostLaws.{start_at, told_with}

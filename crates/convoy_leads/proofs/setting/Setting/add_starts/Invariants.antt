@@ -1,5 +1,5 @@
 use Rattle.std.proofs.Common.{◌≡◌, fold, take}
-use Rattle.convoy_leads.specs.Windows.{tables_by}
+use Rattle.convoy_sure.specs.Windows.{tables_by}
 use Rattle.convoy_leads.specs.Leads.{add_start}
 use Rattle.convoy_leads.specs.Mosts.{AreTold}
 use Rattle.convoy_leads.proofs.setting.Setting.add_starts.Given as goal

@@ -1,5 +1,5 @@
 use Rattle.std.proofs.Common.{ap, ◌∙◌}
-use Rattle.convoy_leads.specs.Windows.{tables_by}
+use Rattle.convoy_sure.specs.Windows.{tables_by}
 use Rattle.convoy_leads.specs.Leads.{starts_before}
 use Rattle.convoy_leads.specs.Tests.{is_less_by}
 use Rattle.convoy_leads.proofs.setting.Setting.is_led.Goals as goal

@@ -1,6 +1,6 @@
 use Rattle.std.proofs.Common.{◌≡◌, ◌==◌, ◌||◌, drop}
 use Rattle.std.specs.List.{list_all}
-use Rattle.convoy_leads.specs.Windows.{tables_by}
+use Rattle.convoy_sure.specs.Windows.{tables_by}
 use Rattle.convoy_leads.specs.Leads.{is_surely_less}
 use Rattle.convoy_leads.proofs.setting.Setting.is_less_elsewhere.Given as goal
 

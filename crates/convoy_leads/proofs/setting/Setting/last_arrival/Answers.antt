@@ -1,6 +1,6 @@
 use Rattle.std.proofs.Common.{◌≡◌, ℕ, max, map, take, get_or, sym, ap, ◌∙◌}
 use Rattle.convoy_sim.specs.Times.{greatest}
-use Rattle.convoy_leads.specs.Windows.{tables_by}
+use Rattle.convoy_sure.specs.Windows.{tables_by}
 use Rattle.convoy_leads.proofs.Loops.{greatest_more}
 use Rattle.convoy_leads.proofs.setting.Setting.last_arrival.Goals as goal
 
@@ -11,7 +11,7 @@ loop-group-preserved c =
     let i : ℕ = c.loop-group.group-index in
     let so_far : c.loop-group.last ≡ greatest (map f (take i groups)) = c.loop-group.invariant in
     let here : c.greatest_arrival.result ≡ f (get_or groups i 0) = c.greatest_arrival.ensures.value in
-    c.greater-last.ensures
+    c.max-last.ensures
     ∙ ap (λ (n : ℕ). max n c.greatest_arrival.result) so_far
     ∙ ap (λ (n : ℕ). max (greatest (map f (take i groups))) n) here
     ∙ sym (greatest_more f groups i c.loop-group-test.true)

@@ -1,6 +1,6 @@
 use Rattle.std.proofs.Common.{◌≡◌, map, take}
 use Rattle.convoy_sim.specs.Times.{greatest}
-use Rattle.convoy_leads.specs.Windows.{tables_by}
+use Rattle.convoy_sure.specs.Windows.{tables_by}
 use Rattle.convoy_leads.proofs.setting.Setting.last_arrival.Given as goal
 
 abbrev pub invariant-loop-group : goal.invariant-loop-group

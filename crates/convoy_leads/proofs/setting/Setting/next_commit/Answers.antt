@@ -1,6 +1,6 @@
 use Rattle.std.proofs.Common.{◌≡◌, ℕ, get_or, inl, inr, ap, ◌∙◌, arith}
 use Rattle.std.proofs.lemmas.Bool.{cases_lt}
-use Rattle.convoy_leads.specs.Windows.{tables_by}
+use Rattle.convoy_sure.specs.Windows.{tables_by}
 use Rattle.convoy_leads.specs.Leads.{may_commit}
 use Rattle.convoy_leads.proofs.IdleTicks.{no_pair, pair_there}
 use Rattle.convoy_leads.proofs.setting.Setting.next_commit.Goals as goal

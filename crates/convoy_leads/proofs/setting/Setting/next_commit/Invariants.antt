@@ -1,5 +1,5 @@
 use Rattle.std.proofs.Common.{◌≡◌, ℕ, ◌<◌, ◌≤◌, false, get_or}
-use Rattle.convoy_leads.specs.Windows.{tables_by}
+use Rattle.convoy_sure.specs.Windows.{tables_by}
 use Rattle.convoy_leads.specs.Leads.{may_commit}
 use Rattle.convoy_leads.proofs.IdleTicks.{no_pair}
 use Rattle.convoy_leads.proofs.setting.Setting.next_commit.Given as goal

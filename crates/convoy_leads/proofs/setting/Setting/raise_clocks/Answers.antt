@@ -3,8 +3,8 @@ use Rattle.std.proofs.Math.Nat.{max-zero}
 use Rattle.std.proofs.lemmas.Bool.{ne_eqb}
 use Rattle.std.proofs.lemmas.List.{set-get_or}
 use Rattle.std.proofs.lemmas.List.Elements.{All-set}
-use Rattle.convoy_leads.specs.SureLeads.{lead_at}
-use Rattle.convoy_leads.specs.Windows.{tables_by}
+use Rattle.convoy_sure.specs.SureLeads.{lead_at}
+use Rattle.convoy_sure.specs.Windows.{tables_by}
 use Rattle.convoy_leads.specs.Leads.{clock_from, value_for, window}
 use Rattle.convoy_leads.specs.Mosts.{may_precede}
 use Rattle.convoy_leads.proofs.MostLaws.{clock_barred, clock_passing, one_done, one_left}

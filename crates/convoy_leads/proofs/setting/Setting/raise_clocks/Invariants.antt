@@ -1,5 +1,5 @@
 use Rattle.std.proofs.Common.{◌≡◌, ℕ, ◌<◌, ◌≤◌, max, get_or, All}
-use Rattle.convoy_leads.specs.Windows.{tables_by}
+use Rattle.convoy_sure.specs.Windows.{tables_by}
 use Rattle.convoy_leads.specs.Leads.{clock_from}
 use Rattle.convoy_leads.proofs.setting.Setting.raise_clocks.Given as goal
 

@@ -4,7 +4,7 @@ use Rattle.std.proofs.lemmas.Bool.{cond-false, cond-true, ne_eqb}
 use Rattle.arrayvec.specs.ArrayVec.{ArrayVec}
 use Rattle.convoy_sim.proofs.Ranges.{refilled}
 use Rattle.convoy_sim.specs.Times.{greatest}
-use Rattle.convoy_leads.specs.Windows.{tables_by}
+use Rattle.convoy_sure.specs.Windows.{tables_by}
 use Rattle.convoy_leads.specs.Leads.{arrives_by, stamp_for, stamp_high}
 use Rattle.convoy_leads.specs.Mosts.{AreTold, Told}
 use Rattle.convoy_leads.proofs.Loops.{greatest_more}

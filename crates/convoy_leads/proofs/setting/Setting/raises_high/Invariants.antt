@@ -1,6 +1,6 @@
 use Rattle.std.proofs.Common.{◌≡◌, ℕ, ◌<◌, length, map, take, get_or}
 use Rattle.convoy_sim.specs.Times.{greatest}
-use Rattle.convoy_leads.specs.Windows.{tables_by}
+use Rattle.convoy_sure.specs.Windows.{tables_by}
 use Rattle.convoy_leads.specs.Leads.{stamp_for}
 use Rattle.convoy_leads.specs.Mosts.{AreTold}
 use Rattle.convoy_leads.proofs.setting.Setting.raises_high.Given as goal

@@ -2,7 +2,7 @@ use Rattle.std.proofs.Common.{◌≡◌, ℕ, Bool, List, [], cond, map, sym, ap
 use Rattle.std.specs.List.{slice_index}
 use Rattle.arrayvec.specs.ArrayVec.{ArrayVec}
 use Rattle.convoy_scenario.specs.Scenario.{message_numbers}
-use Rattle.convoy_leads.specs.Windows.{tables_by}
+use Rattle.convoy_sure.specs.Windows.{tables_by}
 use Rattle.convoy_leads.specs.Leads.{raise_high, start_of}
 use Rattle.convoy_leads.specs.Mosts.{bars_of}
 use Rattle.convoy_leads.proofs.MostLaws.{mapped, raise_small, start_is}

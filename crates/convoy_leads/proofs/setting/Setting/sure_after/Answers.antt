@@ -1,6 +1,6 @@
 use Rattle.std.proofs.Common.{ℕ, List, filter, ap, ◌∙◌}
-use Rattle.convoy_leads.specs.SureLeads.{is_earlier}
-use Rattle.convoy_leads.specs.Windows.{tables_by}
+use Rattle.convoy_sure.specs.SureLeads.{is_earlier}
+use Rattle.convoy_sure.specs.Windows.{tables_by}
 use Rattle.convoy_leads.proofs.setting.Setting.sure_after.Goals as goal
 
 pub returns : goal.returns

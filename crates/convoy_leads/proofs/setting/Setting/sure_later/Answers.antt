@@ -1,5 +1,5 @@
 use Rattle.std.proofs.Common.{ℕ, List, nat_lt, filter, ap, ◌∙◌}
-use Rattle.convoy_leads.specs.Windows.{tables_by}
+use Rattle.convoy_sure.specs.Windows.{tables_by}
 use Rattle.convoy_leads.proofs.setting.Setting.sure_later.Goals as goal
 
 pub returns : goal.returns

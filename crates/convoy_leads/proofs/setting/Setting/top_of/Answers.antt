@@ -1,5 +1,5 @@
 use Rattle.std.proofs.Common.{ℕ, List, ap, ◌∙◌}
-use Rattle.convoy_leads.specs.SureLeads.{lead_at, top_of}
+use Rattle.convoy_sure.specs.SureLeads.{lead_at, top_of}
 use Rattle.convoy_leads.proofs.setting.Setting.top_of.Goals as goal
 
 pub returns : goal.returns

@@ -1,5 +1,5 @@
 use Rattle.std.proofs.Common.{ℕ, List, ap, ◌∙◌}
-use Rattle.convoy_leads.specs.SureLeads.{lead_at}
+use Rattle.convoy_sure.specs.SureLeads.{lead_at}
 use Rattle.convoy_leads.specs.Leads.{window}
 use Rattle.convoy_leads.proofs.setting.Setting.window.Goals as goal
 

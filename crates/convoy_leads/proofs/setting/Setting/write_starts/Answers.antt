@@ -2,7 +2,7 @@ use Rattle.std.proofs.Common.{◌≡◌, ℕ, ◌+◌, suc, false, fold, List, A
 use Rattle.std.specs.List.{refill}
 use Rattle.convoy_sim.proofs.Ranges.{refilled}
 use Rattle.convoy_stamps.specs.declared.pair.Pair.{Pair}
-use Rattle.convoy_leads.specs.Windows.{tables_by}
+use Rattle.convoy_sure.specs.Windows.{tables_by}
 use Rattle.convoy_leads.specs.Leads.{Start, add_start, may_commit, starts_before}
 use Rattle.convoy_leads.specs.Mosts.{AreTold, Told}
 use Rattle.convoy_leads.proofs.IdleTicks.{starts_until}

@@ -1,5 +1,5 @@
 use Rattle.std.proofs.Common.{◌≡◌, ◌*◌, ◌-◌, ◌≤◌, length}
-use Rattle.convoy_leads.specs.Windows.{tables_by}
+use Rattle.convoy_sure.specs.Windows.{tables_by}
 use Rattle.convoy_leads.specs.Leads.{starts_before}
 use Rattle.convoy_leads.specs.Mosts.{AreTold}
 use Rattle.convoy_leads.proofs.setting.Setting.write_starts.Given as goal

@@ -1,7 +1,0 @@
-use Rattle.std.proofs.Common.{ℕ, List, ap, ◌∙◌}
-use Rattle.convoy_leads.specs.SureLeads.{lead_at, top_of}
-use Rattle.convoy_leads.proofs.sure_leads.Scene.top_behind.Goals as goal
-
-pub returns : goal.returns
-returns c =
-    c.top_of.ensures ∙ ap (λ (zs : List ℕ). top_of (λ z. lead_at c.args.leads.now z c.args.y) zs) (c.numbers.ensures.value ∙ c.sure_behind-behind.ensures)

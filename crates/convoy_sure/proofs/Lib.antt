@@ -1,0 +1,9 @@
+pub mod Times
+pub mod Tops
+pub mod SureLaws
+pub mod WindowLaws
+pub mod MemberDelays
+pub mod PairLists
+pub mod Loops
+pub mod Cut
+pub mod Known

@@ -1,0 +1,18 @@
+use Rattle.std.proofs.Common.{ℕ}
+use Rattle.convoy_packets.specs.Table.{least_of}
+use Rattle.convoy_intervals.specs.Boxes.{greatest_of}
+use Rattle.convoy_sure.specs.Windows.{proposal_entry}
+use Rattle.convoy_sure.proofs.Loops.{pushed, pushed_within}
+use Rattle.convoy_sure.proofs.filling.all_proposals.Goals as goal
+
+pub loop-place-preserved : goal.loop-place-preserved
+loop-place-preserved c =
+    let place : ℕ = c.loop-place.place in
+    let was = c.loop-place.invariant in
+    let found = c.proposals_at-shortest.ensures in
+    record {
+      least = pushed (proposal_entry c.args.scenario.now (least_of c.args.delay_box.now)) _ _ place _ c.in_ok-push.ensures.items was.least found.least;
+      greatest = pushed (proposal_entry c.args.scenario.now (greatest_of c.args.delay_box.now)) _ _ place _ c.in_ok-push-2.ensures.items was.greatest found.greatest;
+      least_fit = pushed_within 65535 _ _ _ c.in_ok-push.ensures.items was.least_fit found.fits.0;
+      greatest_fit = pushed_within 65535 _ _ _ c.in_ok-push-2.ensures.items was.greatest_fit found.fits.1;
+    }

@@ -1,0 +1,132 @@
+ghost use Rattle.std.specs.Prelude.{◌≡◌, ℕ, ◌+◌, ◌<◌, ◌≤◌, max, length, slice_set, All, IfOk};
+ghost use Rattle.std.specs.List.{fold};
+ghost use Rattle.convoy_scenario.specs.Scenario.{message_at};
+ghost use Rattle.convoy_sim.specs.Places.{place};
+ghost use Rattle.convoy_sure.specs.Windows.{entry_at, with_arrival, with_settling};
+
+use super::messages::destinations;
+use super::windows::{LAST_ARRIVAL, LAST_SETTLING, Windows, entry_at};
+use convoy_scenario::{MOST_GROUPS, MOST_MULTICASTS, Scenario};
+use std::alloc::{AllocError, Global};
+
+/// Raises the entry for a message at a group to a number, if it is less.
+#[tactic(auto, using(std::proofs::lemmas::List::set_past, crate::proofs::Cut::all_raised))]
+fn raise_entry(entries: &mut [u32], message: usize, group: usize, least: u32)
+    requires message { message < MOST_MULTICASTS }
+    requires group { group < MOST_GROUPS }
+    ensures value { entries.new ≡ slice_set entries.old (place message group)
+        (max least (entry_at entries.old message group)) }
+    ensures limit { (most : ℕ) → least ≤ most → All (λ entry. entry ≤ most) entries.old
+        → All (λ entry. entry ≤ most) entries.new }
+{
+    let entry = entry_at(entries, message, group);
+    let place = message * MOST_GROUPS + group;
+    if place < entries.len() {
+        entries[place] = least.max(entry);
+    }
+}
+
+impl Windows {
+    /// The least arrivals where a message arrives at a group at that tick or later.
+    fn arrivals_after(
+        &self,
+        alloc: Global,
+        message: usize,
+        group: usize,
+        tick: u32,
+    ) -> Result<Vec<u32>, AllocError>
+        requires message { message < MOST_MULTICASTS }
+        requires group { group < MOST_GROUPS }
+        requires tick { tick ≤ LAST_ARRIVAL }
+        ensures value { IfOk result (λ arrivals. arrivals.items
+            ≡ slice_set self.now.least_arrivals (place message group)
+            (max tick (entry_at self.now.least_arrivals message group))) }
+        ensures limit { IfOk result
+            (λ arrivals. All (λ entry. entry ≤ LAST_ARRIVAL) arrivals.items) }
+    {
+        let mut arrivals = Vec::from_slice(alloc, &self.least_arrivals)?;
+        raise_entry(arrivals.as_mut_slice(), message, group, tick);
+        Ok(arrivals)
+    }
+
+    /// Raises least settlings to what they are where a message arrives at a group at that tick or
+    /// later: it is committed at each group no earlier than its stamp of that group may come from
+    /// there.
+    fn raise_settlings(
+        &self,
+        settlings: &mut [u32],
+        scenario: &Scenario,
+        message: usize,
+        group: usize,
+        tick: u32,
+    )
+        requires message { message < length scenario.now.multicasts }
+        requires group { group < MOST_GROUPS }
+        requires tick { tick ≤ LAST_ARRIVAL }
+        requires limit { All (λ entry. entry ≤ LAST_SETTLING) settlings.old }
+        ensures value { settlings.new ≡ fold (with_settling self.now message group tick) settlings.old
+            (message_at scenario.now message).destinations }
+        ensures limit { All (λ entry. entry ≤ LAST_SETTLING) settlings.new }
+    {
+        for to in destinations(scenario, message) {
+            let least = tick + self.least_proposal(message, group, *to);
+            raise_entry(settlings, message, *to, least);
+        }
+    }
+
+    /// The least settlings where a message arrives at a group at that tick or later.
+    fn settlings_after(
+        &self,
+        alloc: Global,
+        scenario: &Scenario,
+        message: usize,
+        group: usize,
+        tick: u32,
+    ) -> Result<Vec<u32>, AllocError>
+        requires message { message < length scenario.now.multicasts }
+        requires group { group < MOST_GROUPS }
+        requires tick { tick ≤ LAST_ARRIVAL }
+        ensures value { IfOk result (λ settlings. settlings.items
+            ≡ fold (with_settling self.now message group tick) self.now.least_settlings
+            (message_at scenario.now message).destinations) }
+        ensures limit { IfOk result
+            (λ settlings. All (λ entry. entry ≤ LAST_SETTLING) settlings.items) }
+    {
+        let mut settlings = Vec::from_slice(alloc, &self.least_settlings)?;
+        self.raise_settlings(settlings.as_mut_slice(), scenario, message, group, tick);
+        Ok(settlings)
+    }
+
+    /// The windows cut: a message arrives at a group, one of its destinations, at that tick or later
+    /// (docs/LEADS.md, "Cuts"). The error is that memory ran out.
+    pub fn with_arrival(
+        &self,
+        alloc: Global,
+        scenario: &Scenario,
+        message: usize,
+        group: usize,
+        tick: u32,
+    ) -> Result<Windows, AllocError>
+        requires known { message < MOST_MULTICASTS }
+        requires message { message < length scenario.now.multicasts }
+        requires group { group < MOST_GROUPS }
+        requires tick { tick ≤ LAST_ARRIVAL }
+        ensures { IfOk result
+            (λ windows. windows ≡ with_arrival scenario.now self.now message group tick) }
+    {
+        let least_arrivals = self.arrivals_after(alloc, message, group, tick)?;
+        let least_settlings = self.settlings_after(alloc, scenario, message, group, tick)?;
+        let greatest_arrivals = Vec::from_slice(alloc, &self.greatest_arrivals)?;
+        let greatest_settlings = Vec::from_slice(alloc, &self.greatest_settlings)?;
+        let least_proposals = Vec::from_slice(alloc, &self.least_proposals)?;
+        let greatest_proposals = Vec::from_slice(alloc, &self.greatest_proposals)?;
+        Ok(Windows {
+            least_arrivals,
+            greatest_arrivals,
+            least_settlings,
+            greatest_settlings,
+            least_proposals,
+            greatest_proposals,
+        })
+    }
+}
