@@ -11,7 +11,7 @@ use Rattle.convoy_sim.specs.Moments.{moments_of}
 use Rattle.convoy_sim.specs.Stamps.{clocks_of, local_stamp, final_stamp}
 use Rattle.convoy_sim.specs.Delivery.{holds_back, deliver, latency_at, latency_of}
 use Rattle.convoy_intervals.specs.Bounds.{plain_bound}
-use Rattle.convoy_leads.specs.SureLeads.{leads_of, sure_time}
+use Rattle.convoy_sure.specs.SureLeads.{leads_of, sure_time}
 use Rattle.convoy_leads.specs.Leads.{is_led}
 use Rattle.convoy_leads.specs.Closing.{closes_by_leads}
 use Rattle.convoy_certificate.specs.Certificate.{Certificate}
