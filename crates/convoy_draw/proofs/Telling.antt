@@ -4,11 +4,12 @@ use Rattle.std.proofs.lemmas.List.{append-nil}
 use Rattle.std.proofs.lemmas.List.Elements.{All-weaker}
 use Rattle.std.specs.List.{All}
 use Rattle.convoy_scenario.specs.Scenario.{Scenario}
-use Rattle.convoy_draw.specs.Drawings.{IsDrawing, Tells, answer_text, entry_text, flight_text}
+use Rattle.convoy_picture.specs.Pictures.{Picture}
+use Rattle.convoy_picture.specs.Words.{answer_text, entry_text, flight_text}
+use Rattle.convoy_picture.specs.declared.role.Role.{Role}
+use Rattle.convoy_picture.specs.declared.role.Role.TheVariants.{Target, Holder, Other}
+use Rattle.convoy_draw.specs.Drawings.{IsDrawing, Tells}
 use Rattle.convoy_draw.specs.Layers.{IsToldIn, Layers, element_text, layer_of, with_element}
-use Rattle.convoy_draw.specs.Pictures.{Picture}
-use Rattle.convoy_draw.specs.declared.role.Role.{Role}
-use Rattle.convoy_draw.specs.declared.role.Role.TheVariants.{Target, Holder, Other}
 
 -- a text tells what a part of it tells
 pub tells_within : (piece part front back text : List ℕ) → Tells piece part → text ≡ front ++ (part ++ back) → Tells piece text

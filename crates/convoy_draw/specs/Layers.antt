@@ -1,8 +1,8 @@
 -- Three layers of an image's elements, of which a later one lies over an earlier one.
 use Rattle.std.specs.Prelude.{ℕ, List, [], ◌∷◌, ◌++◌, codes}
+use Rattle.convoy_picture.specs.declared.role.Role.{Role}
+use Rattle.convoy_picture.specs.declared.role.Role.TheVariants.{Target, Holder, Other}
 use Rattle.convoy_draw.specs.Drawings.{Tells}
-use Rattle.convoy_draw.specs.declared.role.Role.{Role}
-use Rattle.convoy_draw.specs.declared.role.Role.TheVariants.{Target, Holder, Other}
 
 -- an element that is drawn so and that tells so
 abbrev pub element_text : List ℕ → List ℕ → List ℕ

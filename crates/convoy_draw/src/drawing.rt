@@ -1,14 +1,13 @@
 ghost use Rattle.std.specs.Prelude.{◌≡◌, ◌++◌, IfOk, List, OnErr, OnOk, string_bytes, ℕ};
-ghost use Rattle.convoy_draw.specs.Drawings.{IsDrawing, Tells, answer_text};
+ghost use Rattle.convoy_draw.specs.Drawings.{IsDrawing, Tells};
+ghost use Rattle.convoy_picture.specs.Words.{answer_text};
 
 use super::ground::ground;
 use super::legend::legend;
 use super::packets::packets;
-use super::picture::Picture;
 use super::sheet::{MARGIN, Sheet, WIDTH};
 use super::signs::{labels, signs};
-use super::told::answer_words;
-use super::words::{message_name, sender_name};
+use convoy_picture::{Picture, answer_words, message_name, sender_name};
 use convoy_scenario::{Scenario, Sender};
 use std::alloc::{AllocError, Global};
 

@@ -1,9 +1,9 @@
 use super::mark::wait_mark;
-use super::picture::Picture;
 use super::scale::Stretch;
 use super::sheet::{AXIS, LEFT, Sheet, lane_of};
 use super::signs::WAIT_COLOR;
-use super::words::{group_name, width_of};
+use super::widths::width_of;
+use convoy_picture::{Picture, group_name};
 use convoy_scenario::{Scenario, Sender};
 use std::alloc::{AllocError, Global};
 
@@ -136,9 +136,9 @@ fn write_name(
     )
 }
 
-/// A lane: a line through each stretch, and two strokes in the middle of each cut.
-fn write_lane(sheet: &Sheet, y: u32, text: &mut String) -> Result<(), AllocError> {
-    let low = y.saturating_add(60);
+/// A lane that far down: a line through each stretch, and two strokes in the middle of each cut.
+fn write_lane(sheet: &Sheet, down: u32, text: &mut String) -> Result<(), AllocError> {
+    let low = down.saturating_add(60);
     let mut end: Option<u32> = None;
     for stretch in sheet.scale.stretches() {
         let left = stretch.left.saturating_sub(80);
@@ -151,7 +151,7 @@ fn write_lane(sheet: &Sheet, y: u32, text: &mut String) -> Result<(), AllocError
             )?;
         }
         let right = sheet.scale.right_of(stretch).saturating_add(80);
-        write!(text, "<path d=\"M{left} {y}H{right}\"/>\n")?;
+        write!(text, "<path d=\"M{left} {down}H{right}\"/>\n")?;
         end = Some(right);
     }
     Ok(())

@@ -1,7 +1,7 @@
 ghost use Rattle.std.specs.Prelude.{◌≡◌, IfOk, string_bytes};
 ghost use Rattle.convoy_draw.specs.Layers.{element_text};
 
-use super::role::Role;
+use convoy_picture::Role;
 use std::alloc::{AllocError, Global};
 use std::marker::Model;
 

@@ -1,9 +1,9 @@
 use super::mark::MarkKind;
-use super::picture::Picture;
-use super::role::Role;
 use super::sheet::{MARGIN, Sheet};
 use super::signs::sign;
-use super::words::{message_name, width_of};
+use super::style::color_of;
+use super::widths::width_of;
+use convoy_picture::{Picture, Role, message_name};
 use convoy_scenario::Scenario;
 use std::alloc::{AllocError, Global};
 
@@ -49,36 +49,42 @@ fn write_colors(
     alloc: Global,
     scenario: &Scenario,
     picture: &Picture,
-    y: u32,
+    down: u32,
     text: &mut String,
 ) -> Result<(), AllocError> {
     let target = message_name(scenario, scenario.target_message());
     let words = format!(in alloc; "{target}, whose delivery it is about")?;
-    let mut x = write_line(MARGIN, y, (Role::Target.color(), PLAIN), &words, text)?;
+    let mut x = write_line(MARGIN, down, (color_of(Role::Target), PLAIN), &words, text)?;
     if let Some(holder) = &picture.why().holder {
         let name = message_name(scenario, holder.message);
         let words = format!(in alloc; "{name}, which holds it back")?;
-        x = write_line(x, y, (Role::Holder.color(), PLAIN), &words, text)?;
+        x = write_line(x, down, (color_of(Role::Holder), PLAIN), &words, text)?;
     }
-    let _ = write_line(x, y, (Role::Other.color(), PLAIN), "other messages", text)?;
+    let _ = write_line(
+        x,
+        down,
+        (color_of(Role::Other), PLAIN),
+        "other messages",
+        text,
+    )?;
     Ok(())
 }
 
 /// The lines of packets, and how many signs have no words.
-fn write_lines(sheet: &Sheet, y: u32, text: &mut String) -> Result<(), AllocError> {
+fn write_lines(sheet: &Sheet, down: u32, text: &mut String) -> Result<(), AllocError> {
     let mut x = MARGIN;
     for (style, words) in [
         (PLAIN, "a message on its way"),
         (DASHED, "a proposal on its way"),
         (THICK, "what the delivery waits for"),
     ] {
-        x = write_line(x, y, ("#000000", style), words, text)?;
+        x = write_line(x, down, ("#000000", style), words, text)?;
     }
     let wordless = sheet.wordless();
     if wordless > 0 {
         write!(
             text,
-            "<text x=\"{x}\" y=\"{y}\">signs without room for words: {wordless}</text>\n"
+            "<text x=\"{x}\" y=\"{down}\">signs without room for words: {wordless}</text>\n"
         )?;
     }
     Ok(())
@@ -86,29 +92,29 @@ fn write_lines(sheet: &Sheet, y: u32, text: &mut String) -> Result<(), AllocErro
 
 /// A line of that colour and style, with words; answers where the next sample stands.
 fn write_line(
-    x: u32,
-    y: u32,
+    across: u32,
+    down: u32,
     (color, style): (&str, &str),
     words: &str,
     text: &mut String,
 ) -> Result<u32, AllocError> {
-    let middle = y.saturating_sub(40);
+    let middle = down.saturating_sub(40);
     write!(
         text,
-        "<path d=\"M{x} {middle}h280\" stroke=\"{color}\" {style}/>"
+        "<path d=\"M{across} {middle}h280\" stroke=\"{color}\" {style}/>"
     )?;
-    write_words(x, y, words, text)
+    write_words(across, down, words, text)
 }
 
 /// Words after a sample; answers where the next sample stands.
-fn write_words(x: u32, y: u32, words: &str, text: &mut String) -> Result<u32, AllocError> {
-    let left = x.saturating_add(SAMPLE);
-    write!(text, "<text x=\"{left}\" y=\"{y}\">{words}</text>\n")?;
+fn write_words(across: u32, down: u32, words: &str, text: &mut String) -> Result<u32, AllocError> {
+    let left = across.saturating_add(SAMPLE);
+    write!(text, "<text x=\"{left}\" y=\"{down}\">{words}</text>\n")?;
     Ok(left.saturating_add(width_of(words)).saturating_add(200))
 }
 
 /// The signs of what happens; that of the target's wait only where it waits.
-fn write_signs(alloc: Global, waits: bool, y: u32, text: &mut String) -> Result<(), AllocError> {
+fn write_signs(alloc: Global, waits: bool, down: u32, text: &mut String) -> Result<(), AllocError> {
     let mut x = MARGIN;
     for (kind, words) in [
         (MarkKind::Issue, "issue"),
@@ -118,9 +124,9 @@ fn write_signs(alloc: Global, waits: bool, y: u32, text: &mut String) -> Result<
         (MarkKind::Delivery, "delivery"),
     ] {
         if kind != MarkKind::Wait || waits {
-            let sign = sign(alloc, kind, x.saturating_add(240), y.saturating_sub(40))?;
+            let sign = sign(alloc, kind, x.saturating_add(240), down.saturating_sub(40))?;
             write!(text, "<g stroke=\"#000000\">{sign}</g>")?;
-            x = write_words(x, y, words, text)?;
+            x = write_words(x, down, words, text)?;
         }
     }
     Ok(())

@@ -1,6 +1,5 @@
-use super::picture::Picture;
 use super::sheet::lane_of;
-use super::words::{message_name, stamp_text, tick_word};
+use convoy_picture::{Picture, message_name, stamp_text, tick_word};
 use convoy_scenario::{Scenario, Sender};
 use convoy_timeline::{Entry, EntryKind};
 use std::alloc::{AllocError, Global};

@@ -1,16 +1,15 @@
 ghost use Rattle.std.specs.Prelude.{IfOk, List, OnOk, string_bytes, ℕ};
 ghost use Rattle.std.specs.List.{All};
-ghost use Rattle.convoy_draw.specs.Drawings.{Tells, flight_text};
+ghost use Rattle.convoy_draw.specs.Drawings.{Tells};
 ghost use Rattle.convoy_draw.specs.Layers.{IsToldIn};
+ghost use Rattle.convoy_picture.specs.Words.{flight_text};
 
-use super::flight::Flight;
 use super::layers::Layers;
-use super::picture::Picture;
-use super::role::Role;
 use super::sheet::{Sheet, lane_of};
-use super::told::{flight_words, receiver_of};
+use super::style::{color_of, stroke_of};
 use convoy_explain::LastProposal;
 use convoy_packets::Packet;
+use convoy_picture::{Flight, Picture, Role, flight_words, receiver_of};
 use convoy_scenario::{Scenario, Sender};
 use std::alloc::{AllocError, Global};
 
@@ -37,7 +36,7 @@ pub(crate) fn packets(
 
 /// How the packets of a role are drawn among so many.
 fn attributes(alloc: Global, role: Role, count: usize) -> Result<String, AllocError> {
-    let (color, stroke) = (role.color(), role.stroke(count));
+    let (color, stroke) = (color_of(role), stroke_of(role, count));
     format!(in alloc; r#"fill="none" stroke="{color}" {stroke}"#)
 }
 

@@ -1,5 +1,5 @@
-use super::picture::Picture;
 use super::sheet::{LEFT, RIGHT};
+use convoy_picture::Picture;
 use convoy_scenario::Scenario;
 use std::alloc::{AllocError, Global};
 
@@ -117,15 +117,21 @@ fn busy_spans(
     scenario: &Scenario,
     picture: &Picture,
 ) -> Result<Vec<(u32, u32)>, AllocError> {
-    let mut spans = Vec::new(alloc);
-    for flight in picture.flights() {
-        spans.push((flight.sent, flight.arrival))?;
-    }
+    let mut spans = flight_spans(alloc, picture)?;
     for message in 0..scenario.message_count() {
         let at = scenario.issue_tick(message);
         spans.push((at, at))?;
     }
     spans.sort()?;
+    Ok(spans)
+}
+
+/// From when to when each packet is under way.
+fn flight_spans(alloc: Global, picture: &Picture) -> Result<Vec<(u32, u32)>, AllocError> {
+    let mut spans = Vec::new(alloc);
+    for flight in picture.flights() {
+        spans.push((flight.sent, flight.arrival))?;
+    }
     Ok(spans)
 }
 

@@ -1,11 +1,10 @@
 use super::mark::{
     Mark, MarkKind, entry_label, entry_mark, issue_label, issue_mark, wait_label, wait_mark,
 };
-use super::picture::Picture;
-use super::role::Role;
 use super::rows::Rows;
 use super::scale::Scale;
-use super::words::width_of;
+use super::widths::width_of;
+use convoy_picture::{Picture, Role};
 use convoy_scenario::{Scenario, Sender};
 use std::alloc::{AllocError, Global};
 
@@ -198,9 +197,9 @@ impl Sheet {
         self.issue_rows.get(message).copied().flatten()
     }
 
-    /// The row of the words on an entry of the picture; none where they have no room.
-    pub(crate) fn entry_row(&self, i: usize) -> Option<usize> {
-        self.entry_rows.get(i).copied().flatten()
+    /// The row of the words on the entry of that number in the picture; none where they have no room.
+    pub(crate) fn entry_row(&self, number: usize) -> Option<usize> {
+        self.entry_rows.get(number).copied().flatten()
     }
 
     /// The row of the words on the target's waiting.
@@ -225,17 +224,17 @@ pub(crate) fn lane_of(place: Sender) -> usize {
 }
 
 /// Whether words end at the mark there, since there is no room to the right of it.
-pub(crate) fn is_turned(x: u32, words: &str) -> bool {
-    x.saturating_add(GAP).saturating_add(width_of(words)) > WORDS_RIGHT
+pub(crate) fn is_turned(across: u32, words: &str) -> bool {
+    across.saturating_add(GAP).saturating_add(width_of(words)) > WORDS_RIGHT
 }
 
 /// From where to where a mark and its words reach.
-fn extent(x: u32, words: &str) -> (u32, u32) {
+fn extent(across: u32, words: &str) -> (u32, u32) {
     let width = width_of(words).saturating_add(GAP);
-    if is_turned(x, words) {
-        (x.saturating_sub(width), x.saturating_add(GAP))
+    if is_turned(across, words) {
+        (across.saturating_sub(width), across.saturating_add(GAP))
     } else {
-        (x.saturating_sub(GAP), x.saturating_add(width))
+        (across.saturating_sub(GAP), across.saturating_add(width))
     }
 }
 
@@ -262,8 +261,8 @@ fn no_rows(alloc: Global, count: usize) -> Result<Vec<Option<usize>>, AllocError
 }
 
 /// Notes the row of words, if there is a place for it.
-fn set(rows: &mut Vec<Option<usize>>, i: usize, row: Option<usize>) {
-    if let Some(place) = rows.get_mut(i) {
+fn set(rows: &mut Vec<Option<usize>>, number: usize, row: Option<usize>) {
+    if let Some(place) = rows.get_mut(number) {
         *place = row;
     }
 }

@@ -1,16 +1,15 @@
 ghost use Rattle.std.specs.Prelude.{IfOk, List, OnOk, string_bytes, ℕ};
 ghost use Rattle.std.specs.List.{All};
-ghost use Rattle.convoy_draw.specs.Drawings.{Tells, entry_text};
+ghost use Rattle.convoy_draw.specs.Drawings.{Tells};
 ghost use Rattle.convoy_draw.specs.Layers.{IsToldIn};
+ghost use Rattle.convoy_picture.specs.Words.{entry_text};
 
 use super::layers::Layers;
 use super::mark::{
     Mark, MarkKind, entry_label, entry_mark, issue_label, issue_mark, wait_label, wait_mark,
 };
-use super::picture::Picture;
-use super::role::Role;
 use super::sheet::{GAP, Sheet, is_turned};
-use super::told::entry_words;
+use convoy_picture::{Picture, Role, entry_words};
 use convoy_scenario::Scenario;
 use convoy_timeline::Entry;
 use std::alloc::{AllocError, Global};
@@ -57,21 +56,21 @@ fn push_entry_signs(
     Ok(())
 }
 
-/// The sign of what happens at a group, the entry of that place in the picture.
+/// The sign of what happens at a group, the entry of that number in the picture.
 fn push_entry_sign(
     layers: &mut Layers,
     alloc: Global,
     scenario: &Scenario,
     picture: &Picture,
     sheet: &Sheet,
-    i: usize,
+    number: usize,
     entry: &Entry,
 ) -> Result<(), AllocError>
     ensures told { OnOk result (IsToldIn layers.new (entry_text scenario.now entry.now)) }
     ensures still { OnOk result ((piece : List ℕ) → IsToldIn layers.old piece → IsToldIn layers.new piece) }
 {
     let told = entry_words(alloc, scenario, entry)?;
-    let drawn = sign_at(alloc, sheet, &entry_mark(entry), sheet.entry_row(i))?;
+    let drawn = sign_at(alloc, sheet, &entry_mark(entry), sheet.entry_row(number))?;
     let role = Role::of(scenario, picture, entry.message);
     layers.push_telling(role, &told, &drawn)
 }
@@ -127,15 +126,20 @@ fn sign_at(
 }
 
 /// The sign of a kind of mark.
-pub(crate) fn sign(alloc: Global, kind: MarkKind, x: u32, y: u32) -> Result<String, AllocError> {
-    let (left, top) = (x.saturating_sub(35), y.saturating_sub(35));
+pub(crate) fn sign(
+    alloc: Global,
+    kind: MarkKind,
+    across: u32,
+    down: u32,
+) -> Result<String, AllocError> {
+    let (left, top) = (across.saturating_sub(35), down.saturating_sub(35));
     match kind {
         MarkKind::Issue => {
             format!(in alloc;
-                r##"<circle cx="{x}" cy="{y}" r="38" fill="#ffffff" stroke-width="14"/>"##
+                r##"<circle cx="{across}" cy="{down}" r="38" fill="#ffffff" stroke-width="14"/>"##
             )
         }
-        MarkKind::Arrival => format!(in alloc; r#"<circle cx="{x}" cy="{y}" r="38"/>"#),
+        MarkKind::Arrival => format!(in alloc; r#"<circle cx="{across}" cy="{down}" r="38"/>"#),
         MarkKind::Commit => {
             format!(in alloc; r#"<rect x="{left}" y="{top}" width="70" height="70"/>"#)
         }
@@ -145,7 +149,7 @@ pub(crate) fn sign(alloc: Global, kind: MarkKind, x: u32, y: u32) -> Result<Stri
             )
         }
         MarkKind::Delivery => {
-            let left = x.saturating_sub(45);
+            let left = across.saturating_sub(45);
             format!(in alloc; r#"<path d="M{left} {top}h90l-45 80z"/>"#)
         }
     }

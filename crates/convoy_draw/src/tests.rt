@@ -1,9 +1,9 @@
-//! Pictures of worked rows, and what their images say.
+//! Images of worked rows, and what they say.
 
 use super::rows::Rows;
-use super::{Picture, write_drawing};
-use convoy_packets::{Delays, Packet, PacketTable};
-use convoy_scenario::{Scenario, Sender};
+use super::write_drawing;
+use convoy_packets::{Delays, PacketTable};
+use convoy_picture::Picture;
 use convoy_sim::simulate;
 use convoy_toml::read_toml;
 use std::alloc::Global;
@@ -32,19 +32,13 @@ multicast = [
 target = { message = "wwwwwwwwwwwwwwww", group = "mmmmmmmmmmmmmmmm" }
 "#;
 
-/// The picture of a scenario under the greatest delays, and the scenario.
-fn picture_of(alloc: Global, text: &str) -> Result<(Scenario, Picture), Fail> {
-    let input = read_toml(alloc, text.as_bytes())?;
-    let table = PacketTable::of(alloc, &input.scenario)?;
-    let delays = Delays::greatest(alloc, &table)?;
-    let run = simulate(alloc, &input.scenario, &table, &delays)?;
-    let picture = Picture::of(alloc, &input.scenario, &table, &delays, &run)?;
-    Ok((input.scenario, picture))
-}
-
-/// The image of that picture.
+/// The image of the run of a scenario under the greatest delays.
 fn image_of(alloc: Global, text: &str) -> Result<String, Fail> {
-    let (scenario, picture) = picture_of(alloc, text)?;
+    let scenario = read_toml(alloc, text.as_bytes())?.scenario;
+    let table = PacketTable::of(alloc, &scenario)?;
+    let delays = Delays::greatest(alloc, &table)?;
+    let run = simulate(alloc, &scenario, &table, &delays)?;
+    let picture = Picture::of(alloc, &scenario, &table, &delays, &run)?;
     let mut out = Vec::new(alloc);
     write_drawing(&scenario, &picture, &mut out)?;
     Ok(String::from_utf8(out)?)
@@ -53,40 +47,6 @@ fn image_of(alloc: Global, text: &str) -> Result<String, Fail> {
 /// How often a text has a piece.
 fn count(text: &str, piece: &str) -> usize {
     text.split(piece).count().saturating_sub(1)
-}
-
-#[test]
-fn flights_of_base(rt: HostRuntime) -> Result<(), Fail> {
-    let (_scenario, picture) = picture_of(rt.alloc(), BASE)?;
-    let flights = picture.flights();
-    assert_eq!(rt; flights.len(), 8);
-    let message = flights[5];
-    assert_eq!(rt; message.number, 5);
-    assert_eq!(rt; message.packet, Packet::Multicast { message: 2, to: 1 });
-    assert_eq!(rt; message.from, Sender::Group(0));
-    assert_eq!(rt; (message.sent, message.arrival), (6, 9));
-    let proposal = flights[7];
-    assert_eq!(rt;
-        proposal.packet,
-        Packet::Propose {
-            message: 2,
-            from: 1,
-            to: 0
-        }
-    );
-    assert_eq!(rt; proposal.from, Sender::Group(1));
-    assert_eq!(rt; (proposal.sent, proposal.arrival), (9, 12));
-    Ok(())
-}
-
-#[test]
-fn why_of_base(rt: HostRuntime) -> Result<(), Fail> {
-    let (_scenario, picture) = picture_of(rt.alloc(), BASE)?;
-    let why = picture.why();
-    assert_eq!(rt; (why.latency, why.committed, why.delivered), (12, 6, 12));
-    assert_eq!(rt; why.holder.map(|holder| holder.message), Some(2));
-    assert_eq!(rt; picture.entries().len(), 15);
-    Ok(())
 }
 
 #[test]

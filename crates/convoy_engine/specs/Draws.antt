@@ -4,7 +4,7 @@ use Rattle.convoy_certificate.specs.Certificate.{Certificate, IsCertificate}
 use Rattle.convoy_certificate.specs.Reading.{IsTextOf}
 use Rattle.convoy_checker.specs.Validity.{IsValid}
 use Rattle.convoy_draw.specs.Drawings.{IsDrawing}
-use Rattle.convoy_draw.specs.Pictures.{picture_of}
+use Rattle.convoy_picture.specs.Pictures.{picture_of}
 use Rattle.convoy_sim.specs.Greatest.{IsGreatest}
 use Rattle.convoy_engine.specs.declared.done.Done.TheVariants.{Fine}
 use Rattle.convoy_engine.specs.Checks.{check_reply}

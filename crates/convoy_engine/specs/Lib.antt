@@ -17,7 +17,8 @@ pub use Rattle.convoy_timeline.specs.Timeline
 pub use Rattle.convoy_explain.specs.Causes
 pub use Rattle.convoy_explain.specs.Explanations
 pub use Rattle.convoy_explain.specs.PacketLists
-pub use Rattle.convoy_draw.specs.Pictures
+pub use Rattle.convoy_picture.specs.Pictures
+pub use Rattle.convoy_picture.specs.Words as PictureWords
 pub use Rattle.convoy_draw.specs.Drawings
 pub use Rattle.convoy_certificate.specs.Certificate
 pub use Rattle.convoy_certificate.specs.Reading as CertificateReading

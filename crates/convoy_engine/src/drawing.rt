@@ -14,8 +14,9 @@ use super::fault::Fault;
 use super::refusal::Refusal;
 use convoy_certificate::{Certificate, read};
 use convoy_checker::{Accepted, Refused, check};
-use convoy_draw::{Picture, write_drawing};
+use convoy_draw::write_drawing;
 use convoy_packets::PacketTable;
+use convoy_picture::Picture;
 use convoy_sim::simulate;
 use std::alloc::{AllocError, Global};
 

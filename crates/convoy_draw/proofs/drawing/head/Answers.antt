@@ -1,6 +1,7 @@
 use Rattle.std.proofs.Common.{◌≡◌, ◌++◌, IfOk, codes, rules, string_bytes}
 use Rattle.std.proofs.lemmas.Result.{IfOk-weaker}
-use Rattle.convoy_draw.specs.Drawings.{Tells, answer_text}
+use Rattle.convoy_picture.specs.Words.{answer_text}
+use Rattle.convoy_draw.specs.Drawings.{Tells}
 use Rattle.convoy_draw.proofs.Telling.{tells_itself}
 use Rattle.convoy_draw.proofs.drawing.head.Goals as goal
 

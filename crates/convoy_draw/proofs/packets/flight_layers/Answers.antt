@@ -1,7 +1,7 @@
 use Rattle.std.proofs.Common.{◌≡◌, ◌<◌, length, take, arith}
 use Rattle.std.proofs.lemmas.List.{take_all}
 use Rattle.std.proofs.lemmas.List.Elements.{All-more, All-weaker}
-use Rattle.convoy_draw.specs.Drawings.{flight_text}
+use Rattle.convoy_picture.specs.Words.{flight_text}
 use Rattle.convoy_draw.specs.Layers.{IsToldIn}
 use Rattle.convoy_draw.proofs.packets.flight_layers.Goals as goal
 

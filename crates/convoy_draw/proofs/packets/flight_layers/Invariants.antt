@@ -1,6 +1,6 @@
 use Rattle.std.proofs.Common.{take}
 use Rattle.std.specs.List.{All}
-use Rattle.convoy_draw.specs.Drawings.{flight_text}
+use Rattle.convoy_picture.specs.Words.{flight_text}
 use Rattle.convoy_draw.specs.Layers.{IsToldIn}
 use Rattle.convoy_draw.proofs.packets.flight_layers.Given as goal
 

@@ -1,7 +1,7 @@
 use Rattle.std.proofs.Common.{◌≡◌, ◌<◌, length, take, arith}
 use Rattle.std.proofs.lemmas.List.{take_all}
 use Rattle.std.proofs.lemmas.List.Elements.{All-more, All-weaker}
-use Rattle.convoy_draw.specs.Drawings.{entry_text}
+use Rattle.convoy_picture.specs.Words.{entry_text}
 use Rattle.convoy_draw.specs.Layers.{IsToldIn}
 use Rattle.convoy_draw.proofs.signs.push_entry_signs.Goals as goal
 

@@ -1,6 +1,6 @@
 use Rattle.std.proofs.Common.{take}
 use Rattle.std.specs.List.{All}
-use Rattle.convoy_draw.specs.Drawings.{entry_text}
+use Rattle.convoy_picture.specs.Words.{entry_text}
 use Rattle.convoy_draw.specs.Layers.{IsToldIn}
 use Rattle.convoy_draw.proofs.signs.push_entry_signs.Given as goal
 

@@ -1,7 +1,7 @@
 use Rattle.std.proofs.Common.{◌≡◌, ◌++◌, drop, map}
 use Rattle.std.specs.List.{enumerate_from}
-use Rattle.convoy_draw.specs.Pictures.{flight_of, flights_of}
-use Rattle.convoy_draw.proofs.picture.list_flights.Given as goal
+use Rattle.convoy_picture.specs.Pictures.{flight_of, flights_of}
+use Rattle.convoy_picture.proofs.picture.list_flights.Given as goal
 
 -- the flights so far and those of the packets that are left are the flights of all packets
 abbrev pub invariant-loop-number : goal.invariant-loop-number

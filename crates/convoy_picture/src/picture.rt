@@ -1,5 +1,5 @@
 ghost use Rattle.std.specs.Prelude.{◌≡◌, IfOk};
-ghost use Rattle.convoy_draw.specs.Pictures.{flights_of, picture_of};
+ghost use Rattle.convoy_picture.specs.Pictures.{flights_of, picture_of};
 ghost use Rattle.convoy_packets.specs.Assignment.{IsAssignment};
 ghost use Rattle.convoy_packets.specs.Table.{table_of};
 ghost use Rattle.convoy_sim.specs.Run.{IsRunOf};
@@ -23,7 +23,7 @@ pub struct Picture {
 }
 
 impl Model for Picture {
-    ghost use Rattle.convoy_draw.specs.Pictures.{Picture};
+    ghost use Rattle.convoy_picture.specs.Pictures.{Picture};
 
     ghost Value = { Picture };
 

@@ -1,5 +1,5 @@
 ghost use Rattle.std.specs.Prelude.{◌≡◌, IfOk, string_bytes};
-ghost use Rattle.convoy_draw.specs.Drawings.{answer_text, doing_text, entry_text, flight_text, load_text};
+ghost use Rattle.convoy_picture.specs.Words.{answer_text, doing_text, entry_text, flight_text, load_text};
 ghost use Rattle.convoy_packets.specs.Assignment.{receiver_of};
 
 use super::flight::Flight;
@@ -10,9 +10,10 @@ use convoy_scenario::Scenario;
 use convoy_timeline::{Entry, EntryKind};
 use std::alloc::{AllocError, Global};
 
-/// How late the target is at worst.
-#[tactic(auto, unfolding(crate::specs::Drawings::answer_text))]
-pub(crate) fn answer_words(
+/// The answer: how late the target of the scenario is at worst, in ticks, by the explanation of a run
+/// (docs/FORMATS.md, "What `draw` writes"). Fails where memory runs out, and else never.
+#[tactic(auto, unfolding(crate::specs::Words::answer_text))]
+pub fn answer_words(
     alloc: Global,
     scenario: &Scenario,
     why: &Explanation,
@@ -25,9 +26,12 @@ pub(crate) fn answer_words(
     format!(in alloc; "{message} at {group}: at worst {} {word}", why.latency)
 }
 
-/// A packet on its way.
-#[tactic(auto, unfolding(crate::specs::Drawings::flight_text))]
-pub(crate) fn flight_words(
+/// A packet on its way in a run of the scenario, in words: its number, what it brings, from where to
+/// where, and the ticks at which it is sent and comes (docs/FORMATS.md, "What `draw` writes"). Where the
+/// scenario has no such message or group, it is told without a name. Fails where memory runs out, and
+/// else never.
+#[tactic(auto, unfolding(crate::specs::Words::flight_text))]
+pub fn flight_words(
     alloc: Global,
     scenario: &Scenario,
     flight: &Flight,
@@ -58,13 +62,11 @@ fn load_words(alloc: Global, scenario: &Scenario, packet: Packet) -> Result<Stri
     }
 }
 
-/// What happens to a message at a group.
-#[tactic(auto, unfolding(crate::specs::Drawings::entry_text))]
-pub(crate) fn entry_words(
-    alloc: Global,
-    scenario: &Scenario,
-    entry: &Entry,
-) -> Result<String, AllocError>
+/// What happens to a message at a group in a run of the scenario, in words, with the tick and the stamp
+/// (docs/FORMATS.md, "What `draw` writes"). Where the scenario has no such message or group, it is told
+/// without a name. Fails where memory runs out, and else never.
+#[tactic(auto, unfolding(crate::specs::Words::entry_text))]
+pub fn entry_words(alloc: Global, scenario: &Scenario, entry: &Entry) -> Result<String, AllocError>
     ensures { IfOk result (λ words. string_bytes words ≡ entry_text scenario.now entry.now) }
 {
     let name = message_name(scenario, entry.message);
@@ -88,8 +90,8 @@ fn doing_word(kind: EntryKind) -> &'static str
     }
 }
 
-/// The group to which a packet goes.
-pub(crate) fn receiver_of(packet: Packet) -> usize
+/// The number of the group to which a packet goes.
+pub fn receiver_of(packet: Packet) -> usize
     ensures { result ≡ receiver_of packet }
 {
     match packet {

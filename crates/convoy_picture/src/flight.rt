@@ -1,5 +1,5 @@
 ghost use Rattle.std.specs.Prelude.{◌≡◌, ◌+◌, ◌≤◌};
-ghost use Rattle.convoy_draw.specs.Pictures.{flight_of, sent_at};
+ghost use Rattle.convoy_picture.specs.Pictures.{flight_of, sent_at};
 ghost use Rattle.convoy_packets.specs.Assignment.{delay_of, sender_of};
 ghost use Rattle.convoy_packets.specs.Table.{table_of};
 ghost use Rattle.convoy_packets.specs.declared.packet.Packet.TheVariants.{Multicast};

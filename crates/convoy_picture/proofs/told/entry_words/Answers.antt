@@ -1,6 +1,6 @@
 use Rattle.std.proofs.Common.{sym}
-use Rattle.convoy_draw.specs.Drawings.{entry_text}
-use Rattle.convoy_draw.proofs.told.entry_words.Goals as goal
+use Rattle.convoy_picture.specs.Words.{entry_text}
+use Rattle.convoy_picture.proofs.told.entry_words.Goals as goal
 
 pub returns : goal.returns
 unfolding entry_text

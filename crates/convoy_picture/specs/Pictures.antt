@@ -11,7 +11,7 @@ use Rattle.convoy_timeline.specs.Timeline.{timeline_of}
 use Rattle.convoy_timeline.specs.declared.entry.Entry.{Entry}
 use Rattle.convoy_explain.specs.Causes.{explanation_of}
 use Rattle.convoy_explain.specs.declared.explanation.Explanation.{Explanation}
-use Rattle.convoy_draw.specs.declared.flight.Flight.{Flight}
+use Rattle.convoy_picture.specs.declared.flight.Flight.{Flight}
 
 -- the tick at which a packet is sent: a message as it is issued, and a proposal as the message arrives at the group that proposes
 abbrev pub sent_at : Scenario → Schedule → Packet → Tick

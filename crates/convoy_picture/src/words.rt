@@ -6,8 +6,8 @@ use convoy_scenario::{Scenario, Sender};
 use convoy_sim::Timestamp;
 use std::alloc::{AllocError, Global};
 
-/// The name of a group, and none for a group that the scenario has not.
-pub(crate) fn group_name(scenario: &Scenario, group: usize) -> &str
+/// The name of the group of that number; empty where the scenario has no such group.
+pub fn group_name(scenario: &Scenario, group: usize) -> &str
     ensures { result.now ≡ group_name_at scenario.now group }
 {
     if group < scenario.group_count() {
@@ -17,8 +17,8 @@ pub(crate) fn group_name(scenario: &Scenario, group: usize) -> &str
     }
 }
 
-/// The name of a message, and none for a message that the scenario has not.
-pub(crate) fn message_name(scenario: &Scenario, message: usize) -> &str
+/// The name of the message of that number; empty where the scenario has no such message.
+pub fn message_name(scenario: &Scenario, message: usize) -> &str
     ensures { result.now ≡ message_name_at scenario.now message }
 {
     if message < scenario.message_count() {
@@ -28,8 +28,9 @@ pub(crate) fn message_name(scenario: &Scenario, message: usize) -> &str
     }
 }
 
-/// Who sends a packet.
-pub(crate) fn sender_name(scenario: &Scenario, sender: Sender) -> &str
+/// Who issues a message or sends a packet: `a client`, or the name of a group, which is empty where the
+/// scenario has no such group.
+pub fn sender_name(scenario: &Scenario, sender: Sender) -> &str
     ensures { result.now ≡ sender_text scenario.now sender }
 {
     match sender {
@@ -38,9 +39,10 @@ pub(crate) fn sender_name(scenario: &Scenario, sender: Sender) -> &str
     }
 }
 
-/// A stamp, with the name of the group that gave it.
+/// A stamp, as `2.b`: its time, and the name of the group that gave it, which is empty where the
+/// scenario has no such group. Fails where memory runs out, and else never.
 #[tactic(auto, unfolding(convoy_explain::specs::Explanations::stamp_text))]
-pub(crate) fn stamp_text(
+pub fn stamp_text(
     alloc: Global,
     scenario: &Scenario,
     stamp: Timestamp,
@@ -51,28 +53,9 @@ pub(crate) fn stamp_text(
     format!(in alloc; "{}.{giver}", stamp.time)
 }
 
-/// The word that stands after a number of ticks.
-pub(crate) fn tick_word(count: u32) -> &'static str
+/// The word that stands after a number of ticks: `tick` or `ticks`.
+pub fn tick_word(count: u32) -> &'static str
     ensures { result.now ≡ tick_word count }
 {
     if count == 1 { "tick" } else { "ticks" }
-}
-
-/// How wide a text is at most, in the wider ones of the usual fonts.
-pub(crate) fn width_of(words: &str) -> u32 {
-    let mut width: u32 = 0;
-    for letter in words.as_bytes() {
-        width = width.saturating_add(letter_width(*letter));
-    }
-    width
-}
-
-/// How wide a letter is at most.
-fn letter_width(letter: u8) -> u32 {
-    match letter {
-        b'm' => 108,
-        b'w' => 90,
-        b'f' | b'i' | b'j' | b'l' | b'r' | b't' | b'-' | b'.' | b',' | b' ' => 46,
-        _ => 70,
-    }
 }

@@ -1,7 +1,7 @@
 use Rattle.std.proofs.Common.{arith}
-use Rattle.convoy_draw.specs.Pictures.{flight_of}
-use Rattle.convoy_draw.proofs.Listing.{none_left, one_more}
-use Rattle.convoy_draw.proofs.picture.list_flights.Goals as goal
+use Rattle.convoy_picture.specs.Pictures.{flight_of}
+use Rattle.convoy_picture.proofs.Listing.{none_left, one_more}
+use Rattle.convoy_picture.proofs.picture.list_flights.Goals as goal
 
 pub loop-number-preserved : goal.loop-number-preserved
 loop-number-preserved c =

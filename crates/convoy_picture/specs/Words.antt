@@ -1,0 +1,49 @@
+-- What is told of a picture in words: the answer, each packet on its way, and what happens at each group.
+use Rattle.std.specs.Prelude.{ℕ, List, ◌∷◌, ◌++◌, codes, decimal}
+use Rattle.convoy_scenario.specs.Scenario.{Scenario, group_name_at}
+use Rattle.convoy_packets.specs.Assignment.{receiver_of}
+use Rattle.convoy_packets.specs.declared.packet.Packet.{Packet}
+use Rattle.convoy_packets.specs.declared.packet.Packet.TheVariants.{Multicast, Propose as Proposal}
+use Rattle.convoy_timeline.specs.declared.entry.Entry.{Entry}
+use Rattle.convoy_timeline.specs.declared.entry.EntryKind.{EntryKind}
+use Rattle.convoy_timeline.specs.declared.entry.EntryKind.TheVariants.{Propose, Commit, Deliver}
+use Rattle.convoy_explain.specs.Explanations.{message_name_at, sender_text, stamp_text, tick_word}
+use Rattle.convoy_explain.specs.declared.explanation.Explanation.{Explanation}
+use Rattle.convoy_picture.specs.declared.flight.Flight.{Flight}
+
+-- how late the target is at worst
+unfoldable pub answer_text : Scenario → Explanation → List ℕ
+answer_text scenario why =
+    message_name_at scenario scenario.target_message
+    ++ (codes " at " ++ (group_name_at scenario scenario.target_group
+    ++ (codes ": at worst " ++ (decimal why.latency ++ 32 ∷ tick_word why.latency))))
+
+-- what a packet brings
+abbrev pub load_text : Scenario → Packet → List ℕ
+load_text scenario (Multicast m g) = message_name_at scenario m
+load_text scenario (Proposal m h g) = codes "proposal of " ++ message_name_at scenario m
+
+-- a packet on its way: its number, what it brings, from where to where, and when
+unfoldable pub flight_text : Scenario → Flight → List ℕ
+flight_text scenario flight =
+    codes "packet " ++ (decimal flight.number
+    ++ (codes ": " ++ (load_text scenario flight.packet
+    ++ (codes " from " ++ (sender_text scenario flight.from
+    ++ (codes " to " ++ (group_name_at scenario (receiver_of flight.packet)
+    ++ (codes ", sent at tick " ++ (decimal flight.sent
+    ++ (codes ", there at tick " ++ decimal flight.arrival))))))))))
+
+-- what becomes of a message
+abbrev pub doing_text : EntryKind → List ℕ
+doing_text Propose = codes "arrives"
+doing_text Commit = codes "is committed"
+doing_text Deliver = codes "is delivered"
+
+-- what happens to a message at a group, when and with which stamp
+unfoldable pub entry_text : Scenario → Entry → List ℕ
+entry_text scenario entry =
+    message_name_at scenario entry.message
+    ++ 32 ∷ (doing_text entry.kind
+    ++ (codes " at " ++ (group_name_at scenario entry.group
+    ++ (codes " at tick " ++ (decimal entry.tick
+    ++ (codes " with stamp " ++ stamp_text scenario entry.stamp))))))
