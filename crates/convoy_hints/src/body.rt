@@ -1,4 +1,4 @@
-use super::quoting::Quoted;
+use convoy_scenario_hints::Quoted;
 use std::fmt;
 
 /// What stands in a certificate from its latency on, where its text has its form.

@@ -1,14 +1,14 @@
-use super::damage::hint_for_damage;
 use super::lines::{delays_of, scenario_in, sketch_of_lines};
-use super::quoting::Quoted;
 use super::refusal::refusal_in;
-use super::scenario_hints::{hint_for_bytes, hint_for_sketch, with_label};
-use super::schedules::hint_for_schedule;
 use super::tree_hints::hint_for_refusal;
 use convoy_certificate::{TextFault, read};
 use convoy_lines::LineReader;
 use convoy_scenario::ScenarioFault;
 use convoy_scenario_lines::Expected;
+use convoy_scenario_hints::{
+    Quoted, hint_for_bytes, hint_for_damage, hint_for_schedule, hint_for_sketch,
+    is_meant_as_scenario, with_label,
+};
 use std::alloc::{AllocError, Global};
 
 /// Why a certificate is refused, in one line `hint: ..`: by its text, which may have been cut where it
@@ -60,7 +60,7 @@ fn hint_for_other_text(alloc: Global, text: &[u8]) -> Result<String, AllocError>
             "the input is a fault of the command before, and no certificate",
         );
     }
-    if is_scenario(alloc, text) {
+    if is_meant_as_scenario(alloc, text) {
         return String::from_str(
             alloc,
             "the input is a scenario, and a certificate is read here: convoy analyse < scenario.toml | convoy check",
@@ -70,14 +70,6 @@ fn hint_for_other_text(alloc: Global, text: &[u8]) -> Result<String, AllocError>
         alloc,
         "the input does not begin as a certificate, with the line 'convoy 1', 'convoy 2' or 'convoy 3'",
     )
-}
-
-/// Whether the text is TOML with a key of a scenario.
-fn is_scenario(alloc: Global, text: &[u8]) -> bool {
-    match toml::table_from_slice(alloc, text) {
-        Ok(table) => table.contains_key("groups") || table.contains_key("multicast"),
-        Err(_) => false,
-    }
 }
 
 /// What is wrong with a text that begins as a certificate does.

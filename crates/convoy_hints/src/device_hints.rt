@@ -1,4 +1,4 @@
-use super::scenario_hints::begins_as_certificate;
+use convoy_scenario_hints::begins_as_certificate;
 use std::alloc::{AllocError, Global};
 use std::io::Error;
 

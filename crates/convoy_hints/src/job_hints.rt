@@ -1,7 +1,6 @@
-use super::counting::noun;
-use super::scenario_hints::hint_for_fault;
 use convoy_jobs::{JobFault, Splitter};
 use convoy_scenario::ScenarioFault;
+use convoy_scenario_hints::{hint_for_fault, noun};
 use convoy_toml::read_toml;
 use std::alloc::{AllocError, Global};
 

@@ -1,8 +1,7 @@
-use super::part::Part;
-use super::sketch::{Link, Multicast, Sketch};
 use convoy_lines::LineReader;
 use convoy_scenario::Scenario;
 use convoy_scenario_lines::{Version, read_lines};
+use convoy_scenario_hints::{Link, Multicast, Part, Sketch};
 use std::alloc::{AllocError, Global};
 
 /// The scenario that stands in the lines of a certificate; what is not of its form is left out.

@@ -1,4 +1,4 @@
-use super::counting::noun;
+use convoy_scenario_hints::noun;
 use std::alloc::{AllocError, Global};
 
 /// What to do where a search by plain or stamp bounds did not end with that many tickets, in one line

@@ -1,10 +1,10 @@
 use super::body::{Body, Line, split_of};
-use super::counting::noun;
 use super::lines::scenario_in;
 use super::paths::{path_to, range_along};
 use super::refusal::Refusal;
 use convoy_lines::LineReader;
 use convoy_packets::PacketTable;
+use convoy_scenario_hints::noun;
 use std::alloc::{AllocError, Global};
 
 /// Why the latency or the tree of a certificate is refused, whose text has its form. The text may

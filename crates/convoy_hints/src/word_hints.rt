@@ -1,4 +1,4 @@
-use super::quoting::Quoted;
+use convoy_scenario_hints::Quoted;
 use std::alloc::{AllocError, Global};
 use std::convert::AsStr;
 

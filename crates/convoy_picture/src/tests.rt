@@ -2,8 +2,9 @@
 
 use super::{Picture, Role, answer_words, entry_words, flight_words};
 use convoy_packets::{Delays, Packet, PacketTable};
-use convoy_scenario::{Scenario, Sender, read_toml};
+use convoy_scenario::{Scenario, Sender};
 use convoy_sim::simulate;
+use convoy_toml::read_toml;
 use std::alloc::Global;
 use std::test::Fail;
 

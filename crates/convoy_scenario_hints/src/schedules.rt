@@ -5,8 +5,9 @@ use convoy_scenario::Scenario;
 use std::alloc::{AllocError, Global};
 
 /// What is wrong with a schedule of the scenario: how many delays it has, or the first that its packet
-/// may not take.
-pub(crate) fn hint_for_schedule(
+/// may not take. Delays count ticks, in packet order (docs/PROTOCOL.md). The label of a hint is not in it.
+/// None where nothing is wrong.
+pub fn hint_for_schedule(
     alloc: Global,
     scenario: &Scenario,
     delays: &[i64],

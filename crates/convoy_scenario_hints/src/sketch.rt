@@ -3,37 +3,52 @@ use super::shape::part_of;
 use std::alloc::{AllocError, Global};
 use toml::{Table, Value};
 
-/// A scenario as it is written: numbers and names, whatever they are.
+/// A scenario as it is written, in TOML or in the lines of a certificate: numbers and names, whatever they
+/// are, so that a hint can tell which of them is wrong.
 #[derive(Drop)]
-pub(crate) struct Sketch<'a> {
-    pub(crate) delay: i64,
-    pub(crate) groups: Vec<&'a str>,
-    pub(crate) multicasts: Vec<Multicast<'a>>,
-    pub(crate) links: Vec<Link<'a>>,
-    pub(crate) target_message: &'a str,
-    pub(crate) target_group: &'a str,
+pub struct Sketch<'a> {
+    /// The greatest delay, in ticks.
+    pub delay: i64,
+    /// The names of the groups, in their order.
+    pub groups: Vec<&'a str>,
+    /// The messages, in their order.
+    pub multicasts: Vec<Multicast<'a>>,
+    /// The links, in their order.
+    pub links: Vec<Link<'a>>,
+    /// The name of the message that the target asks about; empty where none is named.
+    pub target_message: &'a str,
+    /// The name of the group at which it asks; empty where none is named.
+    pub target_group: &'a str,
 }
 
 /// A multicast as it is written.
 #[derive(Drop)]
-pub(crate) struct Multicast<'a> {
-    pub(crate) part: Part<'a>,
-    pub(crate) name: &'a str,
-    /// None is a client.
-    pub(crate) sender: Option<&'a str>,
-    pub(crate) to: Vec<&'a str>,
-    pub(crate) at: i64,
+pub struct Multicast<'a> {
+    /// Where it stands.
+    pub part: Part<'a>,
+    /// What it is named; empty where it has no name.
+    pub name: &'a str,
+    /// The name of the group that sends it; None is a client.
+    pub sender: Option<&'a str>,
+    /// The names of the groups to which it goes.
+    pub to: Vec<&'a str>,
+    /// The tick of its issue.
+    pub at: i64,
 }
 
 /// A link as it is written.
 #[derive(Drop)]
-pub(crate) struct Link<'a> {
-    pub(crate) part: Part<'a>,
-    /// None are the clients.
-    pub(crate) sender: Option<&'a str>,
-    pub(crate) to: &'a str,
-    pub(crate) least: i64,
-    pub(crate) most: i64,
+pub struct Link<'a> {
+    /// Where it stands.
+    pub part: Part<'a>,
+    /// The name of the group from which it leads; None are the clients.
+    pub sender: Option<&'a str>,
+    /// The name of the group to which it leads.
+    pub to: &'a str,
+    /// The least delay on it, in ticks.
+    pub least: i64,
+    /// The greatest delay on it, in ticks.
+    pub most: i64,
 }
 
 /// The scenario that is written in a table; what is not of its kind is left out.

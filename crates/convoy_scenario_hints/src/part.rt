@@ -4,14 +4,15 @@ use std::fmt;
 /// A table of a scenario, or a line of a certificate, as a person finds it: `the 2nd multicast ("t",
 /// line 9)`.
 #[derive(Clone, Copy, Drop)]
-pub(crate) struct Part<'a> {
-    /// What it is: `multicast`, `link` or `target`.
-    pub(crate) kind: &'static str,
-    /// Its place among those of its kind, from 0.
-    pub(crate) place: Option<usize>,
-    pub(crate) name: Option<&'a str>,
-    /// The line at which it begins, from 1.
-    pub(crate) line: Option<usize>,
+pub struct Part<'a> {
+    /// What it is: `multicast`, `link`, `target`, or `scenario` for the whole of it.
+    pub kind: &'static str,
+    /// Its place among those of its kind, from 0; None where there is one alone.
+    pub place: Option<usize>,
+    /// What it is named; None where it has no name.
+    pub name: Option<&'a str>,
+    /// The line at which it begins, from 1; None where it has no line of its own.
+    pub line: Option<usize>,
 }
 
 impl fmt::Display for Part<'_> {

@@ -6,10 +6,10 @@ const MOST_SHOWN: usize = 40;
 /// How many names of a list are shown at most.
 const MOST_NAMES: usize = 16;
 
-/// A text between double quotes: its first characters, those that are no letters, digits or signs of
-/// ASCII as escapes, and dots for the rest.
+/// A text of the input between double quotes, as a hint shows it: its first 40 characters, those that are
+/// no letters, digits or signs of ASCII as escapes, and dots for the rest.
 #[derive(Clone, Copy, Drop)]
-pub(crate) struct Quoted<'a>(pub(crate) &'a str);
+pub struct Quoted<'a>(pub &'a str);
 
 impl fmt::Display for Quoted<'_> {
     fn fmt<W: fmt::Write>(&self, f: &mut fmt::Formatter<W>) -> fmt::Result {

@@ -1,4 +1,5 @@
-use super::damage::hint_for_damage;
+use super::damage::{hint_for_bytes, hint_for_damage};
+use super::inputs::begins_as_certificate;
 use super::names::{hint_for_bad_name, hint_for_double_name};
 use super::numbers::hint_for_limit;
 use super::quoting::Quoted;
@@ -25,8 +26,10 @@ pub fn hint_for_scenario(alloc: Global, text: &[u8]) -> Result<Option<String>, A
     with_label(alloc, hint)
 }
 
-/// What is wrong with the text of a scenario that has that fault.
-pub(crate) fn hint_for_fault(
+/// What is wrong with the text of a scenario that has that fault, without the label of a hint: for a
+/// text that is one of several, as a job of a batch, whose lines are counted from 1. None where nothing
+/// can be said beyond the fault.
+pub fn hint_for_fault(
     alloc: Global,
     text: &[u8],
     fault: ScenarioFault,
@@ -47,8 +50,8 @@ fn hint_for_input(alloc: Global, input: Input) -> Result<Option<String>, AllocEr
     }
 }
 
-/// A hint as a line of its own.
-pub(crate) fn with_label(
+/// A hint as a line of its own, `hint: ` before it and byte 10 at its end; None where there is none.
+pub fn with_label(
     alloc: Global,
     hint: Option<String>,
 ) -> Result<Option<String>, AllocError> {
@@ -80,32 +83,6 @@ fn hint_for_given_certificate(alloc: Global, text: &[u8]) -> Result<String, Allo
         "the input begins as a certificate, but its first line is not 'convoy 1', 'convoy 2' or 'convoy 3'"
     };
     String::from_str(alloc, hint)
-}
-
-/// Whether the first line is that of a certificate.
-pub(crate) fn begins_as_certificate(text: &[u8]) -> bool {
-    text.starts_with(b"convoy 1\n")
-        || text.starts_with(b"convoy 2\n")
-        || text.starts_with(b"convoy 3\n")
-}
-
-/// Where the bytes are not UTF-8.
-pub(crate) fn hint_for_bytes(
-    alloc: Global,
-    text: &[u8],
-    offset: usize,
-) -> Result<String, AllocError> {
-    if text.starts_with(&[0xFF, 0xFE]) || text.starts_with(&[0xFE, 0xFF]) {
-        return String::from_str(
-            alloc,
-            "the input is UTF-16, as some editors write it: save it as UTF-8",
-        );
-    }
-    let line = spot_at(text, offset).line;
-    if offset == 1 {
-        return format!(in alloc; "the input is not UTF-8 after its first byte, in line {line}");
-    }
-    format!(in alloc; "the input is not UTF-8 after its first {offset} bytes, in line {line}")
 }
 
 /// Where a text of UTF-8 is not TOML.
@@ -154,8 +131,10 @@ fn hint_for_table(
     hint_for_sketch(alloc, &sketch_of_table(alloc, text, &table)?, fault)
 }
 
-/// What is wrong with the numbers and the names of a scenario.
-pub(crate) fn hint_for_sketch(
+/// What is wrong with the numbers and the names of a scenario that has that fault, whichever text it is
+/// written in, without the label of a hint. None where the fault is not of these, or the sketch does not
+/// show it.
+pub fn hint_for_sketch(
     alloc: Global,
     sketch: &Sketch<'_>,
     fault: ScenarioFault,

@@ -1,0 +1,33 @@
+//! Hints for scenarios: what is wrong with a text that is read as one, and where, for the person who wrote
+//! it (docs/HINTS.md). What hints for other texts have in common with these stands here as well. A hint is
+//! found by reading the text once more, and is an `Err` only where memory ran out. No answer and no fault
+//! of a command rests on it.
+#![tactic(auto)]
+
+pub use counting::noun;
+pub use damage::{hint_for_bytes, hint_for_damage};
+pub use inputs::{begins_as_certificate, is_meant_as_scenario};
+pub use part::Part;
+pub use quoting::Quoted;
+pub use scenario_hints::{hint_for_fault, hint_for_scenario, hint_for_sketch, with_label};
+pub use schedules::hint_for_schedule;
+pub use sketch::{Link, Multicast, Sketch};
+
+mod counting;
+mod damage;
+mod fields;
+mod headers;
+mod inputs;
+mod names;
+mod near;
+mod numbers;
+mod part;
+mod quoting;
+mod references;
+mod scenario_hints;
+mod schedules;
+mod shape;
+mod sketch;
+mod spot;
+#[cfg(test)]
+mod tests;
