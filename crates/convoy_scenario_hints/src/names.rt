@@ -1,5 +1,5 @@
 use super::quoting::{Ordinal, Quoted};
-use super::sketch::{Link, Sketch};
+use super::sketch::{Link, Multicast, Sketch};
 use convoy_scenario::LONGEST_NAME;
 use std::alloc::{AllocError, Global};
 
@@ -8,7 +8,15 @@ pub(crate) fn hint_for_bad_name(
     alloc: Global,
     sketch: &Sketch<'_>,
 ) -> Result<Option<String>, AllocError> {
-    for (place, name) in sketch.groups.iter().enumerate() {
+    match hint_for_bad_group(alloc, &sketch.groups)? {
+        Some(hint) => Ok(Some(hint)),
+        None => hint_for_bad_message(alloc, &sketch.multicasts),
+    }
+}
+
+/// Which name of a group is none, and why.
+fn hint_for_bad_group(alloc: Global, groups: &[&str]) -> Result<Option<String>, AllocError> {
+    for (place, name) in groups.iter().enumerate() {
         let place = Ordinal(place.saturating_add(1));
         if *name == "client" {
             let hint = format!(in alloc;
@@ -22,7 +30,15 @@ pub(crate) fn hint_for_bad_name(
             return Ok(Some(hint));
         }
     }
-    for multicast in &sketch.multicasts {
+    Ok(None)
+}
+
+/// Which name of a message is none, and why.
+fn hint_for_bad_message(
+    alloc: Global,
+    multicasts: &[Multicast<'_>],
+) -> Result<Option<String>, AllocError> {
+    for multicast in multicasts {
         if let Some(why) = what_is_bad(multicast.name) {
             let part = multicast.part;
             let hint = format!(in alloc; "the name of {part} {why}: {RULE}")?;

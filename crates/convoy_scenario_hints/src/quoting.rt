@@ -14,8 +14,8 @@ pub struct Quoted<'a>(pub &'a str);
 impl fmt::Display for Quoted<'_> {
     fn fmt<W: fmt::Write>(&self, f: &mut fmt::Formatter<W>) -> fmt::Result {
         f.write_str("\"")?;
-        for c in self.0.chars().take(MOST_SHOWN) {
-            show(f, c)?;
+        for character in self.0.chars().take(MOST_SHOWN) {
+            show(f, character)?;
         }
         if self.0.chars().nth(MOST_SHOWN).is_some() {
             f.write_str("...")?;
@@ -25,12 +25,13 @@ impl fmt::Display for Quoted<'_> {
 }
 
 /// Writes a character, or its escape.
-fn show<W: fmt::Write>(f: &mut fmt::Formatter<W>, c: char) -> fmt::Result {
-    if c.is_alphanumeric() || ((' '..='~').contains(&c) && c != '"' && c != '\\') {
-        return f.write_char(c);
+fn show<W: fmt::Write>(formatter: &mut fmt::Formatter<W>, character: char) -> fmt::Result {
+    let is_sign = (' '..='~').contains(&character) && character != '"' && character != '\\';
+    if character.is_alphanumeric() || is_sign {
+        return formatter.write_char(character);
     }
-    let code = u32::from(c);
-    write!(f, "\\u{code:04x}")
+    let code = u32::from(character);
+    write!(formatter, "\\u{code:04x}")
 }
 
 /// Names in double quotes, with commas between them.

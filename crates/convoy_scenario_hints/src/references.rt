@@ -2,44 +2,82 @@ use super::names::first_double;
 use super::near::nearest;
 use super::part::Part;
 use super::quoting::{Names, Quoted};
-use super::sketch::{Multicast, Sketch};
+use super::sketch::{Link, Multicast, Sketch};
 use std::alloc::{AllocError, Global};
+
+/// A name that is that of no group, and where it stands.
+#[derive(Clone, Copy, Drop)]
+struct Stray<'a> {
+    name: &'a str,
+    key: &'static str,
+    part: Part<'a>,
+}
 
 /// Which name is that of no group, and where it stands.
 pub(crate) fn hint_for_unknown_group(
     alloc: Global,
     sketch: &Sketch<'_>,
 ) -> Result<Option<String>, AllocError> {
-    for multicast in &sketch.multicasts {
-        if let Some(name) = unknown(multicast.sender, &sketch.groups) {
-            return Ok(Some(no_group(alloc, name, "from", &multicast.part, sketch)?));
-        }
-        if let Some(name) = multicast
-            .to
-            .iter()
-            .find(|name| !sketch.groups.contains(*name))
-        {
-            return Ok(Some(no_group(alloc, name, "to", &multicast.part, sketch)?));
-        }
+    let stray = stray_in_multicasts(sketch)
+        .or_else(|| stray_in_target(sketch))
+        .or_else(|| stray_in_links(sketch));
+    match stray {
+        Some(stray) => Ok(Some(hint_for_stray(alloc, stray, sketch)?)),
+        None => Ok(None),
     }
-    let target = Part {
+}
+
+/// The first name in a multicast that is that of no group.
+fn stray_in_multicasts<'a>(sketch: &Sketch<'a>) -> Option<Stray<'a>> {
+    sketch
+        .multicasts
+        .iter()
+        .find_map(|multicast| stray_in_multicast(multicast, &sketch.groups))
+}
+
+/// The name in a multicast that is none of the groups'.
+fn stray_in_multicast<'a>(multicast: &Multicast<'a>, groups: &[&str]) -> Option<Stray<'a>> {
+    let part = multicast.part;
+    if let Some(name) = unknown(multicast.sender, groups) {
+        let key = "from";
+        return Some(Stray { name, key, part });
+    }
+    let name = multicast.to.iter().find(|name| !groups.contains(*name))?;
+    let key = "to";
+    Some(Stray { name, key, part })
+}
+
+/// The name of the target's group, where it is that of no group.
+fn stray_in_target<'a>(sketch: &Sketch<'a>) -> Option<Stray<'a>> {
+    let name = unknown(Some(sketch.target_group), &sketch.groups)?;
+    let part = Part {
         kind: "target",
         place: None,
         name: None,
         line: None,
     };
-    if let Some(name) = unknown(Some(sketch.target_group), &sketch.groups) {
-        return Ok(Some(no_group(alloc, name, "group", &target, sketch)?));
+    let key = "group";
+    Some(Stray { name, key, part })
+}
+
+/// The first name in a link that is that of no group.
+fn stray_in_links<'a>(sketch: &Sketch<'a>) -> Option<Stray<'a>> {
+    sketch
+        .links
+        .iter()
+        .find_map(|link| stray_in_link(link, &sketch.groups))
+}
+
+/// The name in a link that is none of the groups'.
+fn stray_in_link<'a>(link: &Link<'a>, groups: &[&str]) -> Option<Stray<'a>> {
+    let part = link.part;
+    if let Some(name) = unknown(link.sender, groups) {
+        let key = "from";
+        return Some(Stray { name, key, part });
     }
-    for link in &sketch.links {
-        if let Some(name) = unknown(link.sender, &sketch.groups) {
-            return Ok(Some(no_group(alloc, name, "from", &link.part, sketch)?));
-        }
-        if let Some(name) = unknown(Some(link.to), &sketch.groups) {
-            return Ok(Some(no_group(alloc, name, "to", &link.part, sketch)?));
-        }
-    }
-    Ok(None)
+    let name = unknown(Some(link.to), groups)?;
+    let key = "to";
+    Some(Stray { name, key, part })
 }
 
 /// The name, where it is none of these.
@@ -47,14 +85,13 @@ fn unknown<'a>(name: Option<&'a str>, names: &[&str]) -> Option<&'a str> {
     name.filter(|name| !names.contains(name))
 }
 
-/// A name at a key is that of no group.
-fn no_group(
+/// A name is that of none of the groups.
+fn hint_for_stray(
     alloc: Global,
-    name: &str,
-    key: &str,
-    part: &Part<'_>,
+    stray: Stray<'_>,
     sketch: &Sketch<'_>,
 ) -> Result<String, AllocError> {
+    let Stray { name, key, part } = stray;
     let shown = Quoted(name);
     if name == "client" && key == "from" {
         return format!(in alloc;

@@ -176,38 +176,37 @@ fn hint_for_kind(
     value: &Value,
     part: &Part<'_>,
 ) -> Result<String, AllocError> {
-    let Field {
-        key,
-        kind,
-        is_needed: _,
-        sample,
-    } = *field;
-    let found = value.type_str();
-    match kind {
+    let (key, sample) = (field.key, field.sample);
+    match field.kind {
         Kind::Tables if value.is_table() => format!(in alloc;
             "'{key}' is one table, and there may be several: write the header '{sample}', in double brackets"
         ),
         Kind::Table if value.is_array() => format!(in alloc;
             "'{key}' is an array, and there is one target: write the header '{sample}', in single brackets"
         ),
-        _ => {
+        kind => {
             let wanted = words_for(kind);
+            let found = what_is_found(alloc, value, kind)?;
+            format!(in alloc; "'{key}' in {part} {found}: write {wanted}, as '{sample}'")
+        }
+    }
+}
+
+/// What is found where a value of that kind is to stand: `is a string`, or `has a string in it`.
+fn what_is_found(alloc: Global, value: &Value, kind: Kind) -> Result<String, AllocError> {
+    match value
+        .as_array()
+        .and_then(|items| odd_item(items, kind_of_items(kind)))
+    {
+        Some(item) => {
+            let odd = item.type_str();
+            let article = article_of(odd);
+            format!(in alloc; "has {article} {odd} in it")
+        }
+        None => {
+            let found = value.type_str();
             let article = article_of(found);
-            match value
-                .as_array()
-                .and_then(|items| odd_item(items, kind_of_items(kind)))
-            {
-                Some(item) => {
-                    let odd = item.type_str();
-                    let odd_article = article_of(odd);
-                    format!(in alloc;
-                        "'{key}' in {part} has {odd_article} {odd} in it: write {wanted}, as '{sample}'"
-                    )
-                }
-                None => format!(in alloc;
-                    "'{key}' in {part} is {article} {found}: write {wanted}, as '{sample}'"
-                ),
-            }
+            format!(in alloc; "is {article} {found}")
         }
     }
 }

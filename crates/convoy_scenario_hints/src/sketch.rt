@@ -57,6 +57,27 @@ pub(crate) fn sketch_of_table<'a>(
     text: &str,
     table: &'a Table,
 ) -> Result<Sketch<'a>, AllocError> {
+    let target = table.get("target").and_then(Value::as_table);
+    Ok(Sketch {
+        delay: integer_at(table, "delay"),
+        groups: texts_of(alloc, array_at(table, "groups"))?,
+        multicasts: multicasts_of_table(alloc, text, table)?,
+        links: links_of_table(alloc, text, table)?,
+        target_message: target
+            .and_then(|inner| text_at(inner, "message"))
+            .unwrap_or(""),
+        target_group: target
+            .and_then(|inner| text_at(inner, "group"))
+            .unwrap_or(""),
+    })
+}
+
+/// The multicasts that are written in the table of a scenario.
+fn multicasts_of_table<'a>(
+    alloc: Global,
+    text: &str,
+    table: &'a Table,
+) -> Result<Vec<Multicast<'a>>, AllocError> {
     let mut multicasts = Vec::new(alloc);
     let items = array_at(table, "multicast");
     for (place, item) in items.iter().enumerate() {
@@ -65,6 +86,15 @@ pub(crate) fn sketch_of_table<'a>(
             multicasts.push(multicast_of_table(alloc, inner, part)?)?;
         }
     }
+    Ok(multicasts)
+}
+
+/// The links that are written in the table of a scenario.
+fn links_of_table<'a>(
+    alloc: Global,
+    text: &str,
+    table: &'a Table,
+) -> Result<Vec<Link<'a>>, AllocError> {
     let mut links = Vec::new(alloc);
     let items = array_at(table, "link");
     for (place, item) in items.iter().enumerate() {
@@ -73,19 +103,7 @@ pub(crate) fn sketch_of_table<'a>(
             links.push(link_of_table(inner, part))?;
         }
     }
-    let target = table.get("target").and_then(Value::as_table);
-    Ok(Sketch {
-        delay: integer_at(table, "delay"),
-        groups: texts_of(alloc, array_at(table, "groups"))?,
-        multicasts,
-        links,
-        target_message: target
-            .and_then(|inner| text_at(inner, "message"))
-            .unwrap_or(""),
-        target_group: target
-            .and_then(|inner| text_at(inner, "group"))
-            .unwrap_or(""),
-    })
+    Ok(links)
 }
 
 fn multicast_of_table<'a>(
