@@ -1,7 +1,7 @@
 use convoy_lines::LineReader;
 use convoy_scenario::Scenario;
 use convoy_scenario_lines::{Version, read_lines};
-use convoy_scenario_hints::{Link, Multicast, Part, Sketch};
+use convoy_scenario_hints::{Link, Multicast, Part, PartKind, Sketch};
 use std::alloc::{AllocError, Global};
 
 /// The scenario that stands in the lines of a certificate; what is not of its form is left out.
@@ -61,7 +61,7 @@ fn add_line<'a>(
         ["link", sender, to, least, most] => {
             let place = sketch.links.len();
             sketch.links.push(Link {
-                part: part_at("link", place, None, number),
+                part: part_at(PartKind::Link, place, None, number),
                 sender: sender_of(sender),
                 to,
                 least: number_of(least),
@@ -71,7 +71,7 @@ fn add_line<'a>(
         ["multicast", name, sender, at, to @ ..] => {
             let place = sketch.multicasts.len();
             sketch.multicasts.push(Multicast {
-                part: part_at("multicast", place, Some(name), number),
+                part: part_at(PartKind::Multicast, place, Some(name), number),
                 name,
                 sender: sender_of(sender),
                 to: Vec::from_slice(alloc, to)?,
@@ -87,7 +87,7 @@ fn add_line<'a>(
     Ok(())
 }
 
-fn part_at<'a>(kind: &'static str, place: usize, name: Option<&'a str>, line: usize) -> Part<'a> {
+fn part_at<'a>(kind: PartKind, place: usize, name: Option<&'a str>, line: usize) -> Part<'a> {
     Part {
         kind,
         place: Some(place),

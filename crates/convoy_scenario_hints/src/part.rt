@@ -1,12 +1,37 @@
 use super::quoting::{Ordinal, Quoted};
 use std::fmt;
 
+/// What a part of a scenario is.
+#[derive(Clone, Copy, Debug, PartialEq, Eq)]
+pub enum PartKind {
+    /// The whole of it.
+    Scenario,
+    /// One of its messages.
+    Multicast,
+    /// What it asks about.
+    Target,
+    /// One of its links.
+    Link,
+}
+
+impl PartKind {
+    /// The word for it, which for a table is its key in the text of a scenario too.
+    pub(crate) fn word(self) -> &'static str {
+        match self {
+            PartKind::Scenario => "scenario",
+            PartKind::Multicast => "multicast",
+            PartKind::Target => "target",
+            PartKind::Link => "link",
+        }
+    }
+}
+
 /// A table of a scenario, or a line of a certificate, as a person finds it: `the 2nd multicast ("t",
 /// line 9)`.
 #[derive(Clone, Copy, Drop)]
 pub struct Part<'a> {
-    /// What it is: `multicast`, `link`, `target`, or `scenario` for the whole of it.
-    pub kind: &'static str,
+    /// What it is.
+    pub kind: PartKind,
     /// Its place among those of its kind, from 0; None where there is one alone.
     pub place: Option<usize>,
     /// What it is named; None where it has no name.
@@ -17,7 +42,7 @@ pub struct Part<'a> {
 
 impl fmt::Display for Part<'_> {
     fn fmt<W: fmt::Write>(&self, f: &mut fmt::Formatter<W>) -> fmt::Result {
-        let kind = self.kind;
+        let kind = self.kind.word();
         match self.place {
             Some(place) => {
                 let place = Ordinal(place.saturating_add(1));

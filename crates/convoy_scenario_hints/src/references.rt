@@ -1,6 +1,6 @@
 use super::names::first_double;
 use super::near::nearest;
-use super::part::Part;
+use super::part::{Part, PartKind};
 use super::quoting::{Names, Quoted};
 use super::sketch::{Link, Multicast, Sketch};
 use std::alloc::{AllocError, Global};
@@ -51,7 +51,7 @@ fn stray_in_multicast<'a>(multicast: &Multicast<'a>, groups: &[&str]) -> Option<
 fn stray_in_target<'a>(sketch: &Sketch<'a>) -> Option<Stray<'a>> {
     let name = unknown(Some(sketch.target_group), &sketch.groups)?;
     let part = Part {
-        kind: "target",
+        kind: PartKind::Target,
         place: None,
         name: None,
         line: None,

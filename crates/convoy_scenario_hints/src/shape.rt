@@ -3,7 +3,7 @@ use super::fields::{
 };
 use super::headers::header_line;
 use super::near::nearest;
-use super::part::Part;
+use super::part::{Part, PartKind};
 use super::quoting::{Quoted, Words};
 use std::alloc::{AllocError, Global};
 use toml::value::Array;
@@ -17,7 +17,7 @@ pub(crate) fn hint_for_shape(
     table: &Table,
 ) -> Result<Option<String>, AllocError> {
     let top = Part {
-        kind: "scenario",
+        kind: PartKind::Scenario,
         place: None,
         name: None,
         line: None,
@@ -25,7 +25,7 @@ pub(crate) fn hint_for_shape(
     if let Some(hint) = hint_for_keys(alloc, table, &HEAD, &top, table)? {
         return Ok(Some(hint));
     }
-    if let Some(hint) = hint_for_tables(alloc, text, table, "multicast", &MULTICAST_KEYS)? {
+    if let Some(hint) = hint_for_tables(alloc, text, table, PartKind::Multicast, &MULTICAST_KEYS)? {
         return Ok(Some(hint));
     }
     if let Some(hint) = hint_for_keys(alloc, table, &TARGET, &top, table)? {
@@ -37,7 +37,7 @@ pub(crate) fn hint_for_shape(
     if let Some(hint) = hint_for_keys(alloc, table, &LINKS, &top, table)? {
         return Ok(Some(hint));
     }
-    if let Some(hint) = hint_for_tables(alloc, text, table, "link", &LINK_KEYS)? {
+    if let Some(hint) = hint_for_tables(alloc, text, table, PartKind::Link, &LINK_KEYS)? {
         return Ok(Some(hint));
     }
     if let Some(hint) = hint_for_keys(alloc, table, &SCHEDULE, &top, table)? {
@@ -52,7 +52,7 @@ fn hint_for_target(alloc: Global, text: &str, table: &Table) -> Result<Option<St
         return Ok(None);
     };
     let part = Part {
-        kind: "target",
+        kind: PartKind::Target,
         place: None,
         name: None,
         line: header_line(text, "[target]", 0, 1),
@@ -65,10 +65,10 @@ fn hint_for_tables(
     alloc: Global,
     text: &str,
     table: &Table,
-    kind: &'static str,
+    kind: PartKind,
     fields: &[Field],
 ) -> Result<Option<String>, AllocError> {
-    let Some(items) = table.get(kind).and_then(Value::as_array) else {
+    let Some(items) = table.get(kind.word()).and_then(Value::as_array) else {
         return Ok(None);
     };
     for (place, item) in items.iter().enumerate() {
@@ -86,12 +86,12 @@ fn hint_for_tables(
 /// A table of an array, as a person finds it.
 pub(crate) fn part_of<'a>(
     text: &str,
-    kind: &'static str,
+    kind: PartKind,
     place: usize,
     count: usize,
     table: &'a Table,
 ) -> Part<'a> {
-    let header = if kind == "link" {
+    let header = if kind == PartKind::Link {
         "[[link]]"
     } else {
         "[[multicast]]"
@@ -254,7 +254,7 @@ fn hint_for_absent(
         is_needed: _,
         sample,
     } = *field;
-    if table.is_empty() && part.kind == "scenario" {
+    if table.is_empty() && part.kind == PartKind::Scenario {
         return String::from_str(
             alloc,
             "the input has no key: a scenario is read from standard input, as 'convoy latency < scenario.toml'",
@@ -265,7 +265,7 @@ fn hint_for_absent(
         let near = Quoted(near);
         return format!(in alloc; "{part} has no key '{key}', but {near}: did you mean '{key}'?");
     }
-    if part.kind == "scenario" && stands_below(top, key) {
+    if part.kind == PartKind::Scenario && stands_below(top, key) {
         return format!(in alloc;
             "'{key}' stands below the header of a table, and so belongs to that: write it above the first header"
         );
@@ -305,7 +305,7 @@ fn hint_for_unknown(
         return Ok(None);
     };
     let shown = Quoted(word);
-    if part.kind != "scenario" && TOP_WORDS.contains(&word) {
+    if part.kind != PartKind::Scenario && TOP_WORDS.contains(&word) {
         let hint = format!(in alloc;
             "'{word}' stands below the header of {part}, and so belongs to that: write it above the first header"
         )?;

@@ -1,4 +1,4 @@
-use super::part::Part;
+use super::part::{Part, PartKind};
 use super::shape::part_of;
 use std::alloc::{AllocError, Global};
 use toml::{Table, Value};
@@ -82,7 +82,7 @@ fn multicasts_of_table<'a>(
     let items = array_at(table, "multicast");
     for (place, item) in items.iter().enumerate() {
         if let Value::Table(inner) = item {
-            let part = part_of(text, "multicast", place, items.len(), inner);
+            let part = part_of(text, PartKind::Multicast, place, items.len(), inner);
             multicasts.push(multicast_of_table(alloc, inner, part)?)?;
         }
     }
@@ -99,7 +99,7 @@ fn links_of_table<'a>(
     let items = array_at(table, "link");
     for (place, item) in items.iter().enumerate() {
         if let Value::Table(inner) = item {
-            let part = part_of(text, "link", place, items.len(), inner);
+            let part = part_of(text, PartKind::Link, place, items.len(), inner);
             links.push(link_of_table(inner, part))?;
         }
     }
