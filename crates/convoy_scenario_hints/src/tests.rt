@@ -1,6 +1,6 @@
 //! Tests of hints for scenarios.
 
-use super::hint_for_scenario;
+use super::{Quoted, begins_as_certificate, hint_for_scenario, is_meant_as_scenario};
 use std::alloc::{AllocError, Global};
 
 /// A scenario without a fault, with a schedule.
@@ -158,5 +158,42 @@ fn other_texts(rt: HostRuntime) -> Result<(), AllocError> {
         hint.as_str(),
         "the input is not UTF-8 after its first 18 bytes, in line 2"
     );
+    Ok(())
+}
+
+#[test]
+fn inputs(rt: HostRuntime) {
+    let alloc = rt.alloc();
+    for (text, is_certificate, is_scenario) in [
+        (SCENARIO, false, true),
+        ("convoy 1\ndelay 3\n", true, false),
+        ("convoy 4\n", false, false),
+        ("a = 1\n", false, false),
+        ("groups = [\n", false, false),
+    ] {
+        assert_eq!(rt; begins_as_certificate(text.as_bytes()), is_certificate, "at {text}");
+        assert_eq!(rt; is_meant_as_scenario(alloc, text.as_bytes()), is_scenario, "at {text}");
+    }
+}
+
+#[test]
+fn quoted_texts(rt: HostRuntime) -> Result<(), AllocError> {
+    for (text, want) in [
+        ("", "\"\""),
+        ("a b~", "\"a b~\""),
+        ("\"\\\t", "\"\\u0022\\u005c\\u0009\""),
+        (
+            "0123456789012345678901234567890123456789",
+            "\"0123456789012345678901234567890123456789\"",
+        ),
+        (
+            "0123456789012345678901234567890123456789x",
+            "\"0123456789012345678901234567890123456789...\"",
+        ),
+    ] {
+        let quoted = Quoted(text);
+        let shown = format!(in rt.alloc(); "{quoted}")?;
+        assert_eq!(rt; shown.as_str(), want, "at {text}");
+    }
     Ok(())
 }
