@@ -12,11 +12,11 @@ use Rattle.convoy_checker.specs.Laws.{CheckedIsValid, ValidIsGreatest}
 use Rattle.convoy_checker.specs.Validity.{IsValid}
 use Rattle.convoy_branch.specs.Laws.{FrontsBound}
 use Rattle.convoy_branch.specs.declared.outcome.Outcome.TheVariants.{Proved, Open}
+use Rattle.convoy_options.specs.Options.{Settings}
 use Rattle.convoy_engine.specs.declared.done.Done.TheVariants.{Fine}
 use Rattle.convoy_branch.specs.SearchBounds.{most_nodes}
 use Rattle.convoy_engine.specs.Checks.{check_reply}
 use Rattle.convoy_engine.specs.Lines.{accepted_line, open_line}
-use Rattle.convoy_engine.specs.Options.{Settings}
 use Rattle.convoy_engine.specs.Searches.{IsFrontTold, IsOpenBetween, IsOpenProof, IsProof, IsSearchOf}
 
 -- the text of a valid certificate gets a yes

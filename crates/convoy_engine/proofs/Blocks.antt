@@ -5,7 +5,9 @@ use Rattle.std.specs.Result.{IsOk, OnOk, OnErr, is_err}
 use Rattle.std.proofs.lemmas.Grind.{flat_map-append}
 use Rattle.std.proofs.lemmas.List.{append-nil}
 use Rattle.std.proofs.lemmas.List.Elements.{All-append}
-use Rattle.convoy_engine.specs.Options.{Settings}
+use Rattle.convoy_devices.specs.Devices.{Answer, Failed, HasRun, IsPiece, bytes_of, joined}
+use Rattle.convoy_devices.specs.Writes.{WritesAll, FailsWithin}
+use Rattle.convoy_options.specs.Options.{Settings}
 use Rattle.convoy_engine.specs.declared.done.Done.{Done}
 use Rattle.convoy_engine.specs.declared.fault.Fault.{Fault}
 use Rattle.convoy_engine.specs.declared.fault.Fault.TheVariants.{Memory, Write, TooLong, TooManyJobs}
@@ -15,10 +17,8 @@ use Rattle.convoy_engine.specs.declared.batch.Batch.{Batch}
 use Rattle.convoy_engine.specs.declared.batch.TheConstants.{MOST_JOBS}
 use Rattle.convoy_engine.specs.Batches.{AnswersAll, AnswersMost, AreReplies, FailsAnswering, JobSays, block_of, blocks_from, job_line}
 use Rattle.convoy_engine.specs.BatchSteps.{AnswersOne, EndsBatch, IsBlockFor, IsFresh, IsReady, IsUnderWay, StopsAnswering}
-use Rattle.convoy_engine.specs.Devices.{Answer, Failed, HasRun, IsPiece, bytes_of, joined}
 use Rattle.convoy_engine.specs.Faults.{fault_line_of, row_of}
 use Rattle.convoy_engine.specs.Replies.{Reply}
-use Rattle.convoy_engine.specs.Writes.{WritesAll, FailsWithin}
 
 -- a block in which the answer found no room
 pub no_room : {E : Type 0} (number : ℕ) (done : Done) (text : List ℕ) (pushed : Result (Unit {0}) E) (start with_text out : List ℕ) →

@@ -1,11 +1,12 @@
 -- The faults that a command's rule allows for a text.
 use Rattle.std.proofs.Common.{◌≡◌, ◌≢◌, ◌≤◌, inl, inr, ℕ, Bool, true, false, cond, nat_le, List, Result, Ok, Err, length, lit≤, arith}
+use Rattle.convoy_options.specs.Options.{Settings}
 use Rattle.convoy_engine.specs.declared.command.Command.{Command}
 use Rattle.convoy_engine.specs.declared.command.Command.TheVariants.{First, Simulate, Timeline, Packets, Check, Explain, Draw, Analyse, Latency}
 use Rattle.convoy_certificate.specs.Certificate.{Certificate}
 use Rattle.convoy_certificate.specs.Reading.{certificate_of}
 use Rattle.convoy_certificate.specs.declared.text_fault.TextFault.{TextFault}
-use Rattle.convoy_engine.specs.declared.reading.TheConstants.{LONGEST_JOB}
+use Rattle.convoy_engine.specs.declared.limits.TheConstants.{LONGEST_JOB}
 use Rattle.convoy_engine.specs.declared.fault.Fault.{Fault}
 use Rattle.convoy_engine.specs.declared.fault.Fault.TheVariants.{TooLong}
 use Rattle.convoy_engine.specs.Faults.{row_of}
@@ -14,7 +15,6 @@ use Rattle.convoy_engine.specs.First.{first_text}
 use Rattle.convoy_engine.specs.Inputs.{is_certificate_text, reply_of_job, reply_of_reading}
 use Rattle.convoy_engine.specs.PacketsTold.{certificate_packets, packets_of_text}
 use Rattle.convoy_engine.specs.Replies.{fine}
-use Rattle.convoy_engine.specs.Options.{Settings}
 use Rattle.convoy_engine.specs.Searches.{IsFaulty, IsSearchFault}
 use Rattle.convoy_engine.specs.Simulate.{certificate_simulated, simulate_text}
 use Rattle.convoy_engine.specs.Timelines.{certificate_timeline, timeline_of_text}

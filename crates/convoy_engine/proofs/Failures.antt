@@ -2,15 +2,17 @@
 use Rattle.std.proofs.Common.{◌⊎◌, ◌∙◌, ◌≡◌, ℕ, List, [], ◌∷◌, ◌++◌, Ok, Err, refl, inl, inr}
 use Rattle.std.specs.List.{All}
 use Rattle.std.proofs.lemmas.List.Elements.{All-head, All-tail}
+use Rattle.convoy_devices.specs.declared.reading.ReadFault.{ReadFault}
+use Rattle.convoy_devices.specs.declared.reading.ReadFault.TheVariants as reading
+use Rattle.convoy_devices.specs.Devices.{Answer, Moved, Failed, IsPiece, failures}
+use Rattle.convoy_devices.specs.Reads.{ReadsText, StopsReading}
 use Rattle.convoy_engine.specs.declared.fault.Fault.{Fault}
-use Rattle.convoy_engine.specs.declared.fault.Fault.TheVariants.{Memory, Read, Write, TooLong, TooManyReads}
-use Rattle.convoy_engine.specs.Devices.{Answer, Moved, Failed, IsPiece, failures}
-use Rattle.convoy_engine.specs.Reads.{ReadsText, StopsReading}
-use Rattle.convoy_engine.specs.Faults.{row_of}
+use Rattle.convoy_engine.specs.declared.fault.Fault.TheVariants.{Memory, Read, Write}
+use Rattle.convoy_engine.specs.Faults.{row_of, told_of_reading}
 use Rattle.convoy_engine.specs.Commands.{longest_for, says_for}
 use Rattle.convoy_engine.specs.declared.command.Command.{Command}
 use Rattle.convoy_engine.proofs.CommandTexts.{IsNoDevice, says_number}
-use Rattle.convoy_engine.specs.Runs.{Replied}
+use Rattle.convoy_engine.specs.Runs.{IsUnread, Replied}
 use Rattle.convoy_engine.specs.Laws.{told_reads, FailuresAreTold}
 
 -- pieces are no failures
@@ -31,13 +33,12 @@ in_text : (longest : ℕ) (reads : List Answer) (text : List ℕ) → ReadsText 
 in_text longest reads text read = rw read.end (after_pieces read.pieces (Moved []) read.given.each)
 
 -- where reading stopped
-in_stop : (longest most_reads : ℕ) (reads : List Answer) (fault : Fault) →
-    StopsReading longest most_reads reads fault → failures reads ≡ told_reads (Err fault)
-in_stop longest most_reads reads Read stop = rw stop.last (after_pieces stop.pieces Failed stop.given.each)
-in_stop longest most_reads reads TooLong stop = rw stop.last (after_pieces stop.pieces (Moved stop.bytes) stop.given.each)
-in_stop longest most_reads reads TooManyReads stop = none_in_pieces reads stop.0.each
-in_stop longest most_reads reads Memory stop = none_in_pieces reads stop.each
-in_stop longest most_reads reads other stop = absurd stop
+in_stop : (longest most_reads : ℕ) (reads : List Answer) (cause : ReadFault) →
+    StopsReading longest most_reads reads cause → failures reads ≡ told_reads (Err (told_of_reading cause))
+in_stop longest most_reads reads reading.Read stop = rw stop.last (after_pieces stop.pieces Failed stop.given.each)
+in_stop longest most_reads reads reading.TooLong stop = rw stop.last (after_pieces stop.pieces (Moved stop.bytes) stop.given.each)
+in_stop longest most_reads reads reading.TooManyReads stop = none_in_pieces reads stop.0.each
+in_stop longest most_reads reads reading.Memory stop = none_in_pieces reads stop.each
 
 -- where the text has a fault, which is no device's
 in_refusal : (fault : Fault) → IsNoDevice (row_of fault).0 → 0 ≡ told_reads (Err fault)
@@ -49,10 +50,12 @@ in_nothing : (writes : List Answer) → writes ≡ [] → failures writes ≡ 0
 in_nothing writes none = rw none refl
 
 in_fault : (command : Command) (most_reads : ℕ) (reads writes : List Answer) (fault : Fault) →
-    StopsReading (longest_for command) most_reads reads fault ⊎ Replied (longest_for command) (says_for command) reads (Err fault) →
+    IsUnread (longest_for command) most_reads reads fault ⊎ Replied (longest_for command) (says_for command) reads (Err fault) →
     writes ≡ [] → (failures reads ≡ told_reads (Err fault)) × (failures writes ≡ 0)
-in_fault command most_reads reads writes fault (inl stop) none =
-    (in_stop (longest_for command) most_reads reads fault stop, in_nothing writes none)
+in_fault command most_reads reads writes fault (inl unread) none = (
+  rw unread.told (in_stop (longest_for command) most_reads reads unread.cause unread.stopped),
+  in_nothing writes none,
+)
 in_fault command most_reads reads writes fault (inr replied) none = (
   in_text (longest_for command) reads replied.text replied.read
       ∙ in_refusal fault (says_number command replied.text fault replied.allowed),
@@ -60,8 +63,8 @@ in_fault command most_reads reads writes fault (inr replied) none = (
 )
 
 in_memory : (longest most_reads : ℕ) (reads : List Answer) →
-    StopsReading longest most_reads reads Memory ⊎ ((text : List ℕ) × ReadsText longest reads text) → failures reads ≡ 0
-in_memory longest most_reads reads (inl stop) = in_stop longest most_reads reads Memory stop
+    StopsReading longest most_reads reads reading.Memory ⊎ ((text : List ℕ) × ReadsText longest reads text) → failures reads ≡ 0
+in_memory longest most_reads reads (inl stop) = in_stop longest most_reads reads reading.Memory stop
 in_memory longest most_reads reads (inr text) = in_text longest reads text.0 text.1
 
 pub failures_told : (command : Command) → FailuresAreTold (longest_for command) (says_for command)

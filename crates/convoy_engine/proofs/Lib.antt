@@ -9,6 +9,5 @@ pub mod ExplainTexts
 pub mod Failures
 pub mod FirstTexts
 pub mod PacketsTexts
-pub mod Pieces
 pub mod Refusals
 pub mod Starts

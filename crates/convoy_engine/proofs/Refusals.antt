@@ -1,12 +1,23 @@
--- How runs end once their text was read.
+-- How runs end before their text was read, and once it was.
 use Rattle.std.proofs.Common.{◌≡◌, inl, inr, ℕ, List, [], Result, Ok, Err, refl, sym, subst}
+use Rattle.convoy_devices.specs.declared.reading.ReadFault.{ReadFault}
+use Rattle.convoy_devices.specs.declared.reading.ReadFault.TheVariants as reading
+use Rattle.convoy_devices.specs.Devices.{Answer}
+use Rattle.convoy_devices.specs.Reads.{ReadsText, StopsReading}
 use Rattle.convoy_engine.specs.declared.done.Done.{Done}
 use Rattle.convoy_engine.specs.declared.fault.Fault.{Fault}
 use Rattle.convoy_engine.specs.declared.fault.Fault.TheVariants.{Memory, Write}
-use Rattle.convoy_engine.specs.Devices.{Answer}
-use Rattle.convoy_engine.specs.Reads.{ReadsText}
+use Rattle.convoy_engine.specs.Faults.{told_of_reading}
 use Rattle.convoy_engine.specs.Replies.{Reply, Rule, SaysUnlessMemory}
 use Rattle.convoy_engine.specs.Runs.{RunsTo, WritesReply}
+
+-- Where reading stopped, nothing was written.
+pub unread_run : (longest : ℕ) (says : Rule) (most_reads : ℕ) (reads : List Answer) (cause : ReadFault) →
+    StopsReading longest most_reads reads cause → RunsTo longest says most_reads reads [] (Err (told_of_reading cause))
+unread_run longest says most_reads reads reading.Read stop = (inl (record { cause = reading.Read; stopped = stop; told = refl }), refl)
+unread_run longest says most_reads reads reading.TooLong stop = (inl (record { cause = reading.TooLong; stopped = stop; told = refl }), refl)
+unread_run longest says most_reads reads reading.TooManyReads stop = (inl (record { cause = reading.TooManyReads; stopped = stop; told = refl }), refl)
+unread_run longest says most_reads reads reading.Memory stop = (inl stop, refl)
 
 -- a fault that is not want of memory is one that the rule allows
 from_text : (says : Rule) (text : List ℕ) (fault : Fault) → (fault ≡ Memory → ⊥) →

@@ -7,7 +7,7 @@ use Rattle.convoy_branch.specs.Outcomes.{IsOutcome}
 use Rattle.convoy_branch.specs.SearchBounds.{most_nodes}
 use Rattle.convoy_branch.specs.declared.outcome.Outcome.{Outcome}
 use Rattle.convoy_branch.specs.declared.outcome.Outcome.TheVariants.{Proved, Open}
-use Rattle.convoy_engine.specs.Options.{AreSettings, Settings}
+use Rattle.convoy_options.specs.Options.{AreSettings, Settings}
 use Rattle.convoy_engine.specs.Searches.{IsEnd}
 
 -- where one worker has a proved outcome with one ticket, no more of either are needed

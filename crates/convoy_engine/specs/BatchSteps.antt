@@ -3,16 +3,16 @@ use Rattle.std.specs.Prelude.{◌≡◌, ◌⊎◌, ℕ, ◌+◌, ◌<◌, List,
 use Rattle.convoy_jobs.specs.Jobs.{ended_jobs, jobs_of}
 use Rattle.convoy_jobs.specs.Splitting.{Holds, IsAfter, IsJobStart}
 use Rattle.convoy_jobs.specs.declared.splitter.Splitter.{Splitter}
-use Rattle.convoy_engine.specs.Options.{Settings}
+use Rattle.convoy_devices.specs.Devices.{Answer, HasRun}
+use Rattle.convoy_devices.specs.Writes.{WritesAll, FailsWithin}
+use Rattle.convoy_options.specs.Options.{Settings}
 use Rattle.convoy_engine.specs.declared.batch.Batch.{Batch}
 use Rattle.convoy_engine.specs.declared.batch.TheConstants.{MOST_JOBS}
-use Rattle.convoy_engine.specs.declared.reading.TheConstants.{LONGEST_JOB}
+use Rattle.convoy_engine.specs.declared.limits.TheConstants.{LONGEST_JOB}
 use Rattle.convoy_engine.specs.declared.fault.Fault.{Fault}
 use Rattle.convoy_engine.specs.declared.fault.Fault.TheVariants.{Memory, Write, TooManyJobs}
 use Rattle.convoy_engine.specs.Batches.{AnswersAll, AnswersMost, FailsAnswering, JobSays, block_of}
-use Rattle.convoy_engine.specs.Devices.{Answer, HasRun}
 use Rattle.convoy_engine.specs.Replies.{Reply}
-use Rattle.convoy_engine.specs.Writes.{WritesAll, FailsWithin}
 
 -- the block of that number for what is to be told, or for want of memory where that was an answer
 pub record IsBlockFor (number : ℕ) (want : Reply) (out : List ℕ) : Type 0 where

@@ -3,18 +3,18 @@ use Rattle.std.specs.Prelude.{◌≡◌, ◌⊎◌, ℕ, ◌+◌, ◌<◌, ◌�
 use Rattle.std.specs.List.{FoldsTo}
 use Rattle.convoy_lines.specs.Texts.{ended, number_line}
 use Rattle.convoy_jobs.specs.Jobs.{ended_jobs, jobs_of}
-use Rattle.convoy_engine.specs.Options.{Settings}
+use Rattle.convoy_devices.specs.Devices.{Answer, Moved, Failed, IsPiece, joined}
+use Rattle.convoy_devices.specs.Writes.{WritesAll, FailsWithin}
+use Rattle.convoy_options.specs.Options.{Settings}
 use Rattle.convoy_engine.specs.declared.batch.TheConstants.{MOST_JOBS}
-use Rattle.convoy_engine.specs.declared.reading.TheConstants.{LONGEST_JOB}
+use Rattle.convoy_engine.specs.declared.limits.TheConstants.{LONGEST_JOB}
 use Rattle.convoy_engine.specs.declared.done.Done.{Done}
 use Rattle.convoy_engine.specs.declared.done.Done.TheVariants.{Fine}
 use Rattle.convoy_engine.specs.declared.fault.Fault.{Fault}
 use Rattle.convoy_engine.specs.declared.fault.Fault.TheVariants.{Memory, Read, Write, TooLong, TooManyJobs, TooManyReads}
-use Rattle.convoy_engine.specs.Devices.{Answer, Moved, Failed, IsPiece, joined}
 use Rattle.convoy_engine.specs.Faults.{fault_line_of}
 use Rattle.convoy_engine.specs.Replies.{Reply, SaysUnlessMemory}
 use Rattle.convoy_engine.specs.Searches.{LatencySays}
-use Rattle.convoy_engine.specs.Writes.{WritesAll, FailsWithin}
 
 -- What may be answered for a job, by its own text alone: that it is too long just where it is, and else what `latency` answers, unless memory ran out.
 pub record JobSays (settings : Settings) (job : List ℕ) (reply : Reply) : Type 0 where

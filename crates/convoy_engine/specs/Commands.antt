@@ -2,7 +2,7 @@
 use Rattle.std.specs.Prelude.{ℕ}
 use Rattle.convoy_engine.specs.declared.command.Command.{Command}
 use Rattle.convoy_engine.specs.declared.command.Command.TheVariants.{First, Simulate, Timeline, Packets, Check, Explain, Draw, Analyse, Latency}
-use Rattle.convoy_engine.specs.declared.reading.TheConstants.{LONGEST_CERTIFICATE, LONGEST_JOB}
+use Rattle.convoy_engine.specs.declared.limits.TheConstants.{LONGEST_CERTIFICATE, LONGEST_JOB}
 use Rattle.convoy_engine.specs.Checks.{CheckSays}
 use Rattle.convoy_engine.specs.Draws.{DrawSays}
 use Rattle.convoy_engine.specs.Explains.{ExplainSays}

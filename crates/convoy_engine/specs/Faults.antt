@@ -1,5 +1,7 @@
 -- The number and the text of each fault, and its line.
 use Rattle.std.specs.Prelude.{ℕ, ◌≤◌, List, [], ◌∷◌, ◌++◌, length, codes, decimal}
+use Rattle.convoy_devices.specs.declared.reading.ReadFault.{ReadFault}
+use Rattle.convoy_devices.specs.declared.reading.ReadFault.TheVariants as reading
 use Rattle.convoy_packets.specs.declared.fault.ListFault.{ListFault}
 use Rattle.convoy_packets.specs.declared.fault.ListFault.TheVariants as lists
 use Rattle.convoy_scenario.specs.Keys.{key_word}
@@ -58,6 +60,13 @@ IsShortEnding (endings.Number value) = Unit {0}
 -- the line that tells a fault
 unfoldable pub fault_line_of : Fault → List ℕ
 fault_line_of fault = codes "fault " ++ (decimal (row_of fault).0 ++ 32 ∷ ((row_of fault).1 ++ 10 ∷ []))
+
+-- why a text was not read to its end, as the engine tells it
+abbrev pub told_of_reading : ReadFault → Fault
+told_of_reading reading.Read = Read
+told_of_reading reading.TooLong = TooLong
+told_of_reading reading.TooManyReads = TooManyReads
+told_of_reading reading.Memory = Memory
 
 -- a fault of the scenario, as the engine tells it
 abbrev pub told_of : ScenarioFault → Fault

@@ -9,7 +9,7 @@ use Rattle.convoy_certificate.specs.declared.text_fault.TextFault.{TextFault}
 use Rattle.convoy_engine.specs.declared.done.Done.TheVariants.{Fine}
 use Rattle.convoy_engine.specs.declared.fault.Fault.{Fault}
 use Rattle.convoy_engine.specs.declared.fault.Fault.TheVariants.{TooLong}
-use Rattle.convoy_engine.specs.declared.reading.TheConstants.{LONGEST_JOB}
+use Rattle.convoy_engine.specs.declared.limits.TheConstants.{LONGEST_JOB}
 use Rattle.convoy_engine.specs.Cases.{Case}
 use Rattle.convoy_engine.specs.Checks.{reply_of_text}
 use Rattle.convoy_engine.specs.Replies.{Reply, fine}

@@ -8,6 +8,11 @@ pub use Rattle.convoy_scenario.specs.Keys
 pub use Rattle.convoy_toml.specs.Shape
 pub use Rattle.convoy_scenario.specs.Memory
 pub use Rattle.convoy_jobs.specs.Jobs
+pub use Rattle.convoy_devices.specs.Devices
+pub use Rattle.convoy_devices.specs.Reads
+pub use Rattle.convoy_devices.specs.Writes
+pub use Rattle.convoy_devices.specs.InMemory
+pub use Rattle.convoy_devices.specs.Streams
 pub use Rattle.convoy_packets.specs.Assignment
 pub use Rattle.convoy_packets.specs.Given
 pub use Rattle.convoy_packets.specs.Table
@@ -28,6 +33,7 @@ pub use Rattle.convoy_checker.specs.Validity
 pub use Rattle.convoy_branch.specs.SearchBounds
 pub use Rattle.convoy_branch.specs.Fronts
 pub use Rattle.convoy_branch.specs.Outcomes
+pub use Rattle.convoy_options.specs.Options
 -- what a reader has to believe: which answers each command may give, and what its run does at its devices
 pub mod Lines
 pub mod Faults
@@ -43,16 +49,9 @@ pub mod PacketsTold
 pub mod Explains
 pub mod Draws
 pub mod Searches
-pub mod Options
 pub mod Commands
-pub mod Devices
-pub mod Reads
-pub mod Writes
 pub mod Runs
 pub mod Batches
 pub mod Laws
 -- how a batch goes on from job to job
 pub mod BatchSteps
--- words of single devices: those in memory, and the standard library's streams
-pub mod InMemory
-pub mod Streams

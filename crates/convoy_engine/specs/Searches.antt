@@ -16,14 +16,14 @@ use Rattle.convoy_branch.specs.declared.bounds.Bounds.TheVariants.{Plain, Lead}
 use Rattle.convoy_branch.specs.Fronts.{IsFront}
 use Rattle.convoy_branch.specs.Outcomes.{IsOutcome}
 use Rattle.convoy_branch.specs.declared.outcome.Outcome.{Outcome}
+use Rattle.convoy_options.specs.Options.{Settings}
 use Rattle.convoy_engine.specs.declared.done.Done.TheVariants.{Fine, Open, Refused}
 use Rattle.convoy_engine.specs.declared.fault.Fault.{Fault}
 use Rattle.convoy_engine.specs.declared.fault.Fault.TheVariants.{Memory, PlaceTooLarge}
-use Rattle.convoy_engine.specs.declared.reading.TheConstants.{LONGEST_CERTIFICATE}
+use Rattle.convoy_engine.specs.declared.limits.TheConstants.{LONGEST_CERTIFICATE}
 use Rattle.convoy_engine.specs.Checks.{check_reply}
 use Rattle.convoy_engine.specs.Faults.{told_of}
 use Rattle.convoy_engine.specs.Lines.{accepted_line, greatest_line, open_line}
-use Rattle.convoy_engine.specs.Options.{Settings}
 use Rattle.convoy_engine.specs.Replies.{Rule}
 
 -- The text has this fault.

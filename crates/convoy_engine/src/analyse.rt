@@ -1,18 +1,16 @@
 ghost use Rattle.std.specs.Prelude.{◌≡◌, ◌++◌, IfOk};
 ghost use Rattle.convoy_lines.specs.Texts.{ended};
 ghost use Rattle.convoy_certificate.specs.Text.{certificate_text, schedule_line};
-ghost use Rattle.convoy_engine.specs.declared.reading.TheConstants.{LONGEST_JOB};
+ghost use Rattle.convoy_engine.specs.declared.limits.TheConstants.{LONGEST_JOB};
 ghost use Rattle.convoy_engine.specs.Lines.{open_line};
 ghost use Rattle.convoy_engine.specs.Replies.{SaysUnlessMemory, reply_of};
 ghost use Rattle.convoy_engine.specs.Runs.{IsRun};
 ghost use Rattle.convoy_engine.specs.Searches.{AnalyseSays};
 
 use super::command::{Command, run_command};
-use super::device::{Sink, Source};
 use super::done::Done;
 use super::fault::Fault;
 use super::lines::append_open;
-use super::options::Options;
 use super::search::search_text;
 use super::watch::Watch;
 use convoy_branch::laws::fronts_bound;
@@ -20,6 +18,8 @@ use convoy_branch::{NoGate, Outcome};
 use convoy_certificate::laws::{texts_are_read, texts_are_short};
 use convoy_certificate::{Certificate, push_schedule, write};
 use convoy_checker::laws::{checked_is_valid, valid_is_greatest};
+use convoy_devices::{Sink, Source};
+use convoy_options::Options;
 use convoy_sim::Record;
 use std::alloc::{AllocError, Global};
 use std::sync::Wait;

@@ -1,22 +1,22 @@
 ghost use Rattle.std.specs.Prelude.{◌≡◌, ℕ, List, [], ◌∷◌, ◌++◌, IfOk, MatchResult};
 ghost use Rattle.convoy_jobs.specs.Jobs.{ended_jobs};
 ghost use Rattle.convoy_jobs.specs.Splitting.{Holds, IsAfter};
-ghost use Rattle.convoy_engine.specs.declared.reading.TheConstants.{LONGEST_JOB};
+ghost use Rattle.convoy_engine.specs.declared.limits.TheConstants.{LONGEST_JOB};
 ghost use Rattle.convoy_engine.specs.BatchSteps.{AnswersOne, EndsBatch, IsFresh, IsReady, IsUnderWay, StopsAnswering};
 ghost use Rattle.convoy_engine.specs.Batches.{IsBatchRun, JobSays};
 ghost use Rattle.convoy_engine.specs.Replies.{reply_of};
 
 use super::block::Block;
-use super::device::{Sink, Source};
 use super::done::Done;
 use super::fault::Fault;
 use super::latency::latency_answer;
-use super::options::Options;
-use super::reading::{BUFFER_LENGTH, LONGEST_JOB, read_piece};
-use super::writing::write_all;
+use super::limits::LONGEST_JOB;
 use convoy_branch::NoGate;
+use convoy_devices::laws::pieces_go_on;
+use convoy_devices::{BUFFER_LENGTH, Sink, Source, read_piece, write_all};
 use convoy_jobs::laws::ended_jobs_stay;
 use convoy_jobs::{JobFault, Splitter};
+use convoy_options::Options;
 use std::alloc::{AllocError, Global};
 use std::sync::Wait;
 use std::thread::Threads;
@@ -49,6 +49,7 @@ pub fn run_batch<R: Threads + Wait + Sync, S: Source, K: Sink>(
     ensures { IsBatchRun options.now options.now.most_reads
         S.reads K.writes source.old source.new sink.old sink.new result }
 {
+    pieces_go_on();
     let most_reads = options.most_reads();
     let mut batch = Batch::new(alloc)?;
     let mut buffer = [0; BUFFER_LENGTH];

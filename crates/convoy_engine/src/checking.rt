@@ -1,6 +1,6 @@
 ghost use Rattle.std.specs.Prelude.{◌≡◌, Ok, Err};
 ghost use Rattle.convoy_engine.specs.declared.done.Done.TheVariants as ends;
-ghost use Rattle.convoy_engine.specs.declared.reading.TheConstants.{LONGEST_CERTIFICATE};
+ghost use Rattle.convoy_engine.specs.declared.limits.TheConstants.{LONGEST_CERTIFICATE};
 ghost use Rattle.convoy_engine.specs.Checks.{CheckSays, reply_of_check, reply_of_text};
 ghost use Rattle.convoy_engine.specs.Lines.{accepted_line};
 ghost use Rattle.convoy_engine.specs.Refusals.{refused_line, row_of_refusal};
@@ -8,7 +8,6 @@ ghost use Rattle.convoy_engine.specs.Replies.{IsReply, SaysUnlessMemory, reply_o
 ghost use Rattle.convoy_engine.specs.Runs.{IsRun};
 
 use super::command::{Command, run_without_search};
-use super::device::{Sink, Source};
 use super::done::Done;
 use super::fault::Fault;
 use super::refusal::{Refusal, refusal_line};
@@ -16,6 +15,7 @@ use convoy_certificate::laws::texts_are_read;
 use convoy_certificate::{TextFault, read};
 use convoy_checker::laws::checked_is_valid;
 use convoy_checker::{Accepted, Refused, check};
+use convoy_devices::{Sink, Source};
 use convoy_lines::push_number_line;
 use std::alloc::Global;
 

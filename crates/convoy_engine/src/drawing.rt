@@ -1,6 +1,6 @@
 ghost use Rattle.std.specs.Prelude.{◌≡◌, ◌⊎◌, Err, IfOk};
 ghost use Rattle.convoy_engine.specs.declared.fault.Fault.TheVariants as faults;
-ghost use Rattle.convoy_engine.specs.declared.reading.TheConstants.{LONGEST_CERTIFICATE};
+ghost use Rattle.convoy_engine.specs.declared.limits.TheConstants.{LONGEST_CERTIFICATE};
 ghost use Rattle.convoy_engine.specs.Checks.{reply_of_check};
 ghost use Rattle.convoy_engine.specs.Draws.{DrawSays, DrawsFor, IsImageOf};
 ghost use Rattle.convoy_engine.specs.Replies.{IsReply, SaysUnlessMemory, reply_of};
@@ -8,12 +8,12 @@ ghost use Rattle.convoy_engine.specs.Runs.{IsRun};
 
 use super::checking::{answer_to_fault, refuse};
 use super::command::{Command, run_without_search};
-use super::device::{Sink, Source};
 use super::done::Done;
 use super::fault::Fault;
 use super::refusal::Refusal;
 use convoy_certificate::{Certificate, read};
 use convoy_checker::{Accepted, Refused, check};
+use convoy_devices::{Sink, Source};
 use convoy_draw::write_drawing;
 use convoy_packets::PacketTable;
 use convoy_picture::Picture;

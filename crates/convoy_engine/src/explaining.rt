@@ -1,5 +1,5 @@
 ghost use Rattle.std.specs.Prelude.{◌≡◌, IfOk};
-ghost use Rattle.convoy_engine.specs.declared.reading.TheConstants.{LONGEST_CERTIFICATE};
+ghost use Rattle.convoy_engine.specs.declared.limits.TheConstants.{LONGEST_CERTIFICATE};
 ghost use Rattle.convoy_engine.specs.Checks.{reply_of_check};
 ghost use Rattle.convoy_engine.specs.Explains.{ExplainSays, certificate_explained, in_place_of_yes};
 ghost use Rattle.convoy_engine.specs.Replies.{IsReply, SaysUnlessMemory, reply_of};
@@ -7,12 +7,12 @@ ghost use Rattle.convoy_engine.specs.Runs.{IsRun};
 
 use super::checking::{answer_to_fault, refuse};
 use super::command::{Command, run_without_search};
-use super::device::{Sink, Source};
 use super::done::Done;
 use super::fault::Fault;
 use super::refusal::Refusal;
 use convoy_certificate::{Certificate, read};
 use convoy_checker::{Accepted, Refused, check};
+use convoy_devices::{Sink, Source};
 use convoy_explain::{explain, write_explanation};
 use convoy_packets::PacketTable;
 use convoy_sim::simulate;

@@ -1,6 +1,7 @@
 ghost use Rattle.std.specs.Prelude.{◌≡◌, ◌≤◌, ◌++◌, length, OnOk, OnErr, IfOk, string_bytes};
 ghost use Rattle.convoy_engine.specs.Faults.{IsShortEnding, limit_word, ending_text, row_of, fault_line_of};
 
+use convoy_devices::ReadFault;
 use convoy_packets::ListFault;
 use convoy_scenario::{Key, Limit, ScenarioFault};
 use convoy_share::SearchFault;
@@ -85,6 +86,22 @@ impl From<AllocError> for Fault {
 
     fn from(_error: AllocError) -> Self {
         Fault::Memory
+    }
+}
+
+impl From<ReadFault> for Fault {
+    ghost use Rattle.std.specs.Prelude.{◌≡◌};
+    ghost use Rattle.convoy_engine.specs.Faults.{told_of_reading};
+
+    ghost from_gives = { λ cause fault. fault ≡ told_of_reading cause };
+
+    fn from(cause: ReadFault) -> Self {
+        match cause {
+            ReadFault::Read => Fault::Read,
+            ReadFault::TooLong => Fault::TooLong,
+            ReadFault::TooManyReads => Fault::TooManyReads,
+            ReadFault::Memory => Fault::Memory,
+        }
     }
 }
 

@@ -1,16 +1,16 @@
 ghost use Rattle.std.specs.Prelude.{◌≡◌, IfOk};
 ghost use Rattle.std.specs.Result.{result_map_both};
 ghost use Rattle.convoy_engine.specs.declared.fault.Fault.TheVariants.{Memory};
-ghost use Rattle.convoy_engine.specs.declared.reading.TheConstants.{LONGEST_JOB};
+ghost use Rattle.convoy_engine.specs.declared.limits.TheConstants.{LONGEST_JOB};
 ghost use Rattle.convoy_engine.specs.Memory.{IsUnlessMemory};
 ghost use Rattle.convoy_engine.specs.First.{FirstSays, attained_text, first_text, least_delays};
 ghost use Rattle.convoy_engine.specs.Runs.{IsRun};
 
 use super::command::{Command, run_without_search};
-use super::device::{Sink, Source};
 use super::done::Done;
 use super::fault::Fault;
 use convoy_certificate::push_schedule;
+use convoy_devices::{Sink, Source};
 use convoy_lines::push_number_line;
 use convoy_packets::{Delays, PacketTable};
 use convoy_scenario::Scenario;

@@ -1,22 +1,22 @@
 ghost use Rattle.std.specs.Prelude.{◌≡◌, IfOk};
-ghost use Rattle.convoy_engine.specs.declared.reading.TheConstants.{LONGEST_JOB};
+ghost use Rattle.convoy_engine.specs.declared.limits.TheConstants.{LONGEST_JOB};
 ghost use Rattle.convoy_engine.specs.Lines.{greatest_line, open_line};
 ghost use Rattle.convoy_engine.specs.Replies.{SaysUnlessMemory, reply_of};
 ghost use Rattle.convoy_engine.specs.Runs.{IsRun};
 ghost use Rattle.convoy_engine.specs.Searches.{LatencySays};
 
 use super::command::{Command, run_command};
-use super::device::{Sink, Source};
 use super::done::Done;
 use super::fault::Fault;
 use super::lines::append_open;
-use super::options::Options;
 use super::search::search_text;
 use super::watch::Watch;
 use convoy_branch::laws::fronts_bound;
 use convoy_branch::{NoGate, Outcome};
 use convoy_checker::laws::valid_is_greatest;
+use convoy_devices::{Sink, Source};
 use convoy_lines::push_number_line;
+use convoy_options::Options;
 use std::alloc::{AllocError, Global};
 use std::sync::Wait;
 use std::thread::Threads;

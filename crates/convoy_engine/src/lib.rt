@@ -6,24 +6,23 @@ pub use batch::{MOST_JOBS, run_batch};
 pub use checking::run_check;
 pub use command::{Command, run_command};
 pub use convoy_branch::{Bounds, Gate, NoGate};
-pub use device::{DeviceFailed, Sink, Source};
+pub use convoy_devices::{
+    DeviceFailed, Sink, SliceSource, Source, StreamSink, StreamSource, VecSink, write_all,
+};
+pub use convoy_options::{
+    DEFAULT_LIMIT, DEFAULT_SIMULATIONS, MOST_SIMULATIONS, MOST_TICKETS, MOST_WORKERS, Options,
+};
 pub use done::Done;
 pub use drawing::run_draw;
 pub use explaining::run_explain;
 pub use fault::{Fault, fault_line};
 pub use first::run_first;
 pub use latency::run_latency;
-pub use memory::{SliceSource, VecSink};
-pub use options::{
-    DEFAULT_LIMIT, DEFAULT_SIMULATIONS, MOST_SIMULATIONS, MOST_TICKETS, MOST_WORKERS, Options,
-};
+pub use limits::{LONGEST_CERTIFICATE, LONGEST_JOB};
 pub use packets::run_packets;
-pub use reading::{LONGEST_CERTIFICATE, LONGEST_JOB};
 pub use simulate::run_simulate;
-pub use stream::{StreamSink, StreamSource};
 pub use timeline::run_timeline;
 pub use watch::Watch;
-pub use writing::write_all;
 
 mod analyse;
 mod batch;
@@ -31,7 +30,6 @@ mod block;
 mod case;
 mod checking;
 mod command;
-mod device;
 mod done;
 mod drawing;
 mod explaining;
@@ -40,15 +38,12 @@ mod first;
 mod input;
 mod latency;
 pub mod laws;
+mod limits;
 mod lines;
-mod memory;
-mod options;
 mod packets;
-mod reading;
 mod refusal;
 mod search;
 mod simulate;
-mod stream;
 #[cfg(test)]
 mod tests;
 mod timeline;

@@ -5,9 +5,9 @@ ghost use Rattle.convoy_sim.specs.Delivery.{latency_of};
 ghost use Rattle.convoy_engine.specs.Searches.{IsEnd, IsUnanswered, SearchGives};
 
 use super::fault::Fault;
-use super::options::Options;
 use super::watch::Watch;
 use convoy_branch::{Outcome, search_alone};
+use convoy_options::Options;
 use convoy_packets::{Delays, PacketTable};
 use convoy_scenario::Scenario;
 use convoy_seek::seek;

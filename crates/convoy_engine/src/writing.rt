@@ -1,25 +1,10 @@
-ghost use Rattle.std.specs.Prelude.{◌<◌, length, MatchResult};
-ghost use Rattle.convoy_engine.specs.Devices.{Failed, HasRun};
+ghost use Rattle.convoy_devices.specs.Devices.{HasRun};
 ghost use Rattle.convoy_engine.specs.Replies.{reply_of};
 ghost use Rattle.convoy_engine.specs.Runs.{WritesReply};
-ghost use Rattle.convoy_engine.specs.Writes.{WritesAll, FailsWithin, WritesPiece};
 
-use super::device::{DeviceFailed, Sink};
 use super::done::Done;
 use super::fault::Fault;
-
-/// Writes a text, in as many calls as the sink needs. Where the sink fails, or takes none of the
-/// bytes offered, a front of the text has gone out.
-pub fn write_all<K: Sink>(sink: &mut K, text: &[u8]) -> Result<(), DeviceFailed>
-    ensures { HasRun K.writes sink.old sink.new
-        (λ answers. MatchResult result (λ _. WritesAll text.now answers) (λ _. FailsWithin text.now answers)) }
-{
-    let mut rest = text;
-    while !rest.is_empty() {
-        rest = write_piece(sink, rest)?;
-    }
-    Ok(())
-}
+use convoy_devices::{DeviceFailed, Sink, write_all};
 
 /// Writes what a command answers. Where that is a fault nothing is written; `Fault::Write` where the
 /// sink fails.
@@ -35,17 +20,4 @@ pub(crate) fn write_reply<K: Sink>(
         Ok(()) => Ok(done),
         Err(DeviceFailed) => Err(Fault::Write),
     }
-}
-
-/// One write. It answers the bytes that are left.
-fn write_piece<'a, K: Sink>(sink: &mut K, bytes: &'a [u8]) -> Result<&'a [u8], DeviceFailed>
-    requires { 0 < length bytes.now }
-    ensures { MatchResult result (λ rest. WritesPiece K.writes sink.old bytes.now rest.now sink.new)
-        (λ _. K.writes sink.old Failed sink.new) }
-{
-    let count = sink.write(bytes)?;
-    if count == 0 {
-        return Err(DeviceFailed);
-    }
-    Ok(&bytes[count..])
 }

@@ -1,14 +1,9 @@
-//! Devices that fail, that are slow, and that are good.
+//! Commands over devices that fail, and over slow ones.
 
 use super::fixture::{Asked, READS, run, told_of};
 use super::texts::{BASE, CERTIFICATE_OF_BASE, FIRST_OF_BASE};
-use crate::{
-    DEFAULT_LIMIT, DeviceFailed, Done, Fault, Sink, SliceSource, Source, StreamSink, StreamSource,
-    VecSink,
-};
+use crate::{DEFAULT_LIMIT, DeviceFailed, Done, Fault, Sink, SliceSource, Source, VecSink};
 use std::alloc::{AllocError, Global};
-use std::io;
-use std::io::{ErrorKind, Read};
 use std::sync::Wait;
 use std::test::Fail;
 use std::thread::Threads;
@@ -50,23 +45,6 @@ impl Sink for FailingSink {
         }
         self.good -= 1;
         self.inner.write(bytes)
-    }
-}
-
-/// A reader that the system interrupts some times before it gives its bytes.
-#[derive(Drop)]
-struct InterruptedReader<'a> {
-    rest: &'a [u8],
-    interrupts: u32,
-}
-
-impl<'a> Read for InterruptedReader<'a> {
-    fn read(&mut self, buffer: &mut [u8]) -> io::Result<usize> {
-        if self.interrupts > 0 {
-            self.interrupts -= 1;
-            return Err(io::Error::from(ErrorKind::Interrupted));
-        }
-        self.rest.read(buffer)
     }
 }
 
@@ -158,40 +136,6 @@ fn failing_devices(rt: HostRuntime) {
             assert!(rt; failed, "{asked:?} at {good}");
         }
     }
-}
-
-/// An interrupted read and the one after it are one read: the text and its end are two.
-#[test]
-fn interrupted_reads(rt: HostRuntime) -> Result<(), Fail> {
-    let reader = InterruptedReader {
-        rest: BASE.as_bytes(),
-        interrupts: 2,
-    };
-    let (done, told) = told_of(
-        &rt,
-        rt.alloc(),
-        Asked::First,
-        &mut StreamSource { reader },
-        2,
-    )?;
-    assert_eq!(rt; done, Some(Done::Fine));
-    assert_eq!(rt; told.as_slice(), FIRST_OF_BASE.as_bytes());
-    Ok(())
-}
-
-/// Streams that do not fail are not told as failed: no clause says when one does.
-#[test]
-fn good_streams(rt: HostRuntime) -> Result<(), Fail> {
-    let mut source = StreamSource {
-        reader: BASE.as_bytes(),
-    };
-    let mut sink = StreamSink {
-        writer: Vec::new(rt.alloc()),
-    };
-    let ended = run(&rt, rt.alloc(), Asked::First, &mut source, &mut sink, READS);
-    assert!(rt; matches!(ended, Ok(Done::Fine)));
-    assert_eq!(rt; sink.writer.as_slice(), FIRST_OF_BASE.as_bytes());
-    Ok(())
 }
 
 /// For each allocation that fails in turn (`rt try --test --fail-alloc 1..`).

@@ -1,8 +1,7 @@
 use Rattle.std.proofs.Common.{[], arith, lit<, refl}
 use Rattle.std.proofs.lemmas.Bool.{eqb-true}
 use Rattle.std.proofs.lemmas.Result.{err_from_is_err_and}
-use Rattle.convoy_engine.proofs.BatchRuns.{by_end, by_failure, by_fault, by_reads, in_piece, no_blocks}
-use Rattle.convoy_engine.proofs.Pieces.{no_pieces, one_more_piece}
+use Rattle.convoy_engine.proofs.BatchRuns.{by_end, by_failure, by_fault, by_reads, in_piece, no_blocks, nothing_read, one_more_read}
 use Rattle.convoy_engine.proofs.batch.run_batch.Goals as goal
 
 pub returns-in_err-batch : goal.returns-in_err-batch
@@ -13,7 +12,7 @@ returns-in_err-batch g c =
 pub loop-init : goal.loop-init
 loop-init g c = record {
   bytes = [];
-  moved = no_pieces _ _;
+  moved = nothing_read _ _;
   under = record {
     ready = record { wrote = no_blocks _ _ _; next = c.in_ok-batch.ensures.number; few = lit< tt };
     after = c.in_ok-batch.ensures.after;
@@ -42,14 +41,14 @@ returns-in_err-take_piece g c =
     let so_far = c.loop.invariant in
     let returned = err_from_is_err_and c.from_residual-in_err-take_piece.result c.from_residual-in_err-take_piece.ensures.1 in
     rw (returned.1, returned.2)
-    (in_piece _ _ _ _ _ _ _ _ _ _ _ _ so_far.moved so_far.under (rw c.most_reads-most_reads.ensures at c.loop-test.true) _ _ _ c.in-Ok.ensures (grind arith) (c.in_err-take_piece.ensures _ _ so_far.under))
+    (in_piece _ _ _ _ _ _ _ _ _ _ _ _ so_far.moved so_far.under (rw c.most_reads-most_reads.ensures at c.loop-test.true) c.pieces_go_on.ensures _ _ _ c.in-Ok.ensures (grind arith) (c.in_err-take_piece.ensures _ _ so_far.under))
 
 pub loop-preserved : goal.loop-preserved
 loop-preserved g c =
     let so_far = c.loop.invariant in
     record {
       bytes = _;
-      moved = one_more_piece _ _ _ _ _ _ _ so_far.moved c.in-Ok.ensures (grind arith);
+      moved = one_more_read c.pieces_go_on.ensures _ _ _ _ _ _ _ so_far.moved c.in-Ok.ensures (grind arith);
       under = c.in_ok-take_piece.ensures _ _ so_far.under;
     }
 

@@ -1,8 +1,23 @@
-use Rattle.std.proofs.Common.{refl}
+use Rattle.std.proofs.Common.{[], refl}
+use Rattle.std.proofs.lemmas.Result.{err_from_is_err_and}
 use Rattle.convoy_engine.specs.declared.fault.Fault.TheVariants.{Write}
 use Rattle.convoy_engine.proofs.CommandTexts.{says_number}
-use Rattle.convoy_engine.proofs.Refusals.{replied_run}
+use Rattle.convoy_engine.proofs.Refusals.{replied_run, unread_run}
 use Rattle.convoy_engine.proofs.command.run_without_search.Goals as goal
+
+pub returns-in_err-text : goal.returns-in_err-text
+returns-in_err-text g c =
+    let read = c.in_err-text.ensures in
+    let returned = err_from_is_err_and c.from_residual.result c.from_residual.ensures.1 in
+    rw (returned.1, returned.2)
+    (record {
+      reads = read.answers;
+      writes = [];
+      read = read.calls;
+      few = read.says.0;
+      wrote = refl;
+      outcome = unread_run _ _ _ _ _ (rw c.longest_of.ensures at read.says.1);
+    })
 
 pub returns : goal.returns
 returns g c =

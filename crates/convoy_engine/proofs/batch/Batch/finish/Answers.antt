@@ -1,6 +1,6 @@
 use Rattle.std.proofs.Common.{[], ◌∷◌, sym, ◌∙◌, append_assoc}
 use Rattle.std.proofs.lemmas.Result.{err_from_is_err_and}
-use Rattle.convoy_engine.specs.declared.reading.TheConstants.{LONGEST_JOB}
+use Rattle.convoy_engine.specs.declared.limits.TheConstants.{LONGEST_JOB}
 use Rattle.convoy_engine.proofs.Blocks.{last_answered, last_stops}
 use Rattle.convoy_engine.proofs.batch.Batch.finish.Goals as goal
 

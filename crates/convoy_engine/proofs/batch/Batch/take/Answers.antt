@@ -1,4 +1,4 @@
-use Rattle.convoy_engine.specs.declared.reading.TheConstants.{LONGEST_JOB}
+use Rattle.convoy_engine.specs.declared.limits.TheConstants.{LONGEST_JOB}
 use Rattle.convoy_engine.proofs.Blocks.{job_ended}
 use Rattle.convoy_engine.proofs.batch.Batch.take.Goals as goal
 

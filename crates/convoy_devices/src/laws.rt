@@ -1,0 +1,10 @@
+//! The laws of devices. Each is the one clause of a function that does nothing; a caller that needs the
+//! law calls the function.
+
+ghost use Rattle.convoy_devices.specs.Laws.{PiecesGoOn};
+
+/// If each call moved a piece, and one call more moves some bytes, then each has moved a piece, and
+/// together they moved what was moved before and then those bytes.
+pub fn pieces_go_on()
+    ensures { PiecesGoOn }
+{}

@@ -1,0 +1,10 @@
+//! How a search runs: settings that are tested once.
+#![tactic(auto)]
+
+pub use options::{
+    DEFAULT_LIMIT, DEFAULT_SIMULATIONS, MOST_SIMULATIONS, MOST_TICKETS, MOST_WORKERS, Options,
+};
+
+mod options;
+#[cfg(test)]
+mod tests;

@@ -1,0 +1,161 @@
+ghost use Rattle.std.specs.Prelude.{◌≡◌, ◌↔◌, ◌≤◌, min, IfSome, IsSome};
+ghost use Rattle.convoy_branch.specs.SearchBounds.{most_nodes};
+ghost use Rattle.convoy_branch.specs.declared.bounds.Bounds.TheVariants.{Plain};
+ghost use Rattle.convoy_options.specs.Options.{AreSettings};
+
+use convoy_branch::Bounds;
+use convoy_certificate::MOST_NODES;
+use std::marker::Model;
+
+/// How many workers a search has at most.
+pub const MOST_WORKERS: u32 = 16;
+
+/// How many tickets a search by plain or stamp bounds spends at most. A certificate has a node for
+/// each, and so no more than are read.
+pub const MOST_TICKETS: u64 = MOST_NODES as u64;
+
+/// How many tickets a search spends at most where the user asks for no other limit.
+pub const DEFAULT_LIMIT: u64 = 1_000_000;
+
+/// How many schedules are simulated at most before a search, to find a good one to start from.
+pub const MOST_SIMULATIONS: u64 = 1_000_000;
+
+/// How many schedules are simulated at most before a search where the user asks for no other number.
+pub const DEFAULT_SIMULATIONS: u64 = 20_000;
+
+/// How a search runs: its workers, from 1 to [`MOST_WORKERS`]; its limit of tickets, from 1 to
+/// [`MOST_TICKETS`], or by leads to as many as lead leaves are read; how many schedules are simulated
+/// at most to find a good one to start from, up to [`MOST_SIMULATIONS`]; how many reads of the input
+/// are made at most; and by what it closes boxes.
+#[derive(Clone, Copy, Debug)]
+pub struct Options {
+    workers: u32,
+    limit: u64,
+    simulations: u64,
+    most_reads: u64,
+    bounds: Bounds,
+}
+
+impl Model for Options {
+    ghost use Rattle.convoy_options.specs.Options.{AreSettings, Settings};
+
+    ghost Value = { Settings };
+
+    ghost view = { λ o. record {
+      workers = o.workers;
+      limit = o.limit;
+      simulations = o.simulations;
+      most_reads = o.most_reads;
+      bounds = o.bounds;
+    } };
+
+    ghost inverse = { λ s. record {
+      workers = s.workers;
+      limit = s.limit;
+      simulations = s.simulations;
+      most_reads = s.most_reads;
+      bounds = s.bounds;
+    } };
+
+    ghost invariant = { λ o. AreSettings (record {
+      workers = o.workers;
+      limit = o.limit;
+      simulations = o.simulations;
+      most_reads = o.most_reads;
+      bounds = o.bounds;
+    }) };
+}
+
+impl Options {
+    /// Options of these numbers, of a search by plain bounds that starts from the least delays; none
+    /// where the workers or the limit are out of range.
+    pub fn new(workers: u32, limit: u64, most_reads: u64) -> Option<Options>
+        ensures range { IsSome result ↔ AreSettings (record {
+          workers = workers;
+          limit = limit;
+          simulations = 0;
+          most_reads = most_reads;
+          bounds = Plain;
+        }) }
+        ensures value { IfSome result (λ options. options ≡ record {
+          workers = workers;
+          limit = limit;
+          simulations = 0;
+          most_reads = most_reads;
+          bounds = Plain;
+        }) }
+    {
+        if workers < 1 || workers > MOST_WORKERS || limit < 1 || limit > MOST_TICKETS {
+            return None;
+        }
+        Some(Options {
+            workers,
+            limit,
+            simulations: 0,
+            most_reads,
+            bounds: Bounds::Plain,
+        })
+    }
+
+    /// The same options, of a search that starts from the best schedule that so many simulations
+    /// find. The number is at most [`MOST_SIMULATIONS`], which it requires.
+    pub fn seeking(self, simulations: u64) -> Options
+        requires { simulations ≤ MOST_SIMULATIONS }
+        ensures { result ≡ record self { simulations = simulations } }
+    {
+        Options {
+            simulations,
+            ..self
+        }
+    }
+
+    /// The same options, of a search by those bounds, or by leads. It spends no more tickets than
+    /// nodes are read for sure, whatever they are: a greater limit is lowered to that number.
+    pub fn going_by(self, bounds: Bounds) -> Options
+        ensures { result ≡ record self { limit = min self.limit (most_nodes bounds); bounds = bounds } }
+    {
+        Options {
+            limit: self.limit.min(bounds.most_nodes() as u64),
+            bounds,
+            ..self
+        }
+    }
+
+    /// How many workers search.
+    pub fn workers(&self) -> u32
+        ensures value { result ≡ self.now.workers }
+        ensures lawful { AreSettings self.now }
+    {
+        self.workers
+    }
+
+    /// How many tickets are spent at most.
+    pub fn limit(&self) -> u64
+        ensures value { result ≡ self.now.limit }
+        ensures lawful { AreSettings self.now }
+    {
+        self.limit
+    }
+
+    /// How many schedules are simulated at most before the search.
+    pub fn simulations(&self) -> u64
+        ensures { result ≡ self.now.simulations }
+    {
+        self.simulations
+    }
+
+    /// How many reads are made at most.
+    pub fn most_reads(&self) -> u64
+        ensures { result ≡ self.now.most_reads }
+    {
+        self.most_reads
+    }
+
+    /// By what the search closes boxes.
+    pub fn bounds(&self) -> Bounds
+        ensures value { result ≡ self.now.bounds }
+        ensures lawful { AreSettings self.now }
+    {
+        self.bounds
+    }
+}
