@@ -1,9 +1,7 @@
 //! Devices that are slow, that are interrupted, and that are good. What a failing one does to a command
 //! is tested where the commands are.
 
-use crate::{
-    ReadFault, SliceSource, StreamSink, StreamSource, VecSink, read_to_end, write_all,
-};
+use crate::{ReadFault, SliceSource, StreamSink, StreamSource, VecSink, read_to_end, write_all};
 use std::alloc::Global;
 use std::io;
 use std::io::{ErrorKind, Read};
@@ -62,7 +60,10 @@ fn stopped_reading(rt: HostRuntime) {
         (1, 12, 0, ReadFault::TooManyReads),
     ] {
         let ended = read_in_pieces(rt.alloc(), piece, longest, reads);
-        assert!(rt; matches!(ended, Err(fault) if fault == want), "{piece} {longest} {reads}");
+        assert!(rt;
+            matches!(ended, Err(fault) if fault == want),
+            "{piece} {longest} {reads}"
+        );
     }
 }
 
