@@ -4,11 +4,11 @@ use super::tree_hints::hint_for_refusal;
 use convoy_certificate::{TextFault, read};
 use convoy_lines::LineReader;
 use convoy_scenario::ScenarioFault;
-use convoy_scenario_lines::Expected;
 use convoy_scenario_hints::{
     Quoted, hint_for_bytes, hint_for_damage, hint_for_schedule, hint_for_sketch,
     is_meant_as_scenario, with_label,
 };
+use convoy_scenario_lines::Expected;
 use std::alloc::{AllocError, Global};
 
 /// Why a certificate is refused, in one line `hint: ..`: by its text, which may have been cut where it

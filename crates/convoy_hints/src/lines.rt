@@ -1,7 +1,7 @@
 use convoy_lines::LineReader;
 use convoy_scenario::Scenario;
-use convoy_scenario_lines::{Version, read_lines};
 use convoy_scenario_hints::{Link, Multicast, Part, PartKind, Sketch};
+use convoy_scenario_lines::{Version, read_lines};
 use std::alloc::{AllocError, Global};
 
 /// The scenario that stands in the lines of a certificate; what is not of its form is left out.

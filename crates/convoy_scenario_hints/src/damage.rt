@@ -19,11 +19,7 @@ pub fn hint_for_damage(alloc: Global, text: &[u8]) -> Result<Option<String>, All
 
 /// Where the bytes of a text are not UTF-8, after the first `offset` of them, which are: the line, from 1.
 /// The label of a hint is not in it.
-pub fn hint_for_bytes(
-    alloc: Global,
-    text: &[u8],
-    offset: usize,
-) -> Result<String, AllocError> {
+pub fn hint_for_bytes(alloc: Global, text: &[u8], offset: usize) -> Result<String, AllocError> {
     if text.starts_with(&[0xFF, 0xFE]) || text.starts_with(&[0xFE, 0xFF]) {
         return String::from_str(
             alloc,

@@ -51,10 +51,7 @@ fn hint_for_input(alloc: Global, input: Input) -> Result<Option<String>, AllocEr
 }
 
 /// A hint as a line of its own, `hint: ` before it and byte 10 at its end; None where there is none.
-pub fn with_label(
-    alloc: Global,
-    hint: Option<String>,
-) -> Result<Option<String>, AllocError> {
+pub fn with_label(alloc: Global, hint: Option<String>) -> Result<Option<String>, AllocError> {
     match hint {
         Some(hint) => Ok(Some(format!(in alloc; "hint: {hint}\n")?)),
         None => Ok(None),

@@ -171,8 +171,16 @@ fn inputs(rt: HostRuntime) {
         ("a = 1\n", false, false),
         ("groups = [\n", false, false),
     ] {
-        assert_eq!(rt; begins_as_certificate(text.as_bytes()), is_certificate, "at {text}");
-        assert_eq!(rt; is_meant_as_scenario(alloc, text.as_bytes()), is_scenario, "at {text}");
+        assert_eq!(rt;
+            begins_as_certificate(text.as_bytes()),
+            is_certificate,
+            "at {text}"
+        );
+        assert_eq!(rt;
+            is_meant_as_scenario(alloc, text.as_bytes()),
+            is_scenario,
+            "at {text}"
+        );
     }
 }
 

@@ -42,7 +42,10 @@ pub(super) fn bent(alloc: Global, text: &str, old: &str, new: &str) -> Result<St
 }
 
 /// What is hinted after `hint: `; the empty text where there is no hint, or memory ran out.
-pub(super) fn told(alloc: Global, hint: Result<Option<String>, AllocError>) -> Result<String, AllocError> {
+pub(super) fn told(
+    alloc: Global,
+    hint: Result<Option<String>, AllocError>,
+) -> Result<String, AllocError> {
     let hint = hint?.unwrap_or(String::new(alloc));
     match hint.as_str().strip_prefix("hint: ") {
         Some(line) => String::from_str(alloc, line.trim_end()),
