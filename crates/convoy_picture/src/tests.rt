@@ -71,17 +71,21 @@ fn words_of_base(rt: HostRuntime) -> Result<(), Fail> {
     let (scenario, picture) = picture_of(rt.alloc(), BASE)?;
     let answer = answer_words(rt.alloc(), &scenario, picture.why())?;
     assert_eq!(rt; answer.as_str(), "t at a: at worst 12 ticks");
-    let packet = flight_words(rt.alloc(), &scenario, &picture.flights()[5])?;
+    let flights = picture.flights();
+    assert_eq!(rt; flights.len(), 8);
+    let packet = flight_words(rt.alloc(), &scenario, &flights[5])?;
     assert_eq!(rt;
         packet.as_str(),
         "packet 5: y from a to b, sent at tick 6, there at tick 9"
     );
-    let proposal = flight_words(rt.alloc(), &scenario, &picture.flights()[7])?;
+    let proposal = flight_words(rt.alloc(), &scenario, &flights[7])?;
     assert_eq!(rt;
         proposal.as_str(),
         "packet 7: proposal of y from b to a, sent at tick 9, there at tick 12"
     );
-    let first = entry_words(rt.alloc(), &scenario, &picture.entries()[0])?;
+    let entries = picture.entries();
+    assert_eq!(rt; entries.len(), 15);
+    let first = entry_words(rt.alloc(), &scenario, &entries[0])?;
     assert_eq!(rt; first.as_str(), "x arrives at b at tick 3 with stamp 1.b");
     Ok(())
 }
