@@ -17,4 +17,4 @@ pub use convoy_share as share;
 pub use convoy_sim as sim;
 pub use convoy_stamps as stamps;
 pub use convoy_timeline as timeline;
-pub use convoy_toml as toml;
+pub use convoy_toml as scenario_toml;

@@ -4,8 +4,8 @@ ghost use Rattle.convoy_uses.specs.Answers.{latency_given};
 
 use super::fault::Fault;
 use convoy_library::packets::{Delays, PacketTable};
+use convoy_library::scenario_toml::read_toml;
 use convoy_library::sim::latency;
-use convoy_library::toml::read_toml;
 use std::alloc::Global;
 
 /// The latency, in ticks, of a scenario text under a schedule: the delay of each packet in ticks, in

@@ -9,7 +9,7 @@ use convoy_library::checker::Refused;
 use convoy_library::packets::ListFault;
 use convoy_library::scenario::{Limit, Scenario, ScenarioFault};
 use convoy_library::scenario_lines::Expected;
-use convoy_library::toml::read_toml;
+use convoy_library::scenario_toml::read_toml;
 use std::alloc::Global;
 use std::test::Fail;
 
