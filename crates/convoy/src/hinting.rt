@@ -4,10 +4,14 @@
 use super::judge::Verdict;
 use super::kept::{KeptReader, KeptWriter};
 use super::{NOT_VALID, OPEN, REJECTED};
-use convoy_engine::{Bounds, Command, Fault, LONGEST_CERTIFICATE, LONGEST_JOB, MOST_JOBS};
+use convoy_engine::{
+    Bounds, Command, Fault, LONGEST_CERTIFICATE, LONGEST_JOB, MOST_JOBS, Ways, lead_share,
+    plain_share,
+};
 use convoy_hints::{
-    hint_for_batch, hint_for_certificate, hint_for_jobs, hint_for_leads, hint_for_length,
-    hint_for_reading, hint_for_scenario, hint_for_tickets, hint_for_words, hint_for_writing,
+    hint_for_batch, hint_for_both, hint_for_certificate, hint_for_jobs, hint_for_leads,
+    hint_for_length, hint_for_limit, hint_for_reading, hint_for_scenario, hint_for_tickets,
+    hint_for_words, hint_for_writing,
 };
 use std::alloc::{AllocError, Global};
 use std::convert::AsStr;
@@ -54,7 +58,7 @@ pub fn hint_for<R, W>(
             let (reader, line) = (ended.reader, ended.writer.text());
             hint_for_certificate(alloc, reader.text(), reader.is_whole(), line)
         }
-        Ok(OPEN) => hint_for_open(alloc, ended.verdict),
+        Ok(OPEN) => hint_for_open(alloc, ended.verdict, ended.words),
         Ok(_) => hint_for_answer(alloc, ended),
         Err(Fault::Memory | Fault::TooManyReads) => Ok(None),
         Err(Fault::Read) => match ended.reader.failure() {
@@ -77,17 +81,37 @@ pub fn hint_for<R, W>(
 }
 
 /// The hint for a search that did not end.
-fn hint_for_open(alloc: Global, verdict: &Verdict) -> Result<Option<String>, AllocError> {
+fn hint_for_open<S: AsStr>(
+    alloc: Global,
+    verdict: &Verdict,
+    words: &[S],
+) -> Result<Option<String>, AllocError> {
     let Verdict::Run(Command::Analyse(options) | Command::Latency(options)) = verdict else {
         return Ok(None);
     };
     let tickets = options.limit();
-    let bounds = options.bounds();
-    let hint = match bounds {
-        Bounds::Plain | Bounds::Stamp => hint_for_leads(alloc, tickets)?,
-        Bounds::Lead => hint_for_tickets(alloc, tickets, bounds.most_nodes() as u64)?,
+    let hint = match options.ways() {
+        Ways::One(Bounds::Plain) if !names_bounds(words) => hint_for_limit(alloc, tickets)?,
+        Ways::One(Bounds::Plain | Bounds::Stamp) => hint_for_leads(alloc, tickets)?,
+        Ways::One(Bounds::Lead) => hint_for_tickets(
+            alloc,
+            tickets,
+            Bounds::Lead.most_nodes() as u64,
+        )?,
+        Ways::Both if lead_share(tickets) == 0 => hint_for_leads(alloc, tickets)?,
+        Ways::Both => {
+            let (by_plain, by_leads) = (plain_share(tickets), lead_share(tickets));
+            hint_for_both(alloc, by_plain, by_leads, Bounds::Lead.most_nodes() as u64)?
+        }
     };
     Ok(Some(hint))
+}
+
+/// Whether the command line names bounds.
+fn names_bounds<S: AsStr>(words: &[S]) -> bool {
+    words
+        .iter()
+        .any(|word| word.as_str().starts_with("--bounds"))
 }
 
 /// The hint for a run that gave its answer: the blocks of a batch have the faults of its jobs.

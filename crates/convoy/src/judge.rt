@@ -8,7 +8,7 @@ use clap::error::ErrorKind;
 use clap::{Arg, ArgAction, ArgMatches, Error, value_parser};
 use convoy_engine::{
     Bounds, Command, DEFAULT_LIMIT, DEFAULT_SIMULATIONS, MOST_SIMULATIONS, MOST_TICKETS,
-    MOST_WORKERS, Options,
+    MOST_WORKERS, Options, Ways,
 };
 use std::alloc::{AllocError, Global};
 use std::convert::AsStr;
@@ -148,8 +148,8 @@ ticks, over all schedules. Or else:
   refused NUMBER TEXT
 This is the first fault for which it is refused.
 
-A certificate is text, and its first line is 'convoy 1'. Whoever made it need
-not be trusted.";
+A certificate is text, and its first line is 'convoy 1', 'convoy 2' or
+'convoy 3'. Whoever made it need not be trusted.";
 
 const ABOUT_ANALYSE: &str = "Writes a certificate of the greatest latency";
 
@@ -165,7 +165,7 @@ Where the search spends all its tickets first, it writes two lines, and the exit
 status is 3: 'open LEAST MOST', the least and the most that the greatest latency
 may be, in ticks, and 'schedule', of a schedule that has the latency LEAST.
 LEAST is then most likely the greatest latency; MOST is safe to rely on. With
-`--bounds lead` the search mostly ends.";
+neither `--limit` nor `--bounds` the search mostly ends.";
 
 const ABOUT_LATENCY: &str = "Writes the greatest latency";
 
@@ -178,7 +178,7 @@ The command `analyse` runs the same search, and writes why it is so.
 Where the search spends all its tickets first, it writes 'open LEAST MOST', the
 least and the most that the greatest latency may be, and the exit status is 3.
 LEAST is then most likely the greatest latency; MOST is safe to rely on. With
-`--bounds lead` the search mostly ends.";
+neither `--limit` nor `--bounds` the search mostly ends.";
 
 const ABOUT_BATCH: &str = "Answers each of many scenarios as `latency` does";
 
@@ -193,17 +193,21 @@ block. Blocks are written as the scenarios come.";
 
 const ABOUT_LIMIT: &str = "\
 How many tickets the search spends at most, one for each set of schedules that it
-looks at: from 1 to 4000000";
+looks at: from 1 to 4000000. A limit without `--bounds` means plain bounds;
+without this option there are 1000000";
 
 const ABOUT_SEEK: &str = "\
 How many schedules are simulated at most to find a good one for the search to
 start from: from 0, for the schedule of the least delays, to 1000000";
 
 const ABOUT_BOUNDS: &str = "\
-By what the search closes sets of schedules: `plain` bounds, `stamp` bounds, or
-`lead`, which takes longest for each and mostly ends at once. A certificate of
-the form `convoy 2` or `convoy 3` may come of it, and with `lead` at most 100000
-tickets are spent";
+By what the search closes sets of schedules: `plain` bounds, `stamp` bounds,
+`lead`, which takes longest for each and mostly ends at once, or `best`: first
+plain bounds with at most 10000 tickets, and where that does not end, leads.
+That is also the way without this option and `--limit`. By leads at most 100000
+tickets are spent, and only by them may the certificate be of the form
+`convoy 3`; by plain bounds it is of the form `convoy 2` only where there are
+links";
 
 const ABOUT_WORKERS: &str = "\
 How many workers share the search, each in a thread of its own: from 1 to 16. The
@@ -281,26 +285,29 @@ fn options_of(given: &ArgMatches<'_>) -> Options
     let workers = given.get_one("workers").unwrap_or(1);
     let limit = given.get_one("limit").unwrap_or(DEFAULT_LIMIT);
     let simulations = given.get_one("seek").unwrap_or(DEFAULT_SIMULATIONS);
-    match Options::new(
+    let options = match Options::new(
         workers.clamp(1, MOST_WORKERS),
         limit.clamp(1, MOST_TICKETS),
         MOST_READS,
     ) {
-        Some(options) => {
-            options
-                .seeking(simulations.min(MOST_SIMULATIONS))
-                .going_by(bounds_of(given))
-        }
+        Some(options) => options.seeking(simulations.min(MOST_SIMULATIONS)),
         None => unreachable!(),
+    };
+    match ways_of(given) {
+        Ways::One(bounds) => options.going_by(bounds),
+        Ways::Both => options,
     }
 }
 
-/// The bounds by which the search goes.
-fn bounds_of(given: &ArgMatches<'_>) -> Bounds {
+/// By what the search goes: by the bounds that are named; without a name both ways, but with a limit by
+/// plain bounds.
+fn ways_of(given: &ArgMatches<'_>) -> Ways {
     match given.get_str("bounds") {
-        Some("stamp") => Bounds::Stamp,
-        Some("lead") => Bounds::Lead,
-        _ => Bounds::Plain,
+        Some("plain") => Ways::One(Bounds::Plain),
+        Some("stamp") => Ways::One(Bounds::Stamp),
+        Some("lead") => Ways::One(Bounds::Lead),
+        None if given.get_one::<u64>("limit").is_some() => Ways::One(Bounds::Plain),
+        _ => Ways::Both,
     }
 }
 
@@ -399,7 +406,6 @@ fn limit_argument<'a>(alloc: Global) -> Arg<'a> {
         .long("limit")
         .value_name("N")
         .value_parser(value_parser!(u64).range(1..=4_000_000))
-        .default_value("1000000")
         .help(ABOUT_LIMIT)
 }
 
@@ -418,8 +424,7 @@ fn bounds_argument<'a>(alloc: Global) -> Arg<'a> {
     Arg::new(alloc, "bounds")
         .long("bounds")
         .value_name("KIND")
-        .value_parser(["plain", "stamp", "lead"].as_slice())
-        .default_value("plain")
+        .value_parser(["plain", "stamp", "lead", "best"].as_slice())
         .help(ABOUT_BOUNDS)
 }
 
@@ -458,6 +463,3 @@ fn rejection(alloc: Global, error: &Error) -> Verdict
         Err(_) => Verdict::Memory,
     }
 }
-
-#[cfg(test)]
-mod tests;

@@ -118,6 +118,3 @@ impl<W: Write> Write for KeptWriter<W> {
         self.writer.flush()
     }
 }
-
-#[cfg(test)]
-mod tests;

@@ -17,7 +17,7 @@ use convoy_engine::{
 use hinting::{Ended, greeting, hint_for, is_quiet, write_line};
 use judge::{Verdict, judge, judge_bytes};
 use kept::{KeptReader, KeptWriter};
-use progress::{Progress, bounds_of, screen_for};
+use progress::{Progress, screen_for};
 use std::alloc::Global;
 use std::io::{ErrorKind, IsTerminal};
 use std::process::ExitCode;
@@ -60,7 +60,7 @@ fn main(rt: HostRuntime) -> ExitCode {
         writer: KeptWriter::new(alloc, rt.stdout()),
     };
     let screen = screen_for(&words, rt.stderr().is_terminal());
-    let progress = Progress::new(&rt, alloc, rt.stderr(), screen, bounds_of(&verdict));
+    let progress = Progress::new(&rt, alloc, rt.stderr(), screen);
     let result = obey(&rt, alloc, &verdict, &mut source, &mut sink, &progress);
     let status = match &result {
         Ok(status) => *status,

@@ -1,7 +1,6 @@
 //! How far a long search has come, told on standard error.
 
-use super::judge::Verdict;
-use convoy_engine::{Bounds, Command, Gate, Watch};
+use convoy_engine::{Bounds, Gate, Watch};
 use std::alloc::{AllocError, Global};
 use std::convert::AsStr;
 use std::io::{Stderr, Write};
@@ -11,7 +10,7 @@ use std::time::Clock;
 /// How many milliseconds pass before a search is told of, and then from one line to the next.
 const PAUSE: u64 = 1_000;
 
-/// How many branches a worker takes up between two looks at the clock, less 1.
+/// How many branches a worker takes up between two looks at the clock, where they are quick, less 1.
 const FEW: u64 = 1_023;
 
 /// Where progress is told.
@@ -38,14 +37,6 @@ pub fn screen_for<S: AsStr>(words: &[S], is_terminal: bool) -> Screen {
     }
 }
 
-/// By what the search of a verdict closes boxes.
-pub fn bounds_of(verdict: &Verdict) -> Bounds {
-    match verdict {
-        Verdict::Run(Command::Analyse(options) | Command::Latency(options)) => options.bounds(),
-        _ => Bounds::Plain,
-    }
-}
-
 /// Tells on standard error how far a search has come, once a second.
 #[derive(Drop)]
 pub struct Progress<'a, R> {
@@ -53,8 +44,10 @@ pub struct Progress<'a, R> {
     alloc: Global,
     stderr: Stderr,
     screen: Screen,
-    /// Of how many branches of a worker one is counted, less 1: one less than a power of two.
-    skipped: u64,
+    /// Whether the search goes by stamp bounds.
+    by_stamps: AtomicBool,
+    /// Whether it goes by leads.
+    by_leads: AtomicBool,
     /// When the search began, in milliseconds of the clock.
     begun: AtomicU64,
     /// When the next line is due.
@@ -70,24 +63,15 @@ pub struct Progress<'a, R> {
 }
 
 impl<'a, R: Clock> Progress<'a, R> {
-    /// Progress of that command on that screen.
-    pub fn new(
-        rt: &'a R,
-        alloc: Global,
-        stderr: Stderr,
-        screen: Screen,
-        bounds: Bounds,
-    ) -> Progress<'a, R> {
-        let skipped = match bounds {
-            Bounds::Lead => 0,
-            Bounds::Plain | Bounds::Stamp => FEW,
-        };
+    /// Progress of a search on that screen.
+    pub fn new(rt: &'a R, alloc: Global, stderr: Stderr, screen: Screen) -> Progress<'a, R> {
         Progress {
             rt,
             alloc,
             stderr,
             screen,
-            skipped,
+            by_stamps: AtomicBool::new(false),
+            by_leads: AtomicBool::new(false),
             begun: AtomicU64::new(0),
             due: AtomicU64::new(0),
             spent: AtomicU64::new(0),
@@ -103,6 +87,41 @@ impl<'a, R: Clock> Progress<'a, R> {
         match self.rt.monotonic() {
             Ok(time) => u64::try_from(time.as_millis()).unwrap_or(u64::MAX),
             Err(_) => 0,
+        }
+    }
+
+    /// Begins to count anew, for a search by those bounds.
+    fn start(&self, bounds: Bounds, limit: u64, least: u32, most: u32) {
+        let now = self.now();
+        self.begun.store(now, Ordering::Relaxed);
+        self.due.store(now.saturating_add(PAUSE), Ordering::Relaxed);
+        self.by_stamps
+            .store(bounds == Bounds::Stamp, Ordering::Relaxed);
+        self.by_leads
+            .store(bounds == Bounds::Lead, Ordering::Relaxed);
+        self.spent.store(0, Ordering::Relaxed);
+        self.limit.store(limit, Ordering::Relaxed);
+        self.least.store(least, Ordering::Relaxed);
+        self.most.store(most, Ordering::Relaxed);
+    }
+
+    /// Of how many branches of a worker one is counted, less 1: one less than a power of two.
+    fn skipped(&self) -> u64 {
+        if self.by_leads.load(Ordering::Relaxed) {
+            0
+        } else {
+            FEW
+        }
+    }
+
+    /// By what the search goes, in words.
+    fn way(&self) -> &'static str {
+        if self.by_leads.load(Ordering::Relaxed) {
+            "by leads"
+        } else if self.by_stamps.load(Ordering::Relaxed) {
+            "by stamp bounds"
+        } else {
+            "by plain bounds"
         }
     }
 
@@ -134,39 +153,40 @@ impl<'a, R: Clock> Progress<'a, R> {
             Screen::Stream | Screen::Off => ("", "\n"),
         };
         let tickets = if limit == 1 { "ticket" } else { "tickets" };
+        let way = self.way();
         if most == u32::MAX {
             let ticks = if least == 1 { "tick" } else { "ticks" };
             return format!(in self.alloc;
-                "{start}{spent} of {limit} {tickets}, {rate} a second; at least {least} {ticks}{end}"
+                "{start}{spent} of {limit} {tickets} {way}, {rate} a second; at least {least} {ticks}{end}"
             );
         }
         format!(in self.alloc;
-            "{start}{spent} of {limit} {tickets}, {rate} a second; between {least} and {most} ticks{end}"
+            "{start}{spent} of {limit} {tickets} {way}, {rate} a second; between {least} and {most} ticks{end}"
         )
     }
 }
 
 impl<'a, R: Clock> Gate for Progress<'a, R> {
     fn before_branch(&self, worker: u32, nth: u64) {
-        if self.screen == Screen::Off || nth & self.skipped != 0 {
+        let skipped = self.skipped();
+        if self.screen == Screen::Off || nth & skipped != 0 {
             return;
         }
-        let counted = self.skipped.saturating_add(1);
+        let counted = skipped.saturating_add(1);
         let spent = self.spent.fetch_add(counted, Ordering::Relaxed);
         if worker == 0 {
             self.tell(spent.saturating_add(counted));
         }
     }
+
+    fn begins_anew(&self, bounds: Bounds, limit: u64, least: u32, most: u32) {
+        self.start(bounds, limit, least, most);
+    }
 }
 
 impl<'a, R: Clock> Watch for Progress<'a, R> {
-    fn begins(&self, limit: u64, least: u32, most: Option<u32>) {
-        let now = self.now();
-        self.begun.store(now, Ordering::Relaxed);
-        self.due.store(now.saturating_add(PAUSE), Ordering::Relaxed);
-        self.limit.store(limit, Ordering::Relaxed);
-        self.least.store(least, Ordering::Relaxed);
-        self.most.store(most.unwrap_or(u32::MAX), Ordering::Relaxed);
+    fn begins(&self, bounds: Bounds, limit: u64, least: u32, most: Option<u32>) {
+        self.start(bounds, limit, least, most.unwrap_or(u32::MAX));
     }
 
     fn ends(&self) {

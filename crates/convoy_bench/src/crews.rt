@@ -1,13 +1,11 @@
 //! Compares searches by several workers with that of one, over and over.
 
-ghost use Rattle.std.specs.Prelude.{◌≡◌, ◌≤◌};
-ghost use Rattle.convoy_packets.specs.Table.{table_of};
+ghost use Rattle.std.specs.Prelude.{◌≤◌};
 
 use anyhow::{Result, bail};
 use convoy_branch::{Bounds, Outcome, search_alone};
 use convoy_checker::check;
-use convoy_packets::PacketTable;
-use convoy_scenario::Scenario;
+use convoy_packets::Instance;
 use convoy_share::{Gate, NoGate, search};
 use std::alloc::Global;
 use std::rt::Runtime;
@@ -37,13 +35,10 @@ impl Gate for Yielding {
 pub fn compare_crews<R: Runtime + Threads + Wait + Sync>(
     rt: &R,
     alloc: Global,
-    scenario: &Scenario,
-    table: &PacketTable,
+    instance: &Instance,
     turns: u32,
-) -> Result<()>
-    requires { table.now ≡ table_of scenario.now }
-{
-    let alone = search_alone(alloc, scenario, table, MANY, Bounds::Plain)?;
+) -> Result<()> {
+    let alone = search_alone(alloc, instance, MANY, Bounds::Plain)?;
     let Outcome::Proved { certificate, .. } = &alone else {
         bail!("the search of one worker is left open");
     };
@@ -53,8 +48,8 @@ pub fn compare_crews<R: Runtime + Threads + Wait + Sync>(
             seed: u64::from(turn),
         };
         for workers in [4u32, 16] {
-            compare_crew(rt, alloc, scenario, table, workers, &NoGate, latency)?;
-            compare_crew(rt, alloc, scenario, table, workers, &gate, latency)?;
+            compare_crew(rt, alloc, instance, workers, &NoGate, latency)?;
+            compare_crew(rt, alloc, instance, workers, &gate, latency)?;
         }
     }
     println!(rt; "{turns} turns: four searches each, all of latency {latency}")?;
@@ -66,17 +61,15 @@ pub fn compare_crews<R: Runtime + Threads + Wait + Sync>(
 fn compare_crew<R: Runtime + Threads + Wait + Sync, G: Gate + Sync>(
     rt: &R,
     alloc: Global,
-    scenario: &Scenario,
-    table: &PacketTable,
+    instance: &Instance,
     workers: u32,
     gate: &G,
     latency: u32,
 ) -> Result<()>
-    requires packets { table.now ≡ table_of scenario.now }
     requires workers { (1 ≤ workers) × (workers ≤ 16) }
 {
     let bounds = Bounds::Plain;
-    let Ok(outcome) = search(rt, alloc, scenario, table, workers, MANY, bounds, gate) else {
+    let Ok(outcome) = search(rt, alloc, instance, workers, MANY, bounds, gate) else {
         bail!("memory ran out");
     };
     let Outcome::Proved { certificate, .. } = &outcome else {

@@ -1,15 +1,12 @@
 //! Times tests by leads.
 
-ghost use Rattle.std.specs.Prelude.{◌≡◌};
-ghost use Rattle.convoy_packets.specs.Table.{table_of};
 ghost use Rattle.convoy_intervals.specs.Boxes.{IsBox};
 
 use super::timing::time_stamps;
 use anyhow::Result;
 use convoy_intervals::{DelayBox, bound};
-use convoy_leads::Leads;
-use convoy_packets::{Delays, PacketTable};
-use convoy_scenario::Scenario;
+use convoy_leads::closes_by_leads;
+use convoy_packets::{Delays, Instance};
 use convoy_sim::latency;
 use std::alloc::Global;
 use std::rt::Runtime;
@@ -21,20 +18,17 @@ use std::time::Instant;
 pub fn time_leads<R: Runtime>(
     rt: &R,
     alloc: Global,
-    scenario: &Scenario,
-    table: &PacketTable,
+    instance: &Instance,
     turns: u32,
-) -> Result<()>
-    requires { table.now ≡ table_of scenario.now }
-{
-    let root = DelayBox::root(alloc, table)?;
-    time_stamps(rt, alloc, scenario, table, &root, turns)?;
-    let least = latency(scenario, table, &Delays::least(alloc, table)?);
-    let most = bound(scenario, table, &root);
+) -> Result<()> {
+    let root = DelayBox::root(alloc, instance)?;
+    time_stamps(rt, alloc, instance, &root, turns)?;
+    let least = latency(instance, &Delays::least(alloc, instance.table())?);
+    let most = bound(instance, &root);
     let (mut tests, mut closed) = (0u32, 0u32);
     let (mut sum, mut worst) = (0u128, (0u128, least));
     for tested in least..=most {
-        let (closes, each) = time_test(rt, alloc, scenario, table, &root, tested, turns)?;
+        let (closes, each) = time_test(rt, alloc, instance, &root, tested, turns)?;
         tests = tests.wrapping_add(1);
         closed = closed.wrapping_add(u32::from(closes));
         sum = sum.saturating_add(each);
@@ -54,20 +48,17 @@ pub fn time_leads<R: Runtime>(
 fn time_test<R: Runtime>(
     rt: &R,
     alloc: Global,
-    scenario: &Scenario,
-    table: &PacketTable,
+    instance: &Instance,
     delay_box: &DelayBox,
     tested: u32,
     turns: u32,
 ) -> Result<(bool, u128)>
-    requires packets { table.now ≡ table_of scenario.now }
-    requires inside { IsBox scenario.now delay_box.now }
+    requires inside { IsBox instance.now delay_box.now }
 {
-    let mut leads = Leads::new(alloc);
     let mut closed = false;
     let start = Instant::now(rt)?;
     for _ in 0..turns {
-        closed = leads.closes(scenario, table, delay_box, tested)?;
+        closed = closes_by_leads(alloc, instance, delay_box, tested)?;
     }
     let elapsed = start.elapsed(rt)?;
     Ok((closed, elapsed.as_nanos() / u128::from(turns.max(1))))

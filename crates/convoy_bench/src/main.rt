@@ -13,9 +13,6 @@
 //! `convoy_bench certificate` takes the text of a certificate, reads it, checks it and writes it again.
 #![tactic(auto)]
 
-ghost use Rattle.std.specs.Prelude.{◌≡◌};
-ghost use Rattle.convoy_packets.specs.Table.{table_of};
-
 mod crews;
 mod leads;
 mod sharing;
@@ -24,8 +21,7 @@ mod workers;
 
 use anyhow::{Context, Result};
 use convoy_intervals::DelayBox;
-use convoy_packets::{Delays, PacketTable};
-use convoy_scenario::Scenario;
+use convoy_packets::{Delays, Instance};
 use convoy_toml::read_toml;
 use crews::compare_crews;
 use leads::time_leads;
@@ -156,13 +152,12 @@ fn time_text<R: Runtime + Threads + Wait + Sync>(
         return time_certificate(rt, alloc, text);
     }
     let input = read_toml(alloc, text).context("standard input has no scenario")?;
-    let scenario = input.scenario;
-    let table = PacketTable::of(alloc, &scenario)?;
+    let instance = Instance::of(alloc, input.scenario)?;
     match task {
-        Task::Workers => time_workers(rt, alloc, &scenario, &table, number),
-        Task::Crews => compare_crews(rt, alloc, &scenario, &table, number),
-        Task::Sharing => time_sharing(rt, alloc, &scenario, &table, number),
-        _ => time_alone(rt, alloc, &scenario, &table, task, number),
+        Task::Workers => time_workers(rt, alloc, &instance, number),
+        Task::Crews => compare_crews(rt, alloc, &instance, number),
+        Task::Sharing => time_sharing(rt, alloc, &instance, number),
+        _ => time_alone(rt, alloc, &instance, task, number),
     }
 }
 
@@ -170,49 +165,30 @@ fn time_text<R: Runtime + Threads + Wait + Sync>(
 fn time_alone<R: Runtime>(
     rt: &R,
     alloc: Global,
-    scenario: &Scenario,
-    table: &PacketTable,
+    instance: &Instance,
     task: Task,
     number: u32,
-) -> Result<()>
-    requires { table.now ≡ table_of scenario.now }
-{
+) -> Result<()> {
     match task {
-        Task::Search => time_search(rt, alloc, scenario, table, number),
-        Task::Leads => time_leads(rt, alloc, scenario, table, number),
-        Task::Seek => time_seek(rt, alloc, scenario, table, number),
-        Task::Mixed => time_mixed(rt, alloc, scenario, table, number),
-        Task::Stamps => time_bounds(rt, alloc, scenario, table, number),
-        _ => time_scenario(rt, alloc, scenario, table, number),
+        Task::Search => time_search(rt, alloc, instance, number),
+        Task::Leads => time_leads(rt, alloc, instance, number),
+        Task::Seek => time_seek(rt, alloc, instance, number),
+        Task::Mixed => time_mixed(rt, alloc, instance, number),
+        Task::Stamps => time_bounds(rt, alloc, instance, number),
+        _ => time_scenario(rt, alloc, instance, number),
     }
 }
 
 /// Times the calls on a scenario.
-fn time_scenario<R: Runtime>(
-    rt: &R,
-    alloc: Global,
-    scenario: &Scenario,
-    table: &PacketTable,
-    turns: u32,
-) -> Result<()>
-    requires { table.now ≡ table_of scenario.now }
-{
-    let root = DelayBox::root(alloc, table)?;
-    let least = Delays::least(alloc, table)?;
-    time_bound(rt, scenario, table, &root, turns)?;
-    time_simulate(rt, alloc, scenario, table, &least, turns)
+fn time_scenario<R: Runtime>(rt: &R, alloc: Global, instance: &Instance, turns: u32) -> Result<()> {
+    let root = DelayBox::root(alloc, instance)?;
+    let least = Delays::least(alloc, instance.table())?;
+    time_bound(rt, instance, &root, turns)?;
+    time_simulate(rt, alloc, instance, &least, turns)
 }
 
 /// Times the bounds of the root.
-fn time_bounds<R: Runtime>(
-    rt: &R,
-    alloc: Global,
-    scenario: &Scenario,
-    table: &PacketTable,
-    turns: u32,
-) -> Result<()>
-    requires { table.now ≡ table_of scenario.now }
-{
-    let root = DelayBox::root(alloc, table)?;
-    time_stamps(rt, alloc, scenario, table, &root, turns)
+fn time_bounds<R: Runtime>(rt: &R, alloc: Global, instance: &Instance, turns: u32) -> Result<()> {
+    let root = DelayBox::root(alloc, instance)?;
+    time_stamps(rt, alloc, instance, &root, turns)
 }

@@ -1,15 +1,13 @@
 //! Times what threads share: a board of records, a ledger of tickets, and as a yardstick a lock.
 
 ghost use Rattle.std.specs.Prelude.{◌≡◌, All};
-ghost use Rattle.convoy_packets.specs.Table.{table_of};
 ghost use Rattle.convoy_incumbent.specs.Boards.{IsNoteOf};
 
 use super::timing::tell_rate;
 use anyhow::{Result, bail};
 use convoy_incumbent::{Board, Hand, Noted};
 use convoy_ledger::{Clerk, Ledger};
-use convoy_packets::{Delays, PacketTable};
-use convoy_scenario::Scenario;
+use convoy_packets::{Delays, Instance};
 use convoy_sim::Record;
 use std::alloc::Global;
 use std::rt::Runtime;
@@ -68,13 +66,10 @@ struct Seat<'a> {
 pub fn time_sharing<R: Runtime + Threads + Wait + Sync>(
     rt: &R,
     alloc: Global,
-    scenario: &Scenario,
-    table: &PacketTable,
+    instance: &Instance,
     turns: u32,
-) -> Result<()>
-    requires { table.now ≡ table_of scenario.now }
-{
-    let first = Record::of(scenario, table, Delays::least(alloc, table)?);
+) -> Result<()> {
+    let first = Record::of(instance, Delays::least(alloc, instance.table())?);
     for threads in [1u32, 2, 4] {
         time_call(rt, alloc, &first, Call::Publish, threads, turns)?;
         time_call(rt, alloc, &first, Call::Look, threads, turns)?;

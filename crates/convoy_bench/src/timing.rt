@@ -1,6 +1,5 @@
-ghost use Rattle.std.specs.Prelude.{◌≡◌, IfOk};
-ghost use Rattle.convoy_packets.specs.Assignment.{AreWithin, IsAssignment};
-ghost use Rattle.convoy_packets.specs.Table.{table_of};
+ghost use Rattle.std.specs.Prelude.{IfOk};
+ghost use Rattle.convoy_packets.specs.Assignment.{IsAssignment};
 ghost use Rattle.convoy_intervals.specs.Boxes.{IsBox};
 
 use anyhow::{Result, bail};
@@ -8,8 +7,7 @@ use convoy_branch::{Bounds, Outcome, search_alone};
 use convoy_certificate::{read, write};
 use convoy_checker::check;
 use convoy_intervals::{DelayBox, Tracked, bound};
-use convoy_packets::{Delays, PacketTable};
-use convoy_scenario::Scenario;
+use convoy_packets::{Delays, Instance};
 use convoy_seek::seek;
 use convoy_sim::{Record, latency, simulate};
 use convoy_stamps::{stamp_bound, stamp_bound_of};
@@ -20,18 +18,16 @@ use std::time::{Duration, Instant};
 /// Makes that many calls of `bound`, and tells what one answers and how long it takes.
 pub fn time_bound<R: Runtime>(
     rt: &R,
-    scenario: &Scenario,
-    table: &PacketTable,
+    instance: &Instance,
     delay_box: &DelayBox,
     turns: u32,
 ) -> Result<()>
-    requires packets { table.now ≡ table_of scenario.now }
-    requires inside { IsBox scenario.now delay_box.now }
+    requires inside { IsBox instance.now delay_box.now }
 {
     let start = Instant::now(rt)?;
     let mut answer = 0;
     for _ in 0..turns {
-        answer = bound(scenario, table, delay_box);
+        answer = bound(instance, delay_box);
     }
     tell(rt, "bound", turns, start.elapsed(rt)?)?;
     println!(rt; "bound {answer}")?;
@@ -43,26 +39,24 @@ pub fn time_bound<R: Runtime>(
 pub fn time_stamps<R: Runtime>(
     rt: &R,
     alloc: Global,
-    scenario: &Scenario,
-    table: &PacketTable,
+    instance: &Instance,
     delay_box: &DelayBox,
     turns: u32,
 ) -> Result<()>
-    requires packets { table.now ≡ table_of scenario.now }
-    requires inside { IsBox scenario.now delay_box.now }
+    requires inside { IsBox instance.now delay_box.now }
 {
-    time_bound(rt, scenario, table, delay_box, turns)?;
+    time_bound(rt, instance, delay_box, turns)?;
     let start = Instant::now(rt)?;
     let mut answer = 0;
     for _ in 0..turns {
-        answer = stamp_bound(alloc, scenario, table, delay_box)?;
+        answer = stamp_bound(alloc, instance, delay_box)?;
     }
     tell(rt, "stamp_bound", turns, start.elapsed(rt)?)?;
     println!(rt; "stamp_bound {answer}")?;
-    let tracked = Tracked::over(alloc, scenario, table, delay_box.copy()?)?;
+    let tracked = Tracked::over(alloc, instance, delay_box.copy()?)?;
     let start = Instant::now(rt)?;
     for _ in 0..turns {
-        answer = stamp_bound_of(alloc, scenario, &tracked)?;
+        answer = stamp_bound_of(alloc, instance, &tracked)?;
     }
     tell(rt, "stamp_bound_of", turns, start.elapsed(rt)?)?;
     println!(rt; "stamp_bound_of {answer}")?;
@@ -74,24 +68,22 @@ pub fn time_stamps<R: Runtime>(
 pub fn time_simulate<R: Runtime>(
     rt: &R,
     alloc: Global,
-    scenario: &Scenario,
-    table: &PacketTable,
+    instance: &Instance,
     delays: &Delays,
     turns: u32,
 ) -> Result<()>
-    requires packets { table.now ≡ table_of scenario.now }
-    requires assignment { IsAssignment scenario.now delays.now }
+    requires assignment { IsAssignment instance.now delays.now }
 {
     let start = Instant::now(rt)?;
     let mut answer = 0;
     for _ in 0..turns {
-        answer = simulate(alloc, scenario, table, delays)?.latency();
+        answer = simulate(alloc, instance, delays)?.latency();
     }
     tell(rt, "simulate", turns, start.elapsed(rt)?)?;
     println!(rt; "latency {answer}")?;
     let start = Instant::now(rt)?;
     for _ in 0..turns {
-        answer = latency(scenario, table, delays);
+        answer = latency(instance, delays);
     }
     tell(rt, "latency", turns, start.elapsed(rt)?)?;
     println!(rt; "alone {answer}")?;
@@ -106,25 +98,22 @@ const MIXTURES: u32 = 32;
 pub fn time_mixed<R: Runtime>(
     rt: &R,
     alloc: Global,
-    scenario: &Scenario,
-    table: &PacketTable,
+    instance: &Instance,
     turns: u32,
-) -> Result<()>
-    requires { table.now ≡ table_of scenario.now }
-{
+) -> Result<()> {
     let (mut simulating, mut measuring) = (0u128, 0u128);
     let (mut simulated, mut measured) = (0u64, 0u64);
     for number in 0..MIXTURES {
-        let delays = mixed_schedule(alloc, table, number)?;
+        let delays = mixed_schedule(alloc, instance, number)?;
         let start = Instant::now(rt)?;
         for _ in 0..turns {
-            let run = simulate(alloc, scenario, table, &delays)?;
+            let run = simulate(alloc, instance, &delays)?;
             simulated = simulated.wrapping_add(u64::from(run.latency()));
         }
         simulating = simulating.saturating_add(start.elapsed(rt)?.as_nanos());
         let start = Instant::now(rt)?;
         for _ in 0..turns {
-            measured = measured.wrapping_add(u64::from(latency(scenario, table, &delays)));
+            measured = measured.wrapping_add(u64::from(latency(instance, &delays)));
         }
         measuring = measuring.saturating_add(start.elapsed(rt)?.as_nanos());
     }
@@ -136,11 +125,11 @@ pub fn time_mixed<R: Runtime>(
 }
 
 /// A schedule with some delay in each range, another mixture for each number.
-fn mixed_schedule(alloc: Global, table: &PacketTable, number: u32) -> Result<Delays>
-    ensures { IfOk result (λ delays. AreWithin table.now.ranges delays) }
+fn mixed_schedule(alloc: Global, instance: &Instance, number: u32) -> Result<Delays>
+    ensures { IfOk result (IsAssignment instance.now) }
 {
-    let list = mixed_delays(alloc, table.ranges(), number)?;
-    Ok(Delays::from_list(alloc, table, &list)?)
+    let list = mixed_delays(alloc, instance.table().ranges(), number)?;
+    Ok(Delays::from_list(alloc, instance.table(), &list)?)
 }
 
 /// Some delay in each range, another mixture for each number.
@@ -159,14 +148,11 @@ fn mixed_delays(alloc: Global, ranges: &[(u16, u16)], number: u32) -> Result<Vec
 pub fn time_search<R: Runtime>(
     rt: &R,
     alloc: Global,
-    scenario: &Scenario,
-    table: &PacketTable,
+    instance: &Instance,
     limit: u32,
-) -> Result<()>
-    requires packets { table.now ≡ table_of scenario.now }
-{
+) -> Result<()> {
     let start = Instant::now(rt)?;
-    let outcome = search_alone(alloc, scenario, table, u64::from(limit), Bounds::Plain)?;
+    let outcome = search_alone(alloc, instance, u64::from(limit), Bounds::Plain)?;
     let elapsed = start.elapsed(rt)?;
     match outcome {
         Outcome::Proved {
@@ -194,18 +180,15 @@ pub fn time_search<R: Runtime>(
 pub fn time_seek<R: Runtime>(
     rt: &R,
     alloc: Global,
-    scenario: &Scenario,
-    table: &PacketTable,
+    instance: &Instance,
     budget: u32,
-) -> Result<()>
-    requires packets { table.now ≡ table_of scenario.now }
-{
-    let root = DelayBox::root(alloc, table)?;
-    let until = bound(scenario, table, &root);
-    let least = Delays::least(alloc, table)?;
-    let known = Record::of(scenario, table, least);
+) -> Result<()> {
+    let root = DelayBox::root(alloc, instance)?;
+    let until = bound(instance, &root);
+    let least = Delays::least(alloc, instance.table())?;
+    let known = Record::of(instance, least);
     let start = Instant::now(rt)?;
-    let Ok(found) = seek(alloc, scenario, table, known, until, u64::from(budget)) else {
+    let Ok(found) = seek(alloc, instance, known, until, u64::from(budget)) else {
         bail!("memory ran out");
     };
     let elapsed = start.elapsed(rt)?;

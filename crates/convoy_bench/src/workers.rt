@@ -1,13 +1,11 @@
 //! Times searches by several workers.
 
-ghost use Rattle.std.specs.Prelude.{◌≡◌, ◌≤◌};
-ghost use Rattle.convoy_packets.specs.Table.{table_of};
+ghost use Rattle.std.specs.Prelude.{◌≤◌};
 
 use super::timing::{tell_rate, time_search};
 use anyhow::{Result, bail};
 use convoy_branch::{Bounds, Outcome};
-use convoy_packets::PacketTable;
-use convoy_scenario::Scenario;
+use convoy_packets::Instance;
 use convoy_share::{NoGate, search};
 use std::alloc::Global;
 use std::rt::Runtime;
@@ -20,15 +18,12 @@ use std::time::{Duration, Instant};
 pub fn time_workers<R: Runtime + Threads + Wait + Sync>(
     rt: &R,
     alloc: Global,
-    scenario: &Scenario,
-    table: &PacketTable,
+    instance: &Instance,
     limit: u32,
-) -> Result<()>
-    requires { table.now ≡ table_of scenario.now }
-{
-    time_search(rt, alloc, scenario, table, limit)?;
+) -> Result<()> {
+    time_search(rt, alloc, instance, limit)?;
     for workers in [1u32, 2, 4] {
-        time_crew(rt, alloc, scenario, table, workers, limit)?;
+        time_crew(rt, alloc, instance, workers, limit)?;
     }
     Ok(())
 }
@@ -38,27 +33,15 @@ pub fn time_workers<R: Runtime + Threads + Wait + Sync>(
 fn time_crew<R: Runtime + Threads + Wait + Sync>(
     rt: &R,
     alloc: Global,
-    scenario: &Scenario,
-    table: &PacketTable,
+    instance: &Instance,
     workers: u32,
     limit: u32,
 ) -> Result<()>
-    requires packets { table.now ≡ table_of scenario.now }
     requires workers { (1 ≤ workers) × (workers ≤ 16) }
 {
     let limit = u64::from(limit).max(1);
     let start = Instant::now(rt)?;
-    let outcome = search(
-        rt,
-        alloc,
-        scenario,
-        table,
-        workers,
-        limit,
-        Bounds::Plain,
-        &NoGate,
-    )
-    .ok();
+    let outcome = search(rt, alloc, instance, workers, limit, Bounds::Plain, &NoGate).ok();
     let elapsed = start.elapsed(rt)?;
     match &outcome {
         Some(

@@ -1,7 +1,14 @@
-ghost use Rattle.std.specs.Prelude.{◌≡◌, ◌≤◌};
-ghost use Rattle.convoy_branch.specs.SearchBounds.{most_nodes};
+ghost use Rattle.std.specs.Prelude.{◌≡◌, ◌≤◌, IfOk};
+ghost use Rattle.convoy_stamps.specs.StampBounds.{stamp_bound};
+ghost use Rattle.convoy_branch.specs.SearchBounds.{further_leaf, leaf_for, most_nodes};
+ghost use Rattle.convoy_branch.specs.Uppers.{IsRaised, IsRaisedByLeads};
 
-use convoy_certificate::{MOST_LEADS, MOST_NODES};
+use convoy_certificate::{MOST_LEADS, MOST_NODES, Node};
+use convoy_intervals::Tracked;
+use convoy_leads::closes_by_leads;
+use convoy_packets::Instance;
+use convoy_stamps::stamp_bound_of;
+use std::alloc::{AllocError, Global};
 
 /// By what a search closes boxes (docs/PROTOCOL.md).
 #[derive(Clone, Copy, Debug, PartialEq, Eq)]
@@ -26,4 +33,99 @@ impl Bounds {
             Bounds::Lead => MOST_LEADS,
         }
     }
+
+    /// The leaf that closes a box for a latency in ticks, if there is one: that of the plain bound,
+    /// else that of the stamp bound if it is asked for, and else that of leads. The error is that
+    /// memory ran out.
+    pub(crate) fn leaf_for(
+        self,
+        alloc: Global,
+        instance: &Instance,
+        branch: &Tracked,
+        latency: u32,
+    ) -> Result<Option<Node>, AllocError>
+        requires of_scenario { branch.now.scenario ≡ instance.now }
+        ensures { IfOk result
+            (λ leaf. leaf ≡ leaf_for self instance.now branch.now.space latency) }
+    {
+        if branch.bound() <= latency {
+            return Ok(Some(Node::Bound));
+        }
+        self.further_leaf(alloc, instance, branch, latency)
+    }
+
+    /// The leaf that closes a box for a latency in ticks where its plain bound does not.
+    fn further_leaf(
+        self,
+        alloc: Global,
+        instance: &Instance,
+        branch: &Tracked,
+        latency: u32,
+    ) -> Result<Option<Node>, AllocError>
+        requires of_scenario { branch.now.scenario ≡ instance.now }
+        ensures { IfOk result
+            (λ leaf. leaf ≡ further_leaf self instance.now branch.now.space latency) }
+    {
+        if self == Bounds::Plain {
+            return Ok(None);
+        }
+        if stamp_bound_of(alloc, instance, branch)? <= latency {
+            return Ok(Some(Node::Stamp));
+        }
+        if self == Bounds::Lead && closes_by_leads(alloc, instance, branch.space(), latency)? {
+            return Ok(Some(Node::Lead { latency }));
+        }
+        Ok(None)
+    }
+
+    /// What an upper bound of all latencies, in ticks, is raised to where a box is left: to the bound
+    /// of the box if that is greater, or in a search by leads to less, for which these close the box.
+    /// The error is that memory ran out.
+    pub fn raised(
+        self,
+        alloc: Global,
+        instance: &Instance,
+        branch: &Tracked,
+        upper: u32,
+    ) -> Result<u32, AllocError>
+        requires of_scenario { branch.now.scenario ≡ instance.now }
+        ensures { IfOk result
+            (λ raised. IsRaised self instance.now branch.now.space upper raised) }
+    {
+        match self {
+            Bounds::Plain => Ok(upper.max(branch.bound())),
+            Bounds::Stamp => Ok(upper.max(stamp_bound_of(alloc, instance, branch)?)),
+            Bounds::Lead => {
+                let bound = stamp_bound_of(alloc, instance, branch)?;
+                raised_by_leads(alloc, instance, branch, upper, bound)
+            }
+        }
+    }
+}
+
+/// What leads raise an upper bound to, in ticks, where a box is left whose stamp bound is known: the
+/// ticks between the upper bound and that are halved until one is left.
+fn raised_by_leads(
+    alloc: Global,
+    instance: &Instance,
+    branch: &Tracked,
+    upper: u32,
+    bound: u32,
+) -> Result<u32, AllocError>
+    requires of_scenario { branch.now.scenario ≡ instance.now }
+    requires bound { bound ≡ stamp_bound instance.now branch.now.space }
+    ensures { IfOk result
+        (λ raised. IsRaisedByLeads instance.now branch.now.space upper raised) }
+{
+    let mut low = upper;
+    let mut high = upper.max(bound);
+    while low < high {
+        let middle = low + (high - low) / 2;
+        if closes_by_leads(alloc, instance, branch.space(), middle)? {
+            high = middle;
+        } else {
+            low = middle + 1;
+        }
+    }
+    Ok(high)
 }

@@ -1,7 +1,14 @@
-/// What each worker calls before it takes up a branch. Nothing that a search promises rests on it.
+use super::bounds::Bounds;
+
+/// What each worker calls before it takes up a branch, and a search that begins anew. Nothing that a
+/// search promises rests on it.
 pub trait Gate {
     /// A worker, numbered from 0, is about to take up its branch of that number, from 1.
     fn before_branch(&self, worker: u32, nth: u64);
+
+    /// Boxes were left, and the search begins anew at the root by those bounds, with so many tickets at
+    /// most. The greatest latency is at least `least`, and at most `most`, in ticks.
+    fn begins_anew(&self, _bounds: Bounds, _limit: u64, _least: u32, _most: u32) {}
 }
 
 /// A gate that does nothing.

@@ -1,8 +1,7 @@
-//! Branch and bound: the step over one box, and the search of one worker.
+//! Branch and bound: the step over one box, the search of one worker, and that of both ways.
 #![tactic(auto)]
 
 pub use bounds::Bounds;
-pub use closer::Closer;
 pub use event::Event;
 pub use gate::{Gate, NoGate};
 pub use machine::Core;
@@ -11,9 +10,9 @@ pub use parts::WORKERS;
 pub use replaying::{ReplayFault, replay};
 pub use search::{search_alone, search_from};
 pub use step::{Step, Turn, step_branch};
+pub use ways::{PLAIN_TICKETS, lead_share, plain_share, search_both_ways};
 
 mod bounds;
-mod closer;
 mod event;
 mod gate;
 pub mod laws;
@@ -21,7 +20,6 @@ mod machine;
 mod outcome;
 mod parts;
 mod replaying;
-#[cfg(test)]
-mod scenarios;
 mod search;
 mod step;
+mod ways;

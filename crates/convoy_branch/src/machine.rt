@@ -5,7 +5,6 @@ ghost use Rattle.std.specs.Prelude.{◌≡◌, ◌+◌, ◌<◌, ◌≤◌, ◌^
 ghost use Rattle.std.specs.Prelude.{IfNone, IfOk, IfSome, IsFalse, IsTrue, OnOk};
 ghost use Rattle.std.specs.List.{All};
 ghost use Rattle.convoy_scenario.specs.Scenario.{Scenario};
-ghost use Rattle.convoy_packets.specs.Table.{table_of};
 ghost use Rattle.convoy_sim.specs.Record.{IsAttained};
 ghost use Rattle.convoy_intervals.specs.Boxes.{CanSplit, IsBox, lower_half, upper_half};
 ghost use Rattle.convoy_branch.specs.Machine.{after, allows, best_after, branch_at, branches_after};
@@ -17,7 +16,7 @@ ghost use Rattle.convoy_branch.specs.Replays.{IsFound, left_of};
 use super::event::Event;
 use super::parts::{Branch, BranchState, WORKERS, Worker};
 use convoy_intervals::{DelayBox, bound};
-use convoy_packets::{Delays, PacketTable};
+use convoy_packets::{Delays, Instance};
 use convoy_scenario::Scenario;
 use convoy_sim::Record;
 use std::alloc::{AllocError, Global};
@@ -87,16 +86,11 @@ impl Core {
     }
 
     /// The state at the start of a search.
-    pub(crate) fn start(
-        alloc: Global,
-        scenario: &Scenario,
-        table: &PacketTable,
-    ) -> Result<Core, AllocError>
-        requires { table.now ≡ table_of scenario.now }
-        ensures value { IfOk result (λ core. core ≡ start scenario.now) }
+    pub(crate) fn start(alloc: Global, instance: &Instance) -> Result<Core, AllocError>
+        ensures value { IfOk result (λ core. core ≡ start instance.now) }
         ensures attained { IfOk result (λ core. IsAttained core.best) }
     {
-        let best = Record::of(scenario, table, Delays::least(alloc, table)?);
+        let best = Record::of(instance, Delays::least(alloc, instance.table())?);
         let worker = Worker {
             seen: best.latency(),
             drawn: 0,
@@ -104,7 +98,7 @@ impl Core {
         };
         let mut branches = Vec::new(alloc);
         branches.push(Branch {
-            delay_box: DelayBox::root(alloc, table)?,
+            delay_box: DelayBox::root(alloc, instance)?,
             state: BranchState::Taken(0),
         })?;
         Ok(Core {
@@ -115,24 +109,22 @@ impl Core {
     }
 
     /// Whether the state allows an event.
-    pub(crate) fn is_lawful(&self, scenario: &Scenario, table: &PacketTable, event: &Event) -> bool
-        requires packets { table.now ≡ table_of scenario.now }
-        requires boxes { All (λ branch. IsBox scenario.now branch.delay_box) self.now.branches }
-        ensures { result ≡ is_lawful scenario.now self.now event.now }
+    pub(crate) fn is_lawful(&self, instance: &Instance, event: &Event) -> bool
+        requires boxes { All (λ branch. IsBox instance.now branch.delay_box) self.now.branches }
+        ensures { result ≡ is_lawful instance.now self.now event.now }
     {
         let worker = event.worker();
         if worker >= WORKERS {
             return false;
         }
-        self.allows(scenario, table, &self.workers[worker], event)
+        self.allows(instance, &self.workers[worker], event)
     }
 
     /// Whether the state allows an event of that worker.
-    fn allows(&self, scenario: &Scenario, table: &PacketTable, doer: &Worker, event: &Event) -> bool
-        requires packets { table.now ≡ table_of scenario.now }
-        requires boxes { All (λ branch. IsBox scenario.now branch.delay_box) self.now.branches }
+    fn allows(&self, instance: &Instance, doer: &Worker, event: &Event) -> bool
+        requires boxes { All (λ branch. IsBox instance.now branch.delay_box) self.now.branches }
         requires doer { doer.now ≡ worker_at self.now.workers (worker_of event.now) }
-        ensures { result ≡ allows scenario.now self.now event.now }
+        ensures { result ≡ allows instance.now self.now event.now }
     {
         match event {
             Event::Look { .. } | Event::Publish { .. } | Event::Draw { .. } => true,
@@ -155,7 +147,7 @@ impl Core {
                 match self.held_by(*worker, *branch) {
                     None => false,
                     Some(delay_box) => {
-                        doer.has_ticket() && closes(scenario, table, doer.seen, delay_box)
+                        doer.has_ticket() && closes(instance, doer.seen, delay_box)
                     }
                 }
             }
@@ -266,11 +258,10 @@ fn halves_of(delay_box: &DelayBox, packet: u16, at: u16) -> Result<(DelayBox, De
 
 /// Whether the bound of the box, or the latency of its only member, is at most that latency, in
 /// ticks.
-fn closes(scenario: &Scenario, table: &PacketTable, latency: u32, delay_box: &DelayBox) -> bool
-    requires packets { table.now ≡ table_of scenario.now }
-    requires inside { IsBox scenario.now delay_box.now }
-    ensures { result ≡ closes scenario.now latency delay_box.now }
+fn closes(instance: &Instance, latency: u32, delay_box: &DelayBox) -> bool
+    requires inside { IsBox instance.now delay_box.now }
+    ensures { result ≡ closes instance.now latency delay_box.now }
 {
-    bound(scenario, table, delay_box) <= latency
-        || delay_box.is_point() && delay_box.greatest_latency(scenario, table) <= latency
+    bound(instance, delay_box) <= latency
+        || delay_box.is_point() && delay_box.greatest_latency(instance) <= latency
 }

@@ -1,7 +1,6 @@
 ghost use Rattle.std.specs.Prelude.{◌≡◌, IfOk};
 ghost use Rattle.std.specs.List.{All};
 ghost use Rattle.convoy_scenario.specs.Memory.{IsUnlessMemory};
-ghost use Rattle.convoy_packets.specs.Table.{table_of};
 ghost use Rattle.convoy_branch.specs.Machine.{replayed};
 ghost use Rattle.convoy_branch.specs.Replays.{IsEventOf, IsReplayed};
 
@@ -9,13 +8,9 @@ use super::event::Event;
 use super::machine::Core;
 use convoy_checker::laws::{bound_leaves_cover, point_leaves_cover};
 use convoy_intervals::laws::{halves_are_boxes, halves_partition, root_holds_all, root_is_box};
-use convoy_packets::PacketTable;
-use convoy_scenario::Scenario;
+use convoy_packets::Instance;
 use std::alloc::{AllocError, Global};
 use thiserror::Error;
-
-#[cfg(test)]
-mod tests;
 
 /// Why a list of events was not replayed.
 #[derive(Clone, Copy, Debug, PartialEq, Eq, Error)]
@@ -46,16 +41,10 @@ impl From<AllocError> for ReplayFault {
 ///
 /// Answers the state that the events lead to, where each is lawful in the state before it, or else
 /// the place of the first that is not.
-pub fn replay(
-    alloc: Global,
-    scenario: &Scenario,
-    table: &PacketTable,
-    events: &[Event],
-) -> Result<Core, ReplayFault>
-    requires packets { table.now ≡ table_of scenario.now }
-    requires records { All (IsEventOf scenario.now) events.now }
-    ensures exact { IsUnlessMemory ReplayFault.Memory (replayed scenario.now events.now) result }
-    ensures state { IfOk result (IsReplayed scenario.now events.now) }
+pub fn replay(alloc: Global, instance: &Instance, events: &[Event]) -> Result<Core, ReplayFault>
+    requires records { All (IsEventOf instance.now) events.now }
+    ensures exact { IsUnlessMemory ReplayFault.Memory (replayed instance.now events.now) result }
+    ensures state { IfOk result (IsReplayed instance.now events.now) }
 {
     root_is_box();
     root_holds_all();
@@ -63,9 +52,9 @@ pub fn replay(
     halves_partition();
     bound_leaves_cover();
     point_leaves_cover();
-    let mut core = Core::start(alloc, scenario, table)?;
+    let mut core = Core::start(alloc, instance)?;
     for (place, event) in events.iter().enumerate() {
-        if !core.is_lawful(scenario, table, event) {
+        if !core.is_lawful(instance, event) {
             return Err(ReplayFault::Unlawful(place));
         }
         core.follow(event)?;

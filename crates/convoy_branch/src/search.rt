@@ -13,7 +13,6 @@ ghost use Rattle.convoy_branch.specs.Searching.{work_after, nodes_after, IsRaise
 ghost use Rattle.convoy_branch.specs.Uppers.{IsUpperOf};
 
 use super::bounds::Bounds;
-use super::closer::Closer;
 use super::gate::{Gate, NoGate};
 use super::laws::{fronts_bound, uppers_begin, uppers_raised};
 use super::outcome::Outcome;
@@ -22,13 +21,9 @@ use convoy_certificate::{Certificate, Node};
 use convoy_checker::laws::trees_cover;
 use convoy_intervals::Tracked;
 use convoy_intervals::laws::{halves_are_boxes, upper_keeps_greatest};
-use convoy_packets::{Delays, PacketTable};
-use convoy_scenario::Scenario;
+use convoy_packets::{Delays, Instance};
 use convoy_sim::Record;
 use std::alloc::{AllocError, Global};
-
-#[cfg(test)]
-mod tests;
 
 /// Searches for the greatest latency of a scenario with one worker, by branch and bound
 /// (docs/PROTOCOL.md). It starts from the record of the least delays, takes up the upper half of
@@ -40,17 +35,15 @@ mod tests;
 /// that memory ran out.
 pub fn search_alone(
     alloc: Global,
-    scenario: &Scenario,
-    table: &PacketTable,
+    instance: &Instance,
     limit: u64,
     bounds: Bounds,
 ) -> Result<Outcome, AllocError>
-    requires packets { table.now ≡ table_of scenario.now }
-    ensures { IfOk result (λ outcome. IsOutcome bounds scenario.now 1 limit outcome) }
+    ensures { IfOk result (λ outcome. IsOutcome bounds instance.now 1 limit outcome) }
 {
-    let delays = Delays::least(alloc, table)?;
-    let opening = Record::of(scenario, table, delays);
-    search_from(alloc, scenario, table, opening, limit, bounds, &NoGate)
+    let delays = Delays::least(alloc, instance.table())?;
+    let opening = Record::of(instance, delays);
+    search_from(alloc, instance, opening, limit, bounds, &NoGate)
 }
 
 /// The search of [`search_alone`] from an opening record of the scenario. Its latency is at least
@@ -59,34 +52,31 @@ pub fn search_alone(
 /// out.
 pub fn search_from<G: Gate>(
     alloc: Global,
-    scenario: &Scenario,
-    table: &PacketTable,
+    instance: &Instance,
     opening: Record,
     limit: u64,
     bounds: Bounds,
     gate: &G,
 ) -> Result<Outcome, AllocError>
-    requires packets { table.now ≡ table_of scenario.now }
-    requires of_scenario { opening.scenario ≡ scenario.now }
-    requires least { latency_of scenario.now (least_of (ranges_of scenario.now)) ≤ opening.latency }
-    ensures value { IfOk result (λ outcome. IsOutcome bounds scenario.now 1 limit outcome) }
+    requires of_scenario { opening.scenario ≡ instance.now }
+    requires least { latency_of instance.now (least_of (ranges_of instance.now)) ≤ opening.latency }
+    ensures value { IfOk result (λ outcome. IsOutcome bounds instance.now 1 limit outcome) }
     ensures opened { IfOk result (λ outcome. opening.latency ≤ best_of outcome) }
 {
-    let mut closer = Closer::new(alloc, bounds);
-    let mut search = Search::start(alloc, scenario, table, opening)?;
+    let mut search = Search::start(alloc, instance, opening)?;
     while let Some(work) = search.work.pop() {
         match work {
             Work::Write(node) => search.nodes.push(node)?,
             Work::Branch { branch, tried } if search.tickets < limit => {
                 gate.before_branch(0, search.tickets + 1);
-                search.take_up(alloc, scenario, table, branch, tried, &mut closer)?;
+                search.take_up(alloc, instance, branch, tried, bounds)?;
             }
             Work::Branch { branch, tried } => {
-                return search.into_open(alloc, scenario, table, branch, tried, &mut closer);
+                return search.into_open(alloc, instance, branch, tried, bounds);
             }
         }
     }
-    search.into_proved(alloc, scenario, bounds)
+    search.into_proved(alloc, instance, bounds)
 }
 
 /// What a search has still to do.
@@ -114,25 +104,19 @@ struct Search {
 
 impl Search {
     /// A search of the root box from an opening record.
-    fn start(
-        alloc: Global,
-        scenario: &Scenario,
-        table: &PacketTable,
-        opening: Record,
-    ) -> Result<Search, AllocError>
-        requires packets { table.now ≡ table_of scenario.now }
-        requires of_scenario { opening.scenario ≡ scenario.now }
-        requires least { latency_of scenario.now (least_of (ranges_of scenario.now))
+    fn start(alloc: Global, instance: &Instance, opening: Record) -> Result<Search, AllocError>
+        requires of_scenario { opening.scenario ≡ instance.now }
+        requires least { latency_of instance.now (least_of (ranges_of instance.now))
             ≤ opening.latency }
         ensures searching { (bounds : Bounds) → IfOk result
-            (λ s. IsSearching bounds scenario.now s.best s.work.items s.nodes.items s.tickets) }
+            (λ s. IsSearching bounds instance.now s.best s.work.items s.nodes.items s.tickets) }
         ensures best { IfOk result (λ s. s.best ≡ opening) }
         ensures tickets { IfOk result (λ s. s.tickets ≡ 0) }
-        ensures lawful { IfOk result (λ _. IsTable table.now) }
+        ensures lawful { IfOk result (λ _. IsTable (table_of instance.now)) }
     {
-        let mut work = Vec::with_capacity(alloc, table.len())?;
+        let mut work = Vec::with_capacity(alloc, instance.table().len())?;
         work.push(Work::Branch {
-            branch: Tracked::root(alloc, scenario, table)?,
+            branch: Tracked::root(alloc, instance)?,
             tried: false,
         })?;
         Ok(Search {
@@ -147,29 +131,26 @@ impl Search {
     fn take_up(
         &mut self,
         alloc: Global,
-        scenario: &Scenario,
-        table: &PacketTable,
+        instance: &Instance,
         branch: Tracked,
         tried: bool,
-        closer: &mut Closer,
+        bounds: Bounds,
     ) -> Result<(), AllocError>
-        requires packets { table.now ≡ table_of scenario.now }
-        requires lawful { IsTable table.now }
-        requires searching { IsSearching closer.old scenario.now self.old.best
+        requires lawful { IsTable (table_of instance.now) }
+        requires searching { IsSearching bounds instance.now self.old.best
             (self.old.work.items ++ Work.Branch branch tried ∷ []) self.old.nodes.items
             self.old.tickets }
         requires ticket { self.old.tickets < u64.MAX }
-        ensures searching { OnOk result (IsSearching closer.old scenario.now self.new.best
+        ensures searching { OnOk result (IsSearching bounds instance.now self.new.best
             self.new.work.items self.new.nodes.items (self.old.tickets + 1)) }
         ensures best { OnOk result (self.old.best.latency ≤ self.new.best.latency) }
         ensures ticket { OnOk result (self.new.tickets ≡ self.old.tickets + 1) }
         ensures few { OnOk result (length self.new.work.items ≤ length self.old.work.items + 3) }
-        ensures same { closer.new ≡ closer.old }
     {
         halves_are_boxes();
         upper_keeps_greatest();
         let seen = self.best.latency();
-        let step = match step_branch(alloc, scenario, table, branch, tried, seen, closer) {
+        let step = match step_branch(alloc, instance, branch, tried, seen, bounds) {
             Ok(step) => step,
             Err((_, error)) => return Err(error),
         };
@@ -222,22 +203,22 @@ impl Search {
     fn into_proved(
         self,
         alloc: Global,
-        scenario: &Scenario,
+        instance: &Instance,
         bounds: Bounds,
     ) -> Result<Outcome, AllocError>
-        requires { IsSearching bounds scenario.now self.best [] self.nodes.items self.tickets }
+        requires { IsSearching bounds instance.now self.best [] self.nodes.items self.tickets }
         ensures value { (limit : ℕ) → self.tickets ≤ limit
-            → IfOk result (λ outcome. IsOutcome bounds scenario.now 1 limit outcome) }
+            → IfOk result (λ outcome. IsOutcome bounds instance.now 1 limit outcome) }
         ensures best { IfOk result (λ outcome. best_of outcome ≡ self.best.latency) }
     {
         trees_cover();
-        is_scenario(scenario);
+        is_scenario(instance);
         let mut nodes = self.nodes;
         nodes.reverse();
         let latency = self.best.latency();
         let delays = self.best.delays().copy()?;
         Ok(Outcome::Proved {
-            certificate: Certificate::new(scenario.copy()?, latency, delays, nodes),
+            certificate: Certificate::new(instance.copy(alloc)?, latency, delays, nodes),
             tickets: self.tickets,
             by_worker: Vec::from_slice(alloc, &[self.tickets])?,
         })
@@ -247,23 +228,21 @@ impl Search {
     fn into_open(
         mut self,
         alloc: Global,
-        scenario: &Scenario,
-        table: &PacketTable,
+        instance: &Instance,
         branch: Tracked,
         tried: bool,
-        closer: &mut Closer,
+        bounds: Bounds,
     ) -> Result<Outcome, AllocError>
-        requires packets { table.now ≡ table_of scenario.now }
-        requires searching { IsSearching closer.old scenario.now self.best
+        requires searching { IsSearching bounds instance.now self.best
             (self.work.items ++ Work.Branch branch tried ∷ []) self.nodes.items self.tickets }
-        ensures value { IfOk result (λ outcome. IsOutcome closer.old scenario.now 1 self.tickets outcome) }
+        ensures value { IfOk result (λ outcome. IsOutcome bounds instance.now 1 self.tickets outcome) }
         ensures best { IfOk result (λ outcome. best_of outcome ≡ self.best.latency) }
     {
         fronts_bound();
-        is_scenario(scenario);
+        is_scenario(instance);
         self.work.push(Work::Branch { branch, tried })?;
         let seen = self.best.latency();
-        let upper = upper_of(alloc, scenario, table, &self.work, seen, closer)?;
+        let upper = upper_of(alloc, instance, &self.work, seen, bounds)?;
         Ok(Outcome::Open {
             best: self.best,
             upper,
@@ -274,33 +253,30 @@ impl Search {
 }
 
 /// What every scenario keeps, for the proofs of its callers.
-fn is_scenario(scenario: &Scenario)
-    ensures { IsScenario scenario.now }
+fn is_scenario(instance: &Instance)
+    ensures { IsScenario instance.now }
 {
-    let _ = scenario.delay();
+    let _ = instance.delay();
 }
 
 /// The upper bound of all latencies, in ticks, where that is the best one and the boxes of the work are
 /// left.
 fn upper_of(
     alloc: Global,
-    scenario: &Scenario,
-    table: &PacketTable,
+    instance: &Instance,
     work: &[Work],
     seen: u32,
-    closer: &mut Closer,
+    bounds: Bounds,
 ) -> Result<u32, AllocError>
-    requires packets { table.now ≡ table_of scenario.now }
-    requires work { All (IsWork scenario.now seen) work.now }
-    ensures value { IfOk result (λ upper. IsUpperOf closer.old scenario.now seen
+    requires work { All (IsWork instance.now seen) work.now }
+    ensures value { IfOk result (λ upper. IsUpperOf bounds instance.now seen
         (left_in (map front_of work.now)) upper) }
-    ensures same { closer.new ≡ closer.old }
 {
     uppers_begin();
     uppers_raised();
     let mut upper = seen;
     for piece in work {
-        upper = raised_over(alloc, scenario, table, piece, upper, closer)?;
+        upper = raised_over(alloc, instance, piece, upper, bounds)?;
     }
     Ok(upper)
 }
@@ -308,20 +284,17 @@ fn upper_of(
 /// What a piece of work raises an upper bound to, in ticks: a box that is left, and nothing else.
 fn raised_over(
     alloc: Global,
-    scenario: &Scenario,
-    table: &PacketTable,
+    instance: &Instance,
     piece: &Work,
     upper: u32,
-    closer: &mut Closer,
+    bounds: Bounds,
 ) -> Result<u32, AllocError>
-    requires packets { table.now ≡ table_of scenario.now }
-    requires work { (seen : ℕ) × IsWork scenario.now seen piece.now }
-    ensures value { IfOk result
-        (λ raised. IsRaisedOver closer.old scenario.now piece.now upper raised) }
-    ensures same { closer.new ≡ closer.old }
+    requires work { (seen : ℕ) × IsWork instance.now seen piece.now }
+    ensures { IfOk result
+        (λ raised. IsRaisedOver bounds instance.now piece.now upper raised) }
 {
     match piece {
-        Work::Branch { branch, .. } => closer.raised(alloc, scenario, table, branch, upper),
+        Work::Branch { branch, .. } => bounds.raised(alloc, instance, branch, upper),
         Work::Write(_) => Ok(upper),
     }
 }

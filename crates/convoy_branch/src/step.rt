@@ -1,7 +1,6 @@
 ghost use Rattle.std.specs.Prelude.{◌≡◌, ◌↔◌, ℕ, length, nat_le, if◌then◌else◌};
 ghost use Rattle.std.specs.Prelude.{IfErr, IfOk, IfSome, IsNone};
 ghost use Rattle.convoy_scenario.specs.Scenario.{Scenario};
-ghost use Rattle.convoy_packets.specs.Table.{table_of};
 ghost use Rattle.convoy_sim.specs.Delivery.{latency_of};
 ghost use Rattle.convoy_sim.specs.Record.{attained_by};
 ghost use Rattle.convoy_intervals.specs.Boxes.{IsBox, IsPoint, greatest_of};
@@ -10,18 +9,14 @@ ghost use Rattle.convoy_branch.specs.declared.bounds.Bounds.{Bounds};
 ghost use Rattle.convoy_branch.specs.Steps.{IsStep, IsTriedIf, IsTurn, StaysOpen};
 ghost use Rattle.convoy_branch.specs.Looks.{IsLook};
 
-use super::closer::Closer;
+use super::bounds::Bounds;
 use convoy_certificate::Node;
 use convoy_intervals::laws::members_are_assignments;
 use convoy_intervals::{DelayBox, Tracked};
-use convoy_packets::PacketTable;
-use convoy_scenario::Scenario;
+use convoy_packets::{Instance, PacketTable};
 use convoy_sim::Record;
 use convoy_stamps::laws::stamp_bound_at_most_plain;
 use std::alloc::{AllocError, Global};
-
-#[cfg(test)]
-mod tests;
 
 /// What a step over a box gave.
 #[derive(Drop)]
@@ -58,28 +53,25 @@ pub enum Turn {
 /// (docs/PROTOCOL.md). Where memory runs out the box comes back as it was.
 pub fn step_branch(
     alloc: Global,
-    scenario: &Scenario,
-    table: &PacketTable,
+    instance: &Instance,
     branch: Tracked,
     tried: bool,
     seen: u32,
-    closer: &mut Closer,
+    bounds: Bounds,
 ) -> Result<Step, (Tracked, AllocError)>
-    requires packets { table.now ≡ table_of scenario.now }
-    requires of_scenario { branch.scenario ≡ scenario.now }
-    requires known { IsTriedIf scenario.now branch.space tried seen }
-    ensures value { IfOk result (λ step. IsStep closer.old scenario.now branch.space seen step) }
+    requires of_scenario { branch.scenario ≡ instance.now }
+    requires known { IsTriedIf instance.now branch.space tried seen }
+    ensures value { IfOk result (λ step. IsStep bounds instance.now branch.space seen step) }
     ensures back { IfErr result (λ refused. refused.0 ≡ branch) }
-    ensures same { closer.new ≡ closer.old }
 {
     stamp_bound_at_most_plain();
-    let look = match look_at(alloc, scenario, table, &branch, tried, seen, closer) {
+    let look = match look_at(alloc, instance, &branch, tried, seen, bounds) {
         Ok(look) => look,
         Err(error) => return Err((branch, error)),
     };
     let turn = match look.leaf {
         Some(leaf) => Turn::Closed(leaf),
-        None => open_turn(scenario, table, branch)?,
+        None => open_turn(instance, branch)?,
     };
     Ok(Step {
         found: look.found,
@@ -100,29 +92,26 @@ struct Look {
 /// delays, and then whether it is closed for that if it is greater.
 fn look_at(
     alloc: Global,
-    scenario: &Scenario,
-    table: &PacketTable,
+    instance: &Instance,
     branch: &Tracked,
     tried: bool,
     seen: u32,
-    closer: &mut Closer,
+    bounds: Bounds,
 ) -> Result<Look, AllocError>
-    requires packets { table.now ≡ table_of scenario.now }
-    requires of_scenario { branch.now.scenario ≡ scenario.now }
-    requires known { IsTriedIf scenario.now branch.now.space tried seen }
-    ensures value { IfOk result (λ look. IsLook closer.old scenario.now branch.now.space seen look) }
-    ensures same { closer.new ≡ closer.old }
+    requires of_scenario { branch.now.scenario ≡ instance.now }
+    requires known { IsTriedIf instance.now branch.now.space tried seen }
+    ensures value { IfOk result (λ look. IsLook bounds instance.now branch.now.space seen look) }
 {
     stamp_bound_at_most_plain();
-    let leaf = closer.leaf_for(alloc, scenario, table, branch, seen)?;
+    let leaf = bounds.leaf_for(alloc, instance, branch, seen)?;
     if leaf.is_some() {
         return Ok(Look { found: None, leaf });
     }
-    match try_greatest(alloc, scenario, table, branch, tried, seen)? {
+    match try_greatest(alloc, instance, branch, tried, seen)? {
         None => Ok(Look { found: None, leaf }),
         Some(found) => {
             let latency = found.latency();
-            let leaf = closer.leaf_for(alloc, scenario, table, branch, latency)?;
+            let leaf = bounds.leaf_for(alloc, instance, branch, latency)?;
             Ok(Look {
                 found: Some(found),
                 leaf,
@@ -135,43 +124,36 @@ fn look_at(
 /// the one place where a step asks for a latency, and it does not where the delays were tried.
 fn try_greatest(
     alloc: Global,
-    scenario: &Scenario,
-    table: &PacketTable,
+    instance: &Instance,
     branch: &Tracked,
     tried: bool,
     seen: u32,
 ) -> Result<Option<Record>, AllocError>
-    requires packets { table.now ≡ table_of scenario.now }
-    requires of_scenario { branch.now.scenario ≡ scenario.now }
-    requires known { IsTriedIf scenario.now branch.now.space tried seen }
+    requires of_scenario { branch.now.scenario ≡ instance.now }
+    requires known { IsTriedIf instance.now branch.now.space tried seen }
     ensures { let delays = greatest_of branch.now.space in IfOk result (λ found. found
-        ≡ (if nat_le (latency_of scenario.now delays) seen
-        then None else Some (attained_by scenario.now delays))) }
+        ≡ (if nat_le (latency_of instance.now delays) seen
+        then None else Some (attained_by instance.now delays))) }
 {
-    if tried || branch.greatest_latency(scenario) <= seen {
+    if tried || branch.greatest_latency(instance) <= seen {
         return Ok(None);
     }
     members_are_assignments();
     let delays = branch.space().greatest(alloc)?;
-    Ok(Some(Record::of(scenario, table, delays)))
+    Ok(Some(Record::of(instance, delays)))
 }
 
 /// What becomes of a box that is not closed: a leaf where it has one member, and else its halves. Where memory runs out the box comes back as it was.
-fn open_turn(
-    scenario: &Scenario,
-    table: &PacketTable,
-    branch: Tracked,
-) -> Result<Turn, (Tracked, AllocError)>
-    requires packets { table.now ≡ table_of scenario.now }
-    requires of_scenario { branch.scenario ≡ scenario.now }
-    ensures value { (bounds : Bounds) (known : ℕ) → StaysOpen bounds scenario.now branch.space known
-        → IfOk result (λ turn. IsTurn bounds scenario.now branch.space known turn) }
+fn open_turn(instance: &Instance, branch: Tracked) -> Result<Turn, (Tracked, AllocError)>
+    requires of_scenario { branch.scenario ≡ instance.now }
+    ensures value { (bounds : Bounds) (known : ℕ) → StaysOpen bounds instance.now branch.space known
+        → IfOk result (λ turn. IsTurn bounds instance.now branch.space known turn) }
     ensures back { IfErr result (λ refused. refused.0 ≡ branch) }
 {
-    match place_to_split(table, branch.space()) {
+    match place_to_split(instance.table(), branch.space()) {
         None => Ok(Turn::Closed(Node::Point)),
         Some((packet, at)) => {
-            let (lower, upper) = branch.halves(scenario, table, usize::from(packet), at)?;
+            let (lower, upper) = branch.halves(instance, usize::from(packet), at)?;
             Ok(Turn::Halves {
                 packet,
                 at,

@@ -6,7 +6,7 @@ ghost use Rattle.convoy_certificate.specs.Text.{is_stamp, is_lead, version_of};
 
 use super::node::Node;
 use super::version::Version;
-use convoy_packets::Delays;
+use convoy_packets::{Delays, Instance};
 use convoy_scenario::Scenario;
 use std::marker::Model;
 
@@ -27,7 +27,7 @@ pub const LONGEST_TEXT: usize = 67_108_864;
 /// may be no tree, and there may be none.
 #[derive(Debug, Drop)]
 pub struct Certificate {
-    scenario: Scenario,
+    instance: Instance,
     latency: u32,
     delays: Delays,
     nodes: Vec<Node>,
@@ -39,14 +39,14 @@ impl Model for Certificate {
     ghost Value = { Certificate };
 
     ghost view = { λ c. record {
-      scenario = c.scenario;
+      scenario = c.instance;
       latency = c.latency;
       delays = c.delays;
       nodes = c.nodes.items;
     } };
 
     ghost invariant = { λ c. IsCertificate (record {
-      scenario = c.scenario;
+      scenario = c.instance;
       latency = c.latency;
       delays = c.delays;
       nodes = c.nodes.items;
@@ -55,18 +55,18 @@ impl Model for Certificate {
 
 impl Certificate {
     /// A certificate of these parts.
-    pub fn new(scenario: Scenario, latency: u32, delays: Delays, nodes: Vec<Node>) -> Certificate
-        requires assigned { IsAssignment scenario delays }
+    pub fn new(instance: Instance, latency: u32, delays: Delays, nodes: Vec<Node>) -> Certificate
+        requires assigned { IsAssignment instance delays }
         requires nodes { All IsNode nodes.items }
         ensures { result ≡ record {
-          scenario = scenario;
+          scenario = instance;
           latency = latency;
           delays = delays;
           nodes = nodes.items;
         } }
     {
         Certificate {
-            scenario,
+            instance,
             latency,
             delays,
             nodes,
@@ -77,7 +77,14 @@ impl Certificate {
     pub fn scenario(&self) -> &Scenario
         ensures { result.now ≡ self.now.scenario }
     {
-        &self.scenario
+        self.instance.scenario()
+    }
+
+    /// The scenario with its packets.
+    pub fn instance(&self) -> &Instance
+        ensures { result.now ≡ self.now.scenario }
+    {
+        &self.instance
     }
 
     /// The version in which the certificate is written: `Three` where its tree has a lead leaf; else
@@ -89,7 +96,7 @@ impl Certificate {
         let nodes = self.nodes.as_slice();
         if has_lead(nodes) {
             Version::Three
-        } else if self.scenario.link_count() == 0 && !has_stamp(nodes) {
+        } else if self.scenario().link_count() == 0 && !has_stamp(nodes) {
             Version::One
         } else {
             Version::Two
@@ -119,20 +126,20 @@ impl Certificate {
         self.nodes.as_slice()
     }
 
-    /// The scenario, the stated latency in ticks, the schedule and the nodes, none of them copied.
-    pub fn into_parts(self) -> (Scenario, u32, Delays, Vec<Node>)
-        ensures scenario { result.0 ≡ self.scenario }
+    /// The instance, the stated latency in ticks, the schedule and the nodes, none of them copied.
+    pub fn into_parts(self) -> (Instance, u32, Delays, Vec<Node>)
+        ensures instance { result.0 ≡ self.scenario }
         ensures latency { result.1 ≡ self.latency }
         ensures delays { result.2 ≡ self.delays }
         ensures nodes { result.3.items ≡ self.nodes }
     {
         let Certificate {
-            scenario,
+            instance,
             latency,
             delays,
             nodes,
         } = self;
-        (scenario, latency, delays, nodes)
+        (instance, latency, delays, nodes)
     }
 }
 

@@ -13,8 +13,6 @@ pub mod laws;
 mod lines;
 mod node;
 mod reading;
-#[cfg(test)]
-mod tests;
 mod text_fault;
 mod version;
 mod writing;

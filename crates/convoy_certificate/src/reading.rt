@@ -17,7 +17,7 @@ use super::node::Node;
 use super::text_fault::TextFault;
 use super::version::Version;
 use convoy_lines::{LineReader, number_in};
-use convoy_packets::{Delays, PacketTable};
+use convoy_packets::{Delays, Instance};
 use convoy_scenario::Scenario;
 use convoy_scenario_lines::{Expected, read_lines};
 use std::alloc::Global;
@@ -53,12 +53,12 @@ fn read_all(alloc: Global, text: &[u8]) -> Result<Certificate, TextFault>
     let scenario = read_scenario(alloc, version, &mut reader)?;
     let latency = read_latency(&mut reader)?;
     let delays = read_schedule(alloc, &mut reader)?;
-    let table = PacketTable::of(alloc, &scenario)?;
-    if !are_within(table.ranges(), &delays) {
+    let instance = Instance::of(alloc, scenario)?;
+    if !are_within(instance.table().ranges(), &delays) {
         return Err(TextFault::Schedule);
     }
     let nodes = read_nodes(alloc, version, &mut reader)?;
-    let certificate = Certificate::new(scenario, latency, Delays::from_vec(delays), nodes);
+    let certificate = Certificate::new(instance, latency, Delays::from_vec(delays), nodes);
     if !is_same_version(version, certificate.version()) {
         return Err(TextFault::Line(1, Expected::Convoy));
     }

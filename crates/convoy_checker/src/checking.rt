@@ -1,6 +1,5 @@
 ghost use Rattle.std.specs.Prelude.{◌≡◌, ◌&&◌, nat_le, [], ◌∷◌, Ok, IfOk};
 ghost use Rattle.convoy_scenario.specs.Memory.{IsUnlessMemory};
-ghost use Rattle.convoy_packets.specs.Table.{table_of};
 ghost use Rattle.convoy_sim.specs.Delivery.{latency_of};
 ghost use Rattle.convoy_intervals.specs.Boxes.{IsBox, root_of, greatest_of, is_point};
 ghost use Rattle.convoy_certificate.specs.Certificate.{IsCertificate};
@@ -15,9 +14,8 @@ use super::walk::Walk;
 use convoy_certificate::{Certificate, Node};
 use convoy_intervals::laws::halves_are_boxes;
 use convoy_intervals::{DelayBox, bound};
-use convoy_leads::Leads;
-use convoy_packets::PacketTable;
-use convoy_scenario::Scenario;
+use convoy_leads::closes_by_leads;
+use convoy_packets::Instance;
 use convoy_stamps::stamp_bound;
 use std::alloc::{AllocError, Global};
 
@@ -25,10 +23,10 @@ use std::alloc::{AllocError, Global};
 /// over the root box of which every leaf is right (docs/PROTOCOL.md). Then no schedule has a
 /// greater latency.
 ///
-/// The bound of each leaf is computed from scratch. Memory grows with the depth of the tree; all lead
-/// leaves are tested in the same memory, of which none is taken where there is none of them. A
-/// certificate that isn't valid is refused with its first fault, in the order of `Refused`; where
-/// memory runs out, `Refused::Memory` is the answer, and says nothing of the certificate.
+/// The bound of each leaf is computed from scratch. Memory grows with the depth of the tree; a lead
+/// leaf gives back what its test takes. A certificate that isn't valid is refused with its first
+/// fault, in the order of `Refused`; where memory runs out, `Refused::Memory` is the answer, and says
+/// nothing of the certificate.
 pub fn check(alloc: Global, certificate: &Certificate) -> Result<Accepted, Refused>
     // What is accepted is valid, and has the latency that is answered.
     ensures valid { IfOk result (λ accepted. IsValid certificate.now × (accepted ≡ certificate.now.latency)) }
@@ -51,48 +49,39 @@ fn check_all(alloc: Global, certificate: &Certificate) -> Result<Accepted, Refus
     ensures lawful { IsCertificate certificate.now }
     ensures exact { IsUnlessMemory Refused.Memory (checked certificate.now) result }
 {
-    let scenario = certificate.scenario();
+    let instance = certificate.instance();
     let latency = certificate.latency();
-    let delays = certificate.delays();
-    let table = PacketTable::of(alloc, scenario)?;
-    let simulated = convoy_sim::latency(scenario, &table, delays);
+    let simulated = convoy_sim::latency(instance, certificate.delays());
     if simulated != latency {
         return Err(Refused::Latency(simulated));
     }
-    let claim = Claim {
-        scenario,
-        table: &table,
-        latency,
-    };
+    let claim = Claim { instance, latency };
     match first_fault(alloc, &claim, certificate.nodes())? {
         None => Ok(Accepted::new(latency)),
         Some(fault) => Err(fault),
     }
 }
 
-/// What the nodes of a certificate are to show: that no schedule of the scenario, whose packets are
-/// those of the table, has a latency above this.
+/// What the nodes of a certificate are to show: that no schedule of the scenario has a latency above
+/// this.
 #[derive(Drop)]
 struct Claim<'a> {
-    scenario: &'a Scenario,
-    table: &'a PacketTable,
+    instance: &'a Instance,
     latency: u32,
-    ghost packets: { table.now ≡ table_of scenario.now },
 }
 
 /// The first fault of the nodes as a tree over the root box.
 fn first_fault(alloc: Global, claim: &Claim, nodes: &[Node]) -> Result<Option<Refused>, AllocError>
-    ensures { IfOk result (λ fault. fault ≡ first_fault claim.now.scenario.now claim.now.latency 0
-        (root_of claim.now.scenario.now ∷ []) nodes.now) }
+    ensures { IfOk result (λ fault. fault ≡ first_fault claim.now.instance.now claim.now.latency 0
+        (root_of claim.now.instance.now ∷ []) nodes.now) }
 {
     halves_are_boxes();
-    let mut leads = Leads::new(alloc);
-    let mut walk = Walk::over(alloc, DelayBox::root(alloc, claim.table)?);
+    let mut walk = Walk::over(alloc, DelayBox::root(alloc, claim.instance)?);
     for (number, node) in nodes.iter().enumerate() {
         let Some(delay_box) = walk.next_box() else {
             return Ok(Some(Refused::TreeCount));
         };
-        let fault = node_fault(alloc, claim, &mut leads, number, *node, delay_box)?;
+        let fault = node_fault(alloc, claim, number, *node, delay_box)?;
         if fault.is_some() {
             return Ok(fault);
         }
@@ -105,35 +94,34 @@ fn first_fault(alloc: Global, claim: &Claim, nodes: &[Node]) -> Result<Option<Re
 fn node_fault(
     alloc: Global,
     claim: &Claim,
-    leads: &mut Leads,
     number: usize,
     node: Node,
     delay_box: &DelayBox,
 ) -> Result<Option<Refused>, AllocError>
-    requires inside { IsBox claim.now.scenario.now delay_box.now }
+    requires inside { IsBox claim.now.instance.now delay_box.now }
     ensures { IfOk result (λ fault. fault
-        ≡ node_fault claim.now.scenario.now claim.now.latency number node delay_box.now) }
+        ≡ node_fault claim.now.instance.now claim.now.latency number node delay_box.now) }
 {
-    let (scenario, table, latency) = (claim.scenario, claim.table, claim.latency);
+    let (instance, latency) = (claim.instance, claim.latency);
     let (holds, fault) = match node {
         Node::Split { packet, at } => (
             delay_box.can_split(usize::from(packet), at),
             Refused::Split(number),
         ),
         Node::Bound => {
-            let bound = bound(scenario, table, delay_box);
+            let bound = bound(instance, delay_box);
             (bound <= latency, Refused::BoundLeaf(number, bound))
         }
         Node::Point => (
-            is_within(scenario, table, latency, delay_box),
+            is_within(instance, latency, delay_box),
             Refused::PointLeaf(number),
         ),
         Node::Stamp => {
-            let bound = stamp_bound(alloc, scenario, table, delay_box)?;
+            let bound = stamp_bound(alloc, instance, delay_box)?;
             (bound <= latency, Refused::StampLeaf(number, bound))
         }
         Node::Lead { latency: named } => (
-            named <= latency && leads.closes(scenario, table, delay_box, named)?,
+            named <= latency && closes_by_leads(alloc, instance, delay_box, named)?,
             Refused::LeadLeaf(number),
         ),
     };
@@ -141,11 +129,10 @@ fn node_fault(
 }
 
 /// Whether the box has one member, whose latency is at most that.
-fn is_within(scenario: &Scenario, table: &PacketTable, latency: u32, delay_box: &DelayBox) -> bool
-    requires packets { table.now ≡ table_of scenario.now }
-    requires inside { IsBox scenario.now delay_box.now }
+fn is_within(instance: &Instance, latency: u32, delay_box: &DelayBox) -> bool
+    requires inside { IsBox instance.now delay_box.now }
     ensures { result ≡ (is_point delay_box.now
-        && nat_le (latency_of scenario.now (greatest_of delay_box.now)) latency) }
+        && nat_le (latency_of instance.now (greatest_of delay_box.now)) latency) }
 {
-    delay_box.is_point() && delay_box.greatest_latency(scenario, table) <= latency
+    delay_box.is_point() && delay_box.greatest_latency(instance) <= latency
 }

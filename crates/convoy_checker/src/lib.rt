@@ -9,6 +9,4 @@ mod accepted;
 mod checking;
 pub mod laws;
 mod refused;
-#[cfg(test)]
-mod tests;
 mod walk;

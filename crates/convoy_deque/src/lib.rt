@@ -9,6 +9,4 @@ pub use thief::Thief;
 mod owner;
 mod rule;
 mod task;
-#[cfg(test)]
-mod tests;
 mod thief;

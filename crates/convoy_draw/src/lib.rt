@@ -15,6 +15,4 @@ mod scale;
 mod sheet;
 mod signs;
 mod style;
-#[cfg(test)]
-mod tests;
 mod widths;

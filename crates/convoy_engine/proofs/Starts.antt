@@ -1,35 +1,60 @@
 -- A search that its first ticket has ended.
-use Rattle.std.proofs.Common.{◌≡◌, ◌≤◌, ℕ, Vec, refl, arith}
+use Rattle.std.proofs.Common.{◌≡◌, ◌≤◌, ℕ, List, Vec, refl, inl, arith}
 use Rattle.std.specs.declared.alloc.Global.{Global}
 use Rattle.convoy_scenario.specs.Scenario.{Scenario}
+use Rattle.convoy_certificate.specs.Certificate.{Certificate}
 use Rattle.convoy_sim.specs.Record.{Record}
-use Rattle.convoy_branch.specs.Outcomes.{IsOutcome}
+use Rattle.convoy_branch.specs.BothWays.{plain_share}
+use Rattle.convoy_branch.specs.Outcomes.{IsOutcome, IsProved}
 use Rattle.convoy_branch.specs.SearchBounds.{most_nodes}
+use Rattle.convoy_branch.specs.declared.bounds.Bounds.{Bounds}
+use Rattle.convoy_branch.specs.declared.bounds.Bounds.TheVariants.{Plain, Stamp, Lead}
 use Rattle.convoy_branch.specs.declared.outcome.Outcome.{Outcome}
 use Rattle.convoy_branch.specs.declared.outcome.Outcome.TheVariants.{Proved, Open}
-use Rattle.convoy_options.specs.Options.{AreSettings, Settings}
-use Rattle.convoy_engine.specs.Searches.{IsEnd}
+use Rattle.convoy_options.specs.Options.{AreSettings, Settings, first_bounds}
+use Rattle.convoy_options.specs.declared.ways.Ways.{Ways}
+use Rattle.convoy_options.specs.declared.ways.Ways.TheVariants.{One, Both}
+use Rattle.convoy_engine.specs.Searches.{IsEnd, IsOutcomeBy}
+
+-- one node can be read, by any bounds
+one_is_few : (bounds : Bounds) → 1 ≤ most_nodes bounds
+one_is_few Plain = omega arith
+one_is_few Stamp = omega arith
+one_is_few Lead = omega arith
+
+-- where one ticket is enough, more may be spent
+more : (bounds : Bounds) (scenario : Scenario) (limit : ℕ) (certificate : Certificate) (tickets : ℕ) (by_worker : List ℕ) →
+    1 ≤ limit → IsProved bounds scenario 1 1 certificate tickets by_worker →
+    IsProved bounds scenario 1 limit certificate tickets by_worker
+more bounds scenario limit certificate tickets by_worker some proved = record {
+  of_scenario = proved.of_scenario;
+  valid = proved.valid;
+  greatest = proved.greatest;
+  nodes = proved.nodes;
+  plain = proved.plain;
+  no_leads = proved.no_leads;
+  few = omega (arith, proved.few, some);
+  readable = λ within. proved.readable (one_is_few bounds);
+  shares = proved.shares;
+}
+
+-- by whatever the search goes
+more_by : (ways : Ways) (scenario : Scenario) (limit : ℕ) (certificate : Certificate) (tickets : ℕ) (by_worker : Vec ℕ Global) →
+    1 ≤ limit → IsOutcome (first_bounds ways) scenario 1 1 (Proved certificate tickets by_worker) →
+    IsOutcomeBy ways scenario 1 limit (Proved certificate tickets by_worker)
+more_by (One bounds) scenario limit certificate tickets by_worker some proved =
+    more bounds scenario limit certificate tickets by_worker.items some proved
+more_by Both scenario limit certificate tickets by_worker some proved =
+    inl (more Plain scenario (plain_share limit) certificate tickets by_worker.items (omega (arith, some)) proved)
 
 -- where one worker has a proved outcome with one ticket, no more of either are needed
 pub one_ticket : (settings : Settings) (scenario : Scenario) (outcome : Outcome) → AreSettings settings →
-    IsOutcome settings.bounds scenario 1 1 outcome →
+    IsOutcome (first_bounds settings.ways) scenario 1 1 outcome →
     ((best : Record) (upper tickets : ℕ) (by_worker : Vec ℕ Global) → outcome ≡ Open best upper tickets by_worker → ⊥) →
     IsEnd settings scenario outcome
 one_ticket settings scenario (Open best upper tickets by_worker) lawful search not_open = absurd (not_open best upper tickets by_worker refl)
-one_ticket settings scenario (Proved certificate tickets by_worker) lawful search not_open =
-    let one_is_few : 1 ≤ most_nodes settings.bounds = omega (arith, lawful.some_ticket, lawful.few_tickets) in
-    record {
-      workers = 1;
-      few = lawful.some_worker;
-      found = record {
-        of_scenario = search.of_scenario;
-        valid = search.valid;
-        greatest = search.greatest;
-        nodes = search.nodes;
-        plain = search.plain;
-        no_leads = search.no_leads;
-        few = omega (arith, search.few, lawful.some_ticket);
-        readable = λ within. search.readable one_is_few;
-        shares = search.shares;
-      };
-    }
+one_ticket settings scenario (Proved certificate tickets by_worker) lawful search not_open = record {
+  workers = 1;
+  few = lawful.some_worker;
+  found = more_by settings.ways scenario settings.limit certificate tickets by_worker lawful.some_ticket search;
+}

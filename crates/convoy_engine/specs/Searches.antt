@@ -12,11 +12,15 @@ use Rattle.convoy_sim.specs.Greatest.{IsGreatest, IsReached, IsUpper}
 use Rattle.convoy_certificate.specs.Certificate.{Certificate, IsCertificate}
 use Rattle.convoy_certificate.specs.Text.{certificate_text, is_lead, is_stamp, schedule_line}
 use Rattle.convoy_checker.specs.Validity.{IsValid}
+use Rattle.convoy_branch.specs.declared.bounds.Bounds.{Bounds}
 use Rattle.convoy_branch.specs.declared.bounds.Bounds.TheVariants.{Plain, Lead}
+use Rattle.convoy_branch.specs.BothWays.{IsFrontBothWays, IsOutcomeBothWays}
 use Rattle.convoy_branch.specs.Fronts.{IsFront}
 use Rattle.convoy_branch.specs.Outcomes.{IsOutcome}
 use Rattle.convoy_branch.specs.declared.outcome.Outcome.{Outcome}
 use Rattle.convoy_options.specs.Options.{Settings}
+use Rattle.convoy_options.specs.declared.ways.Ways.{Ways}
+use Rattle.convoy_options.specs.declared.ways.Ways.TheVariants.{One, Both}
 use Rattle.convoy_engine.specs.declared.done.Done.TheVariants.{Fine, Open, Refused}
 use Rattle.convoy_engine.specs.declared.fault.Fault.{Fault}
 use Rattle.convoy_engine.specs.declared.fault.Fault.TheVariants.{Memory, PlaceTooLarge}
@@ -32,11 +36,21 @@ pub record IsFaulty (text : List ℕ) (fault : Fault) : Type 0 where
   pub found : scenario_of_text text ≡ Err cause
   pub told : fault ≡ told_of cause
 
+-- what a search by one kind of bounds, or both ways, answers
+abbrev pub IsOutcomeBy : Ways → Scenario → ℕ → ℕ → Outcome → Type 0
+IsOutcomeBy (One bounds) scenario workers limit outcome = IsOutcome bounds scenario workers limit outcome
+IsOutcomeBy Both scenario workers limit outcome = IsOutcomeBothWays scenario workers limit outcome
+
+-- how far one has come that has spent all its tickets
+abbrev pub IsFrontBy : Ways → Scenario → ℕ → ℕ → ℕ → Type 0
+IsFrontBy (One bounds) scenario least most limit = IsFront bounds scenario least most limit
+IsFrontBy Both scenario least most limit = IsFrontBothWays scenario least most limit
+
 -- A search with these settings for the scenario ended so. It had as many workers as they say, or one where its first ticket was enough.
 pub record IsEnd (settings : Settings) (scenario : Scenario) (outcome : Outcome) : Type 0 where
   pub workers : ℕ
   pub few : workers ≤ settings.workers
-  pub found : IsOutcome settings.bounds scenario workers settings.limit outcome
+  pub found : IsOutcomeBy settings.ways scenario workers settings.limit outcome
 
 -- A search of several workers found more records than their board can name.
 pub record IsBoardFull (settings : Settings) (fault : Fault) : Type 0 where
@@ -63,7 +77,7 @@ abbrev pub SearchGives : Settings → List ℕ → Result Outcome Fault → Type
 SearchGives settings text (Ok outcome) = IsSearchOf settings text outcome
 SearchGives settings text (Err fault) = IsSearchFault settings text fault ⊎ (fault ≡ Memory)
 
--- THE HEADLINE. What is written is a certificate of the scenario that was read, with a node for each ticket that was spent; its schedule has the stated latency; no assignment has a greater one; and the checker accepts what is written.
+-- THE HEADLINE. What is written is a certificate of the scenario that was read, with no more nodes than there are tickets; its schedule has the stated latency; no assignment has a greater one; and the checker accepts what is written.
 pub record IsProof (settings : Settings) (text out : List ℕ) : Type 0 where
   pub certificate : Certificate
   pub lawful : IsCertificate certificate
@@ -73,20 +87,20 @@ pub record IsProof (settings : Settings) (text out : List ℕ) : Type 0 where
   pub greatest : IsGreatest certificate.scenario certificate.latency
   pub valid : IsValid certificate
   pub few : length certificate.nodes ≤ settings.limit
-  -- by plain bounds it has no stamp leaf, and only by leads it has lead leaves
-  pub plain : settings.bounds ≡ Plain → list_any is_stamp certificate.nodes ≡ false
-  pub no_leads : settings.bounds ≢ Lead → list_any is_lead certificate.nodes ≡ false
+  -- by plain bounds alone it has no stamp leaf; by one kind of bounds it has lead leaves only where that is leads
+  pub plain : settings.ways ≡ One Plain → list_any is_stamp certificate.nodes ≡ false
+  pub no_leads : (bounds : Bounds) → settings.ways ≡ One bounds → bounds ≢ Lead → list_any is_lead certificate.nodes ≡ false
   -- the checker reads it whole: it is within the limit of bytes
   pub fits : length out ≤ LONGEST_CERTIFICATE
   pub accepted : check_reply out ≡ Ok (Fine, accepted_line certificate.latency)
 
--- The greatest latency of the scenario that was read is from `least` to `most`: so says the front of a search that spent as many tickets as the limit.
+-- The greatest latency of the scenario that was read is from `least` to `most`: so say the front, or both fronts, of a search that spent all its tickets.
 pub record IsOpenBetween (settings : Settings) (text : List ℕ) (scenario : Scenario) (least most : ℕ) : Type 0 where
   pub read : scenario_of_text text ≡ Ok scenario
   pub lawful : IsScenario scenario
   pub reached : IsReached scenario least
   pub upper : IsUpper scenario most
-  pub front : IsFront settings.bounds scenario least most settings.limit
+  pub front : IsFrontBy settings.ways scenario least most settings.limit
 
 -- What is written is the least and the most that the greatest latency may be, and a schedule that has the least.
 pub record IsOpenProof (settings : Settings) (text out : List ℕ) : Type 0 where

@@ -13,7 +13,6 @@ use super::fault::Fault;
 use super::lines::append_open;
 use super::search::search_text;
 use super::watch::Watch;
-use convoy_branch::laws::fronts_bound;
 use convoy_branch::{NoGate, Outcome};
 use convoy_certificate::laws::{texts_are_read, texts_are_short};
 use convoy_certificate::{Certificate, push_schedule, write};
@@ -74,7 +73,6 @@ pub(crate) fn analyse_answer<R: Threads + Wait + Sync, W: Watch + Sync>(
     texts_are_short();
     checked_is_valid();
     valid_is_greatest();
-    fronts_bound();
     let _limit = options.limit();
     match search_text(rt, alloc, text, options, watch)? {
         Outcome::Proved { certificate, .. } => Ok((Done::Fine, proof_text(alloc, &certificate)?)),

@@ -2,40 +2,32 @@ ghost use Rattle.std.specs.Prelude.{◌≡◌, IfOk};
 ghost use Rattle.std.specs.Option.{option_map};
 ghost use Rattle.std.specs.Result.{result_map_both};
 ghost use Rattle.convoy_packets.specs.Assignment.{AreWithin, IsAssignment};
-ghost use Rattle.convoy_packets.specs.Table.{table_of};
 ghost use Rattle.convoy_engine.specs.declared.fault.Fault.TheVariants.{Memory};
 ghost use Rattle.convoy_engine.specs.Memory.{IsUnlessMemory};
 ghost use Rattle.convoy_engine.specs.Cases.{case_of_text, chosen_schedule};
 
 use super::fault::Fault;
-use convoy_packets::{Delays, PacketTable};
-use convoy_scenario::Scenario;
+use convoy_packets::{Delays, Instance, PacketTable};
 use convoy_toml::{Input, read_toml};
 use std::alloc::Global;
 
-/// A scenario with its packet table, and the schedule of one run of it.
+/// A scenario with its packets, and the schedule of one run of it.
 #[derive(Drop)]
 pub(crate) struct Case {
-    pub(crate) scenario: Scenario,
-    pub(crate) table: PacketTable,
+    pub(crate) instance: Instance,
     pub(crate) delays: Delays,
 }
 
 /// The case that a text gives.
 pub(crate) fn read_case(alloc: Global, text: &[u8]) -> Result<Case, Fault>
     ensures value { IsUnlessMemory Memory (case_of_text text.now)
-        (result_map_both (λ case. record { scenario = case.scenario; delays = case.delays }) (λ fault. fault) result) }
-    ensures table { IfOk result (λ case. case.table ≡ table_of case.scenario) }
-    ensures assignment { IfOk result (λ case. IsAssignment case.scenario case.delays) }
+        (result_map_both (λ case. record { scenario = case.instance; delays = case.delays }) (λ fault. fault) result) }
+    ensures assignment { IfOk result (λ case. IsAssignment case.instance case.delays) }
 {
     let Input { scenario, schedule } = read_toml(alloc, text)?;
-    let table = PacketTable::of(alloc, &scenario)?;
-    let delays = choose_schedule(alloc, &table, &schedule)?;
-    Ok(Case {
-        scenario,
-        table,
-        delays,
-    })
+    let instance = Instance::of(alloc, scenario)?;
+    let delays = choose_schedule(alloc, instance.table(), &schedule)?;
+    Ok(Case { instance, delays })
 }
 
 /// The schedule that is given, and where none is the least delays.

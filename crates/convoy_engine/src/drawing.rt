@@ -15,7 +15,6 @@ use convoy_certificate::{Certificate, read};
 use convoy_checker::{Accepted, Refused, check};
 use convoy_devices::{Sink, Source};
 use convoy_draw::write_drawing;
-use convoy_packets::PacketTable;
 use convoy_picture::Picture;
 use convoy_sim::simulate;
 use std::alloc::{AllocError, Global};
@@ -78,11 +77,10 @@ fn answer_to_refusal(alloc: Global, refused: Refused) -> Result<(Done, Vec<u8>),
 fn image(alloc: Global, certificate: &Certificate) -> Result<Vec<u8>, AllocError>
     ensures { IfOk result (λ text. IsImageOf certificate.now text.items) }
 {
-    let (scenario, delays) = (certificate.scenario(), certificate.delays());
-    let table = PacketTable::of(alloc, scenario)?;
-    let run = simulate(alloc, scenario, &table, delays)?;
-    let picture = Picture::of(alloc, scenario, &table, delays, &run)?;
+    let (instance, delays) = (certificate.instance(), certificate.delays());
+    let run = simulate(alloc, instance, delays)?;
+    let picture = Picture::of(alloc, instance, delays, &run)?;
     let mut text = Vec::new(alloc);
-    write_drawing(scenario, &picture, &mut text)?;
+    write_drawing(certificate.scenario(), &picture, &mut text)?;
     Ok(text)
 }

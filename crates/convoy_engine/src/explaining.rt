@@ -14,7 +14,6 @@ use convoy_certificate::{Certificate, read};
 use convoy_checker::{Accepted, Refused, check};
 use convoy_devices::{Sink, Source};
 use convoy_explain::{explain, write_explanation};
-use convoy_packets::PacketTable;
 use convoy_sim::simulate;
 use std::alloc::{AllocError, Global};
 
@@ -66,11 +65,15 @@ fn explain_checked(
 fn explanation(alloc: Global, certificate: &Certificate) -> Result<Vec<u8>, AllocError>
     ensures { IfOk result (λ text. text.items ≡ certificate_explained certificate.now) }
 {
-    let (scenario, delays) = (certificate.scenario(), certificate.delays());
-    let table = PacketTable::of(alloc, scenario)?;
-    let run = simulate(alloc, scenario, &table, delays)?;
-    let why = explain(scenario, &table, delays, &run);
+    let (instance, delays) = (certificate.instance(), certificate.delays());
+    let run = simulate(alloc, instance, delays)?;
+    let why = explain(instance, delays, &run);
     let mut text = Vec::new(alloc);
-    write_explanation(scenario, &why, certificate.nodes().len(), &mut text)?;
+    write_explanation(
+        certificate.scenario(),
+        &why,
+        certificate.nodes().len(),
+        &mut text,
+    )?;
     Ok(text)
 }

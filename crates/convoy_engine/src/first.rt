@@ -12,8 +12,7 @@ use super::fault::Fault;
 use convoy_certificate::push_schedule;
 use convoy_devices::{Sink, Source};
 use convoy_lines::push_number_line;
-use convoy_packets::{Delays, PacketTable};
-use convoy_scenario::Scenario;
+use convoy_packets::{Delays, Instance};
 use convoy_sim::latency;
 use convoy_toml::read_toml;
 use std::alloc::{AllocError, Global};
@@ -44,16 +43,16 @@ pub(crate) fn first_answer(alloc: Global, text: &[u8]) -> Result<Vec<u8>, Fault>
         (result_map_both (λ answer. answer.items) (λ fault. fault) result) }
 {
     let input = read_toml(alloc, text)?;
-    Ok(attained(alloc, &input.scenario)?)
+    let instance = Instance::of(alloc, input.scenario)?;
+    Ok(attained(alloc, &instance)?)
 }
 
 /// The latency that the least delays attain, and those delays.
-fn attained(alloc: Global, scenario: &Scenario) -> Result<Vec<u8>, AllocError>
-    ensures { IfOk result (λ text. text.items ≡ attained_text scenario.now (least_delays scenario.now)) }
+fn attained(alloc: Global, instance: &Instance) -> Result<Vec<u8>, AllocError>
+    ensures { IfOk result (λ text. text.items ≡ attained_text instance.now (least_delays instance.now)) }
 {
-    let table = PacketTable::of(alloc, scenario)?;
-    let delays = Delays::least(alloc, &table)?;
-    let attained = latency(scenario, &table, &delays);
+    let delays = Delays::least(alloc, instance.table())?;
+    let attained = latency(instance, &delays);
     let mut text = Vec::new(alloc);
     push_number_line(&mut text, "attained", attained)?;
     push_schedule(&mut text, delays.as_slice())?;

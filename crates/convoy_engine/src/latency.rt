@@ -11,9 +11,7 @@ use super::fault::Fault;
 use super::lines::append_open;
 use super::search::search_text;
 use super::watch::Watch;
-use convoy_branch::laws::fronts_bound;
 use convoy_branch::{NoGate, Outcome};
-use convoy_checker::laws::valid_is_greatest;
 use convoy_devices::{Sink, Source};
 use convoy_lines::push_number_line;
 use convoy_options::Options;
@@ -64,8 +62,7 @@ pub(crate) fn latency_answer<R: Threads + Wait + Sync, W: Watch + Sync>(
 ) -> Result<(Done, Vec<u8>), Fault>
     ensures { SaysUnlessMemory (LatencySays options.now) text.now (reply_of result) }
 {
-    valid_is_greatest();
-    fronts_bound();
+    let _limit = options.limit();
     match search_text(rt, alloc, text, options, watch)? {
         Outcome::Proved { certificate, .. } => {
             Ok((Done::Fine, greatest_text(alloc, certificate.latency())?))

@@ -5,12 +5,12 @@ pub use analyse::run_analyse;
 pub use batch::{MOST_JOBS, run_batch};
 pub use checking::run_check;
 pub use command::{Command, run_command};
-pub use convoy_branch::{Bounds, Gate, NoGate};
+pub use convoy_branch::{Bounds, Gate, NoGate, lead_share, plain_share};
 pub use convoy_devices::{
     DeviceFailed, Sink, SliceSource, Source, StreamSink, StreamSource, VecSink, write_all,
 };
 pub use convoy_options::{
-    DEFAULT_LIMIT, DEFAULT_SIMULATIONS, MOST_SIMULATIONS, MOST_TICKETS, MOST_WORKERS, Options,
+    DEFAULT_LIMIT, DEFAULT_SIMULATIONS, MOST_SIMULATIONS, MOST_TICKETS, MOST_WORKERS, Options, Ways,
 };
 pub use done::Done;
 pub use drawing::run_draw;
@@ -44,8 +44,6 @@ mod packets;
 mod refusal;
 mod search;
 mod simulate;
-#[cfg(test)]
-mod tests;
 mod timeline;
 mod watch;
 mod writing;

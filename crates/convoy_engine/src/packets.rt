@@ -3,7 +3,6 @@ ghost use Rattle.std.specs.Result.{result_map_both};
 ghost use Rattle.convoy_certificate.specs.Reading.{certificate_of};
 ghost use Rattle.convoy_explain.specs.PacketLists.{packets_text};
 ghost use Rattle.convoy_packets.specs.Assignment.{IsAssignment};
-ghost use Rattle.convoy_packets.specs.Table.{table_of};
 ghost use Rattle.convoy_engine.specs.declared.fault.Fault.TheVariants.{Memory};
 ghost use Rattle.convoy_engine.specs.declared.limits.TheConstants.{LONGEST_CERTIFICATE};
 ghost use Rattle.convoy_engine.specs.Inputs.{reply_of_reading};
@@ -23,8 +22,7 @@ use super::limits::LONGEST_JOB;
 use convoy_certificate::read;
 use convoy_devices::{Sink, Source};
 use convoy_explain::{write_packets, write_scheduled_packets};
-use convoy_packets::PacketTable;
-use convoy_scenario::Scenario;
+use convoy_packets::Instance;
 use convoy_toml::read_toml;
 use std::alloc::{AllocError, Global};
 
@@ -68,7 +66,7 @@ fn packets_certificate(alloc: Global, text: &[u8]) -> Result<(Done, Vec<u8>), Fa
 {
     match read(alloc, text) {
         Ok(certificate) => {
-            let case = case_of(alloc, certificate)?;
+            let case = case_of(certificate);
             Ok((Done::Fine, scheduled(alloc, &case)?))
         }
         Err(fault) => answer_to_fault(alloc, fault),
@@ -81,26 +79,25 @@ fn packets_scenario(alloc: Global, text: &[u8]) -> Result<Vec<u8>, Fault>
         (result_map_both (λ answer. answer.items) (λ fault. fault) result) }
 {
     let input = read_toml(alloc, text)?;
-    Ok(listed(alloc, &input.scenario)?)
+    let instance = Instance::of(alloc, input.scenario)?;
+    Ok(listed(alloc, &instance)?)
 }
 
 /// The packets of a scenario.
-fn listed(alloc: Global, scenario: &Scenario) -> Result<Vec<u8>, AllocError>
-    ensures { IfOk result (λ text. text.items ≡ packets_text scenario.now) }
+fn listed(alloc: Global, instance: &Instance) -> Result<Vec<u8>, AllocError>
+    ensures { IfOk result (λ text. text.items ≡ packets_text instance.now) }
 {
-    let table = PacketTable::of(alloc, scenario)?;
     let mut text = Vec::new(alloc);
-    write_packets(scenario, &table, &mut text)?;
+    write_packets(instance, &mut text)?;
     Ok(text)
 }
 
 /// The packets of the case, with the delays of its schedule.
 fn scheduled(alloc: Global, case: &Case) -> Result<Vec<u8>, AllocError>
-    requires table { case.now.table ≡ table_of case.now.scenario }
-    requires assignment { IsAssignment case.now.scenario case.now.delays }
-    ensures { IfOk result (λ text. text.items ≡ scheduled_packets_text case.now.scenario case.now.delays) }
+    requires assignment { IsAssignment case.now.instance case.now.delays }
+    ensures { IfOk result (λ text. text.items ≡ scheduled_packets_text case.now.instance case.now.delays) }
 {
     let mut text = Vec::new(alloc);
-    write_scheduled_packets(&case.scenario, &case.table, &case.delays, &mut text)?;
+    write_scheduled_packets(&case.instance, &case.delays, &mut text)?;
     Ok(text)
 }

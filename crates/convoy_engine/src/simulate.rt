@@ -1,7 +1,6 @@
 ghost use Rattle.std.specs.Prelude.{◌≡◌, IfOk};
 ghost use Rattle.std.specs.Result.{result_map_both};
 ghost use Rattle.convoy_packets.specs.Assignment.{IsAssignment};
-ghost use Rattle.convoy_packets.specs.Table.{table_of};
 ghost use Rattle.convoy_engine.specs.declared.fault.Fault.TheVariants.{Memory};
 ghost use Rattle.convoy_certificate.specs.Reading.{certificate_of};
 ghost use Rattle.convoy_engine.specs.declared.limits.TheConstants.{LONGEST_CERTIFICATE};
@@ -65,7 +64,7 @@ fn simulate_certificate(alloc: Global, text: &[u8]) -> Result<(Done, Vec<u8>), F
 {
     match read(alloc, text) {
         Ok(certificate) => {
-            let case = case_of(alloc, certificate)?;
+            let case = case_of(certificate);
             Ok((Done::Fine, simulated(alloc, &case)?))
         }
         Err(fault) => answer_to_fault(alloc, fault),
@@ -83,12 +82,11 @@ fn simulate_scenario(alloc: Global, text: &[u8]) -> Result<Vec<u8>, Fault>
 
 /// The latency of the case's run, and its schedule.
 fn simulated(alloc: Global, case: &Case) -> Result<Vec<u8>, AllocError>
-    requires table { case.now.table ≡ table_of case.now.scenario }
-    requires assignment { IsAssignment case.now.scenario case.now.delays }
+    requires assignment { IsAssignment case.now.instance case.now.delays }
     ensures { IfOk result (λ text. text.items
-        ≡ simulated_text (record { scenario = case.now.scenario; delays = case.now.delays })) }
+        ≡ simulated_text (record { scenario = case.now.instance; delays = case.now.delays })) }
 {
-    let latency = latency(&case.scenario, &case.table, &case.delays);
+    let latency = latency(&case.instance, &case.delays);
     let mut text = Vec::new(alloc);
     push_number_line(&mut text, "latency", latency)?;
     push_schedule(&mut text, case.delays.as_slice())?;

@@ -1,7 +1,6 @@
 ghost use Rattle.std.specs.Prelude.{◌≡◌, IfOk};
 ghost use Rattle.std.specs.Result.{result_map_both};
 ghost use Rattle.convoy_packets.specs.Assignment.{IsAssignment};
-ghost use Rattle.convoy_packets.specs.Table.{table_of};
 ghost use Rattle.convoy_engine.specs.declared.fault.Fault.TheVariants.{Memory};
 ghost use Rattle.convoy_certificate.specs.Reading.{certificate_of};
 ghost use Rattle.convoy_engine.specs.declared.limits.TheConstants.{LONGEST_CERTIFICATE};
@@ -61,7 +60,7 @@ fn timeline_certificate(alloc: Global, text: &[u8]) -> Result<(Done, Vec<u8>), F
 {
     match read(alloc, text) {
         Ok(certificate) => {
-            let case = case_of(alloc, certificate)?;
+            let case = case_of(certificate);
             Ok((Done::Fine, timeline(alloc, &case)?))
         }
         Err(fault) => answer_to_fault(alloc, fault),
@@ -79,13 +78,12 @@ fn timeline_scenario(alloc: Global, text: &[u8]) -> Result<Vec<u8>, Fault>
 
 /// The timeline of the case's run.
 fn timeline(alloc: Global, case: &Case) -> Result<Vec<u8>, AllocError>
-    requires table { case.now.table ≡ table_of case.now.scenario }
-    requires assignment { IsAssignment case.now.scenario case.now.delays }
+    requires assignment { IsAssignment case.now.instance case.now.delays }
     ensures { IfOk result (λ text. text.items
-        ≡ case_timeline (record { scenario = case.now.scenario; delays = case.now.delays })) }
+        ≡ case_timeline (record { scenario = case.now.instance; delays = case.now.delays })) }
 {
-    let run = simulate(alloc, &case.scenario, &case.table, &case.delays)?;
+    let run = simulate(alloc, &case.instance, &case.delays)?;
     let mut text = Vec::new(alloc);
-    write_timeline(&case.scenario, &run, &mut text)?;
+    write_timeline(case.instance.scenario(), &run, &mut text)?;
     Ok(text)
 }

@@ -1,18 +1,18 @@
-use convoy_branch::{Gate, NoGate};
+use convoy_branch::{Bounds, Gate, NoGate};
 
 /// Who watches a search: besides what a gate is told, how the search begins, and that it has ended.
 /// Nothing that a search promises rests on it.
 pub trait Watch: Gate {
-    /// The search begins, with so many tickets at most, and by what is known the greatest latency is at
-    /// least that, and at most that where a bound is known, in ticks.
-    fn begins(&self, limit: u64, least: u32, most: Option<u32>);
+    /// The search begins by those bounds, with so many tickets at most for them, and by what is known the
+    /// greatest latency is at least that, and at most that where a bound is known, in ticks.
+    fn begins(&self, bounds: Bounds, limit: u64, least: u32, most: Option<u32>);
 
     /// The search has ended. Nothing is written of it yet.
     fn ends(&self);
 }
 
 impl Watch for NoGate {
-    fn begins(&self, _limit: u64, _least: u32, _most: Option<u32>) {}
+    fn begins(&self, _bounds: Bounds, _limit: u64, _least: u32, _most: Option<u32>) {}
 
     fn ends(&self) {}
 }

@@ -12,7 +12,7 @@ ghost use Rattle.convoy_explain.specs.Told.{proposal_told, stamped_told};
 
 use super::explanation::{Explanation, Flight, Holder, LastProposal};
 use super::laws::{holders_hold, last_proposals_commit};
-use convoy_packets::{Delays, PacketTable};
+use convoy_packets::{Delays, Instance, PacketTable};
 use convoy_scenario::Scenario;
 use convoy_sim::laws::{final_stamp_is_local, local_stamp_names_group};
 use convoy_sim::{Proposal, Run, Timestamp};
@@ -23,30 +23,29 @@ const NO_PROPOSAL: Proposal = Proposal {
     stamp: Timestamp::NONE,
 };
 
-/// Why the target of a scenario is delivered when it is, in the run of the scenario under a schedule;
-/// with the packet table of the scenario (docs/PROTOCOL.md).
-pub fn explain(scenario: &Scenario, table: &PacketTable, delays: &Delays, run: &Run) -> Explanation
-    requires table { table.now ≡ table_of scenario.now }
-    requires assignment { IsAssignment scenario.now delays.now }
-    requires run { IsRunOf scenario.now delays.now run.now }
-    ensures { result ≡ explanation_of scenario.now delays.now }
+/// Why the target of an instance is delivered when it is, in its run under a schedule
+/// (docs/PROTOCOL.md).
+pub fn explain(instance: &Instance, delays: &Delays, run: &Run) -> Explanation
+    requires assignment { IsAssignment instance.now delays.now }
+    requires run { IsRunOf instance.now delays.now run.now }
+    ensures { result ≡ explanation_of instance.now delays.now }
 {
     final_stamp_is_local();
     local_stamp_names_group();
     holders_hold();
     last_proposals_commit();
     // A scenario is well formed.
-    let _groups = scenario.group_count();
-    explain_told(scenario, table, delays, run)
+    let _groups = instance.group_count();
+    explain_told(instance, delays, run)
 }
 
 /// As the run tells it.
 #[tactic(auto, unfolding(crate::specs::Told::explanation_told))]
-fn explain_told(scenario: &Scenario, table: &PacketTable, delays: &Delays, run: &Run) -> Explanation
-    ensures { result ≡ explanation_told scenario.now table.now.packets delays.now run.now }
+fn explain_told(instance: &Instance, delays: &Delays, run: &Run) -> Explanation
+    ensures { result ≡ explanation_told instance.now (table_of instance.now).packets delays.now run.now }
 {
-    let (message, group) = (scenario.target_message(), scenario.target_group());
-    let holder = holder(scenario, run, message, group);
+    let (message, group) = (instance.target_message(), instance.target_group());
+    let holder = holder(instance.scenario(), run, message, group);
     let awaited = holder.unwrap_or(message);
     Explanation {
         latency: run.latency(),
@@ -57,7 +56,7 @@ fn explain_told(scenario: &Scenario, table: &PacketTable, delays: &Delays, run: 
             message,
             proposal: proposal(run, message, group),
         }),
-        last: last_proposal(scenario, table, delays, run, awaited, group),
+        last: last_proposal(instance, delays, run, awaited, group),
     }
 }
 
@@ -101,23 +100,22 @@ fn is_addressed(scenario: &Scenario, message: usize, group: usize) -> bool
 
 /// How the last proposal for a message comes to a group.
 fn last_proposal(
-    scenario: &Scenario,
-    table: &PacketTable,
+    instance: &Instance,
     delays: &Delays,
     run: &Run,
     message: usize,
     group: usize,
 ) -> LastProposal
-    requires { message < length scenario.now.multicasts }
-    ensures { result ≡ last_proposal_told scenario.now table.now.packets delays.now run.now message group }
+    requires { message < length instance.now.multicasts }
+    ensures { result ≡ last_proposal_told instance.now (table_of instance.now).packets delays.now run.now message group }
 {
-    let from = last_proposer(scenario, table, delays, run, message, group);
+    let from = last_proposer(instance, delays, run, message, group);
     LastProposal {
         message,
         from,
-        sent: sent(table, delays, message, from),
+        sent: sent(instance.table(), delays, message, from),
         proposal: proposal(run, message, from),
-        answered: answered(table, delays, message, from, group),
+        answered: answered(instance.table(), delays, message, from, group),
         committed: committed(run, message, group),
     }
 }
@@ -125,17 +123,17 @@ fn last_proposal(
 /// The group whose proposal for a message comes last to a group.
 #[tactic(auto, unfolding(crate::specs::Told::last_proposer_told))]
 fn last_proposer(
-    scenario: &Scenario,
-    table: &PacketTable,
+    instance: &Instance,
     delays: &Delays,
     run: &Run,
     message: usize,
     group: usize,
 ) -> usize
-    requires { message < length scenario.now.multicasts }
-    ensures { result ≡ last_proposer_told scenario.now table.now.packets delays.now run.now message group }
+    requires { message < length instance.now.multicasts }
+    ensures { result ≡ last_proposer_told instance.now (table_of instance.now).packets delays.now run.now message group }
 {
-    for from in scenario.destinations(message) {
+    let table = instance.table();
+    for from in instance.destinations(message) {
         if comes_last(table, delays, run, message, group, *from) {
             return *from;
         }

@@ -1,7 +1,6 @@
 ghost use Rattle.std.specs.Prelude.{◌≡◌, ◌++◌, ◌<◌, None, OnErr, OnOk, IfOk, Some, length, string_bytes};
 ghost use Rattle.std.specs.List.{flat_map, enumerate_from, slice_get};
 ghost use Rattle.convoy_packets.specs.Assignment.{IsAssignment, range_of};
-ghost use Rattle.convoy_packets.specs.Table.{table_of};
 ghost use Rattle.convoy_explain.specs.PacketLists.{packet_line, packet_text, packets_text, scheduled_packets_text};
 ghost use Rattle.convoy_explain.specs.PacketLists.{taken_text};
 ghost use Rattle.convoy_scenario.specs.Naming.{sender_word};
@@ -9,12 +8,11 @@ ghost use Rattle.convoy_scenario.specs.Scenario.{message_at};
 
 use super::telling::{group_name, message_name};
 use convoy_packets::laws::delays_are_one_each;
-use convoy_packets::{Delays, Packet, PacketTable};
+use convoy_packets::{Delays, Instance, Packet};
 use convoy_scenario::{Scenario, Sender};
 use std::alloc::{AllocError, Global};
 
-/// Appends the list of a scenario's packets, with the packet table of the scenario: for each, in
-/// packet order, one of the lines
+/// Appends the list of an instance's packets: for each, in packet order, one of the lines
 ///
 /// ```text
 /// packet N: MESSAGE from SENDER to GROUP, LEAST to MOST ticks
@@ -23,16 +21,11 @@ use std::alloc::{AllocError, Global};
 ///
 /// where N is its number, from 0, SENDER a group or `client`, and the ticks are its range
 /// (docs/FORMATS.md, "What `packets` writes"). Where memory runs out the vector is as it was.
-pub fn write_packets(
-    scenario: &Scenario,
-    table: &PacketTable,
-    out: &mut Vec<u8>,
-) -> Result<(), AllocError>
-    requires { table.now ≡ table_of scenario.now }
-    ensures ok { OnOk result (out.new.items ≡ out.old.items ++ packets_text scenario.now) }
+pub fn write_packets(instance: &Instance, out: &mut Vec<u8>) -> Result<(), AllocError>
+    ensures ok { OnOk result (out.new.items ≡ out.old.items ++ packets_text instance.now) }
     ensures err { OnErr result (out.new.items ≡ out.old.items) }
 {
-    let text = packets_text(*out.allocator(), scenario, table)?;
+    let text = packets_text(*out.allocator(), instance)?;
     out.extend_from_slice(&text)
 }
 
@@ -40,29 +33,23 @@ pub fn write_packets(
 /// a schedule of the scenario gives the packet, after `takes`. Where memory runs out the vector is as
 /// it was.
 pub fn write_scheduled_packets(
-    scenario: &Scenario,
-    table: &PacketTable,
+    instance: &Instance,
     delays: &Delays,
     out: &mut Vec<u8>,
 ) -> Result<(), AllocError>
-    requires table { table.now ≡ table_of scenario.now }
-    requires assignment { IsAssignment scenario.now delays.now }
-    ensures ok { OnOk result (out.new.items ≡ out.old.items ++ scheduled_packets_text scenario.now delays.now) }
+    requires assignment { IsAssignment instance.now delays.now }
+    ensures ok { OnOk result (out.new.items ≡ out.old.items ++ scheduled_packets_text instance.now delays.now) }
     ensures err { OnErr result (out.new.items ≡ out.old.items) }
 {
-    let text = scheduled_text(*out.allocator(), scenario, table, delays)?;
+    let text = scheduled_text(*out.allocator(), instance, delays)?;
     out.extend_from_slice(&text)
 }
 
 /// The lines of all packets.
-fn packets_text(
-    alloc: Global,
-    scenario: &Scenario,
-    table: &PacketTable,
-) -> Result<Vec<u8>, AllocError>
-    requires { table.now ≡ table_of scenario.now }
-    ensures { IfOk result (λ text. text.items ≡ packets_text scenario.now) }
+fn packets_text(alloc: Global, instance: &Instance) -> Result<Vec<u8>, AllocError>
+    ensures { IfOk result (λ text. text.items ≡ packets_text instance.now) }
 {
+    let (scenario, table) = (instance.scenario(), instance.table());
     let mut text = Vec::new(alloc);
     for i in 0..table.len() {
         let line = packet_line(alloc, scenario, i, table.packet(i), table.range(i), None)?;
@@ -74,15 +61,14 @@ fn packets_text(
 /// The lines of all packets with their delays.
 fn scheduled_text(
     alloc: Global,
-    scenario: &Scenario,
-    table: &PacketTable,
+    instance: &Instance,
     delays: &Delays,
 ) -> Result<Vec<u8>, AllocError>
-    requires table { table.now ≡ table_of scenario.now }
-    requires assignment { IsAssignment scenario.now delays.now }
-    ensures { IfOk result (λ text. text.items ≡ scheduled_packets_text scenario.now delays.now) }
+    requires assignment { IsAssignment instance.now delays.now }
+    ensures { IfOk result (λ text. text.items ≡ scheduled_packets_text instance.now delays.now) }
 {
     delays_are_one_each();
+    let (scenario, table) = (instance.scenario(), instance.table());
     let mut text = Vec::new(alloc);
     for i in 0..table.len() {
         let delay = Some(delays.delay(i));

@@ -144,7 +144,7 @@ fn hint_for_schedule_line(alloc: Global, text: &[u8]) -> Result<Option<String>, 
     };
     let _ = reader.line();
     let delays = delays_of(alloc, reader.line().unwrap_or(b""))?;
-    hint_for_schedule(alloc, &scenario, &delays)
+    hint_for_schedule(alloc, scenario, &delays)
 }
 
 /// What is wrong with a line.

@@ -7,7 +7,7 @@ pub use certificate_hints::hint_for_certificate;
 pub use convoy_scenario_hints::hint_for_scenario;
 pub use device_hints::{hint_for_jobs, hint_for_length, hint_for_reading, hint_for_writing};
 pub use job_hints::hint_for_batch;
-pub use search_hints::{hint_for_leads, hint_for_tickets};
+pub use search_hints::{hint_for_both, hint_for_leads, hint_for_limit, hint_for_tickets};
 pub use word_hints::hint_for_words;
 
 mod body;
@@ -18,7 +18,5 @@ mod lines;
 mod paths;
 mod refusal;
 mod search_hints;
-#[cfg(test)]
-mod tests;
 mod tree_hints;
 mod word_hints;

@@ -10,5 +10,3 @@ mod board;
 mod fault;
 mod noted;
 mod rule;
-#[cfg(test)]
-mod tests;

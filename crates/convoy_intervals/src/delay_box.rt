@@ -1,13 +1,12 @@
 ghost use Rattle.std.specs.Prelude.{◌≡◌, ◌≤◌, ◌<◌, ◌↔◌, length, slice_set, IfOk, IsTrue, MatchResult};
 ghost use Rattle.convoy_scenario.specs.Scenario.{Scenario};
-ghost use Rattle.convoy_packets.specs.Table.{table_of};
 ghost use Rattle.convoy_intervals.specs.Boxes.{AreRanges, CanSplit, IsBox, IsIn, IsPoint};
 ghost use Rattle.convoy_intervals.specs.Boxes.{can_split, is_point, range_at, lower_half, upper_half};
-ghost use Rattle.convoy_intervals.specs.Boxes.{greatest_of};
+ghost use Rattle.convoy_intervals.specs.Boxes.{greatest_of, root_of};
 ghost use Rattle.convoy_sim.specs.Delivery.{latency_of};
 
 use super::greatest_ticks::BoxTicks;
-use convoy_packets::{Delays, PacketTable};
+use convoy_packets::{Delays, Instance};
 use convoy_scenario::Scenario;
 use convoy_sim::latency_by;
 use std::alloc::{AllocError, Global};
@@ -34,14 +33,13 @@ impl Model for DelayBox {
 
 impl DelayBox {
     /// The box in which each packet has its whole range: its members are the assignments of the
-    /// table's scenario. Fails where memory runs out, and else never.
-    pub fn root(alloc: Global, table: &PacketTable) -> Result<DelayBox, AllocError>
-        ensures value { IfOk result (λ root. root ≡ table.now.ranges) }
-        ensures is_box { (scenario : Scenario) → table.now ≡ table_of scenario
-            → IfOk result (λ root. IsBox scenario root) }
+    /// scenario. Fails where memory runs out, and else never.
+    pub fn root(alloc: Global, instance: &Instance) -> Result<DelayBox, AllocError>
+        ensures value { IfOk result (λ root. root ≡ root_of instance.now) }
+        ensures is_box { IfOk result (λ root. IsBox instance.now root) }
     {
         Ok(DelayBox {
-            ranges: table.ranges().to_vec(alloc)?,
+            ranges: instance.table().ranges().to_vec(alloc)?,
         })
     }
 
@@ -92,14 +90,12 @@ impl DelayBox {
 
     /// The latency of the scenario in ticks where each packet takes the greatest time of its range.
     /// Takes no memory.
-    pub fn greatest_latency(&self, scenario: &Scenario, table: &PacketTable) -> u32
-        requires packets { table.now ≡ table_of scenario.now }
-        requires inside { IsBox scenario.now self.now }
-        ensures { result ≡ latency_of scenario.now (greatest_of self.now) }
+    pub fn greatest_latency(&self, instance: &Instance) -> u32
+        requires inside { IsBox instance.now self.now }
+        ensures { result ≡ latency_of instance.now (greatest_of self.now) }
     {
         latency_by(&BoxTicks {
-            scenario,
-            table,
+            instance,
             delay_box: self,
         })
     }

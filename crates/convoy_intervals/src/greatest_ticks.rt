@@ -4,7 +4,7 @@ use super::delay_box::DelayBox;
 use super::laws::{greatest_is_member, members_are_assignments};
 use super::times::{arrivals, settlings};
 use super::tracked::Tracked;
-use convoy_packets::PacketTable;
+use convoy_packets::Instance;
 use convoy_scenario::Scenario;
 use convoy_sim::Ticks;
 use std::marker::Model;
@@ -13,9 +13,9 @@ use std::marker::Model;
 /// box has it at hand.
 #[derive(Drop)]
 pub(crate) struct GreatestTicks<'a> {
-    pub(crate) scenario: &'a Scenario,
+    pub(crate) instance: &'a Instance,
     pub(crate) tracked: &'a Tracked,
-    ghost of_scenario: { tracked.now.scenario ≡ scenario.now },
+    ghost of_scenario: { tracked.now.scenario ≡ instance.now },
 }
 
 impl<'a> Ticks for GreatestTicks<'a> {
@@ -30,17 +30,16 @@ impl<'a> Ticks for GreatestTicks<'a> {
         greatest_is_member();
         members_are_assignments();
         let _space = self.tracked.space();
-        let _delay = self.scenario.delay();
-        self.scenario
+        self.instance.scenario()
     }
 
     fn arrival(&self, message: usize, group: usize) -> u32 {
-        let span = self.tracked.span(self.scenario, message, group);
+        let span = self.tracked.span(self.instance, message, group);
         span.arrival.1
     }
 
     fn settling(&self, message: usize, group: usize) -> u32 {
-        let span = self.tracked.span(self.scenario, message, group);
+        let span = self.tracked.span(self.instance, message, group);
         span.settling.1
     }
 }
@@ -49,26 +48,22 @@ impl<'a> Ticks for GreatestTicks<'a> {
 /// ranges.
 #[derive(Drop)]
 pub(crate) struct BoxTicks<'a> {
-    pub(crate) scenario: &'a Scenario,
-    pub(crate) table: &'a PacketTable,
+    pub(crate) instance: &'a Instance,
     pub(crate) delay_box: &'a DelayBox,
 }
 
 impl<'a> Model for BoxTicks<'a> {
-    ghost use Rattle.std.specs.Prelude.{◌≡◌};
-    ghost use Rattle.convoy_packets.specs.Table.{table_of};
     ghost use Rattle.convoy_sim.specs.Scheduled.{Scheduled};
     ghost use Rattle.convoy_intervals.specs.Boxes.{IsBox, greatest_of};
 
     ghost Value = { Scheduled };
 
     ghost view = { λ t. record {
-      scenario = t.scenario.now;
+      scenario = t.instance.now;
       delays = greatest_of t.delay_box.now;
     } };
 
-    ghost invariant = { λ t. (t.table.now ≡ table_of t.scenario.now)
-        × IsBox t.scenario.now t.delay_box.now };
+    ghost invariant = { λ t. IsBox t.instance.now t.delay_box.now };
 }
 
 impl<'a> Ticks for BoxTicks<'a> {
@@ -77,15 +72,14 @@ impl<'a> Ticks for BoxTicks<'a> {
     fn scenario(&self) -> &Scenario {
         greatest_is_member();
         members_are_assignments();
-        let _delay = self.scenario.delay();
-        self.scenario
+        self.instance.scenario()
     }
 
     fn arrival(&self, message: usize, group: usize) -> u32 {
-        arrivals(self.scenario, self.table, self.delay_box, message, group).1
+        arrivals(self.instance, self.delay_box, message, group).1
     }
 
     fn settling(&self, message: usize, group: usize) -> u32 {
-        settlings(self.scenario, self.table, self.delay_box, message, group).1
+        settlings(self.instance, self.delay_box, message, group).1
     }
 }

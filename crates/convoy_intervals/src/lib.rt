@@ -12,7 +12,5 @@ mod delay_box;
 mod greatest_ticks;
 pub mod laws;
 mod spans;
-#[cfg(test)]
-mod tests;
 mod times;
 mod tracked;

@@ -1,7 +1,6 @@
 ghost use Rattle.std.specs.Prelude.{◌≡◌, ◌*◌, ◌+◌, ◌<◌, ◌≤◌, length, slice_set, IfOk, IsTrue};
 ghost use Rattle.convoy_scenario.specs.WellFormed.{IsScenario};
 ghost use Rattle.convoy_packets.specs.Laws.{is_sent};
-ghost use Rattle.convoy_packets.specs.Table.{table_of};
 ghost use Rattle.convoy_intervals.specs.Boxes.{IsBox};
 ghost use Rattle.convoy_intervals.specs.Spans.{arrival_span, settling_span, span_place, span_at};
 ghost use Rattle.convoy_intervals.specs.Spans.{AreAllSpans, AreArrivals, AreOthersKept, AreSettlings};
@@ -9,8 +8,8 @@ ghost use Rattle.convoy_intervals.specs.Spans.{AreSpans, AreSpansBut};
 
 use super::delay_box::DelayBox;
 use super::times::{arrivals, proposals_after};
-use convoy_packets::{Packet, PacketTable};
-use convoy_scenario::{GREATEST_AT, Scenario};
+use convoy_packets::{Instance, Packet};
+use convoy_scenario::GREATEST_AT;
 use convoy_sim::laws::arrives_within_one_delay;
 use std::alloc::{AllocError, Global};
 
@@ -33,143 +32,122 @@ impl Span {
 }
 
 /// The place of a message at a group in a list of spans.
-pub(crate) fn place(scenario: &Scenario, message: usize, group: usize) -> usize
-    requires message { message < length scenario.now.multicasts }
-    requires group { group < length scenario.now.groups }
-    ensures value { result ≡ span_place scenario.now message group }
-    ensures within { result < length scenario.now.groups * length scenario.now.multicasts }
-    ensures lawful { IsScenario scenario.now }
+pub(crate) fn place(instance: &Instance, message: usize, group: usize) -> usize
+    requires message { message < length instance.now.multicasts }
+    requires group { group < length instance.now.groups }
+    ensures value { result ≡ span_place instance.now message group }
+    ensures within { result < length instance.now.groups * length instance.now.multicasts }
+    ensures lawful { IsScenario instance.now }
 {
-    message * scenario.group_count() + group
+    message * instance.group_count() + group
 }
 
 /// The spans of all messages at all groups over a box.
 pub(crate) fn list_spans(
     alloc: Global,
-    scenario: &Scenario,
-    table: &PacketTable,
+    instance: &Instance,
     space: &DelayBox,
 ) -> Result<Vec<Span>, AllocError>
-    requires packets { table.now ≡ table_of scenario.now }
-    requires inside { IsBox scenario.now space.now }
-    ensures { IfOk result (λ spans. AreSpans scenario.now space.now spans.items) }
+    requires inside { IsBox instance.now space.now }
+    ensures { IfOk result (λ spans. AreSpans instance.now space.now spans.items) }
 {
     let mut spans = Vec::new(alloc);
     spans.resize(
-        scenario.group_count() * scenario.message_count(),
+        instance.group_count() * instance.message_count(),
         Span::NONE,
     )?;
-    write_spans(spans.as_mut_slice(), scenario, table, space);
+    write_spans(spans.as_mut_slice(), instance, space);
     Ok(spans)
 }
 
 /// Writes the spans of all messages.
-fn write_spans(spans: &mut [Span], scenario: &Scenario, table: &PacketTable, space: &DelayBox)
-    requires packets { table.now ≡ table_of scenario.now }
-    requires inside { IsBox scenario.now space.now }
-    requires all { AreAllSpans scenario.now spans.old }
-    ensures { AreSpans scenario.now space.now spans.new }
+fn write_spans(spans: &mut [Span], instance: &Instance, space: &DelayBox)
+    requires inside { IsBox instance.now space.now }
+    requires all { AreAllSpans instance.now spans.old }
+    ensures { AreSpans instance.now space.now spans.new }
 {
-    for message in 0..scenario.message_count() {
-        write_message(spans, scenario, table, space, message);
+    for message in 0..instance.message_count() {
+        write_message(spans, instance, space, message);
     }
 }
 
 /// Brings the spans up to date with a box in which that packet has got another range.
 pub(crate) fn follow_packet(
     spans: &mut [Span],
-    scenario: &Scenario,
-    table: &PacketTable,
+    instance: &Instance,
     space: &DelayBox,
     packet: Packet,
 )
-    requires packets { table.now ≡ table_of scenario.now }
-    requires inside { IsBox scenario.now space.now }
-    requires sent { IsTrue (is_sent scenario.now packet) }
-    requires but { AreSpansBut packet scenario.now space.now spans.old }
-    ensures { AreSpans scenario.now space.now spans.new }
+    requires inside { IsBox instance.now space.now }
+    requires sent { IsTrue (is_sent instance.now packet) }
+    requires but { AreSpansBut packet instance.now space.now spans.old }
+    ensures { AreSpans instance.now space.now spans.new }
 {
-    let _delay = scenario.delay();
+    let _delay = instance.delay();
     match packet {
         Packet::Multicast { message, .. } => {
-            write_message(spans, scenario, table, space, message);
+            write_message(spans, instance, space, message);
         }
         Packet::Propose { message, to, .. } => {
-            write_settling(spans, scenario, table, space, message, to);
+            write_settling(spans, instance, space, message, to);
         }
     }
 }
 
 /// Writes the spans of a message at all groups.
-fn write_message(
-    spans: &mut [Span],
-    scenario: &Scenario,
-    table: &PacketTable,
-    space: &DelayBox,
-    message: usize,
-)
-    requires known { message < length scenario.now.multicasts }
-    requires packets { table.now ≡ table_of scenario.now }
-    requires inside { IsBox scenario.now space.now }
-    requires all { AreAllSpans scenario.now spans.old }
-    ensures arrivals { AreArrivals scenario.now space.now spans.new message
-        (length scenario.now.groups) }
-    ensures settlings { AreSettlings scenario.now space.now spans.new message
-        (length scenario.now.groups) }
-    ensures others { AreOthersKept scenario.now message spans.old spans.new }
-    ensures all { AreAllSpans scenario.now spans.new }
+fn write_message(spans: &mut [Span], instance: &Instance, space: &DelayBox, message: usize)
+    requires known { message < length instance.now.multicasts }
+    requires inside { IsBox instance.now space.now }
+    requires all { AreAllSpans instance.now spans.old }
+    ensures arrivals { AreArrivals instance.now space.now spans.new message
+        (length instance.now.groups) }
+    ensures settlings { AreSettlings instance.now space.now spans.new message
+        (length instance.now.groups) }
+    ensures others { AreOthersKept instance.now message spans.old spans.new }
+    ensures all { AreAllSpans instance.now spans.new }
 {
-    write_arrivals(spans, scenario, table, space, message);
-    for group in 0..scenario.group_count() {
-        write_settling(spans, scenario, table, space, message, group);
+    write_arrivals(spans, instance, space, message);
+    for group in 0..instance.group_count() {
+        write_settling(spans, instance, space, message, group);
     }
 }
 
 /// Writes from when to when a message may arrive at each group.
-fn write_arrivals(
-    spans: &mut [Span],
-    scenario: &Scenario,
-    table: &PacketTable,
-    space: &DelayBox,
-    message: usize,
-)
-    requires known { message < length scenario.now.multicasts }
-    requires packets { table.now ≡ table_of scenario.now }
-    requires inside { IsBox scenario.now space.now }
-    requires all { AreAllSpans scenario.now spans.old }
-    ensures arrivals { AreArrivals scenario.now space.now spans.new message
-        (length scenario.now.groups) }
-    ensures others { AreOthersKept scenario.now message spans.old spans.new }
-    ensures all { AreAllSpans scenario.now spans.new }
+fn write_arrivals(spans: &mut [Span], instance: &Instance, space: &DelayBox, message: usize)
+    requires known { message < length instance.now.multicasts }
+    requires inside { IsBox instance.now space.now }
+    requires all { AreAllSpans instance.now spans.old }
+    ensures arrivals { AreArrivals instance.now space.now spans.new message
+        (length instance.now.groups) }
+    ensures others { AreOthersKept instance.now message spans.old spans.new }
+    ensures all { AreAllSpans instance.now spans.new }
 {
-    for group in 0..scenario.group_count() {
-        let span = &mut spans[place(scenario, message, group)];
-        span.arrival = arrivals(scenario, table, space, message, group);
+    for group in 0..instance.group_count() {
+        let span = &mut spans[place(instance, message, group)];
+        span.arrival = arrivals(instance, space, message, group);
     }
 }
 
 /// Writes from when to when a message may be committed at a group.
 fn write_settling(
     spans: &mut [Span],
-    scenario: &Scenario,
-    table: &PacketTable,
+    instance: &Instance,
     space: &DelayBox,
     message: usize,
     group: usize,
 )
-    requires known { message < length scenario.now.multicasts }
-    requires group { group < length scenario.now.groups }
-    requires packets { table.now ≡ table_of scenario.now }
-    requires inside { IsBox scenario.now space.now }
-    requires all { AreAllSpans scenario.now spans.old }
-    requires arrivals { AreArrivals scenario.now space.now spans.old message
-        (length scenario.now.groups) }
-    ensures { spans.new ≡ slice_set spans.old (span_place scenario.now message group)
-        (record (span_at scenario.now spans.old message group)
-        { settling = settling_span scenario.now space.now message group }) }
+    requires known { message < length instance.now.multicasts }
+    requires group { group < length instance.now.groups }
+    requires inside { IsBox instance.now space.now }
+    requires all { AreAllSpans instance.now spans.old }
+    requires arrivals { AreArrivals instance.now space.now spans.old message
+        (length instance.now.groups) }
+    ensures { spans.new ≡ slice_set spans.old (span_place instance.now message group)
+        (record (span_at instance.now spans.old message group)
+        { settling = settling_span instance.now space.now message group }) }
 {
-    let settling = settling_from(spans, scenario, table, space, message, group);
-    let span = &mut spans[place(scenario, message, group)];
+    let settling = settling_from(spans, instance, space, message, group);
+    let span = &mut spans[place(instance, message, group)];
     span.settling = settling;
 }
 
@@ -177,25 +155,23 @@ fn write_settling(
 #[tactic(auto, unfolding(convoy_sim::specs::Times::settle))]
 fn settling_from(
     spans: &[Span],
-    scenario: &Scenario,
-    table: &PacketTable,
+    instance: &Instance,
     space: &DelayBox,
     message: usize,
     group: usize,
 ) -> (u32, u32)
-    requires known { message < length scenario.now.multicasts }
-    requires packets { table.now ≡ table_of scenario.now }
-    requires inside { IsBox scenario.now space.now }
-    requires all { AreAllSpans scenario.now spans.now }
-    requires arrivals { AreArrivals scenario.now space.now spans.now message
-        (length scenario.now.groups) }
-    ensures { result ≡ settling_span scenario.now space.now message group }
+    requires known { message < length instance.now.multicasts }
+    requires inside { IsBox instance.now space.now }
+    requires all { AreAllSpans instance.now spans.now }
+    requires arrivals { AreArrivals instance.now space.now spans.now message
+        (length instance.now.groups) }
+    ensures { result ≡ settling_span instance.now space.now message group }
 {
     let mut least = 0;
     let mut most = 0;
-    for from in scenario.destinations(message) {
-        let arrival = arrival_from(spans, scenario, space, message, *from);
-        let (first, last) = proposals_after(scenario, table, space, arrival, message, *from, group);
+    for from in instance.destinations(message) {
+        let arrival = arrival_from(spans, instance, space, message, *from);
+        let (first, last) = proposals_after(instance, space, arrival, message, *from, group);
         least = least.max(first);
         most = most.max(last);
     }
@@ -205,21 +181,21 @@ fn settling_from(
 /// From when to when a message may arrive at a group, as the spans have it.
 fn arrival_from(
     spans: &[Span],
-    scenario: &Scenario,
+    instance: &Instance,
     space: &DelayBox,
     message: usize,
     group: usize,
 ) -> (u32, u32)
-    requires known { message < length scenario.now.multicasts }
-    requires group { group < length scenario.now.groups }
-    requires inside { IsBox scenario.now space.now }
-    requires all { AreAllSpans scenario.now spans.now }
-    requires arrivals { AreArrivals scenario.now space.now spans.now message
-        (length scenario.now.groups) }
-    ensures value { result ≡ arrival_span scenario.now space.now message group }
+    requires known { message < length instance.now.multicasts }
+    requires group { group < length instance.now.groups }
+    requires inside { IsBox instance.now space.now }
+    requires all { AreAllSpans instance.now spans.now }
+    requires arrivals { AreArrivals instance.now space.now spans.now message
+        (length instance.now.groups) }
+    ensures value { result ≡ arrival_span instance.now space.now message group }
     ensures fits { (result.0 ≤ GREATEST_AT + u16.MAX) × (result.1 ≤ GREATEST_AT + u16.MAX) }
 {
     arrives_within_one_delay();
     let _space = space;
-    spans[place(scenario, message, group)].arrival
+    spans[place(instance, message, group)].arrival
 }

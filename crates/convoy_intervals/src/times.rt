@@ -3,14 +3,14 @@ ghost use Rattle.std.specs.Option.{option_map_or};
 ghost use Rattle.convoy_scenario.specs.Scenario.{message_at};
 ghost use Rattle.convoy_packets.specs.declared.packet.Packet.TheVariants.{Propose};
 ghost use Rattle.convoy_packets.specs.Assignment.{delay_of};
-ghost use Rattle.convoy_packets.specs.Table.{least_of, table_of};
+ghost use Rattle.convoy_packets.specs.Table.{least_of};
 ghost use Rattle.convoy_sim.specs.Times.{arrive, settle, propose_arrive};
 ghost use Rattle.convoy_intervals.specs.Boxes.{range_at, greatest_of, IsBox};
 ghost use Rattle.convoy_intervals.specs.Spans.{arrival_span};
 
 use super::delay_box::DelayBox;
-use convoy_packets::PacketTable;
-use convoy_scenario::{GREATEST_AT, Scenario};
+use convoy_packets::Instance;
+use convoy_scenario::GREATEST_AT;
 
 /// The range of the packet at that place; what is no packet takes no time.
 fn range_of(delay_box: &DelayBox, place: Option<u16>) -> (u16, u16)
@@ -23,111 +23,99 @@ fn range_of(delay_box: &DelayBox, place: Option<u16>) -> (u16, u16)
 /// The least and the greatest tick at which a message arrives at a group, over the members of a box:
 /// those of the box's least and greatest delays (docs/PROTOCOL.md).
 pub fn arrivals(
-    scenario: &Scenario,
-    table: &PacketTable,
+    instance: &Instance,
     delay_box: &DelayBox,
     message: usize,
     group: usize,
 ) -> (u32, u32)
-    requires known { message < length scenario.now.multicasts }
-    requires packets { table.now ≡ table_of scenario.now }
-    requires inside { IsBox scenario.now delay_box.now }
-    ensures least { result.0 ≡ arrive scenario.now (least_of delay_box.now) message group }
-    ensures greatest { result.1 ≡ arrive scenario.now (greatest_of delay_box.now) message group }
+    requires known { message < length instance.now.multicasts }
+    requires inside { IsBox instance.now delay_box.now }
+    ensures least { result.0 ≡ arrive instance.now (least_of delay_box.now) message group }
+    ensures greatest { result.1 ≡ arrive instance.now (greatest_of delay_box.now) message group }
     ensures fits { (result.0 ≤ GREATEST_AT + u16.MAX) × (result.1 ≤ GREATEST_AT + u16.MAX) }
 {
-    let (least, most) = range_of(delay_box, table.multicast_to(message, group));
-    let issued = scenario.issue_tick(message);
+    let (least, most) = range_of(delay_box, instance.table().multicast_to(message, group));
+    let issued = instance.issue_tick(message);
     (issued + u32::from(least), issued + u32::from(most))
 }
 
 /// The least and the greatest tick at which the group `to` has the stamp that the group `from`
 /// proposes for a message, over the members of a box.
 fn proposals(
-    scenario: &Scenario,
-    table: &PacketTable,
+    instance: &Instance,
     delay_box: &DelayBox,
     message: usize,
     from: usize,
     to: usize,
 ) -> (u32, u32)
-    requires known { message < length scenario.now.multicasts }
-    requires packets { table.now ≡ table_of scenario.now }
-    requires inside { IsBox scenario.now delay_box.now }
+    requires known { message < length instance.now.multicasts }
+    requires inside { IsBox instance.now delay_box.now }
     ensures least { result.0
-        ≡ propose_arrive scenario.now (least_of delay_box.now) message to from }
+        ≡ propose_arrive instance.now (least_of delay_box.now) message to from }
     ensures greatest { result.1
-        ≡ propose_arrive scenario.now (greatest_of delay_box.now) message to from }
+        ≡ propose_arrive instance.now (greatest_of delay_box.now) message to from }
 {
-    let arrival = arrivals(scenario, table, delay_box, message, from);
-    proposals_after(scenario, table, delay_box, arrival, message, from, to)
+    let arrival = arrivals(instance, delay_box, message, from);
+    proposals_after(instance, delay_box, arrival, message, from, to)
 }
 
 /// The same from the least and the greatest tick at which the message arrives at the group `from`.
 pub(crate) fn proposals_after(
-    scenario: &Scenario,
-    table: &PacketTable,
+    instance: &Instance,
     delay_box: &DelayBox,
     arrival: (u32, u32),
     message: usize,
     from: usize,
     to: usize,
 ) -> (u32, u32)
-    requires packets { table.now ≡ table_of scenario.now }
-    requires inside { IsBox scenario.now delay_box.now }
-    requires arrival { arrival ≡ arrival_span scenario.now delay_box.now message from }
+    requires inside { IsBox instance.now delay_box.now }
+    requires arrival { arrival ≡ arrival_span instance.now delay_box.now message from }
     requires fits { (arrival.0 ≤ GREATEST_AT + u16.MAX) × (arrival.1 ≤ GREATEST_AT + u16.MAX) }
     ensures least { result.0
-        ≡ propose_arrive scenario.now (least_of delay_box.now) message to from }
+        ≡ propose_arrive instance.now (least_of delay_box.now) message to from }
     ensures greatest { result.1
-        ≡ propose_arrive scenario.now (greatest_of delay_box.now) message to from }
+        ≡ propose_arrive instance.now (greatest_of delay_box.now) message to from }
 {
-    let _scenario = scenario;
-    let (least, most) = range_of(delay_box, table.propose(message, from, to));
+    let (least, most) = range_of(delay_box, instance.table().propose(message, from, to));
     (arrival.0 + u32::from(least), arrival.1 + u32::from(most))
 }
 
 /// The least and the greatest delay of the stamp that the group `from` proposes for a message, on
 /// its way to the group `to`, over the members of a box, in ticks; 0 where there is no such packet.
 pub fn proposal_delays(
-    scenario: &Scenario,
-    table: &PacketTable,
+    instance: &Instance,
     delay_box: &DelayBox,
     message: usize,
     from: usize,
     to: usize,
 ) -> (u16, u16)
-    requires packets { table.now ≡ table_of scenario.now }
-    requires inside { IsBox scenario.now delay_box.now }
+    requires inside { IsBox instance.now delay_box.now }
     ensures least { result.0
-        ≡ delay_of scenario.now (least_of delay_box.now) (Propose message from to) }
+        ≡ delay_of instance.now (least_of delay_box.now) (Propose message from to) }
     ensures greatest { result.1
-        ≡ delay_of scenario.now (greatest_of delay_box.now) (Propose message from to) }
+        ≡ delay_of instance.now (greatest_of delay_box.now) (Propose message from to) }
 {
-    let _scenario = scenario;
-    range_of(delay_box, table.propose(message, from, to))
+    range_of(delay_box, instance.table().propose(message, from, to))
 }
 
 /// The least and the greatest tick at which a message is committed at a group, over the members of
 /// a box: those of the box's least and greatest delays (docs/PROTOCOL.md).
 #[tactic(auto, unfolding(convoy_sim::specs::Times::settle))]
 pub fn settlings(
-    scenario: &Scenario,
-    table: &PacketTable,
+    instance: &Instance,
     delay_box: &DelayBox,
     message: usize,
     group: usize,
 ) -> (u32, u32)
-    requires known { message < length scenario.now.multicasts }
-    requires packets { table.now ≡ table_of scenario.now }
-    requires inside { IsBox scenario.now delay_box.now }
-    ensures least { result.0 ≡ settle scenario.now (least_of delay_box.now) message group }
-    ensures greatest { result.1 ≡ settle scenario.now (greatest_of delay_box.now) message group }
+    requires known { message < length instance.now.multicasts }
+    requires inside { IsBox instance.now delay_box.now }
+    ensures least { result.0 ≡ settle instance.now (least_of delay_box.now) message group }
+    ensures greatest { result.1 ≡ settle instance.now (greatest_of delay_box.now) message group }
 {
     let mut least = 0;
     let mut most = 0;
-    for from in scenario.destinations(message) {
-        let (first, last) = proposals(scenario, table, delay_box, message, *from, group);
+    for from in instance.destinations(message) {
+        let (first, last) = proposals(instance, delay_box, message, *from, group);
         least = least.max(first);
         most = most.max(last);
     }

@@ -1,5 +1,4 @@
 ghost use Rattle.std.specs.Prelude.{◌≡◌, ℕ, List, ◌<◌, ◌≤◌, ◌↔◌, length, slice_set, IfOk, IsTrue, MatchResult};
-ghost use Rattle.convoy_packets.specs.Table.{table_of};
 ghost use Rattle.convoy_sim.specs.Delivery.{latency_of};
 ghost use Rattle.convoy_intervals.specs.Boxes.{CanSplit, IsBox, IsIn, IsPoint};
 ghost use Rattle.convoy_intervals.specs.Boxes.{greatest_of, lower_half, range_at, root_of, upper_half};
@@ -12,7 +11,7 @@ use super::delay_box::DelayBox;
 use super::greatest_ticks::GreatestTicks;
 use super::laws::{plain_bound_holds, spans_are_carried};
 use super::spans::{Span, follow_packet, list_spans, place};
-use convoy_packets::PacketTable;
+use convoy_packets::Instance;
 use convoy_packets::laws::{packets_are_those_sent, packets_stand_once};
 use convoy_scenario::Scenario;
 use convoy_sim::{Tag, latency_by};
@@ -44,47 +43,36 @@ impl Model for Tracked {
 
 impl Tracked {
     /// The box in which each packet has its whole range. Fails where memory runs out, and else never.
-    pub fn root(
-        alloc: Global,
-        scenario: &Scenario,
-        table: &PacketTable,
-    ) -> Result<Tracked, AllocError>
-        requires packets { table.now ≡ table_of scenario.now }
+    pub fn root(alloc: Global, instance: &Instance) -> Result<Tracked, AllocError>
         ensures { IfOk result
-            (λ root. root ≡ tracked_of scenario.now (root_of scenario.now)) }
+            (λ root. root ≡ tracked_of instance.now (root_of instance.now)) }
     {
-        Tracked::over(alloc, scenario, table, DelayBox::root(alloc, table)?)
+        Tracked::over(alloc, instance, DelayBox::root(alloc, instance)?)
     }
 
     /// A box of the scenario, with all that is kept of it computed from the box. Fails where memory
     /// runs out, and else never; the box does not come back then.
-    pub fn over(
-        alloc: Global,
-        scenario: &Scenario,
-        table: &PacketTable,
-        space: DelayBox,
-    ) -> Result<Tracked, AllocError>
-        requires packets { table.now ≡ table_of scenario.now }
-        requires inside { IsBox scenario.now space }
-        ensures { IfOk result (λ tracked. tracked ≡ tracked_of scenario.now space) }
+    pub fn over(alloc: Global, instance: &Instance, space: DelayBox) -> Result<Tracked, AllocError>
+        requires inside { IsBox instance.now space }
+        ensures { IfOk result (λ tracked. tracked ≡ tracked_of instance.now space) }
     {
-        let spans = list_spans(alloc, scenario, table, &space)?;
-        Ok(Tracked::of(scenario, space, spans))
+        let spans = list_spans(alloc, instance, &space)?;
+        Ok(Tracked::of(instance, space, spans))
     }
 
     /// A box with its spans.
-    fn of(scenario: &Scenario, space: DelayBox, spans: Vec<Span>) -> Tracked
-        requires inside { IsBox scenario.now space }
-        requires spans { AreSpans scenario.now space spans.items }
-        ensures { result ≡ tracked_of scenario.now space }
+    fn of(instance: &Instance, space: DelayBox, spans: Vec<Span>) -> Tracked
+        requires inside { IsBox instance.now space }
+        requires spans { AreSpans instance.now space spans.items }
+        ensures { result ≡ tracked_of instance.now space }
     {
-        let _delay = scenario.delay();
-        let bound = bound_over(scenario, &spans);
+        let _delay = instance.delay();
+        let bound = bound_over(instance, &spans);
         Tracked {
             space,
             spans,
             bound,
-            scenario: Tag::of(scenario),
+            scenario: Tag::of(instance.scenario()),
         }
     }
 
@@ -115,22 +103,22 @@ impl Tracked {
 
     /// From when to when a message may arrive at a group and be committed there, over the members of
     /// the box.
-    pub fn span(&self, scenario: &Scenario, message: usize, group: usize) -> Span
-        requires of_scenario { self.now.scenario ≡ scenario.now }
+    pub fn span(&self, instance: &Instance, message: usize, group: usize) -> Span
+        requires of_scenario { self.now.scenario ≡ instance.now }
         requires message { message < length self.now.scenario.multicasts }
         requires group { group < length self.now.scenario.groups }
         ensures { result ≡ span_of self.now.scenario self.now.space message group }
     {
-        self.spans[place(scenario, message, group)]
+        self.spans[place(instance, message, group)]
     }
 
     /// The latency of the scenario in ticks where each packet takes the greatest time of its range.
-    pub fn greatest_latency(&self, scenario: &Scenario) -> u32
-        requires { self.now.scenario ≡ scenario.now }
+    pub fn greatest_latency(&self, instance: &Instance) -> u32
+        requires { self.now.scenario ≡ instance.now }
         ensures { result ≡ latency_of self.now.scenario (greatest_of self.now.space) }
     {
         latency_by(&GreatestTicks {
-            scenario,
+            instance,
             tracked: self,
         })
     }
@@ -152,13 +140,11 @@ impl Tracked {
     /// back as it was.
     pub fn halves(
         self,
-        scenario: &Scenario,
-        table: &PacketTable,
+        instance: &Instance,
         packet: usize,
         at: u16,
     ) -> Result<(Tracked, Tracked), (Tracked, AllocError)>
-        requires of_scenario { self.scenario ≡ scenario.now }
-        requires packets { table.now ≡ table_of scenario.now }
+        requires of_scenario { self.scenario ≡ instance.now }
         requires can_split { CanSplit self.space packet at }
         ensures { MatchResult result
             (λ halves. halves ≡ (
@@ -170,8 +156,8 @@ impl Tracked {
         let (least, most) = self.space.range(packet);
         match self.copy() {
             Ok(copy) => {
-                let lower = self.with_range(scenario, table, packet, (least, at));
-                let upper = copy.with_range(scenario, table, packet, (at + 1, most));
+                let lower = self.with_range(instance, packet, (least, at));
+                let upper = copy.with_range(instance, packet, (at + 1, most));
                 Ok((lower, upper))
             }
             Err(error) => Err((self, error)),
@@ -179,15 +165,8 @@ impl Tracked {
     }
 
     /// The box with a smaller range in the place of a packet's.
-    fn with_range(
-        self,
-        scenario: &Scenario,
-        table: &PacketTable,
-        packet: usize,
-        range: (u16, u16),
-    ) -> Tracked
-        requires of_scenario { self.scenario ≡ scenario.now }
-        requires packets { table.now ≡ table_of scenario.now }
+    fn with_range(self, instance: &Instance, packet: usize, range: (u16, u16)) -> Tracked
+        requires of_scenario { self.scenario ≡ instance.now }
         requires place { packet < length self.space }
         requires holds { range.0 ≤ range.1 }
         requires low { (range_at self.space packet).0 ≤ range.0 }
@@ -203,7 +182,12 @@ impl Tracked {
             ..
         } = self;
         space.replace(packet, range);
-        follow_packet(&mut spans, scenario, table, &space, table.packet(packet));
-        Tracked::of(scenario, space, spans)
+        follow_packet(
+            &mut spans,
+            instance,
+            &space,
+            instance.table().packet(packet),
+        );
+        Tracked::of(instance, space, spans)
     }
 }

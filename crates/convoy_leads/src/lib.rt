@@ -2,7 +2,7 @@
 //! stamp that surely exceeds the target's.
 #![tactic(auto)]
 
-pub use closing::Leads;
+pub use closing::closes_by_leads;
 
 mod behind;
 mod case;
@@ -14,7 +14,5 @@ mod setting;
 mod stamps;
 mod start;
 mod starts;
-#[cfg(test)]
-mod tests;
 mod told;
 mod window;

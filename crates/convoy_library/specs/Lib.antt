@@ -45,6 +45,7 @@ pub use Rattle.convoy_seek.specs.Finds
 pub use Rattle.convoy_branch.specs.declared.bounds.Bounds
 pub use Rattle.convoy_branch.specs.Fronts
 pub use Rattle.convoy_branch.specs.Outcomes
+pub use Rattle.convoy_branch.specs.BothWays
 pub use Rattle.convoy_share.specs.declared.fault.SearchFault
 -- the search of many workers as a machine
 pub use Rattle.convoy_branch.specs.Machine

@@ -1,21 +1,35 @@
 -- How a search runs.
 use Rattle.std.specs.Prelude.{ℕ, ◌≤◌}
+use Rattle.convoy_certificate.specs.declared.certificate.TheConstants.{MOST_NODES}
 use Rattle.convoy_branch.specs.declared.bounds.Bounds.{Bounds}
+use Rattle.convoy_branch.specs.declared.bounds.Bounds.TheVariants.{Plain}
 use Rattle.convoy_branch.specs.SearchBounds.{most_nodes}
 use Rattle.convoy_options.specs.declared.options.TheConstants.{MOST_WORKERS, MOST_SIMULATIONS}
+use Rattle.convoy_options.specs.declared.ways.Ways.{Ways}
+use Rattle.convoy_options.specs.declared.ways.Ways.TheVariants.{One, Both}
 
--- how many workers there are, how many tickets they spend at most, how many schedules are simulated before at most, how many reads of the input are made at most, and by which bounds of boxes, or by leads, the search goes
+-- the highest limit of tickets: by one kind of bounds as many as nodes of its certificate can be read in any case; both ways any number of nodes that can be read, since few of the tickets are for leads
+abbrev pub highest_limit : Ways → ℕ
+highest_limit (One bounds) = most_nodes bounds
+highest_limit Both = MOST_NODES
+
+-- by what a search begins
+abbrev pub first_bounds : Ways → Bounds
+first_bounds (One bounds) = bounds
+first_bounds Both = Plain
+
+-- how many workers there are, how many tickets they spend at most, how many schedules are simulated before at most, how many reads of the input are made at most, and by which bounds of boxes, or by leads, the search goes, or both ways
 pub record Settings : Type 0 where
   pub workers : ℕ
   pub limit : ℕ
   pub simulations : ℕ
   pub most_reads : ℕ
-  pub bounds : Bounds
+  pub ways : Ways
 
--- there is a worker and a ticket, and no more of them, and of simulations, than may be; a search has no more tickets than a certificate by its bounds has nodes
+-- there is a worker and a ticket, and no more of them, and of simulations, than may be
 pub record AreSettings (settings : Settings) : Type 0 where
   pub some_worker : 1 ≤ settings.workers
   pub few_workers : settings.workers ≤ MOST_WORKERS
   pub some_ticket : 1 ≤ settings.limit
-  pub few_tickets : settings.limit ≤ most_nodes settings.bounds
+  pub few_tickets : settings.limit ≤ highest_limit settings.ways
   pub few_simulations : settings.simulations ≤ MOST_SIMULATIONS

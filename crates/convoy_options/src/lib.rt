@@ -4,7 +4,9 @@
 pub use options::{
     DEFAULT_LIMIT, DEFAULT_SIMULATIONS, MOST_SIMULATIONS, MOST_TICKETS, MOST_WORKERS, Options,
 };
+pub use ways::Ways;
 
 mod options;
 #[cfg(test)]
 mod tests;
+mod ways;

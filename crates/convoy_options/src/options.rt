@@ -1,8 +1,9 @@
 ghost use Rattle.std.specs.Prelude.{◌≡◌, ◌↔◌, ◌≤◌, min, IfSome, IsSome};
 ghost use Rattle.convoy_branch.specs.SearchBounds.{most_nodes};
-ghost use Rattle.convoy_branch.specs.declared.bounds.Bounds.TheVariants.{Plain};
 ghost use Rattle.convoy_options.specs.Options.{AreSettings};
+ghost use Rattle.convoy_options.specs.declared.ways.Ways.TheVariants.{One, Both};
 
+use super::ways::Ways;
 use convoy_branch::Bounds;
 use convoy_certificate::MOST_NODES;
 use std::marker::Model;
@@ -10,8 +11,8 @@ use std::marker::Model;
 /// How many workers a search has at most.
 pub const MOST_WORKERS: u32 = 16;
 
-/// How many tickets a search by plain or stamp bounds spends at most. A certificate has a node for
-/// each, and so no more than are read.
+/// How many tickets a search by plain or stamp bounds, or both ways, spends at most. A certificate has a
+/// node for each, and so no more than are read.
 pub const MOST_TICKETS: u64 = MOST_NODES as u64;
 
 /// How many tickets a search spends at most where the user asks for no other limit.
@@ -26,14 +27,14 @@ pub const DEFAULT_SIMULATIONS: u64 = 20_000;
 /// How a search runs: its workers, from 1 to [`MOST_WORKERS`]; its limit of tickets, from 1 to
 /// [`MOST_TICKETS`], or by leads to as many as lead leaves are read; how many schedules are simulated
 /// at most to find a good one to start from, up to [`MOST_SIMULATIONS`]; how many reads of the input
-/// are made at most; and by what it closes boxes.
+/// are made at most; and by what it closes boxes, or that it goes both ways.
 #[derive(Clone, Copy, Debug)]
 pub struct Options {
     workers: u32,
     limit: u64,
     simulations: u64,
     most_reads: u64,
-    bounds: Bounds,
+    ways: Ways,
 }
 
 impl Model for Options {
@@ -46,7 +47,7 @@ impl Model for Options {
       limit = o.limit;
       simulations = o.simulations;
       most_reads = o.most_reads;
-      bounds = o.bounds;
+      ways = o.ways;
     } };
 
     ghost inverse = { λ s. record {
@@ -54,7 +55,7 @@ impl Model for Options {
       limit = s.limit;
       simulations = s.simulations;
       most_reads = s.most_reads;
-      bounds = s.bounds;
+      ways = s.ways;
     } };
 
     ghost invariant = { λ o. AreSettings (record {
@@ -62,27 +63,27 @@ impl Model for Options {
       limit = o.limit;
       simulations = o.simulations;
       most_reads = o.most_reads;
-      bounds = o.bounds;
+      ways = o.ways;
     }) };
 }
 
 impl Options {
-    /// Options of these numbers, of a search by plain bounds that starts from the least delays; none
-    /// where the workers or the limit are out of range.
+    /// Options of these numbers, of a search both ways that starts from the least delays; none where the
+    /// workers or the limit are out of range.
     pub fn new(workers: u32, limit: u64, most_reads: u64) -> Option<Options>
         ensures range { IsSome result ↔ AreSettings (record {
           workers = workers;
           limit = limit;
           simulations = 0;
           most_reads = most_reads;
-          bounds = Plain;
+          ways = Both;
         }) }
         ensures value { IfSome result (λ options. options ≡ record {
           workers = workers;
           limit = limit;
           simulations = 0;
           most_reads = most_reads;
-          bounds = Plain;
+          ways = Both;
         }) }
     {
         if workers < 1 || workers > MOST_WORKERS || limit < 1 || limit > MOST_TICKETS {
@@ -93,7 +94,7 @@ impl Options {
             limit,
             simulations: 0,
             most_reads,
-            bounds: Bounds::Plain,
+            ways: Ways::Both,
         })
     }
 
@@ -109,14 +110,14 @@ impl Options {
         }
     }
 
-    /// The same options, of a search by those bounds, or by leads. It spends no more tickets than
+    /// The same options, of a search by those bounds alone, or by leads. It spends no more tickets than
     /// nodes are read for sure, whatever they are: a greater limit is lowered to that number.
     pub fn going_by(self, bounds: Bounds) -> Options
-        ensures { result ≡ record self { limit = min self.limit (most_nodes bounds); bounds = bounds } }
+        ensures { result ≡ record self { limit = min self.limit (most_nodes bounds); ways = One bounds } }
     {
         Options {
             limit: self.limit.min(bounds.most_nodes() as u64),
-            bounds,
+            ways: Ways::One(bounds),
             ..self
         }
     }
@@ -151,11 +152,11 @@ impl Options {
         self.most_reads
     }
 
-    /// By what the search closes boxes.
-    pub fn bounds(&self) -> Bounds
-        ensures value { result ≡ self.now.bounds }
+    /// By what the search closes boxes, or that it goes both ways.
+    pub fn ways(&self) -> Ways
+        ensures value { result ≡ self.now.ways }
         ensures lawful { AreSettings self.now }
     {
-        self.bounds
+        self.ways
     }
 }

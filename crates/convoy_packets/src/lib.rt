@@ -3,15 +3,15 @@
 
 pub use delays::Delays;
 pub use fault::ListFault;
+pub use instance::Instance;
 pub use packet::{MOST_PACKETS, Packet};
 pub use table::PacketTable;
 
 mod delays;
 mod fault;
+mod instance;
 pub mod laws;
 mod listing;
 mod packet;
 mod slots;
 mod table;
-#[cfg(test)]
-mod tests;

@@ -1,12 +1,11 @@
 ghost use Rattle.std.specs.Prelude.{◌≡◌, ◌+◌, ◌≤◌};
 ghost use Rattle.convoy_picture.specs.Pictures.{flight_of, sent_at};
 ghost use Rattle.convoy_packets.specs.Assignment.{delay_of, sender_of};
-ghost use Rattle.convoy_packets.specs.Table.{table_of};
 ghost use Rattle.convoy_packets.specs.declared.packet.Packet.TheVariants.{Multicast};
 ghost use Rattle.convoy_scenario.specs.Scenario.{message_at};
 ghost use Rattle.convoy_sim.specs.Times.{arrive};
 
-use convoy_packets::{Delays, Packet, PacketTable};
+use convoy_packets::{Delays, Instance, Packet};
 use convoy_scenario::{GREATEST_AT, Scenario, Sender};
 
 /// A packet of a run on its way. Ticks are counted from the start of the run.
@@ -27,66 +26,56 @@ pub struct Flight {
 
 /// The packet of that number on its way, in the run of the scenario under a schedule.
 pub(crate) fn flight_of(
-    scenario: &Scenario,
-    table: &PacketTable,
+    instance: &Instance,
     delays: &Delays,
     number: usize,
     packet: Packet,
 ) -> Flight
-    requires { table.now ≡ table_of scenario.now }
-    ensures { result ≡ flight_of scenario.now delays.now number packet }
+    ensures { result ≡ flight_of instance.now delays.now number packet }
 {
-    let sent = sent_tick(scenario, table, delays, packet);
+    let sent = sent_tick(instance, delays, packet);
     Flight {
         number,
         packet,
-        from: sender(scenario, packet),
+        from: sender(instance.scenario(), packet),
         sent,
-        arrival: sent + delay(table, delays, packet),
+        arrival: sent + delay(instance, delays, packet),
     }
 }
 
 /// The tick at which a packet is sent.
-fn sent_tick(scenario: &Scenario, table: &PacketTable, delays: &Delays, packet: Packet) -> u32
-    requires { table.now ≡ table_of scenario.now }
-    ensures value { result ≡ sent_at scenario.now delays.now packet }
+fn sent_tick(instance: &Instance, delays: &Delays, packet: Packet) -> u32
+    ensures value { result ≡ sent_at instance.now delays.now packet }
     ensures soon { result ≤ GREATEST_AT + u16.MAX }
 {
     match packet {
-        Packet::Multicast { message, .. } => issue_tick(scenario, message),
-        Packet::Propose { message, from, .. } => arrival(scenario, table, delays, message, from),
+        Packet::Multicast { message, .. } => issue_tick(instance.scenario(), message),
+        Packet::Propose { message, from, .. } => arrival(instance, delays, message, from),
     }
 }
 
 /// The tick at which a message arrives at a group.
 #[tactic(auto, unfolding(convoy_sim::specs::Times::arrive, convoy_packets::specs::Assignment::delay_of))]
-fn arrival(
-    scenario: &Scenario,
-    table: &PacketTable,
-    delays: &Delays,
-    message: usize,
-    group: usize,
-) -> u32
-    requires { table.now ≡ table_of scenario.now }
-    ensures tick { result ≡ arrive scenario.now delays.now message group }
+fn arrival(instance: &Instance, delays: &Delays, message: usize, group: usize) -> u32
+    ensures tick { result ≡ arrive instance.now delays.now message group }
     ensures soon { result ≤ GREATEST_AT + u16.MAX }
 {
-    let delay = table.multicast_delay(delays, message, group);
-    issue_tick(scenario, message) + u32::from(delay)
+    let delay = instance.table().multicast_delay(delays, message, group);
+    issue_tick(instance.scenario(), message) + u32::from(delay)
 }
 
 /// The delay of a packet in a schedule, in ticks.
 #[tactic(auto, unfolding(convoy_packets::specs::Assignment::delay_of))]
-fn delay(table: &PacketTable, delays: &Delays, packet: Packet) -> u32
-    ensures value { (scenario : Scenario) → table.now ≡ table_of scenario → result ≡ delay_of scenario delays.now packet }
+fn delay(instance: &Instance, delays: &Delays, packet: Packet) -> u32
+    ensures value { result ≡ delay_of instance.now delays.now packet }
     ensures short { result ≤ u16.MAX }
 {
     match packet {
         Packet::Multicast { message, to } => {
-            u32::from(table.multicast_delay(delays, message, to))
+            u32::from(instance.table().multicast_delay(delays, message, to))
         }
         Packet::Propose { message, from, to } => {
-            u32::from(table.propose_delay(delays, message, from, to))
+            u32::from(instance.table().propose_delay(delays, message, from, to))
         }
     }
 }

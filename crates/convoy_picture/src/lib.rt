@@ -11,7 +11,5 @@ pub use words::{group_name, message_name, sender_name, stamp_text, tick_word};
 mod flight;
 mod picture;
 mod role;
-#[cfg(test)]
-mod tests;
 mod told;
 mod words;

@@ -1,13 +1,11 @@
 ghost use Rattle.std.specs.Prelude.{◌≡◌, IfOk};
 ghost use Rattle.convoy_picture.specs.Pictures.{flights_of, picture_of};
 ghost use Rattle.convoy_packets.specs.Assignment.{IsAssignment};
-ghost use Rattle.convoy_packets.specs.Table.{table_of};
 ghost use Rattle.convoy_sim.specs.Run.{IsRunOf};
 
 use super::flight::{Flight, flight_of};
 use convoy_explain::{Explanation, explain};
-use convoy_packets::{Delays, PacketTable};
-use convoy_scenario::Scenario;
+use convoy_packets::{Delays, Instance};
 use convoy_sim::Run;
 use convoy_timeline::{Entry, entries_of};
 use std::alloc::{AllocError, Global};
@@ -31,24 +29,22 @@ impl Model for Picture {
 }
 
 impl Picture {
-    /// The picture of the run of a scenario under a schedule; with the packet table of the scenario.
-    /// Fails where memory runs out, and else never.
+    /// The picture of the run of an instance under a schedule. Fails where memory runs out, and else
+    /// never.
     pub fn of(
         alloc: Global,
-        scenario: &Scenario,
-        table: &PacketTable,
+        instance: &Instance,
         delays: &Delays,
         run: &Run,
     ) -> Result<Picture, AllocError>
-        requires table { table.now ≡ table_of scenario.now }
-        requires assignment { IsAssignment scenario.now delays.now }
-        requires run { IsRunOf scenario.now delays.now run.now }
-        ensures { IfOk result (λ picture. picture ≡ picture_of scenario.now delays.now) }
+        requires assignment { IsAssignment instance.now delays.now }
+        requires run { IsRunOf instance.now delays.now run.now }
+        ensures { IfOk result (λ picture. picture ≡ picture_of instance.now delays.now) }
     {
         Ok(Picture {
-            flights: list_flights(alloc, scenario, table, delays)?,
-            entries: entries_of(alloc, scenario, run)?,
-            why: explain(scenario, table, delays, run),
+            flights: list_flights(alloc, instance, delays)?,
+            entries: entries_of(alloc, instance.scenario(), run)?,
+            why: explain(instance, delays, run),
         })
     }
 
@@ -78,17 +74,16 @@ impl Picture {
 /// The flights of all packets.
 fn list_flights(
     alloc: Global,
-    scenario: &Scenario,
-    table: &PacketTable,
+    instance: &Instance,
     delays: &Delays,
 ) -> Result<Vec<Flight>, AllocError>
-    requires { table.now ≡ table_of scenario.now }
-    ensures { IfOk result (λ flights. flights.items ≡ flights_of scenario.now delays.now) }
+    ensures { IfOk result (λ flights. flights.items ≡ flights_of instance.now delays.now) }
 {
+    let table = instance.table();
     let mut flights = Vec::with_capacity(alloc, table.len())?;
     for number in 0..table.len() {
         let packet = table.packet(number);
-        flights.push(flight_of(scenario, table, delays, number, packet))?;
+        flights.push(flight_of(instance, delays, number, packet))?;
     }
     Ok(flights)
 }

@@ -29,5 +29,3 @@ mod schedules;
 mod shape;
 mod sketch;
 mod spot;
-#[cfg(test)]
-mod tests;

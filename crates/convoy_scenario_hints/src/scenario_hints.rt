@@ -45,7 +45,7 @@ pub fn hint_for_fault(
 fn hint_for_input(alloc: Global, input: Input) -> Result<Option<String>, AllocError> {
     let Input { scenario, schedule } = input;
     match schedule {
-        Some(delays) => hint_for_schedule(alloc, &scenario, &delays),
+        Some(delays) => hint_for_schedule(alloc, scenario, &delays),
         None => Ok(None),
     }
 }

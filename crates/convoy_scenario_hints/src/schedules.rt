@@ -1,6 +1,6 @@
 use super::counting::noun;
 use convoy_explain::write_packets;
-use convoy_packets::PacketTable;
+use convoy_packets::Instance;
 use convoy_scenario::Scenario;
 use std::alloc::{AllocError, Global};
 
@@ -9,10 +9,11 @@ use std::alloc::{AllocError, Global};
 /// None where nothing is wrong.
 pub fn hint_for_schedule(
     alloc: Global,
-    scenario: &Scenario,
+    scenario: Scenario,
     delays: &[i64],
 ) -> Result<Option<String>, AllocError> {
-    let table = PacketTable::of(alloc, scenario)?;
+    let instance = Instance::of(alloc, scenario)?;
+    let table = instance.table();
     if delays.len() != table.len() {
         let (found, wanted) = (delays.len(), table.len());
         let delays = noun(found == 1, "delay", "delays");
@@ -28,7 +29,7 @@ pub fn hint_for_schedule(
     };
     let delay = delays.get(packet).copied().unwrap_or(0);
     let mut lines = Vec::new(alloc);
-    write_packets(scenario, &table, &mut lines)?;
+    write_packets(&instance, &mut lines)?;
     match line_at(&lines, packet) {
         Some(line) => {
             let ticks = noun(delay == 1, "tick", "ticks");

@@ -20,9 +20,6 @@ use convoy_scenario::{
 };
 use std::alloc::Global;
 
-#[cfg(test)]
-mod tests;
-
 /// Reads the lines of a scenario, from `delay` to `target`, as a version has them (docs/FORMATS.md,
 /// "Certificate text").
 ///

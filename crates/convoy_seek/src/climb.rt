@@ -1,8 +1,7 @@
 use crate::pattern::Pattern;
 use crate::seeker::Seeker;
 use crate::sweep::Sweep;
-use convoy_packets::PacketTable;
-use convoy_scenario::Scenario;
+use convoy_packets::{Instance, PacketTable};
 use std::alloc::{AllocError, Global};
 
 /// How many steps without a better score end a climb.
@@ -19,24 +18,22 @@ impl Seeker {
     pub fn climb(
         &mut self,
         alloc: Global,
-        scenario: &Scenario,
-        table: &PacketTable,
+        instance: &Instance,
         start: &Pattern,
     ) -> Result<(), AllocError>
-        requires packets { table.now ≡ table_of scenario.now }
-        requires some { 0 < length table.now.packets }
-        requires seeking { IsSeeking scenario.now self.old }
+        requires some { 0 < length (table_of instance.now).packets }
+        requires seeking { IsSeeking instance.now self.old }
         requires left { 0 < self.old.left }
-        ensures goes_on { GoesOn scenario.now self.old self.new }
+        ensures goes_on { GoesOn instance.now self.old self.new }
     {
-        start.lay(scenario, table, &mut self.tried);
-        let mut score = self.weigh(alloc, scenario, table)?;
+        start.lay(instance, &mut self.tried);
+        let mut score = self.weigh(alloc, instance)?;
         self.kept.copy_from(&self.tried);
         let mut stale = 0;
         while stale < PATIENCE && self.may_go_on() {
             self.tried.copy_from(&self.kept);
-            self.change(table);
-            let next = self.weigh(alloc, scenario, table)?;
+            self.change(instance.table());
+            let next = self.weigh(alloc, instance)?;
             stale = if next > score { 0 } else { stale + 1 };
             if next >= score {
                 score = next;

@@ -12,5 +12,3 @@ mod seeker;
 mod seeking;
 mod starts;
 mod sweep;
-#[cfg(test)]
-mod tests;

@@ -1,7 +1,7 @@
 ghost use Rattle.std.specs.Prelude.{◌≤◌};
-ghost use Rattle.convoy_packets.specs.Assignment.{AreWithin, IsWithin};
+ghost use Rattle.convoy_packets.specs.Assignment.{IsAssignment, IsWithin};
 
-use convoy_packets::{Delays, Packet, PacketTable};
+use convoy_packets::{Delays, Instance, Packet};
 use convoy_scenario::Scenario;
 
 /// An end of the range of a packet.
@@ -94,10 +94,11 @@ impl Pattern {
 
     /// Makes a schedule that of the pattern.
     #[tactic(auto, using(crate::proofs::Schedules::length_within))]
-    pub fn lay(&self, scenario: &Scenario, table: &PacketTable, delays: &mut Delays)
-        requires { AreWithin table.now.ranges delays.old }
-        ensures { AreWithin table.now.ranges delays.new }
+    pub fn lay(&self, instance: &Instance, delays: &mut Delays)
+        requires { IsAssignment instance.now delays.old }
+        ensures { IsAssignment instance.now delays.new }
     {
+        let (scenario, table) = (instance.scenario(), instance.table());
         for i in 0..table.len() {
             let delay = self.delay(scenario, table.packet(i), table.range(i));
             delays.set(i, delay);

@@ -1,7 +1,6 @@
 use crate::chance::Chance;
 use crate::score::Score;
-use convoy_packets::{Delays, PacketTable};
-use convoy_scenario::Scenario;
+use convoy_packets::{Delays, Instance};
 use convoy_sim::{Record, simulate};
 use std::alloc::{AllocError, Global};
 
@@ -24,7 +23,6 @@ pub struct Seeker {
 
 impl Seeker {
     ghost use Rattle.std.specs.Prelude.{◌≡◌, ◌<◌, ◌≤◌, IsTrue};
-    ghost use Rattle.convoy_packets.specs.Table.{table_of};
     ghost use Rattle.convoy_sim.specs.Delivery.{latency_of};
     ghost use Rattle.convoy_seek.specs.Seeking.{IsSeeking, GoesOn};
 
@@ -37,40 +35,28 @@ impl Seeker {
 
     /// Simulates the schedule that is tried, and keeps a record of it where its latency is greater
     /// than that of the best one.
-    pub fn weigh(
-        &mut self,
-        alloc: Global,
-        scenario: &Scenario,
-        table: &PacketTable,
-    ) -> Result<Score, AllocError>
-        requires packets { table.now ≡ table_of scenario.now }
-        requires seeking { IsSeeking scenario.now self.old }
+    pub fn weigh(&mut self, alloc: Global, instance: &Instance) -> Result<Score, AllocError>
+        requires seeking { IsSeeking instance.now self.old }
         requires left { 0 < self.old.left }
-        ensures goes_on { GoesOn scenario.now self.old self.new }
+        ensures goes_on { GoesOn instance.now self.old self.new }
         ensures left { self.new.left < self.old.left }
     {
         self.left -= 1;
-        let run = simulate(alloc, scenario, table, &self.tried)?;
+        let run = simulate(alloc, instance, &self.tried)?;
         if run.latency() > self.best.latency() {
-            self.note(alloc, scenario, table)?;
+            self.note(alloc, instance)?;
         }
-        Ok(Score::of(scenario, &run))
+        Ok(Score::of(instance.scenario(), &run))
     }
 
     /// Makes the schedule that is tried the best record.
-    fn note(
-        &mut self,
-        alloc: Global,
-        scenario: &Scenario,
-        table: &PacketTable,
-    ) -> Result<(), AllocError>
-        requires packets { table.now ≡ table_of scenario.now }
-        requires seeking { IsSeeking scenario.now self.old }
-        requires greater { self.old.best.latency < latency_of scenario.now self.old.tried }
-        ensures goes_on { GoesOn scenario.now self.old self.new }
+    fn note(&mut self, alloc: Global, instance: &Instance) -> Result<(), AllocError>
+        requires seeking { IsSeeking instance.now self.old }
+        requires greater { self.old.best.latency < latency_of instance.now self.old.tried }
+        ensures goes_on { GoesOn instance.now self.old self.new }
     {
         let delays = self.tried.copy()?;
-        self.best = Record::of(scenario, table, delays);
+        self.best = Record::of(instance, delays);
         Ok(())
     }
 }

@@ -3,57 +3,44 @@ ghost use Rattle.std.specs.Prelude.{◌<◌, length};
 use crate::pattern::Pattern;
 use crate::score::Score;
 use crate::seeker::Seeker;
-use convoy_packets::PacketTable;
+use convoy_packets::Instance;
 use convoy_scenario::Scenario;
 use std::alloc::{AllocError, Global};
 
 impl Seeker {
     ghost use Rattle.std.specs.Prelude.{◌≡◌, ◌<◌, length};
-    ghost use Rattle.convoy_packets.specs.Table.{table_of};
     ghost use Rattle.convoy_seek.specs.Seeking.{IsSeeking, GoesOn};
 
     /// Tries the schedule as it stands, and then all patterns, and climbs from the best pattern of
     /// each rival in turn for as long as it may.
-    pub fn run(
-        &mut self,
-        alloc: Global,
-        scenario: &Scenario,
-        table: &PacketTable,
-    ) -> Result<(), AllocError>
-        requires packets { table.now ≡ table_of scenario.now }
-        requires seeking { IsSeeking scenario.now self.old }
+    pub fn run(&mut self, alloc: Global, instance: &Instance) -> Result<(), AllocError>
+        requires seeking { IsSeeking instance.now self.old }
         requires left { 0 < self.old.left }
-        ensures goes_on { GoesOn scenario.now self.old self.new }
+        ensures goes_on { GoesOn instance.now self.old self.new }
     {
-        self.weigh(alloc, scenario, table)?;
-        let starts = self.starts(alloc, scenario, table)?;
-        if table.is_empty() || starts.is_empty() {
+        self.weigh(alloc, instance)?;
+        let starts = self.starts(alloc, instance)?;
+        if instance.table().is_empty() || starts.is_empty() {
             return Ok(());
         }
         for round in 0..self.left as usize {
             if !self.may_go_on() {
                 break;
             }
-            self.climb(alloc, scenario, table, &starts[round % starts.len()])?;
+            self.climb(alloc, instance, &starts[round % starts.len()])?;
         }
         Ok(())
     }
 
     /// The best pattern of each rival.
-    fn starts(
-        &mut self,
-        alloc: Global,
-        scenario: &Scenario,
-        table: &PacketTable,
-    ) -> Result<Vec<Pattern>, AllocError>
-        requires packets { table.now ≡ table_of scenario.now }
-        requires seeking { IsSeeking scenario.now self.old }
-        ensures goes_on { GoesOn scenario.now self.old self.new }
+    fn starts(&mut self, alloc: Global, instance: &Instance) -> Result<Vec<Pattern>, AllocError>
+        requires seeking { IsSeeking instance.now self.old }
+        ensures goes_on { GoesOn instance.now self.old self.new }
     {
         let mut starts = Vec::new(alloc);
-        for rival in 0..scenario.message_count() {
-            if is_rival(scenario, rival) {
-                let start = self.best_pattern(alloc, scenario, table, rival)?;
+        for rival in 0..instance.message_count() {
+            if is_rival(instance.scenario(), rival) {
+                let start = self.best_pattern(alloc, instance, rival)?;
                 starts.push(start)?;
             }
         }
@@ -64,15 +51,13 @@ impl Seeker {
     fn best_pattern(
         &mut self,
         alloc: Global,
-        scenario: &Scenario,
-        table: &PacketTable,
+        instance: &Instance,
         rival: usize,
     ) -> Result<Pattern, AllocError>
-        requires packets { table.now ≡ table_of scenario.now }
-        requires seeking { IsSeeking scenario.now self.old }
-        ensures goes_on { GoesOn scenario.now self.old self.new }
+        requires seeking { IsSeeking instance.now self.old }
+        ensures goes_on { GoesOn instance.now self.old self.new }
     {
-        let (least, most) = coming_range(scenario, table, rival);
+        let (least, most) = coming_range(instance, rival);
         let mut best = Pattern::numbered(rival, least, 0);
         let mut greatest = Score::LEAST;
         for number in 0..Pattern::count(least, most) {
@@ -80,8 +65,8 @@ impl Seeker {
                 break;
             }
             let pattern = Pattern::numbered(rival, least, number);
-            pattern.lay(scenario, table, &mut self.tried);
-            let score = self.weigh(alloc, scenario, table)?;
+            pattern.lay(instance, &mut self.tried);
+            let score = self.weigh(alloc, instance)?;
             if score > greatest {
                 best = pattern;
                 greatest = score;
@@ -102,9 +87,13 @@ fn is_rival(scenario: &Scenario, message: usize) -> bool
 
 /// The least and the greatest delay after which a message arrives at the target's group, in ticks; 0
 /// and 0 where the group sends the message itself.
-fn coming_range(scenario: &Scenario, table: &PacketTable, message: usize) -> (u16, u16) {
-    match table.multicast_to(message, scenario.target_group()) {
-        Some(i) => table
+fn coming_range(instance: &Instance, message: usize) -> (u16, u16) {
+    match instance
+        .table()
+        .multicast_to(message, instance.target_group())
+    {
+        Some(i) => instance
+            .table()
             .ranges()
             .get(usize::from(i))
             .copied()

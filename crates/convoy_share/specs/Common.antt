@@ -14,7 +14,7 @@ pub record Common : Type 0 where
 
 abbrev pub common_of : Shared → Common
 common_of shared =
-    record { bounds = shared.bounds; scenario = shared.scenario.now; board = shared.board.now; ledger = shared.ledger.now }
+    record { bounds = shared.bounds; scenario = shared.instance.now; board = shared.board.now; ledger = shared.ledger.now }
 
 abbrev pub common_by : Bounds → Scenario → BoardId → LedgerId → Common
 common_by bounds scenario board ledger =

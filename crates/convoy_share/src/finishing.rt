@@ -70,8 +70,8 @@ fn advance_last<R: Wait, G: Gate>(
 ) -> Result<(), SearchFault>
     requires hand { means.old.hand.board ≡ shared.now.board.now }
     requires clerk { means.old.clerk.ledger ≡ shared.now.ledger.now }
-    requires of_scenario { branch.scenario ≡ shared.now.scenario.now }
-    requires known { IsTriedIf shared.now.scenario.now branch.space tried means.old.hand.seen }
+    requires of_scenario { branch.scenario ≡ shared.now.instance.now }
+    requires known { IsTriedIf shared.now.instance.now branch.space tried means.old.hand.seen }
     ensures finishing { (put : List Box) → IsFinishing (common_of shared.now) put means.old filling.old.done.items
         (Piece.Todo branch tried ∷ reverse filling.old.rest.items) filling.old.slots.items
         → OnOk result (IsFinishing (common_of shared.now) put means.new filling.new.done.items

@@ -5,6 +5,7 @@ pub use convoy_branch::{Gate, NoGate};
 pub use fault::SearchFault;
 pub use piece::Piece;
 pub use searching::{search, search_from};
+pub use ways::search_both_ways;
 
 mod ending;
 mod fault;
@@ -22,8 +23,7 @@ mod running;
 mod searching;
 mod settled;
 mod shared;
-#[cfg(test)]
-mod tests;
 mod thief;
 mod tree;
+mod ways;
 mod worker;

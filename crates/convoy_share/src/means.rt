@@ -8,7 +8,7 @@ ghost use Rattle.convoy_share.specs.Means.{IsTakenUp};
 use super::fault::SearchFault;
 use super::shared::Shared;
 use convoy_branch::laws::{fronts_better, turns_are_fronts, turns_are_nodes};
-use convoy_branch::{Closer, Gate, Step, Turn, step_branch};
+use convoy_branch::{Gate, Step, Turn, step_branch};
 use convoy_incumbent::{Board, Hand};
 use convoy_intervals::Tracked;
 use convoy_intervals::laws::upper_keeps_greatest;
@@ -62,16 +62,16 @@ pub(crate) fn take_up<R: Wait, G: Gate>(
 ) -> Result<TakenUp, SearchFault>
     requires hand { means.old.hand.board ≡ shared.now.board.now }
     requires clerk { means.old.clerk.ledger ≡ shared.now.ledger.now }
-    requires of_scenario { branch.scenario ≡ shared.now.scenario.now }
-    requires known { IsTriedIf shared.now.scenario.now branch.space tried means.old.hand.seen }
-    ensures { IfOk result (λ taken. IsTakenUp shared.now.bounds shared.now.scenario.now
+    requires of_scenario { branch.scenario ≡ shared.now.instance.now }
+    requires known { IsTriedIf shared.now.instance.now branch.space tried means.old.hand.seen }
+    ensures { IfOk result (λ taken. IsTakenUp shared.now.bounds shared.now.instance.now
         shared.now.ledger.now.most branch means.old means.new taken) }
 {
     fronts_better();
     turns_are_fronts();
     turns_are_nodes();
     upper_keeps_greatest();
-    let _count = shared.table.len();
+    let _ = shared.instance.table();
     let _space = branch.space();
     means.taken_up = means.taken_up.saturating_add(1);
     gate.before_branch(means.worker, means.taken_up);
@@ -81,13 +81,11 @@ pub(crate) fn take_up<R: Wait, G: Gate>(
     }
     let Shared {
         alloc,
-        scenario,
-        table,
+        instance,
         bounds,
         ..
     } = *shared;
-    let mut closer = Closer::new(alloc, bounds);
-    match step_branch(alloc, scenario, table, branch, tried, seen, &mut closer) {
+    match step_branch(alloc, instance, branch, tried, seen, bounds) {
         Ok(Step { found, turn }) => {
             publish_found(rt, shared.board, &mut means.hand, found)?;
             Ok(TakenUp::Turned(turn))

@@ -71,14 +71,14 @@ fn advance_owner<R: Wait, G: Gate>(
 ) -> Result<(), SearchFault>
     requires hand { means.old.hand.board ≡ shared.now.board.now }
     requires clerk { means.old.clerk.ledger ≡ shared.now.ledger.now }
-    requires owner { owner.old.scenario ≡ shared.now.scenario.now }
-    requires of_scenario { branch.scenario ≡ shared.now.scenario.now }
-    requires known { IsTriedIf shared.now.scenario.now branch.space tried means.old.hand.seen }
+    requires owner { owner.old.scenario ≡ shared.now.instance.now }
+    requires of_scenario { branch.scenario ≡ shared.now.instance.now }
+    requires known { IsTriedIf shared.now.instance.now branch.space tried means.old.hand.seen }
     ensures grown { (before : Means) (first : List Box) (low : ℕ) (boxes : List Box)
         → low ≤ length owner.old.put
-        → IsGrown shared.now.bounds shared.now.scenario.now before means.old first owner.old.put low boxes
+        → IsGrown shared.now.bounds shared.now.instance.now before means.old first owner.old.put low boxes
         (growing.old.work.items ++ Piece.Todo branch tried ∷ reverse growing.old.written.items)
-        → OnOk result (IsGrown shared.now.bounds shared.now.scenario.now before means.new first owner.new.put low boxes
+        → OnOk result (IsGrown shared.now.bounds shared.now.instance.now before means.new first owner.new.put low boxes
         (pieces_in growing.new)) }
     ensures board { OnOk result (means.new.hand.board ≡ shared.now.board.now) }
     ensures ledger { OnOk result (means.new.clerk.ledger ≡ shared.now.ledger.now) }
@@ -119,10 +119,10 @@ fn search_own<R: Wait, G: Gate>(
 ) -> Result<Vec<Settled>, SearchFault>
     requires hand { means.old.hand.board ≡ shared.now.board.now }
     requires clerk { means.old.clerk.ledger ≡ shared.now.ledger.now }
-    requires owner { owner.old.scenario ≡ shared.now.scenario.now }
-    requires of_scenario { branch.scenario ≡ shared.now.scenario.now }
+    requires owner { owner.old.scenario ≡ shared.now.instance.now }
+    requires of_scenario { branch.scenario ≡ shared.now.instance.now }
     ensures grown { (low : ℕ) → low ≤ length owner.old.put → IfOk result (λ pieces.
-        IsGrown shared.now.bounds shared.now.scenario.now means.old means.new owner.old.put owner.new.put low
+        IsGrown shared.now.bounds shared.now.instance.now means.old means.new owner.old.put owner.new.put low
         (branch.space ∷ []) (reverse pieces.items)) }
     ensures owner { OnOk result (owner.new ≡ record owner.old { put = owner.new.put }) }
 {

@@ -3,7 +3,6 @@
 ghost use Rattle.std.specs.Prelude.{◌≡◌, IfOk};
 ghost use Rattle.std.specs.List.{All};
 ghost use Rattle.std.specs.Thread.{IsSync};
-ghost use Rattle.convoy_packets.specs.Table.{table_of};
 ghost use Rattle.convoy_share.specs.Common.{common_by, common_of};
 ghost use Rattle.convoy_share.specs.Workers.{HasJoined, IsThiefOf, StaysOwner, StaysThief};
 
@@ -38,8 +37,7 @@ pub(crate) fn run<R: Threads + Wait + Sync, G: Gate + Sync>(
     // A closure's clauses are known only where no type that it takes along names a lifetime.
     let Shared {
         alloc,
-        scenario,
-        table,
+        instance,
         bounds,
         board,
         ledger,
@@ -50,16 +48,14 @@ pub(crate) fn run<R: Threads + Wait + Sync, G: Gate + Sync>(
     let (robbed, worked) = join(
         rt,
         move || -> Result<ThiefWorker, SearchFault>
-            requires packets { table.now ≡ table_of scenario.now }
-            requires board { board.now.scenario ≡ scenario.now }
-            requires thief { let common = common_by bounds scenario.now board.now ledger.now in StaysThief common thief thief }
-            ensures { let common = common_by bounds scenario.entry.now board.entry.now
+            requires board { board.now.scenario ≡ instance.now }
+            requires thief { let common = common_by bounds instance.now board.now ledger.now in StaysThief common thief thief }
+            ensures { let common = common_by bounds instance.entry.now board.entry.now
                 ledger.entry.now in IfOk result (λ w. StaysThief common thief w) }
         {
             let shared = Shared {
                 alloc,
-                scenario,
-                table,
+                instance,
                 bounds,
                 board,
                 ledger,
@@ -71,17 +67,15 @@ pub(crate) fn run<R: Threads + Wait + Sync, G: Gate + Sync>(
         },
         move || -> Result<OwnerWorker, SearchFault>
             requires sync { IsSync R.row }
-            requires packets { table.now ≡ table_of scenario.now }
-            requires board { board.now.scenario ≡ scenario.now }
-            requires owner { let common = common_by bounds scenario.now board.now ledger.now in StaysOwner common owner owner }
-            requires thieves { let common = common_by bounds scenario.now board.now ledger.now in All (IsThiefOf common owner.end.deque) thieves.items }
-            ensures { let common = common_by bounds scenario.entry.now board.entry.now
+            requires board { board.now.scenario ≡ instance.now }
+            requires owner { let common = common_by bounds instance.now board.now ledger.now in StaysOwner common owner owner }
+            requires thieves { let common = common_by bounds instance.now board.now ledger.now in All (IsThiefOf common owner.end.deque) thieves.items }
+            ensures { let common = common_by bounds instance.entry.now board.entry.now
                 ledger.entry.now in IfOk result (λ w. HasJoined common owner thieves.items w) }
         {
             let shared = Shared {
                 alloc,
-                scenario,
-                table,
+                instance,
                 bounds,
                 board,
                 ledger,

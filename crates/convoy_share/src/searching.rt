@@ -3,7 +3,7 @@
 ghost use Rattle.std.specs.Prelude.{◌≡◌, ℕ, ◌-◌, ◌+◌, ◌≤◌, [], false, true, length, IfOk};
 ghost use Rattle.std.specs.List.{list_any, sum};
 ghost use Rattle.convoy_packets.specs.Assignment.{ranges_of};
-ghost use Rattle.convoy_packets.specs.Table.{least_of, table_of};
+ghost use Rattle.convoy_packets.specs.Table.{least_of};
 ghost use Rattle.convoy_sim.specs.Delivery.{latency_of};
 ghost use Rattle.convoy_branch.specs.Outcomes.{IsOutcome, best_of};
 ghost use Rattle.convoy_ledger.specs.Tickets.{most_tickets, whole};
@@ -27,8 +27,7 @@ use convoy_certificate::Certificate;
 use convoy_checker::laws::trees_cover;
 use convoy_incumbent::{Board, CloseFault, Hand};
 use convoy_ledger::{Clerk, Ledger};
-use convoy_packets::{Delays, PacketTable};
-use convoy_scenario::Scenario;
+use convoy_packets::{Delays, Instance};
 use convoy_sim::Record;
 use std::alloc::{AllocError, Global};
 use std::sync::Wait;
@@ -46,23 +45,19 @@ use std::thread::Threads;
 pub fn search<R: Threads + Wait + Sync, G: Gate + Sync>(
     rt: &R,
     alloc: Global,
-    scenario: &Scenario,
-    table: &PacketTable,
+    instance: &Instance,
     workers: u32,
     limit: u64,
     bounds: Bounds,
     gate: &G,
 ) -> Result<Outcome, SearchFault>
-    requires packets { table.now ≡ table_of scenario.now }
     requires workers { (1 ≤ workers) × (workers ≤ 16) }
     requires tickets { (1 ≤ limit) × (limit ≤ most_tickets) }
-    ensures { IfOk result (λ outcome. IsOutcome bounds scenario.now workers limit outcome) }
+    ensures { IfOk result (λ outcome. IsOutcome bounds instance.now workers limit outcome) }
 {
-    let delays = Delays::least(alloc, table)?;
-    let opening = Record::of(scenario, table, delays);
-    search_from(
-        rt, alloc, scenario, table, opening, workers, limit, bounds, gate,
-    )
+    let delays = Delays::least(alloc, instance.table())?;
+    let opening = Record::of(instance, delays);
+    search_from(rt, alloc, instance, opening, workers, limit, bounds, gate)
 }
 
 /// The search of [`search`] from an opening record of the scenario. Its latency is at least that of the
@@ -74,26 +69,22 @@ pub fn search<R: Threads + Wait + Sync, G: Gate + Sync>(
 pub fn search_from<'a, R: Threads + Wait + Sync, G: Gate + Sync>(
     rt: &R,
     alloc: Global,
-    scenario: &'a Scenario,
-    table: &'a PacketTable,
+    instance: &'a Instance,
     opening: Record,
     workers: u32,
     limit: u64,
     bounds: Bounds,
     gate: &G,
 ) -> Result<Outcome, SearchFault>
-    requires packets { table.now ≡ table_of scenario.now }
-    requires of_scenario { opening.scenario ≡ scenario.now }
-    requires least { latency_of scenario.now (least_of (ranges_of scenario.now)) ≤ opening.latency }
+    requires of_scenario { opening.scenario ≡ instance.now }
+    requires least { latency_of instance.now (least_of (ranges_of instance.now)) ≤ opening.latency }
     requires workers { (1 ≤ workers) × (workers ≤ 16) }
     requires tickets { (1 ≤ limit) × (limit ≤ most_tickets) }
-    ensures value { IfOk result (λ outcome. IsOutcome bounds scenario.now workers limit outcome) }
+    ensures value { IfOk result (λ outcome. IsOutcome bounds instance.now workers limit outcome) }
     ensures opened { IfOk result (λ outcome. opening.latency ≤ best_of outcome) }
 {
     if workers == 1 {
-        let outcome = convoy_branch::search_from(
-            alloc, scenario, table, opening, limit, bounds, gate,
-        )?;
+        let outcome = convoy_branch::search_from(alloc, instance, opening, limit, bounds, gate)?;
         return Ok(outcome);
     }
     let (board, hand) = match Board::open(rt, alloc, opening) {
@@ -105,8 +96,7 @@ pub fn search_from<'a, R: Threads + Wait + Sync, G: Gate + Sync>(
     let ended = AtomicBool::new(false);
     let shared = Shared {
         alloc,
-        scenario,
-        table,
+        instance,
         bounds,
         board: &board,
         ledger: &ledger,
@@ -116,7 +106,7 @@ pub fn search_from<'a, R: Threads + Wait + Sync, G: Gate + Sync>(
     };
     let brought = search_together(rt, gate, &shared, hand, clerk)?;
     let closed = close(alloc, board, ledger, brought)?;
-    Ok(closed.into_outcome(alloc, scenario, table, bounds)?)
+    Ok(closed.into_outcome(alloc, instance, bounds)?)
 }
 
 /// Runs all workers, and puts together what they bring.
@@ -207,23 +197,21 @@ impl Closed {
     fn into_outcome(
         self,
         alloc: Global,
-        scenario: &Scenario,
-        table: &PacketTable,
+        instance: &Instance,
         bounds: Bounds,
     ) -> Result<Outcome, AllocError>
-        requires packets { table.now ≡ table_of scenario.now }
         requires closed { (workers : ℕ) × (limit : ℕ)
-            × IsClosed bounds scenario.now workers limit self }
-        requires least { latency_of scenario.now (least_of (ranges_of scenario.now))
+            × IsClosed bounds instance.now workers limit self }
+        requires least { latency_of instance.now (least_of (ranges_of instance.now))
             ≤ self.best.latency }
-        ensures value { (workers limit : ℕ) → IsClosed bounds scenario.now workers limit self
-            → IfOk result (λ outcome. IsOutcome bounds scenario.now workers limit outcome) }
+        ensures value { (workers limit : ℕ) → IsClosed bounds instance.now workers limit self
+            → IfOk result (λ outcome. IsOutcome bounds instance.now workers limit outcome) }
         ensures best { IfOk result (λ outcome. best_of outcome ≡ self.best.latency) }
     {
         if has_left(&self.pieces) {
-            self.into_open(alloc, scenario, table, bounds)
+            self.into_open(alloc, instance, bounds)
         } else {
-            self.into_proved(alloc, scenario, bounds)
+            self.into_proved(alloc, instance, bounds)
         }
     }
 
@@ -231,14 +219,14 @@ impl Closed {
     fn into_proved(
         self,
         alloc: Global,
-        scenario: &Scenario,
+        instance: &Instance,
         bounds: Bounds,
     ) -> Result<Outcome, AllocError>
         requires closed { (workers : ℕ) × (limit : ℕ)
-            × IsClosed bounds scenario.now workers limit self }
+            × IsClosed bounds instance.now workers limit self }
         requires none { list_any is_left self.pieces.items ≡ false }
-        ensures value { (workers limit : ℕ) → IsClosed bounds scenario.now workers limit self
-            → IfOk result (λ outcome. IsOutcome bounds scenario.now workers limit outcome) }
+        ensures value { (workers limit : ℕ) → IsClosed bounds instance.now workers limit self
+            → IfOk result (λ outcome. IsOutcome bounds instance.now workers limit outcome) }
         ensures best { IfOk result (λ outcome. best_of outcome ≡ self.best.latency) }
     {
         plain_fronts_have_no_stamps();
@@ -250,7 +238,7 @@ impl Closed {
         let latency = self.best.latency();
         let delays = self.best.delays().copy()?;
         Ok(Outcome::Proved {
-            certificate: Certificate::new(scenario.copy()?, latency, delays, nodes),
+            certificate: Certificate::new(instance.copy(alloc)?, latency, delays, nodes),
             tickets: self.tickets,
             by_worker: self.by_worker,
         })
@@ -260,23 +248,21 @@ impl Closed {
     fn into_open(
         self,
         alloc: Global,
-        scenario: &Scenario,
-        table: &PacketTable,
+        instance: &Instance,
         bounds: Bounds,
     ) -> Result<Outcome, AllocError>
-        requires packets { table.now ≡ table_of scenario.now }
         requires closed { (workers : ℕ) × (limit : ℕ)
-            × IsClosed bounds scenario.now workers limit self }
-        requires least { latency_of scenario.now (least_of (ranges_of scenario.now))
+            × IsClosed bounds instance.now workers limit self }
+        requires least { latency_of instance.now (least_of (ranges_of instance.now))
             ≤ self.best.latency }
         requires some { list_any is_left self.pieces.items ≡ true }
-        ensures value { (workers limit : ℕ) → IsClosed bounds scenario.now workers limit self
-            → IfOk result (λ outcome. IsOutcome bounds scenario.now workers limit outcome) }
+        ensures value { (workers limit : ℕ) → IsClosed bounds instance.now workers limit self
+            → IfOk result (λ outcome. IsOutcome bounds instance.now workers limit outcome) }
         ensures best { IfOk result (λ outcome. best_of outcome ≡ self.best.latency) }
     {
         fronts_bound();
         let seen = self.best.latency();
-        let upper = upper_over(alloc, scenario, table, bounds, &self.pieces, seen)?;
+        let upper = upper_over(alloc, instance, bounds, &self.pieces, seen)?;
         Ok(Outcome::Open {
             best: self.best,
             upper,

@@ -2,17 +2,15 @@
 
 ghost use Rattle.std.specs.Prelude.{◌≡◌, ℕ, List, IfOk};
 ghost use Rattle.std.specs.List.{All, list_any};
-ghost use Rattle.convoy_packets.specs.Table.{table_of};
 ghost use Rattle.convoy_intervals.specs.Boxes.{Box};
 ghost use Rattle.convoy_branch.specs.Uppers.{IsUpperOf};
 ghost use Rattle.convoy_share.specs.Pieces.{IsPiece, IsRaisedOver, is_left, left_boxes, nodes_in};
 
 use super::piece::{Kept, Settled};
+use convoy_branch::Bounds;
 use convoy_branch::laws::{uppers_begin, uppers_raised};
-use convoy_branch::{Bounds, Closer};
 use convoy_certificate::Node;
-use convoy_packets::PacketTable;
-use convoy_scenario::Scenario;
+use convoy_packets::Instance;
 use std::alloc::{AllocError, Global};
 
 /// Whether a branch is left.
@@ -44,22 +42,19 @@ pub(crate) fn nodes_of(alloc: Global, pieces: &[Settled]) -> Result<Vec<Node>, A
 /// and the branches among the pieces are left.
 pub(crate) fn upper_over(
     alloc: Global,
-    scenario: &Scenario,
-    table: &PacketTable,
+    instance: &Instance,
     bounds: Bounds,
     pieces: &[Settled],
     seen: u32,
 ) -> Result<u32, AllocError>
-    requires packets { table.now ≡ table_of scenario.now }
-    requires pieces { (best : ℕ) × (put : List Box) × All (IsPiece scenario.now best put) pieces.now }
-    ensures { IfOk result (λ upper. IsUpperOf bounds scenario.now seen (left_boxes pieces.now) upper) }
+    requires pieces { (best : ℕ) × (put : List Box) × All (IsPiece instance.now best put) pieces.now }
+    ensures { IfOk result (λ upper. IsUpperOf bounds instance.now seen (left_boxes pieces.now) upper) }
 {
     uppers_begin();
     uppers_raised();
-    let mut closer = Closer::new(alloc, bounds);
     let mut upper = seen;
     for piece in pieces {
-        upper = raised_over(alloc, scenario, table, piece, upper, &mut closer)?;
+        upper = raised_over(alloc, instance, piece, upper, bounds)?;
     }
     Ok(upper)
 }
@@ -67,20 +62,17 @@ pub(crate) fn upper_over(
 /// What a piece raises an upper bound to, in ticks: a branch that is left, and nothing else.
 fn raised_over(
     alloc: Global,
-    scenario: &Scenario,
-    table: &PacketTable,
+    instance: &Instance,
     piece: &Settled,
     upper: u32,
-    closer: &mut Closer,
+    bounds: Bounds,
 ) -> Result<u32, AllocError>
-    requires packets { table.now ≡ table_of scenario.now }
-    requires piece { (best : ℕ) × (put : List Box) × IsPiece scenario.now best put piece.now }
-    ensures value { IfOk result
-        (λ raised. IsRaisedOver closer.old scenario.now piece.now upper raised) }
-    ensures same { closer.new ≡ closer.old }
+    requires piece { (best : ℕ) × (put : List Box) × IsPiece instance.now best put piece.now }
+    ensures { IfOk result
+        (λ raised. IsRaisedOver bounds instance.now piece.now upper raised) }
 {
     match piece.kept() {
-        Kept::Todo { branch, .. } => closer.raised(alloc, scenario, table, branch, upper),
+        Kept::Todo { branch, .. } => bounds.raised(alloc, instance, branch, upper),
         Kept::Done(_) | Kept::Pushed(_) => Ok(upper),
     }
 }

@@ -1,21 +1,18 @@
 ghost use Rattle.std.specs.Prelude.{◌≡◌};
-ghost use Rattle.convoy_packets.specs.Table.{table_of};
 
 use convoy_branch::Bounds;
 use convoy_incumbent::Board;
 use convoy_ledger::Ledger;
-use convoy_packets::PacketTable;
-use convoy_scenario::Scenario;
+use convoy_packets::Instance;
 use std::alloc::Global;
 use std::sync::atomic::AtomicBool;
 
-/// What all workers of a search share: the scenario with its packets, the bounds by which they go, the
+/// What all workers of a search share: the instance, the bounds by which they go, the
 /// board, the ledger, and how far the owner is.
 #[derive(Clone, Copy)]
 pub(crate) struct Shared<'a> {
     pub alloc: Global,
-    pub scenario: &'a Scenario,
-    pub table: &'a PacketTable,
+    pub instance: &'a Instance,
     pub bounds: Bounds,
     pub board: &'a Board,
     pub ledger: &'a Ledger,
@@ -25,6 +22,5 @@ pub(crate) struct Shared<'a> {
     pub ended: &'a AtomicBool,
     /// How many workers there are.
     pub workers: u32,
-    ghost packets: { table.now ≡ table_of scenario.now },
-    ghost of_scenario: { board.now.scenario ≡ scenario.now },
+    ghost of_scenario: { board.now.scenario ≡ instance.now },
 }

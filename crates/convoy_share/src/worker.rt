@@ -29,12 +29,12 @@ fn advance<R: Wait, G: Gate>(
 ) -> Result<(), SearchFault>
     requires hand { means.old.hand.board ≡ shared.now.board.now }
     requires clerk { means.old.clerk.ledger ≡ shared.now.ledger.now }
-    requires of_scenario { branch.scenario ≡ shared.now.scenario.now }
-    requires known { IsTriedIf shared.now.scenario.now branch.space tried means.old.hand.seen }
+    requires of_scenario { branch.scenario ≡ shared.now.instance.now }
+    requires known { IsTriedIf shared.now.instance.now branch.space tried means.old.hand.seen }
     ensures grown { (before : Means) (first put : List Box) (low : ℕ) (boxes : List Box)
-        → IsGrown shared.now.bounds shared.now.scenario.now before means.old first put low boxes
+        → IsGrown shared.now.bounds shared.now.instance.now before means.old first put low boxes
         (growing.old.work.items ++ Piece.Todo branch tried ∷ reverse growing.old.written.items)
-        → OnOk result (IsGrown shared.now.bounds shared.now.scenario.now before means.new first put low boxes
+        → OnOk result (IsGrown shared.now.bounds shared.now.instance.now before means.new first put low boxes
         (pieces_in growing.new)) }
     ensures board { OnOk result (means.new.hand.board ≡ shared.now.board.now) }
     ensures ledger { OnOk result (means.new.clerk.ledger ≡ shared.now.ledger.now) }
@@ -61,9 +61,9 @@ pub(crate) fn search_branch<R: Wait, G: Gate>(
 ) -> Result<Vec<Settled>, SearchFault>
     requires hand { means.old.hand.board ≡ shared.now.board.now }
     requires clerk { means.old.clerk.ledger ≡ shared.now.ledger.now }
-    requires of_scenario { branch.scenario ≡ shared.now.scenario.now }
+    requires of_scenario { branch.scenario ≡ shared.now.instance.now }
     ensures { (put : List Box) (low : ℕ) → IfOk result (λ pieces.
-        IsGrown shared.now.bounds shared.now.scenario.now means.old means.new put put low (branch.space ∷ [])
+        IsGrown shared.now.bounds shared.now.instance.now means.old means.new put put low (branch.space ∷ [])
         (reverse pieces.items)) }
 {
     let mut growing = Growing::of(shared.alloc, branch)?;

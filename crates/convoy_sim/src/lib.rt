@@ -23,8 +23,6 @@ mod simulation;
 mod stamps;
 mod tag;
 mod target;
-#[cfg(test)]
-mod tests;
 mod ticks;
 mod times;
 mod timestamp;

@@ -1,11 +1,10 @@
 ghost use Rattle.std.specs.Prelude.{◌≡◌, IfOk};
 ghost use Rattle.convoy_packets.specs.Assignment.{IsAssignment};
-ghost use Rattle.convoy_packets.specs.Table.{table_of};
 ghost use Rattle.convoy_scenario.specs.WellFormed.{IsScenario};
 
 use super::tag::Tag;
 use super::target::latency;
-use convoy_packets::{Delays, PacketTable};
+use convoy_packets::{Delays, Instance};
 use convoy_scenario::Scenario;
 use std::alloc::{AllocError, Global};
 use std::marker::Model;
@@ -40,18 +39,16 @@ impl Model for Record {
 impl Record {
     ghost use Rattle.convoy_sim.specs.Record.{IsAttained, attained_by};
 
-    /// The record of a schedule in a scenario, with the packet table of the scenario. Takes no
-    /// memory.
-    pub fn of(scenario: &Scenario, table: &PacketTable, delays: Delays) -> Record
-        requires table { table.now ≡ table_of scenario.now }
-        requires assignment { IsAssignment scenario.now delays }
-        ensures { result ≡ attained_by scenario.now delays }
+    /// The record of a schedule of an instance. Takes no memory.
+    pub fn of(instance: &Instance, delays: Delays) -> Record
+        requires assignment { IsAssignment instance.now delays }
+        ensures { result ≡ attained_by instance.now delays }
     {
-        let latency = latency(scenario, table, &delays);
+        let latency = latency(instance, &delays);
         Record {
             delays,
             latency,
-            scenario: name_of(scenario),
+            scenario: name_of(instance.scenario()),
         }
     }
 

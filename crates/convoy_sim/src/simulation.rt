@@ -1,6 +1,5 @@
 ghost use Rattle.std.specs.Prelude.{◌≡◌, ℕ, ◌*◌, ◌≤◌, IfOk};
 ghost use Rattle.convoy_packets.specs.Assignment.{IsAssignment};
-ghost use Rattle.convoy_packets.specs.Table.{table_of};
 ghost use Rattle.convoy_sim.specs.Delivery.{latency_of};
 ghost use Rattle.convoy_scenario.specs.Scenario.{GoesTo};
 ghost use Rattle.convoy_sim.specs.Run.{IsRunOf};
@@ -15,8 +14,7 @@ use super::run::Run;
 use super::stamps::Stamps;
 use super::times::Times;
 use super::timetable::Timetable;
-use convoy_packets::{Delays, PacketTable};
-use convoy_scenario::Scenario;
+use convoy_packets::{Delays, Instance};
 use std::alloc::{AllocError, Global};
 
 /// All moments of a run are before this one.
@@ -27,31 +25,25 @@ const END: Moment = Moment {
     group: 0,
 };
 
-/// Runs a scenario under a schedule, with the packet table of the scenario: reads all moments in their
-/// order (docs/PROTOCOL.md). Fails where memory runs out, and else never.
-pub fn simulate(
-    alloc: Global,
-    scenario: &Scenario,
-    table: &PacketTable,
-    delays: &Delays,
-) -> Result<Run, AllocError>
-    requires table { table.now ≡ table_of scenario.now }
-    requires assignment { IsAssignment scenario.now delays.now }
-    ensures run { IfOk result (λ run. IsRunOf scenario.now delays.now run) }
-    ensures laws { IfOk result (λ run. KeepsLaws scenario.now run) }
-    ensures latency { IfOk result (λ run. run.latency ≡ latency_of scenario.now delays.now) }
-    ensures four_delays { IfOk result (λ run. run.latency ≤ 4 * scenario.now.delay) }
-    ensures two_delays { ((n : ℕ) → GoesTo scenario.now n scenario.now.target_group → n ≡ scenario.now.target_message)
-        → IfOk result (λ run. run.latency ≤ 2 * scenario.now.delay) }
+/// Runs an instance under a schedule: reads all moments in their order (docs/PROTOCOL.md). Fails where
+/// memory runs out, and else never.
+pub fn simulate(alloc: Global, instance: &Instance, delays: &Delays) -> Result<Run, AllocError>
+    requires assignment { IsAssignment instance.now delays.now }
+    ensures run { IfOk result (λ run. IsRunOf instance.now delays.now run) }
+    ensures laws { IfOk result (λ run. KeepsLaws instance.now run) }
+    ensures latency { IfOk result (λ run. run.latency ≡ latency_of instance.now delays.now) }
+    ensures four_delays { IfOk result (λ run. run.latency ≤ 4 * instance.now.delay) }
+    ensures two_delays { ((n : ℕ) → GoesTo instance.now n instance.now.target_group → n ≡ instance.now.target_message)
+        → IfOk result (λ run. run.latency ≤ 2 * instance.now.delay) }
 {
     runs_keep_the_laws();
-    let (message, group) = (scenario.target_message(), scenario.target_group());
-    let times = Timetable::of(Times::new(scenario, table, delays));
+    let (message, group) = (instance.target_message(), instance.target_group());
+    let times = Timetable::of(Times::new(instance, delays));
     let mut agenda = Agenda::new();
     agenda.fill(&times, &END);
     let stamps = Stamps::of(&agenda);
     let delivered = delivery_tick(&times, &stamps, message, group);
-    let finals = stamps.finals(alloc, scenario.message_count())?;
+    let finals = stamps.finals(alloc, instance.message_count())?;
     let progress = list_progress(alloc, &times, &stamps)?;
-    Ok(Run::new(finals, progress, delivered - scenario.issue_tick(message)))
+    Ok(Run::new(finals, progress, delivered - instance.issue_tick(message)))
 }

@@ -1,6 +1,5 @@
 ghost use Rattle.std.specs.Prelude.{◌≡◌};
 ghost use Rattle.convoy_packets.specs.Assignment.{IsAssignment};
-ghost use Rattle.convoy_packets.specs.Table.{table_of};
 ghost use Rattle.convoy_sim.specs.Delivery.{latency_of};
 
 use super::agenda::Agenda;
@@ -10,18 +9,16 @@ use super::stamps::Stamps;
 use super::ticks::Ticks;
 use super::times::Times;
 use super::timetable::Timetable;
-use convoy_packets::{Delays, PacketTable};
-use convoy_scenario::Scenario;
+use convoy_packets::{Delays, Instance};
 
-/// The latency in ticks of a scenario under a schedule, with the packet table of the scenario. Takes
-/// no memory, and reads only the moments before the commit of the target at its group: what is ahead
-/// of the target there has come by then (docs/PROTOCOL.md).
-pub fn latency(scenario: &Scenario, table: &PacketTable, delays: &Delays) -> u32
-    requires table { table.now ≡ table_of scenario.now }
-    requires assignment { IsAssignment scenario.now delays.now }
-    ensures value { result ≡ latency_of scenario.now delays.now }
+/// The latency in ticks of an instance under a schedule. Takes no memory, and reads only the moments
+/// before the commit of the target at its group: what is ahead of the target there has come by then
+/// (docs/PROTOCOL.md).
+pub fn latency(instance: &Instance, delays: &Delays) -> u32
+    requires assignment { IsAssignment instance.now delays.now }
+    ensures value { result ≡ latency_of instance.now delays.now }
 {
-    latency_by(&Timetable::of(Times::new(scenario, table, delays)))
+    latency_by(&Timetable::of(Times::new(instance, delays)))
 }
 
 /// The latency in ticks of a scenario under a schedule, from the ticks of the schedule. Takes no

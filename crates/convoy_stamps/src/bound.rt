@@ -1,5 +1,4 @@
 ghost use Rattle.std.specs.Prelude.{◌≡◌, ℕ, ◌≤◌, ◌<◌, List, length, IfOk};
-ghost use Rattle.convoy_packets.specs.Table.{table_of};
 ghost use Rattle.convoy_sim.specs.Delivery.{latency_of};
 ghost use Rattle.convoy_intervals.specs.Boxes.{IsBox, IsIn};
 ghost use Rattle.convoy_stamps.specs.StampBounds.{lowest_stamp, highest_final, stamp_bound};
@@ -9,8 +8,7 @@ use super::laws::stamp_bound_holds;
 use super::reach::{pairs_of, reach_size};
 use super::spans::Spans;
 use convoy_intervals::{DelayBox, Tracked};
-use convoy_packets::PacketTable;
-use convoy_scenario::Scenario;
+use convoy_packets::Instance;
 use convoy_sim::Timestamp;
 use std::alloc::{AllocError, Global};
 
@@ -21,36 +19,34 @@ use std::alloc::{AllocError, Global};
 /// ran out.
 pub fn stamp_bound(
     alloc: Global,
-    scenario: &Scenario,
-    table: &PacketTable,
+    instance: &Instance,
     delay_box: &DelayBox,
 ) -> Result<u32, AllocError>
-    requires packets { table.now ≡ table_of scenario.now }
-    requires inside { IsBox scenario.now delay_box.now }
-    ensures value { IfOk result (λ bound. bound ≡ stamp_bound scenario.now delay_box.now) }
+    requires inside { IsBox instance.now delay_box.now }
+    ensures value { IfOk result (λ bound. bound ≡ stamp_bound instance.now delay_box.now) }
     ensures holds { IfOk result (λ bound. (delays : List ℕ) → IsIn delay_box.now delays
-        → latency_of scenario.now delays ≤ bound) }
+        → latency_of instance.now delays ≤ bound) }
 {
-    let tracked = Tracked::over(alloc, scenario, table, delay_box.copy()?)?;
-    stamp_bound_of(alloc, scenario, &tracked)
+    let tracked = Tracked::over(alloc, instance, delay_box.copy()?)?;
+    stamp_bound_of(alloc, instance, &tracked)
 }
 
 /// The same of a box that is tracked: what is kept of it is not computed again. The error is that
 /// memory ran out.
 pub fn stamp_bound_of(
     alloc: Global,
-    scenario: &Scenario,
+    instance: &Instance,
     tracked: &Tracked,
 ) -> Result<u32, AllocError>
-    requires { tracked.now.scenario ≡ scenario.now }
-    ensures value { IfOk result (λ bound. bound ≡ stamp_bound scenario.now tracked.now.space) }
+    requires { tracked.now.scenario ≡ instance.now }
+    ensures value { IfOk result (λ bound. bound ≡ stamp_bound instance.now tracked.now.space) }
     ensures holds { IfOk result (λ bound. (delays : List ℕ) → IsIn tracked.now.space delays
-        → latency_of scenario.now delays ≤ bound) }
+        → latency_of instance.now delays ≤ bound) }
 {
     stamp_bound_holds();
-    let spans = Spans::of(scenario, tracked);
+    let spans = Spans::of(instance, tracked);
     let highest = highest_final(alloc, &spans)?;
-    let issued = scenario.issue_tick(scenario.target_message());
+    let issued = instance.issue_tick(instance.target_message());
     Ok(last_commit(&spans, highest).saturating_sub(issued))
 }
 

@@ -10,5 +10,3 @@ pub mod laws;
 mod pair;
 mod reach;
 mod spans;
-#[cfg(test)]
-mod tests;

@@ -4,13 +4,14 @@ ghost use Rattle.convoy_intervals.specs.Spans.{span_of};
 
 use super::pair::Pair;
 use convoy_intervals::{Span, Tracked};
+use convoy_packets::Instance;
 use convoy_scenario::Scenario;
 use std::marker::Model;
 
 /// A scenario with a box, and what the box leaves open of each message at each group.
 #[derive(Drop)]
 pub(crate) struct Spans<'a> {
-    scenario: &'a Scenario,
+    instance: &'a Instance,
     tracked: &'a Tracked,
 }
 
@@ -19,9 +20,9 @@ impl<'a> Model for Spans<'a> {
 
     ghost Value = { Boxed };
 
-    ghost view = { λ s. record { scenario = s.scenario.now; ranges = s.tracked.now.space } };
+    ghost view = { λ s. record { scenario = s.instance.now; ranges = s.tracked.now.space } };
 
-    ghost invariant = { λ s. IsBoxed s.scenario.now s.tracked.now };
+    ghost invariant = { λ s. IsBoxed s.instance.now s.tracked.now };
 }
 
 impl<'a> Spans<'a> {
@@ -31,12 +32,12 @@ impl<'a> Spans<'a> {
     ghost use Rattle.convoy_stamps.specs.Spans.{target_may_precede, target_may_raise};
 
     /// The spans of a box of the scenario.
-    pub(crate) fn of(scenario: &'a Scenario, tracked: &'a Tracked) -> Self
-        requires { tracked.now.scenario ≡ scenario.now }
-        ensures { result ≡ record { scenario = scenario.now; ranges = tracked.now.space } }
+    pub(crate) fn of(instance: &'a Instance, tracked: &'a Tracked) -> Self
+        requires { tracked.now.scenario ≡ instance.now }
+        ensures { result ≡ record { scenario = instance.now; ranges = tracked.now.space } }
     {
-        let _delay = scenario.delay();
-        Spans { scenario, tracked }
+        let _delay = instance.delay();
+        Spans { instance, tracked }
     }
 
     /// The scenario of which the spans are.
@@ -44,7 +45,7 @@ impl<'a> Spans<'a> {
         ensures value { result.now ≡ self.now.scenario }
         ensures lawful { IsScenario self.now.scenario }
     {
-        self.scenario
+        self.instance.scenario()
     }
 
     /// What the box leaves open of a message at a group.
@@ -53,7 +54,7 @@ impl<'a> Spans<'a> {
         requires group { group < length self.now.scenario.groups }
         ensures { result ≡ span_of self.now.scenario self.now.ranges message group }
     {
-        self.tracked.span(self.scenario, message, group)
+        self.tracked.span(self.instance, message, group)
     }
 
     /// What the box leaves open of a message at the target's group.

@@ -7,6 +7,4 @@ pub use timeline::{entries_of, write_timeline};
 
 mod entry;
 mod listing;
-#[cfg(test)]
-mod tests;
 mod timeline;

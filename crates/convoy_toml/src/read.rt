@@ -47,6 +47,3 @@ fn read_table(alloc: Global, text: &[u8]) -> Result<Table, ScenarioFault>
         }
     }
 }
-
-#[cfg(test)]
-mod tests;

@@ -1,15 +1,14 @@
 ghost use Rattle.std.specs.Prelude.{ℕ, ◌≤◌, IfOk};
-ghost use Rattle.convoy_library.specs.Bounds.{Bounds};
-ghost use Rattle.convoy_library.specs.Outcomes.{IsOutcome};
+ghost use Rattle.convoy_library.specs.BothWays.{IsOutcomeBothWays};
 ghost use Rattle.convoy_library.specs.Scenario.{Scenario};
 ghost use Rattle.convoy_library.specs.Tickets.{most_tickets};
 ghost use Rattle.convoy_uses.specs.Answers.{IsAnswer};
 
 use super::fault::Fault;
-use convoy_library::branch::{Bounds, Outcome, search_alone};
-use convoy_library::packets::PacketTable;
-use convoy_library::scenario::Scenario;
-use convoy_library::share::{NoGate, search};
+use convoy_library::branch::{NoGate, Outcome, search_both_ways};
+use convoy_library::packets::{Delays, Instance};
+use convoy_library::share;
+use convoy_library::sim::Record;
 use std::alloc::{AllocError, Global};
 use std::sync::Wait;
 use std::thread::Threads;
@@ -23,17 +22,17 @@ pub enum Answer {
     Between { least: u32, most: u32 },
 }
 
-/// The greatest latency of a scenario, by a search that spends at most `limit` tickets; where they do
-/// not suffice, two numbers between which it lies.
+/// The greatest latency of a scenario, by a search both ways that spends at most `limit` tickets; where
+/// it does not end with them, two numbers between which the latency lies.
 pub fn greatest_latency(
     alloc: Global,
-    scenario: &Scenario,
+    instance: &Instance,
     limit: u64,
 ) -> Result<Answer, AllocError>
-    ensures { IfOk result (IsAnswer scenario.now) }
+    ensures { IfOk result (IsAnswer instance.now) }
 {
-    let table = PacketTable::of(alloc, scenario)?;
-    let outcome = search_alone(alloc, scenario, &table, limit, Bounds::Plain)?;
+    let opening = Record::of(instance, Delays::least(alloc, instance.table())?);
+    let outcome = search_both_ways(alloc, instance, opening, limit, &NoGate)?;
     Ok(answer_of(&outcome))
 }
 
@@ -41,24 +40,23 @@ pub fn greatest_latency(
 pub fn greatest_latency_by<R: Threads + Wait + Sync>(
     rt: &R,
     alloc: Global,
-    scenario: &Scenario,
+    instance: &Instance,
     workers: u32,
     limit: u64,
 ) -> Result<Answer, Fault>
     requires workers { (1 ≤ workers) × (workers ≤ 16) }
     requires tickets { (1 ≤ limit) × (limit ≤ most_tickets) }
-    ensures { IfOk result (IsAnswer scenario.now) }
+    ensures { IfOk result (IsAnswer instance.now) }
 {
-    let table = PacketTable::of(alloc, scenario)?;
-    let bounds = Bounds::Plain;
-    let outcome = search(rt, alloc, scenario, &table, workers, limit, bounds, &NoGate)?;
+    let opening = Record::of(instance, Delays::least(alloc, instance.table())?);
+    let outcome = share::search_both_ways(rt, alloc, instance, opening, workers, limit, &NoGate)?;
     Ok(answer_of(&outcome))
 }
 
-/// What the outcome of a search tells.
+/// What the outcome of a search both ways tells.
 fn answer_of(outcome: &Outcome) -> Answer
-    ensures { (bounds : Bounds) (scenario : Scenario) (workers limit : ℕ) →
-        IsOutcome bounds scenario workers limit outcome.now → IsAnswer scenario result }
+    ensures { (scenario : Scenario) (workers limit : ℕ) →
+        IsOutcomeBothWays scenario workers limit outcome.now → IsAnswer scenario result }
 {
     match outcome {
         Outcome::Proved { certificate, .. } => Answer::Exactly(certificate.latency()),

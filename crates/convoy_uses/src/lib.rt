@@ -17,7 +17,5 @@ mod fault;
 mod greatest;
 mod records;
 mod schedule;
-#[cfg(test)]
-mod tests;
 mod tickets;
 mod timeout;

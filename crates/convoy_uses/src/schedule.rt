@@ -3,7 +3,7 @@ ghost use Rattle.convoy_uses.specs.declared.fault.Fault.TheVariants.{Memory};
 ghost use Rattle.convoy_uses.specs.Answers.{latency_given};
 
 use super::fault::Fault;
-use convoy_library::packets::{Delays, PacketTable};
+use convoy_library::packets::{Delays, Instance};
 use convoy_library::scenario_toml::read_toml;
 use convoy_library::sim::latency;
 use std::alloc::Global;
@@ -17,7 +17,7 @@ pub fn latency_under(alloc: Global, text: &[u8], delays: &[i64]) -> Result<u32, 
     ensures { IsUnlessMemory Memory (latency_given text.now delays.now) result }
 {
     let scenario = read_toml(alloc, text)?.scenario;
-    let table = PacketTable::of(alloc, &scenario)?;
-    let delays = Delays::from_list(alloc, &table, delays)?;
-    Ok(latency(&scenario, &table, &delays))
+    let instance = Instance::of(alloc, scenario)?;
+    let delays = Delays::from_list(alloc, instance.table(), delays)?;
+    Ok(latency(&instance, &delays))
 }

@@ -2,7 +2,7 @@ ghost use Rattle.std.specs.Prelude.{IfOk};
 ghost use Rattle.convoy_uses.specs.Answers.{IsJudgement};
 
 use super::greatest::{Answer, greatest_latency};
-use convoy_library::scenario::Scenario;
+use convoy_library::packets::Instance;
 use std::alloc::{AllocError, Global};
 
 /// Whether a timeout is long enough, with latencies in ticks.
@@ -21,13 +21,13 @@ pub enum Judgement {
 /// every schedule, by a search that spends at most `limit` tickets.
 pub fn judge_timeout(
     alloc: Global,
-    scenario: &Scenario,
+    instance: &Instance,
     timeout: u32,
     limit: u64,
 ) -> Result<Judgement, AllocError>
-    ensures { IfOk result (IsJudgement scenario.now timeout) }
+    ensures { IfOk result (IsJudgement instance.now timeout) }
 {
-    let (least, most) = match greatest_latency(alloc, scenario, limit)? {
+    let (least, most) = match greatest_latency(alloc, instance, limit)? {
         Answer::Exactly(latency) => (latency, latency),
         Answer::Between { least, most } => (least, most),
     };

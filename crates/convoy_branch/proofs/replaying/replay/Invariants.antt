@@ -2,4 +2,4 @@ use Rattle.convoy_branch.proofs.EventLists.{IsReplaying}
 use Rattle.convoy_branch.proofs.replaying.replay.Given as goal
 
 abbrev pub invariant-loop-place : goal.invariant-loop-place
-invariant-loop-place l = IsReplaying l.scenario l.events l.place l.core
+invariant-loop-place l = IsReplaying l.instance l.events l.place l.core

@@ -5,7 +5,6 @@ use Rattle.convoy_branch.proofs.search.search_from.Goals as goal
 
 pub loop-work-init : goal.loop-work-init
 loop-work-init g c = record {
-  closer = c.new-closer.ensures;
   searching = c.in_ok-search.ensures.searching c.args.bounds;
   few = omega (arith, c.in_ok-search.ensures.tickets);
   opened = omega (arith, ap (λ (r : Record). r.latency) c.in_ok-search.ensures.best);
@@ -13,8 +12,7 @@ loop-work-init g c = record {
 
 pub loop-work-preserved-in-Continue-branch-2 : goal.loop-work-preserved-in-Continue-branch-2
 loop-work-preserved-in-Continue-branch-2 g c = record {
-  closer = c.loop-work.invariant.closer;
-  searching = IsSearching-popped c.args.bounds c.args.scenario.now c.loop-work.search.best c.loop-work.search.work.items c.pop.new.self.items c.loop-work.search.nodes.items c.push.new.self.items c.loop-work.search.tickets c.in-Some.work c.in-Write.node c.in-Some.ensures.items c.in-Write.is c.in_ok-push-in-Write.ensures.items c.loop-work.invariant.searching;
+  searching = IsSearching-popped c.args.bounds c.args.instance.now c.loop-work.search.best c.loop-work.search.work.items c.pop.new.self.items c.loop-work.search.nodes.items c.push.new.self.items c.loop-work.search.tickets c.in-Some.work c.in-Write.node c.in-Some.ensures.items c.in-Write.is c.in_ok-push-in-Write.ensures.items c.loop-work.invariant.searching;
   few = c.loop-work.invariant.few;
   opened = c.loop-work.invariant.opened;
 }

@@ -1,11 +1,10 @@
-use Rattle.std.proofs.Common.{◌≡◌, ◌+◌, ◌*◌, ◌-◌, ◌≤◌, length}
+use Rattle.std.proofs.Common.{◌+◌, ◌*◌, ◌-◌, ◌≤◌, length}
 use Rattle.convoy_branch.specs.Searching.{IsSearching}
 use Rattle.convoy_branch.proofs.search.search_from.Given as goal
 
 abbrev pub invariant-loop-work : goal.invariant-loop-work
 invariant-loop-work g l = record {
-  closer : l.closer ≡ l.bounds;
-  searching : IsSearching l.bounds l.scenario l.search.best l.search.work.items l.search.nodes.items l.search.tickets;
+  searching : IsSearching l.bounds l.instance l.search.best l.search.work.items l.search.nodes.items l.search.tickets;
   few : l.search.tickets ≤ l.limit;
   opened : l.fn.opening.latency ≤ l.search.best.latency;
 }

@@ -2,6 +2,6 @@ use Rattle.std.proofs.Common.{◌∙◌, sym}
 use Rattle.convoy_branch.proofs.Tries.{look_closed}
 use Rattle.convoy_branch.proofs.step.look_at.Goals as goal
 
-pub returns-then-is_some-clause-value : goal.returns-then-is_some-clause-value
-returns-then-is_some-clause-value c =
-    look_closed c.args.closer.now c.args.scenario.now c.args.branch.now.space c.args.seen c.in_ok-leaf.leaf c.ranges.seen.fits (c.stamp_bound_at_most_plain.ensures c.args.scenario.now c.args.branch.now.space) c.in_ok-leaf.ensures.value (sym c.is_some.ensures ∙ c.if-is_some.true)
+pub returns-then-is_some : goal.returns-then-is_some
+returns-then-is_some c =
+    record { value = look_closed c.args.bounds c.args.instance.now c.args.branch.now.space c.args.seen c.in_ok-leaf.leaf c.ranges.seen.fits (c.stamp_bound_at_most_plain.ensures c.args.instance.now c.args.branch.now.space) c.in_ok-leaf.ensures (sym c.is_some.ensures ∙ c.if-is_some.true) }

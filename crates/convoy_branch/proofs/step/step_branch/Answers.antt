@@ -6,8 +6,8 @@ use Rattle.convoy_branch.proofs.step.step_branch.Goals.{in-Some, in-None+in_ok-t
 
 pub returns-clause-value : goal.returns-clause-value
 returns-clause-value c =
-    let bounds = c.args.closer.now in
-    let plan = c.args.scenario.now in
+    let bounds = c.args.bounds in
+    let plan = c.args.instance.now in
     let box = c.args.branch.space in
     let look = c.in-Ok.look in
     let shows = c.in-Ok.ensures.value in

@@ -6,7 +6,7 @@ use Rattle.convoy_checker.proofs.checking.first_fault.Given as goal
 
 abbrev pub invariant-loop-number : goal.invariant-loop-number
 invariant-loop-number l = record {
-  so_far : first_fault l.claim.scenario.now l.claim.latency l.number l.walk (drop l.number l.nodes)
-      ≡ first_fault l.claim.scenario.now l.claim.latency 0 (root_of l.claim.scenario.now ∷ []) l.nodes;
-  boxes : All (IsBox l.claim.scenario.now) l.walk;
+  so_far : first_fault l.claim.instance.now l.claim.latency l.number l.walk (drop l.number l.nodes)
+      ≡ first_fault l.claim.instance.now l.claim.latency 0 (root_of l.claim.instance.now ∷ []) l.nodes;
+  boxes : All (IsBox l.claim.instance.now) l.walk;
 }

@@ -12,6 +12,6 @@ returns-in-Proved g c =
 pub returns : goal.returns
 returns g c =
     inl
-    (open_written _ _ _ c.fronts_bound.ensures c.in-Open.best c.in-Open.upper c.in-Open.tickets c.in-Open.by_worker
+    (open_written _ _ _ c.in-Open.best c.in-Open.upper c.in-Open.tickets c.in-Open.by_worker
     (rw c.best.view_is at c.best.invariant) (rw c.in-Open.is at c.in_ok-certificate.ensures)
     c.in_ok-open_text-in-Open.ensures)

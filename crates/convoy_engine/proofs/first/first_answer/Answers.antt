@@ -10,4 +10,4 @@ returns-in_err-input c =
 
 pub returns : goal.returns
 returns c =
-    inl (rw (text_answered _ _ c.in_ok-input.ensures.scenario, c.in_ok-attained.ensures) refl)
+    inl (rw (text_answered _ _ c.in_ok-input.ensures.scenario, c.in_ok-attained.ensures, c.in_ok-instance.ensures) refl)

@@ -10,4 +10,4 @@ returns-in_err-input c =
 
 pub returns : goal.returns
 returns c =
-    inl (rw (packets_answered _ _ c.in_ok-input.ensures.scenario, c.in_ok-listed.ensures) refl)
+    inl (rw (packets_answered _ _ c.in_ok-input.ensures.scenario, c.in_ok-listed.ensures, c.in_ok-instance.ensures) refl)

@@ -8,6 +8,6 @@ use Rattle.convoy_intervals.proofs.bounds.bound.Given as goal
 
 abbrev pub invariant-loop-message : goal.invariant-loop-message
 invariant-loop-message l =
-    let group = l.scenario.target_group in
-    let from = greatest_passing (λ n. is_addressed (message_at l.scenario n) group) (λ n. nat_le (arrive l.scenario (least_of l.delay_box) n group) l.committed) (λ n. settle l.scenario (greatest_of l.delay_box) n group) in
+    let group = l.instance.target_group in
+    let from = greatest_passing (λ n. is_addressed (message_at l.instance n) group) (λ n. nat_le (arrive l.instance (least_of l.delay_box) n group) l.committed) (λ n. settle l.instance (greatest_of l.delay_box) n group) in
     from l.last l.message (l.message-end - l.message) ≡ from l.committed 0 l.message-end

@@ -6,10 +6,10 @@ use Rattle.convoy_intervals.proofs.Rivals.{passing_step, passing_end, plain_boun
 use Rattle.convoy_intervals.proofs.bounds.bound_over.Goals as goal
 use Rattle.convoy_intervals.proofs.bounds.bound_over.Goals.{After-target_group-group, then-is_rival_by, else-is_rival_by}
 
-target_known : (c : After-target_group-group) → c.target_group-group.result < length c.args.scenario.now.groups
+target_known : (c : After-target_group-group) → c.target_group-group.result < length c.args.instance.now.groups
 target_known c =
     let well = c.target_group-group.ensures.lawful in
-    let known = group_of_goes c.args.scenario.now well c.args.scenario.now.target_message c.args.scenario.now.target_group well.addressed in
+    let known = group_of_goes c.args.instance.now well c.args.instance.now.target_message c.args.instance.now.target_group well.addressed in
     omega (arith, known, c.target_group-group.ensures.value)
 
 pub place-requires-clause-group : goal.place-requires-clause-group
@@ -25,7 +25,7 @@ loop-message-preserved c =
 
 pub returns : goal.returns
 returns c =
-    let plan = c.args.scenario.now in
+    let plan = c.args.instance.now in
     let spans = c.args.spans.now in
     let target = c.target_message-target.ensures.value in
     let group = c.target_group-group.ensures.value in

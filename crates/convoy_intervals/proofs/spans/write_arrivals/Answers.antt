@@ -5,7 +5,7 @@ use Rattle.convoy_intervals.proofs.spans.write_arrivals.Goals as goal
 
 pub loop-group-preserved : goal.loop-group-preserved
 loop-group-preserved c =
-    let plan = c.args.scenario.now in
+    let plan = c.args.instance.now in
     let before = c.loop-group.invariant in
     let group : c.loop-group.group < length plan.groups = omega (arith, c.loop-group-test.true, c.group_count-group-end.ensures.value) in
     let here : c.arrivals-span.result ≡ arrival_span plan c.args.space.now c.args.message c.loop-group.group = ap₂ (λ (a b : ℕ). (a, b)) c.arrivals-span.ensures.least c.arrivals-span.ensures.greatest in

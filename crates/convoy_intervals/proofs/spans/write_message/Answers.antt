@@ -4,7 +4,7 @@ use Rattle.convoy_intervals.proofs.spans.write_message.Goals as goal
 
 pub loop-group-preserved : goal.loop-group-preserved
 loop-group-preserved c =
-    let plan = c.args.scenario.now in
+    let plan = c.args.instance.now in
     let before = c.loop-group.invariant in
     let group : c.loop-group.group < length plan.groups = omega (arith, c.loop-group-test.true, c.group_count-group-end.ensures.value) in
     rw c.write_settling.ensures (record {

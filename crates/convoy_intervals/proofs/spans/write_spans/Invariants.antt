@@ -4,7 +4,7 @@ use Rattle.convoy_intervals.proofs.spans.write_spans.Given as goal
 
 abbrev pub invariant-loop-message : goal.invariant-loop-message
 invariant-loop-message l = record {
-  all : AreAllSpans l.scenario l.spans;
-  arrivals : (m : ℕ) → m < l.message → AreArrivals l.scenario l.space l.spans m (length l.scenario.groups);
-  settlings : (m : ℕ) → m < l.message → AreSettlings l.scenario l.space l.spans m (length l.scenario.groups);
+  all : AreAllSpans l.instance l.spans;
+  arrivals : (m : ℕ) → m < l.message → AreArrivals l.instance l.space l.spans m (length l.instance.groups);
+  settlings : (m : ℕ) → m < l.message → AreSettlings l.instance l.space l.spans m (length l.instance.groups);
 }

@@ -5,14 +5,14 @@ use Rattle.convoy_intervals.proofs.times.arrivals.Goals as goal
 
 pub range_of-least-requires : goal.range_of-least-requires
 range_of-least-requires c =
-    place_in_box _ _ _ (Multicast c.args.message c.args.group) _ c.requires.packets c.requires.inside c.multicast_to.ensures
+    place_in_box _ _ _ (Multicast c.args.message c.args.group) _ c.table.ensures.value c.requires.inside c.multicast_to.ensures
 
 pub returns-clause-least : goal.returns-clause-least
 returns-clause-least c =
-    let e = arrive_at_end c.args.scenario.now c.args.table.now c.args.delay_box.now c.requires.packets (λ (r : ℕ × ℕ). r.0) refl c.args.message c.args.group in
+    let e = arrive_at_end c.args.instance.now c.table.result.now c.args.delay_box.now c.table.ensures.value (λ (r : ℕ × ℕ). r.0) refl c.args.message c.args.group in
     cc
 
 pub returns-clause-greatest : goal.returns-clause-greatest
 returns-clause-greatest c =
-    let e = arrive_at_end c.args.scenario.now c.args.table.now c.args.delay_box.now c.requires.packets (λ (r : ℕ × ℕ). r.1) refl c.args.message c.args.group in
+    let e = arrive_at_end c.args.instance.now c.table.result.now c.args.delay_box.now c.table.ensures.value (λ (r : ℕ × ℕ). r.1) refl c.args.message c.args.group in
     cc

@@ -5,14 +5,14 @@ use Rattle.convoy_intervals.proofs.times.proposal_delays.Goals as goal
 
 pub range_of-requires : goal.range_of-requires
 range_of-requires c =
-    place_in_box _ _ _ (Propose c.args.message c.args.from c.args.to) _ c.requires.packets c.requires.inside c.propose.ensures
+    place_in_box _ _ _ (Propose c.args.message c.args.from c.args.to) _ c.table.ensures.value c.requires.inside c.propose.ensures
 
 pub returns-clause-least : goal.returns-clause-least
 returns-clause-least c =
-    let e = delay_at_end c.args.scenario.now c.args.table.now c.args.delay_box.now c.requires.packets (λ (r : ℕ × ℕ). r.0) refl (Propose c.args.message c.args.from c.args.to) in
+    let e = delay_at_end c.args.instance.now c.table.result.now c.args.delay_box.now c.table.ensures.value (λ (r : ℕ × ℕ). r.0) refl (Propose c.args.message c.args.from c.args.to) in
     cc
 
 pub returns-clause-greatest : goal.returns-clause-greatest
 returns-clause-greatest c =
-    let e = delay_at_end c.args.scenario.now c.args.table.now c.args.delay_box.now c.requires.packets (λ (r : ℕ × ℕ). r.1) refl (Propose c.args.message c.args.from c.args.to) in
+    let e = delay_at_end c.args.instance.now c.table.result.now c.args.delay_box.now c.table.ensures.value (λ (r : ℕ × ℕ). r.1) refl (Propose c.args.message c.args.from c.args.to) in
     cc

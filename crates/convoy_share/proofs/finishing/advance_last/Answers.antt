@@ -16,7 +16,7 @@ returns-clause-finishing g c put finishing =
     let before = c.args.means.now in
     let after = c.take_up.new.means in
     let old = c.args.filling.now in
-    let Taken : TakenUp → Type 0 = λ t. IsTakenUp shared.bounds shared.scenario.now most c.args.branch before after t in
+    let Taken : TakenUp → Type 0 = λ t. IsTakenUp shared.bounds shared.instance.now most c.args.branch before after t in
     elim c.match-branch-2.branch [
       | in-Turned+in_ok-follow-in-Turned w ↦
           let taken = subst Taken w.in-Turned.is c.in_ok-turn.ensures in

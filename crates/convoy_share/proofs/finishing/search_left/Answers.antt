@@ -11,13 +11,13 @@ next_left-requires g c =
     let shared = c.args.shared.now in
     let here = c.loop-branch in
     let r = c.requires.filling in
-    (shared.bounds, shared.scenario.now, here.means.hand.seen, drawn here.means, r.0, (here.invariant.0 r.0 r.1).filling)
+    (shared.bounds, shared.instance.now, here.means.hand.seen, drawn here.means, r.0, (here.invariant.0 r.0 r.1).filling)
 
 pub advance_last-requires-clause-of_scenario : goal.advance_last-requires-clause-of_scenario
 advance_last-requires-clause-of_scenario g c =
     let shared = c.args.shared.now in
     let bounds = shared.bounds in
-    let plan = shared.scenario.now in
+    let plan = shared.instance.now in
     let here = c.loop-branch in
     let seen = here.means.hand.seen in
     let tickets = drawn here.means in
@@ -30,7 +30,7 @@ pub advance_last-requires-clause-known : goal.advance_last-requires-clause-known
 advance_last-requires-clause-known g c =
     let shared = c.args.shared.now in
     let bounds = shared.bounds in
-    let plan = shared.scenario.now in
+    let plan = shared.instance.now in
     let here = c.loop-branch in
     let seen = here.means.hand.seen in
     let tickets = drawn here.means in
@@ -43,7 +43,7 @@ pub loop-branch-preserved : goal.loop-branch-preserved
 loop-branch-preserved g c =
     let shared = c.args.shared.now in
     let bounds = shared.bounds in
-    let plan = shared.scenario.now in
+    let plan = shared.instance.now in
     let here = c.loop-branch in
     let old = here.filling in
     let after = c.next_left.new.self in
@@ -63,5 +63,5 @@ returns-clause-finished g c put finishing =
     let old = here.filling in
     let after = c.next_left.new.self in
     let is = here.invariant.0 put finishing in
-    let none = rw c.in_default.is at (c.in_ok-branch.ensures.none shared.bounds shared.scenario.now here.means.hand.seen (drawn here.means) put is.filling) in
+    let none = rw c.in_default.is at (c.in_ok-branch.ensures.none shared.bounds shared.instance.now here.means.hand.seen (drawn here.means) put is.filling) in
     IsFinishing-next (common_of shared) put here.means old.done.items after.done.items (reverse old.rest.items) [] old.slots.items after.slots.items (c.in_ok-branch.ensures.left put) none is

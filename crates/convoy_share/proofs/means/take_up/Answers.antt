@@ -1,10 +1,8 @@
 use Rattle.std.proofs.Common.{ℕ, sym, ap, subst, ◌∙◌, arith, ◌≤◌}
 use Rattle.convoy_scenario.specs.Scenario.{Scenario}
-use Rattle.convoy_packets.specs.Table.{PacketTable, IsTable}
 use Rattle.convoy_intervals.specs.Boxes.{IsBox}
 use Rattle.convoy_incumbent.specs.Boards.{Holding}
-use Rattle.convoy_branch.specs.declared.bounds.Bounds.{Bounds}
-use Rattle.convoy_branch.specs.Steps.{IsTurn, known_after}
+use Rattle.convoy_branch.specs.Steps.{known_after}
 use Rattle.convoy_share.proofs.Turns.{IsTurned-step}
 use Rattle.convoy_share.proofs.means.take_up.Goals as goal
 
@@ -17,10 +15,10 @@ returns-in-Ok g c =
     let after = c.publish_found.new.hand.seen in
     let found = c.in-Ok.field-0.found in
     let seen = ap (λ (h : Holding). h.seen) look.hand in
-    let lawful = subst (λ (t : PacketTable). IsTable t) shared.packets c.len-count.ensures.lawful in
+    let lawful = c.table.ensures.lawful in
     let inside = subst (λ (s : Scenario). IsBox s c.args.branch.space) c.requires.of_scenario c.space-space.ensures.lawful in
     let known = subst (λ (n : ℕ). known_after n found ≤ after) seen publish.known in
-    let turn = subst (λ (b : Bounds). IsTurn b shared.scenario.now c.args.branch.space (known_after c.look-seen.result found) c.in-Ok.field-0.turn) c.new-closer.ensures c.in-Ok.ensures.value.turn in
+    let turn = c.in-Ok.ensures.value.turn in
     record {
       later = record {
         board = publish.same.0 ∙ sym c.requires.hand;
@@ -33,6 +31,6 @@ returns-in-Ok g c =
         ticket.0,
         ticket.1,
         ticket.2,
-        IsTurned-step c.fronts_better.ensures c.turns_are_fronts.ensures c.turns_are_nodes.ensures c.upper_keeps_greatest.ensures shared.bounds shared.scenario.now (known_after c.look-seen.result found) after c.args.branch.space c.in-Ok.field-0.turn lawful inside known turn,
+        IsTurned-step c.fronts_better.ensures c.turns_are_fronts.ensures c.turns_are_nodes.ensures c.upper_keeps_greatest.ensures shared.bounds shared.instance.now (known_after c.look-seen.result found) after c.args.branch.space c.in-Ok.field-0.turn lawful inside known turn,
       );
     }

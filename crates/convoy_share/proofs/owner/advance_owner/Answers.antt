@@ -16,8 +16,8 @@ use Rattle.convoy_share.proofs.owner.advance_owner.Goals.{in-Turned-Halves+in_ok
 pub offer-lower-requires : goal.offer-lower-requires
 offer-lower-requires g c =
     let h = c.in-Turned-Halves in
-    let P = IsPiece c.args.shared.now.scenario.now c.take_up.new.means.hand.seen [] in
-    let Taken : TakenUp → Type 0 = λ t. IsTakenUp c.args.shared.now.bounds c.args.shared.now.scenario.now c.args.shared.now.ledger.now.most c.args.branch c.args.means.now c.take_up.new.means t in
+    let P = IsPiece c.args.shared.now.instance.now c.take_up.new.means.hand.seen [] in
+    let Taken : TakenUp → Type 0 = λ t. IsTakenUp c.args.shared.now.bounds c.args.shared.now.instance.now c.args.shared.now.ledger.now.most c.args.branch c.args.means.now c.take_up.new.means t in
     let taken = subst Taken (h.is ∙ ap (λ (t : Turn). Turned t) h.field-0-is) c.in_ok-packet.ensures in
     let rest = All-tail P (Done (Split h.packet h.at)) (Todo h.lower false ∷ Todo h.upper true ∷ []) taken.ticket.3.each in
     (All-head P (Todo h.lower false) (Todo h.upper true ∷ []) rest).0 ∙ sym c.requires.owner
@@ -25,7 +25,7 @@ offer-lower-requires g c =
 pub returns-clause-grown : goal.returns-clause-grown
 returns-clause-grown g c before first low boxes below grown =
     let bounds = c.args.shared.now.bounds in
-    let scenario = c.args.shared.now.scenario.now in
+    let scenario = c.args.shared.now.instance.now in
     let most = c.args.shared.now.ledger.now.most in
     let better = c.fronts_better.ensures in
     let between = c.args.means.now in

@@ -5,7 +5,7 @@ use Rattle.convoy_share.proofs.owner.search_own.Given as goal
 
 abbrev pub invariant-loop-growing : goal.invariant-loop-growing
 invariant-loop-growing g l =
-    ((low : ℕ) → low ≤ length l.fn.owner.put → IsGrown l.shared.bounds l.shared.scenario.now l.fn.means l.means l.fn.owner.put l.owner.put low (l.fn.branch.space ∷ []) (pieces_in l.growing))
+    ((low : ℕ) → low ≤ length l.fn.owner.put → IsGrown l.shared.bounds l.shared.instance.now l.fn.means l.means l.fn.owner.put l.owner.put low (l.fn.branch.space ∷ []) (pieces_in l.growing))
     × (l.means.hand.board ≡ l.shared.board.now)
     × (l.means.clerk.ledger ≡ l.shared.ledger.now)
     × (l.owner ≡ record l.fn.owner { put = l.owner.put })

@@ -20,7 +20,7 @@ join-robbed-requires-after_bounds g t c κs within =
     let own : StaysThief common thief thief = thief_own common c.args.owner.end.deque thief.means.hand.share thief.means.clerk.share thief parts.1 in
     let popped : c.args.thieves.items ≡ rest ++ thief ∷ [] = c.in-Some.ensures.items in
     let fewer : length rest < length c.args.thieves.items = subst (λ (ts : List ThiefWorker). length rest < length ts) (sym popped) (omega (arith, length-append rest (thief ∷ []))) in
-    ((shared.packets, (shared.of_scenario, own)), search (rules, others, fewer, shared.packets, shared.of_scenario))
+    ((shared.of_scenario, own), search (rules, others, fewer, shared.of_scenario))
 
 pub gather-requires-clause-deque : goal.gather-requires-clause-deque
 gather-requires-clause-deque g t c =

@@ -10,7 +10,7 @@ use Rattle.convoy_share.proofs.worker.advance.Goals.{in-Turned+in_ok-follow-in-T
 pub returns-clause-grown : goal.returns-clause-grown
 returns-clause-grown g c before first put low boxes grown =
     let bounds = c.args.shared.now.bounds in
-    let scenario = c.args.shared.now.scenario.now in
+    let scenario = c.args.shared.now.instance.now in
     let most = c.args.shared.now.ledger.now.most in
     let better = c.fronts_better.ensures in
     let between = c.args.means.now in

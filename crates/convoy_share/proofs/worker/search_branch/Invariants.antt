@@ -6,7 +6,7 @@ use Rattle.convoy_share.proofs.worker.search_branch.Given as goal
 
 abbrev pub invariant-loop-growing : goal.invariant-loop-growing
 invariant-loop-growing g l =
-    ((put : List Box) (low : ℕ) → IsGrown l.shared.bounds l.shared.scenario.now l.fn.means l.means put put low (l.fn.branch.space ∷ []) (pieces_in l.growing))
+    ((put : List Box) (low : ℕ) → IsGrown l.shared.bounds l.shared.instance.now l.fn.means l.means put put low (l.fn.branch.space ∷ []) (pieces_in l.growing))
     × (l.means.hand.board ≡ l.shared.board.now)
     × (l.means.clerk.ledger ≡ l.shared.ledger.now)
 

@@ -11,7 +11,7 @@ use Rattle.convoy_sim.proofs.simulation.simulate.Goals as goal
 use Rattle.convoy_sim.proofs.simulation.simulate.Goals.{After-of-times}
 
 is_target : (c : After-of-times)
-    → IsTarget c.args.scenario.now c.args.delays.now c.of-times.result c.target_message-message.result c.target_group-group.result
+    → IsTarget c.args.instance.now c.args.delays.now c.of-times.result c.target_message-message.result c.target_group-group.result
 is_target c = record {
   same = c.of-times.ensures ∙ c.new.ensures;
   well = c.target_message-message.ensures.lawful;
@@ -64,16 +64,16 @@ returns-clause-latency c =
 
 pub returns-clause-four_delays : goal.returns-clause-four_delays
 returns-clause-four_delays c =
-    subst (λ latency. latency ≤ 4 * c.args.scenario.now.delay) (sym (returns-clause-latency c))
-    (target_within_four c.args.scenario.now c.args.delays.now c.target_message-message.ensures.lawful c.requires.assignment)
+    subst (λ latency. latency ≤ 4 * c.args.instance.now.delay) (sym (returns-clause-latency c))
+    (target_within_four c.args.instance.now c.args.delays.now c.target_message-message.ensures.lawful c.requires.assignment)
 
 pub returns-clause-two_delays : goal.returns-clause-two_delays
 unfolding latency_of
 returns-clause-two_delays c alone =
     let well = c.target_message-message.ensures.lawful in
-    subst (λ latency. latency ≤ 2 * c.args.scenario.now.delay) (sym (returns-clause-latency c))
-    (lone_within_two c.args.scenario.now c.args.delays.now well c.requires.assignment _ _ well.addressed alone)
+    subst (λ latency. latency ≤ 2 * c.args.instance.now.delay) (sym (returns-clause-latency c))
+    (lone_within_two c.args.instance.now c.args.delays.now well c.requires.assignment _ _ well.addressed alone)
 
 pub returns-clause-laws : goal.returns-clause-laws
 returns-clause-laws c =
-    c.runs_keep_the_laws.ensures c.args.scenario.now c.args.delays.now _ c.target_message-message.ensures.lawful c.requires.assignment (returns-clause-run c)
+    c.runs_keep_the_laws.ensures c.args.instance.now c.args.delays.now _ c.target_message-message.ensures.lawful c.requires.assignment (returns-clause-run c)

@@ -11,8 +11,8 @@ loop-place-preserved c =
     let was = c.loop-place.invariant in
     let found = c.proposals_at-shortest.ensures in
     record {
-      least = pushed (proposal_entry c.args.scenario.now (least_of c.args.delay_box.now)) _ _ place _ c.in_ok-push.ensures.items was.least found.least;
-      greatest = pushed (proposal_entry c.args.scenario.now (greatest_of c.args.delay_box.now)) _ _ place _ c.in_ok-push-2.ensures.items was.greatest found.greatest;
+      least = pushed (proposal_entry c.args.instance.now (least_of c.args.delay_box.now)) _ _ place _ c.in_ok-push.ensures.items was.least found.least;
+      greatest = pushed (proposal_entry c.args.instance.now (greatest_of c.args.delay_box.now)) _ _ place _ c.in_ok-push-2.ensures.items was.greatest found.greatest;
       least_fit = pushed_within 65535 _ _ _ c.in_ok-push.ensures.items was.least_fit found.fits.0;
       greatest_fit = pushed_within 65535 _ _ _ c.in_ok-push-2.ensures.items was.greatest_fit found.fits.1;
     }

@@ -7,8 +7,8 @@ use Rattle.convoy_sure.proofs.filling.all_proposals.Given as goal
 
 abbrev pub invariant-loop-place : goal.invariant-loop-place
 invariant-loop-place l = record {
-  least : l.least.items ≡ map (proposal_entry l.scenario (least_of l.delay_box)) (range_with_len 0 l.place);
-  greatest : l.greatest.items ≡ map (proposal_entry l.scenario (greatest_of l.delay_box)) (range_with_len 0 l.place);
+  least : l.least.items ≡ map (proposal_entry l.instance (least_of l.delay_box)) (range_with_len 0 l.place);
+  greatest : l.greatest.items ≡ map (proposal_entry l.instance (greatest_of l.delay_box)) (range_with_len 0 l.place);
   least_fit : All (λ delay. delay ≤ 65535) l.least.items;
   greatest_fit : All (λ delay. delay ≤ 65535) l.greatest.items;
 }

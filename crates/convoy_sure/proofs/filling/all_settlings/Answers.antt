@@ -6,13 +6,13 @@ use Rattle.convoy_sure.proofs.filling.all_settlings.Goals as goal
 
 pub loop-place-preserved : goal.loop-place-preserved
 loop-place-preserved c =
-    let box = tables_of c.args.scenario.now c.args.delay_box.now in
+    let box = tables_of c.args.instance.now c.args.delay_box.now in
     let place : ℕ = c.loop-place.place in
     let was = c.loop-place.invariant in
     let found = c.settlings_at-first.ensures in
     record {
-      least = pushed (entry_of c.args.scenario.now box.least_settling) _ _ place _ c.in_ok-push.ensures.items was.least found.least;
-      greatest = pushed (entry_of c.args.scenario.now box.greatest_settling) _ _ place _ c.in_ok-push-2.ensures.items was.greatest found.greatest;
+      least = pushed (entry_of c.args.instance.now box.least_settling) _ _ place _ c.in_ok-push.ensures.items was.least found.least;
+      greatest = pushed (entry_of c.args.instance.now box.greatest_settling) _ _ place _ c.in_ok-push-2.ensures.items was.greatest found.greatest;
       least_fit = pushed_within 1131070 _ _ _ c.in_ok-push.ensures.items was.least_fit found.fits.0;
       greatest_fit = pushed_within 1131070 _ _ _ c.in_ok-push-2.ensures.items was.greatest_fit found.fits.1;
     }

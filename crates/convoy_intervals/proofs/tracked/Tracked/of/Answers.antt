@@ -6,9 +6,9 @@ use Rattle.convoy_intervals.proofs.tracked.Tracked.of.Goals as goal
 
 pub invariant_of-result : goal.invariant_of-result
 invariant_of-result c =
-    let plan = c.args.scenario.now in
+    let plan = c.args.instance.now in
     let over = c.bound_over-bound.ensures ∙ ap (λ spans. plain_bound_over plan (tables_in plan spans)) c.deref.ensures.value in
-    rw c.of.ensures (record {
+    rw (c.of.ensures, c.scenario.ensures.value) (record {
       well = c.delay-delay.ensures.lawful;
       inside = c.requires.inside;
       kept = c.requires.spans;

@@ -10,10 +10,10 @@ use Rattle.convoy_share.proofs.searching.Closed.into_proved.Goals as goal
 pub new-requires-clause-nodes : goal.new-requires-clause-nodes
 new-requires-clause-nodes c =
     let nodes = c.in_ok-nodes.ensures ∙ ap (λ (ps : List Piece). nodes_in ps) c.deref.ensures.value in
-    subst (λ (ns : List Node). All IsNode ns) (sym nodes) (nodes_closed c.args.bounds c.args.scenario.now c.requires.closed.0 c.requires.closed.1 c.args.self c.requires.closed.2)
+    subst (λ (ns : List Node). All IsNode ns) (sym nodes) (nodes_closed c.args.bounds c.args.instance.now c.requires.closed.0 c.requires.closed.1 c.args.self c.requires.closed.2)
 
 pub returns-clause-value : goal.returns-clause-value
 returns-clause-value c workers limit is =
     let nodes = c.in_ok-nodes.ensures ∙ ap (λ (ps : List Piece). nodes_in ps) c.deref.ensures.value in
     let same = certificate_is c.in_ok-copy.ensures c.latency-latency.ensures.value (c.in_ok-delays.ensures ∙ c.delays.ensures.value) nodes in
-    IsProved-closed c.whole_fronts_are_trees.ensures c.trees_cover.ensures c.plain_fronts_have_no_stamps.ensures c.only_leads_have_lead_leaves.ensures c.whole_fronts_are_readable.ensures c.args.bounds c.args.scenario.now workers limit c.args.self c.new.result c.requires.none (c.new.ensures ∙ same) is
+    IsProved-closed c.whole_fronts_are_trees.ensures c.trees_cover.ensures c.plain_fronts_have_no_stamps.ensures c.only_leads_have_lead_leaves.ensures c.whole_fronts_are_readable.ensures c.args.bounds c.args.instance.now workers limit c.args.self c.new.result c.requires.none (c.new.ensures ∙ same) is

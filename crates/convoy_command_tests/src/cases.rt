@@ -1,0 +1,118 @@
+//! Each command but `batch`, with a text, and what it answers.
+
+use super::texts::{
+    BASE, CERTIFICATE_OF_BASE, CERTIFICATE_OF_SWAPPED, FIRST_OF_BASE, PACKETS_OF_BASE,
+    TIMELINE_OF_BASE, WHY_BASE,
+};
+use convoy_engine::{
+    Command, DEFAULT_LIMIT, Done, Fault, MOST_TICKETS, NoGate, Options, Sink, Source, run_command,
+};
+use std::alloc::Global;
+use std::sync::Wait;
+use std::thread::Threads;
+
+/// As many reads as each run here may make, unless a test says otherwise.
+pub(crate) const READS: u64 = 100_000;
+
+/// A command, with one worker where it searches.
+#[derive(Clone, Copy, Debug)]
+pub(crate) enum Asked {
+    First,
+    Simulate,
+    Timeline,
+    Packets,
+    Check,
+    Explain,
+    Draw,
+    Analyse,
+    Latency,
+}
+
+/// A command is asked of a text, and answers this.
+pub(crate) struct Case {
+    pub(crate) asked: Asked,
+    pub(crate) text: &'static str,
+    pub(crate) told: &'static str,
+}
+
+pub(crate) const CASES: [Case; 9] = [
+    Case {
+        asked: Asked::First,
+        text: BASE,
+        told: FIRST_OF_BASE,
+    },
+    Case {
+        asked: Asked::Simulate,
+        text: BASE,
+        told: "latency 2\nschedule 1 1 1 1 1 1 1 1\n",
+    },
+    Case {
+        asked: Asked::Timeline,
+        text: BASE,
+        told: TIMELINE_OF_BASE,
+    },
+    Case {
+        asked: Asked::Packets,
+        text: BASE,
+        told: PACKETS_OF_BASE,
+    },
+    Case {
+        asked: Asked::Latency,
+        text: BASE,
+        told: "greatest 12\n",
+    },
+    Case {
+        asked: Asked::Analyse,
+        text: BASE,
+        told: CERTIFICATE_OF_BASE,
+    },
+    Case {
+        asked: Asked::Check,
+        text: CERTIFICATE_OF_BASE,
+        told: "accepted 12\n",
+    },
+    Case {
+        asked: Asked::Check,
+        text: CERTIFICATE_OF_SWAPPED,
+        told: "refused 26 bound leaf 0 bound 12\n",
+    },
+    Case {
+        asked: Asked::Explain,
+        text: CERTIFICATE_OF_BASE,
+        told: WHY_BASE,
+    },
+];
+
+/// Options of one worker, with at least one ticket and no more than there may be.
+pub(crate) fn options(limit: u64, reads: u64) -> Options {
+    match Options::new(1, limit.clamp(1, MOST_TICKETS), reads) {
+        Some(options) => options,
+        None => unreachable!(),
+    }
+}
+
+fn command_of(asked: Asked) -> Command {
+    match asked {
+        Asked::First => Command::First,
+        Asked::Simulate => Command::Simulate,
+        Asked::Timeline => Command::Timeline,
+        Asked::Packets => Command::Packets,
+        Asked::Check => Command::Check,
+        Asked::Explain => Command::Explain,
+        Asked::Draw => Command::Draw,
+        Asked::Analyse => Command::Analyse(options(DEFAULT_LIMIT, READS)),
+        Asked::Latency => Command::Latency(options(DEFAULT_LIMIT, READS).seeking(100)),
+    }
+}
+
+/// A run of a command.
+pub(crate) fn run<R: Threads + Wait + Sync, S: Source, K: Sink>(
+    rt: &R,
+    alloc: Global,
+    asked: Asked,
+    source: &mut S,
+    sink: &mut K,
+    reads: u64,
+) -> Result<Done, Fault> {
+    run_command(rt, alloc, command_of(asked), source, sink, reads, &NoGate)
+}

@@ -1,0 +1,15 @@
+//! How long the certificates of worked rows are, in bytes.
+
+use super::texts::{
+    CERTIFICATE_OF_BASE, CERTIFICATE_OF_LINKED, CERTIFICATE_OF_LONE, LEADS_OF_BASE,
+    STAMPS_OF_SWAPPED,
+};
+
+#[test]
+fn lengths_of_certificates(rt: HostRuntime) {
+    assert_eq!(rt; CERTIFICATE_OF_BASE.len(), 149);
+    assert_eq!(rt; CERTIFICATE_OF_LONE.len(), 80);
+    assert_eq!(rt; CERTIFICATE_OF_LINKED.len(), 161);
+    assert_eq!(rt; STAMPS_OF_SWAPPED.len(), 148);
+    assert_eq!(rt; LEADS_OF_BASE.len(), 152);
+}

@@ -1,0 +1,19 @@
+//! Tests of the commands over devices in memory: slow ones, failing ones, and ones that lack memory, and of
+//! what a search tells of itself. What the built program answers for whole texts is tested by `./test`
+//! at the root.
+#![tactic(auto)]
+
+#[cfg(test)]
+mod batches;
+#[cfg(test)]
+mod cases;
+#[cfg(test)]
+mod devices;
+#[cfg(test)]
+mod failing;
+#[cfg(test)]
+mod lengths;
+#[cfg(test)]
+mod texts;
+#[cfg(test)]
+mod watches;

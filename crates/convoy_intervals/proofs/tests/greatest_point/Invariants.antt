@@ -1,6 +1,0 @@
-use Rattle.std.proofs.Common.{◌≡◌, length}
-use Rattle.convoy_intervals.specs.Boxes.{IsBox}
-use Rattle.convoy_intervals.proofs.tests.greatest_point.Given as goal
-
-abbrev pub invariant-loop-packet : goal.invariant-loop-packet
-invariant-loop-packet l = (length l.point ≡ l.packet-end) × IsBox l.scenario l.point

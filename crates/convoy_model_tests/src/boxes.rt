@@ -1,0 +1,122 @@
+//! Boxes of delays, and their plain bounds.
+
+ghost use Rattle.std.specs.Prelude.{◌≡◌, ◌<◌, length, IfOk};
+ghost use Rattle.convoy_scenario.specs.Scenario.{Scenario};
+ghost use Rattle.convoy_intervals.specs.Boxes.{IsBox};
+
+use super::scenarios::{base, base_at, swapped};
+use convoy_intervals::{DelayBox, Span, Tracked, bound};
+use convoy_packets::Instance;
+use std::alloc::{AllocError, Global};
+use std::process::Abort;
+use std::test::Fail;
+
+/// The bound of the whole box.
+fn root_bound(alloc: Global, instance: &Instance) -> Result<u32, AllocError> {
+    let root = DelayBox::root(alloc, instance)?;
+    Ok(bound(instance, &root))
+}
+
+/// The bounds of the halves of the whole box at a packet, which are those that a tracked box has.
+fn half_bounds(
+    rt: &impl Abort,
+    alloc: Global,
+    instance: &Instance,
+    packet: usize,
+    at: u16,
+) -> Result<(u32, u32), Fail> {
+    let root = Tracked::root(alloc, instance)?;
+    assert!(rt; packet < root.space().len());
+    let (least, most) = root.space().range(packet);
+    assert!(rt; least <= at && at < most);
+    match root.halves(instance, packet, at) {
+        Ok((lower, upper)) => {
+            assert_eq!(rt; bound(instance, lower.space()), lower.bound());
+            assert_eq!(rt; bound(instance, upper.space()), upper.bound());
+            Ok((lower.bound(), upper.bound()))
+        }
+        Err((_, error)) => Err(error.into()),
+    }
+}
+
+#[test]
+fn bounds_of_the_base(rt: HostRuntime) -> Result<(), Fail> {
+    let alloc = rt.alloc();
+    for (at, want) in [(5, 11), (6, 12), (7, 6)] {
+        let instance = base_at(alloc, at)?;
+        assert_eq!(rt; root_bound(alloc, &instance)?, want, "y at {at}");
+    }
+    Ok(())
+}
+
+#[test]
+fn bounds_of_halves(rt: HostRuntime) -> Result<(), Fail> {
+    let alloc = rt.alloc();
+    let instance = base(alloc)?;
+    for (packet, at, lower, upper) in [(4, 1, 4, 12), (4, 2, 5, 12), (7, 1, 10, 12)] {
+        let bounds = half_bounds(&rt, alloc, &instance, packet, at)?;
+        assert_eq!(rt; bounds, (lower, upper), "packet {packet} at {at}");
+    }
+    Ok(())
+}
+
+/// The box with only the greatest delay of that packet.
+fn at_greatest(delay_box: DelayBox, packet: usize) -> Result<DelayBox, AllocError>
+    requires { packet < length delay_box }
+    ensures same_length { IfOk result (λ b. length b ≡ length delay_box) }
+    ensures is_box { IfOk result (λ b. (scenario : Scenario) → IsBox scenario delay_box → IsBox scenario b) }
+{
+    let (least, most) = delay_box.range(packet);
+    if least == most {
+        return Ok(delay_box);
+    }
+    match delay_box.halves(packet, most - 1) {
+        Ok((_, upper)) => Ok(upper),
+        Err((_, error)) => Err(error),
+    }
+}
+
+/// The box with only the greatest delay of each packet.
+fn greatest_point(alloc: Global, instance: &Instance) -> Result<DelayBox, AllocError>
+    ensures { IfOk result (λ b. IsBox instance.now b) }
+{
+    let mut point = DelayBox::root(alloc, instance)?;
+    for packet in 0..point.len() {
+        point = at_greatest(point, packet)?;
+    }
+    Ok(point)
+}
+
+#[test]
+fn bound_of_a_point(rt: HostRuntime) -> Result<(), Fail> {
+    let alloc = rt.alloc();
+    let instance = swapped(alloc)?;
+    let point = greatest_point(alloc, &instance)?;
+    assert!(rt; point.is_point());
+    assert!(rt; !DelayBox::root(alloc, &instance)?.is_point());
+    assert_eq!(rt; bound(&instance, &point), 12);
+    let copy = point.copy()?;
+    assert!(rt; copy.is_point());
+    let delays = copy.greatest(alloc)?;
+    assert_eq!(rt; delays.len(), 8);
+    for packet in 0..8 {
+        assert_eq!(rt; delays.delay(packet), 3, "packet {packet}");
+    }
+    Ok(())
+}
+
+#[test]
+fn spans_of_the_base(rt: HostRuntime) -> Result<(), Fail> {
+    let alloc = rt.alloc();
+    let instance = base(alloc)?;
+    let root = Tracked::root(alloc, &instance)?;
+    assert!(rt; 1 < instance.message_count() && 0 < instance.group_count());
+    let target = Span {
+        arrival: (1, 3),
+        settling: (2, 6),
+    };
+    assert_eq!(rt; root.span(&instance, 1, 0), target);
+    assert!(rt; !root.is_point());
+    assert_eq!(rt; root.copy()?.bound(), 12);
+    Ok(())
+}

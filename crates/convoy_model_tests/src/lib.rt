@@ -1,0 +1,22 @@
+//! Tests of the model and what is computed over it: packets, runs, bounds, leads, what a seeker finds,
+//! timelines and pictures.
+#![tactic(auto)]
+
+#[cfg(test)]
+mod boxes;
+#[cfg(test)]
+mod leads;
+#[cfg(test)]
+mod packets;
+#[cfg(test)]
+mod pictures;
+#[cfg(test)]
+mod runs;
+#[cfg(test)]
+mod scenarios;
+#[cfg(test)]
+mod seeking;
+#[cfg(test)]
+mod stamp_bounds;
+#[cfg(test)]
+mod timelines;

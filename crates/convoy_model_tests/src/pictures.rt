@@ -1,0 +1,79 @@
+//! The picture of a worked row, and what is told of it.
+
+use super::scenarios::base;
+use convoy_packets::{Delays, Instance, Packet};
+use convoy_picture::{Picture, Role, answer_words, entry_words, flight_words};
+use convoy_scenario::Sender;
+use convoy_sim::simulate;
+use std::alloc::{AllocError, Global};
+use std::test::Fail;
+
+/// The picture of a scenario under the greatest delays.
+fn picture_of(alloc: Global, instance: &Instance) -> Result<Picture, AllocError> {
+    let delays = Delays::greatest(alloc, instance.table())?;
+    let run = simulate(alloc, instance, &delays)?;
+    Picture::of(alloc, instance, &delays, &run)
+}
+
+#[test]
+fn flights_of_base(rt: HostRuntime) -> Result<(), Fail> {
+    let picture = picture_of(rt.alloc(), &base(rt.alloc())?)?;
+    let flights = picture.flights();
+    assert_eq!(rt; flights.len(), 8);
+    let message = flights[5];
+    assert_eq!(rt; message.number, 5);
+    assert_eq!(rt; message.packet, Packet::Multicast { message: 2, to: 1 });
+    assert_eq!(rt; message.from, Sender::Group(0));
+    assert_eq!(rt; (message.sent, message.arrival), (6, 9));
+    let proposal = flights[7];
+    assert_eq!(rt;
+        proposal.packet,
+        Packet::Propose {
+            message: 2,
+            from: 1,
+            to: 0
+        }
+    );
+    assert_eq!(rt; proposal.from, Sender::Group(1));
+    assert_eq!(rt; (proposal.sent, proposal.arrival), (9, 12));
+    Ok(())
+}
+
+#[test]
+fn why_of_base(rt: HostRuntime) -> Result<(), Fail> {
+    let instance = base(rt.alloc())?;
+    let picture = picture_of(rt.alloc(), &instance)?;
+    let why = picture.why();
+    assert_eq!(rt; (why.latency, why.committed, why.delivered), (12, 6, 12));
+    assert_eq!(rt; why.holder.map(|holder| holder.message), Some(2));
+    assert_eq!(rt; picture.entries().len(), 15);
+    for (message, role) in [(0, Role::Other), (1, Role::Target), (2, Role::Holder)] {
+        assert_eq!(rt; Role::of(instance.scenario(), &picture, message), role);
+    }
+    Ok(())
+}
+
+#[test]
+fn words_of_base(rt: HostRuntime) -> Result<(), Fail> {
+    let instance = base(rt.alloc())?;
+    let picture = picture_of(rt.alloc(), &instance)?;
+    let answer = answer_words(rt.alloc(), instance.scenario(), picture.why())?;
+    assert_eq!(rt; answer.as_str(), "t at a: at worst 12 ticks");
+    let flights = picture.flights();
+    assert_eq!(rt; flights.len(), 8);
+    let packet = flight_words(rt.alloc(), instance.scenario(), &flights[5])?;
+    assert_eq!(rt;
+        packet.as_str(),
+        "packet 5: y from a to b, sent at tick 6, there at tick 9"
+    );
+    let proposal = flight_words(rt.alloc(), instance.scenario(), &flights[7])?;
+    assert_eq!(rt;
+        proposal.as_str(),
+        "packet 7: proposal of y from b to a, sent at tick 9, there at tick 12"
+    );
+    let entries = picture.entries();
+    assert_eq!(rt; entries.len(), 15);
+    let first = entry_words(rt.alloc(), instance.scenario(), &entries[0])?;
+    assert_eq!(rt; first.as_str(), "x arrives at b at tick 3 with stamp 1.b");
+    Ok(())
+}

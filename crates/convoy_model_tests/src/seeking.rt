@@ -1,0 +1,116 @@
+//! Scenarios of which the greatest latency is known by other programs, or from docs/PROTOCOL.md.
+
+use super::scenarios::{base, base_at, instance_of, of_client, of_group};
+use convoy_packets::{Delays, Instance};
+use convoy_scenario::ScenarioFault;
+use convoy_seek::seek;
+use convoy_sim::Record;
+use std::alloc::Global;
+use std::test::Fail;
+
+/// Two groups and 21 packets; the greatest latency is 11, and no pattern has it.
+fn two_senders(alloc: Global) -> Result<Instance, ScenarioFault> {
+    let messages = [
+        of_client("m", &["a", "b"], 0),
+        of_client("n", &["a", "b"], 0),
+        of_group("t", "b", &["a", "b"], 0),
+        of_group("o", "b", &["a", "b"], 1),
+        of_client("p", &["a", "b"], 3),
+        of_group("q", "a", &["a", "b"], 5),
+    ];
+    instance_of(alloc, 4, &["a", "b"], &messages, ("t", "b"))
+}
+
+/// Two groups and 32 packets; the greatest latency is 28.
+fn nine_messages(alloc: Global) -> Result<Instance, ScenarioFault> {
+    let messages = [
+        of_client("m", &["a", "b"], 0),
+        of_client("n", &["a", "b"], 1),
+        of_client("t", &["a", "b"], 2),
+        of_client("o", &["a", "b"], 4),
+        of_client("p", &["a", "b"], 6),
+        of_client("q", &["b"], 8),
+        of_group("r", "a", &["a", "b"], 11),
+        of_client("s", &["a", "b"], 12),
+        of_client("u", &["a", "b"], 12),
+    ];
+    instance_of(alloc, 9, &["a", "b"], &messages, ("t", "a"))
+}
+
+/// Three groups and 57 packets; the greatest latency is 30, and no pattern has it.
+fn three_groups(alloc: Global) -> Result<Instance, ScenarioFault> {
+    let messages = [
+        of_client("m", &["a", "b", "c"], 0),
+        of_client("n", &["a", "b", "c"], 0),
+        of_client("t", &["a", "b", "c"], 2),
+        of_client("o", &["a", "c"], 5),
+        of_client("p", &["a", "b", "c"], 6),
+        of_client("q", &["a", "c"], 10),
+        of_client("r", &["a", "b"], 13),
+        of_client("s", &["a", "b", "c"], 16),
+    ];
+    instance_of(alloc, 8, &["a", "b", "c"], &messages, ("t", "c"))
+}
+
+/// The record that is found from the one of the least delays.
+fn found(alloc: Global, instance: &Instance, until: u32, budget: u64) -> Result<Record, Fail> {
+    let known = Record::of(instance, Delays::least(alloc, instance.table())?);
+    match seek(alloc, instance, known, until, budget) {
+        Ok(found) => Ok(found),
+        Err((_, error)) => Err(error.into()),
+    }
+}
+
+#[test]
+fn reaches_the_base(rt: HostRuntime) -> Result<(), Fail> {
+    let alloc = rt.alloc();
+    let later = found(alloc, &base(alloc)?, u32::MAX, 200)?;
+    assert_eq!(rt; later.latency(), 12);
+    let earlier = found(alloc, &base_at(alloc, 5)?, u32::MAX, 200)?;
+    assert_eq!(rt; earlier.latency(), 11);
+    Ok(())
+}
+
+#[test]
+fn reaches_two_senders(rt: HostRuntime) -> Result<(), Fail> {
+    let record = found(rt.alloc(), &two_senders(rt.alloc())?, u32::MAX, 4_000)?;
+    assert_eq!(rt; record.latency(), 11);
+    Ok(())
+}
+
+#[test]
+fn reaches_nine_messages(rt: HostRuntime) -> Result<(), Fail> {
+    let record = found(rt.alloc(), &nine_messages(rt.alloc())?, u32::MAX, 4_000)?;
+    assert_eq!(rt; record.latency(), 28);
+    Ok(())
+}
+
+#[test]
+fn reaches_three_groups(rt: HostRuntime) -> Result<(), Fail> {
+    let record = found(rt.alloc(), &three_groups(rt.alloc())?, u32::MAX, 4_000)?;
+    assert_eq!(rt; record.latency(), 30);
+    Ok(())
+}
+
+#[test]
+fn ends_when_it_is_enough(rt: HostRuntime) -> Result<(), Fail> {
+    let alloc = rt.alloc();
+    let instance = nine_messages(alloc)?;
+    let none = found(alloc, &instance, u32::MAX, 0)?;
+    assert_eq!(rt; none.latency(), 2);
+    let enough = found(alloc, &instance, 2, 4_000)?;
+    assert_eq!(rt; enough.latency(), 2);
+    let one = found(alloc, &instance, 3, 4_000)?;
+    assert_eq!(rt; one.latency(), 18);
+    Ok(())
+}
+
+#[test]
+fn finds_the_same_again(rt: HostRuntime) -> Result<(), Fail> {
+    let instance = three_groups(rt.alloc())?;
+    let first = found(rt.alloc(), &instance, u32::MAX, 3_000)?;
+    let second = found(rt.alloc(), &instance, u32::MAX, 3_000)?;
+    assert_eq!(rt; first.latency(), second.latency());
+    assert_eq!(rt; first.delays().as_slice(), second.delays().as_slice());
+    Ok(())
+}

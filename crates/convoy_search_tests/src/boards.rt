@@ -1,0 +1,189 @@
+//! Worked rows on boards, by one thread and by two.
+
+ghost use Rattle.std.specs.Prelude.{◌≡◌, IfOk};
+
+use super::scenarios::lone;
+use convoy_incumbent::{Board, CloseFault, Hand};
+use convoy_packets::{Delays, Instance};
+use convoy_sim::Record;
+use std::alloc::Global;
+use std::process::Abort;
+use std::sync::Wait;
+use std::test::Fail;
+use std::thread::join;
+
+pub(crate) const LATENCY_2: [i64; 4] = [1, 1, 1, 1];
+
+pub(crate) const LATENCY_5: [i64; 4] = [5, 1, 1, 1];
+
+pub(crate) const LATENCY_9: [i64; 4] = [1, 4, 1, 5];
+
+const ALSO_LATENCY_9: [i64; 4] = [1, 5, 1, 4];
+
+/// The record of a schedule.
+pub(crate) fn record_of(alloc: Global, instance: &Instance, list: &[i64]) -> Result<Record, Fail>
+    ensures { IfOk result (λ found. found.scenario ≡ instance.now) }
+{
+    let delays = Delays::from_list(alloc, instance.table(), list)?;
+    Ok(Record::of(instance, delays))
+}
+
+/// A board that is opened with a record, and its hand.
+pub(crate) fn opened<R: Abort + Wait>(rt: &R, alloc: Global, first: Record) -> (Board, Hand)
+    ensures board { result.0.scenario ≡ first.scenario }
+    ensures hand { result.1.board ≡ result.0 }
+{
+    match Board::open(rt, alloc, first) {
+        Ok(opened) => opened,
+        Err(_) => panic!(rt; "no board was opened"),
+    }
+}
+
+/// Half of a hand.
+fn half_of<R: Abort>(rt: &R, board: &Board, hand: &mut Hand) -> Hand
+    requires { hand.old.board ≡ board.now }
+    ensures given { result.board ≡ board.now }
+    ensures kept { hand.new.board ≡ board.now }
+{
+    match board.split(hand) {
+        Ok(second) => second,
+        Err(_) => panic!(rt; "a hand could not be split"),
+    }
+}
+
+/// What a hand is answered that notes and publishes a record.
+fn published<R: Abort + Wait>(rt: &R, board: &Board, hand: &mut Hand, found: Record) -> u32
+    requires hand { hand.old.board ≡ board.now }
+    requires found { found.scenario ≡ board.now.scenario }
+    ensures { hand.new.board ≡ board.now }
+{
+    match board.note(rt, found) {
+        Ok(noted) => board.publish(hand, noted),
+        Err(_) => panic!(rt; "a record was not noted"),
+    }
+}
+
+/// The latency with which a board closes.
+fn closed<R: Abort>(rt: &R, board: Board, hand: Hand) -> u32
+    requires { hand.board ≡ board }
+{
+    match board.close(hand) {
+        Ok(best) => best.latency(),
+        Err(_) => panic!(rt; "not closed with the whole share"),
+    }
+}
+
+#[test]
+fn board_of_three_hands(rt: HostRuntime) -> Result<(), Fail> {
+    let alloc = rt.alloc();
+    let instance = lone(alloc)?;
+    let least = record_of(alloc, &instance, &LATENCY_2)?;
+    let (board, mut first) = opened(&rt, alloc, least);
+    let mut second = half_of(&rt, &board, &mut first);
+    let mut third = half_of(&rt, &board, &mut second);
+    let found = record_of(alloc, &instance, &LATENCY_5)?;
+    assert_eq!(rt; published(&rt, &board, &mut first, found), 5);
+    let found = record_of(alloc, &instance, &LATENCY_9)?;
+    assert_eq!(rt; published(&rt, &board, &mut second, found), 9);
+    let found = record_of(alloc, &instance, &ALSO_LATENCY_9)?;
+    assert_eq!(rt; published(&rt, &board, &mut third, found), 9);
+    board.join(&mut first, third);
+    let Err(CloseFault::HandsOut(board, mut first)) = board.close(first) else {
+        panic!(rt; "closed while a hand was out");
+    };
+    board.join(&mut first, second);
+    assert_eq!(rt; closed(&rt, board, first), 9);
+    Ok(())
+}
+
+#[test]
+fn look_sees_others(rt: HostRuntime) -> Result<(), Fail> {
+    let alloc = rt.alloc();
+    let instance = lone(alloc)?;
+    let least = record_of(alloc, &instance, &LATENCY_2)?;
+    let (board, mut first) = opened(&rt, alloc, least);
+    let mut second = half_of(&rt, &board, &mut first);
+    assert_eq!(rt; board.look(&mut second), 2);
+    let found = record_of(alloc, &instance, &LATENCY_9)?;
+    assert_eq!(rt; published(&rt, &board, &mut first, found), 9);
+    assert_eq!(rt; board.look(&mut second), 9);
+    // A lesser latency leaves the greater one.
+    let found = record_of(alloc, &instance, &LATENCY_5)?;
+    assert_eq!(rt; published(&rt, &board, &mut first, found), 9);
+    assert_eq!(rt; board.look(&mut second), 9);
+    Ok(())
+}
+
+/// Splits a hand so many times, and then once more in vain; joins all again, and answers the share that
+/// was left at last.
+fn share_after_splits<R: Abort>(rt: &R, board: &Board, hand: &mut Hand, times: u32) -> u64
+    requires { hand.old.board ≡ board.now }
+    ensures { hand.new.board ≡ board.now }
+{
+    if times == 0 {
+        assert!(rt; board.split(hand).is_err());
+        return hand.share();
+    }
+    let second = half_of(rt, board, hand);
+    let share = share_after_splits(rt, board, hand, times - 1);
+    board.join(hand, second);
+    share
+}
+
+#[test]
+fn hand_shares(rt: HostRuntime) -> Result<(), Fail> {
+    let alloc = rt.alloc();
+    let instance = lone(alloc)?;
+    let least = record_of(alloc, &instance, &LATENCY_2)?;
+    let (board, mut hand) = opened(&rt, alloc, least);
+    assert_eq!(rt; share_after_splits(&rt, &board, &mut hand, 32), 1);
+    assert_eq!(rt; hand.share(), 4_294_967_296);
+    assert_eq!(rt; closed(&rt, board, hand), 2);
+    Ok(())
+}
+
+/// Notes and publishes a record, and looks so many times.
+fn publish_and_look<R: Abort + Wait>(
+    rt: &R,
+    board: &Board,
+    mut hand: Hand,
+    found: Record,
+    looks: u32,
+) -> Hand
+    requires hand { hand.board ≡ board.now }
+    requires found { found.scenario ≡ board.now.scenario }
+    ensures { result.board ≡ board.now }
+{
+    published(rt, board, &mut hand, found);
+    for _ in 0..looks {
+        board.look(&mut hand);
+    }
+    hand
+}
+
+#[test]
+fn two_threads_publish(rt: HostRuntime) -> Result<(), Fail> {
+    let alloc = rt.alloc();
+    let instance = lone(alloc)?;
+    let least = record_of(alloc, &instance, &LATENCY_2)?;
+    let (board, mut first) = opened(&rt, alloc, least);
+    let second = half_of(&rt, &board, &mut first);
+    let lesser = record_of(alloc, &instance, &LATENCY_5)?;
+    let greater = record_of(alloc, &instance, &LATENCY_9)?;
+    let shared = &board;
+    let rt_shared = &rt;
+    let (mut first, second) = join(
+        &rt,
+        move || -> Hand
+            requires { (first.board ≡ shared.now) × (lesser.scenario ≡ shared.now.scenario) }
+            ensures { result.board ≡ shared.entry.now }
+        { publish_and_look(rt_shared, shared, first, lesser, 300) },
+        move || -> Hand
+            requires { (second.board ≡ shared.now) × (greater.scenario ≡ shared.now.scenario) }
+            ensures { result.board ≡ shared.entry.now }
+        { publish_and_look(rt_shared, shared, second, greater, 300) },
+    );
+    board.join(&mut first, second);
+    assert_eq!(rt; closed(&rt, board, first), 9);
+    Ok(())
+}

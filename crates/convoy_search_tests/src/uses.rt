@@ -1,0 +1,189 @@
+//! Callers of the library.
+
+use super::scenarios::{base, swapped};
+use convoy_certificate::TextFault;
+use convoy_checker::Refused;
+use convoy_packets::{Instance, ListFault};
+use convoy_scenario::{Limit, ScenarioFault};
+use convoy_scenario_lines::Expected;
+use convoy_uses::{
+    Answer, Fault, Judgement, check_certificate, exchange, greatest_latency, greatest_latency_by,
+    judge_timeout, latency_under,
+};
+use std::alloc::Global;
+use std::test::Fail;
+
+/// The base scenario of docs/PROTOCOL.md.
+const BASE: &str = r#"
+delay = 3
+groups = ["a", "b"]
+multicast = [
+  { name = "x", to = ["b"], at = 0 },
+  { name = "t", to = ["a", "b"], at = 0 },
+  { name = "y", from = "a", to = ["a", "b"], at = 6 },
+]
+target = { message = "t", group = "a" }
+"#;
+
+#[test]
+fn latencies_under_schedules(rt: HostRuntime) {
+    let alloc = rt.alloc();
+    for (delays, want) in [
+        ([1; 8].as_slice(), Ok(2)),
+        ([3; 8].as_slice(), Ok(12)),
+        ([3; 7].as_slice(), Err(Fault::Schedule(ListFault::Length))),
+        (
+            [3, 3, 3, 3, 4, 3, 3, 3].as_slice(),
+            Err(Fault::Schedule(ListFault::Range(4))),
+        ),
+    ] {
+        assert_eq!(rt; latency_under(alloc, BASE.as_bytes(), delays), want);
+    }
+    let too_long =
+        b"delay = 17\ngroups = [\"a\"]\nmulticast = []\ntarget = { message = \"t\", group = \"a\" }\n";
+    assert_eq!(rt;
+        latency_under(alloc, too_long, &[]),
+        Err(Fault::Scenario(ScenarioFault::OverLimit(Limit::Delay)))
+    );
+}
+
+/// The certificate of the base scenario with that latency and those nodes.
+fn certificate(alloc: Global, latency: u32, nodes: &str) -> Result<String, Fail> {
+    Ok(format!(in alloc;
+        "convoy 1
+delay 3
+groups a b
+multicast x client 0 b
+multicast t client 0 a b
+multicast y a 6 a b
+target t a
+latency {latency}
+schedule 3 3 3 3 3 3 3 3
+{nodes}end
+"
+    )?)
+}
+
+#[test]
+fn certificates_vouch(rt: HostRuntime) -> Result<(), Fail> {
+    let alloc = rt.alloc();
+    for (latency, nodes, want) in [
+        (12, "b\n", Ok((12, 3))),
+        (11, "b\n", Err(Fault::Invalid(Refused::Latency(12)))),
+        (12, "b\nb\n", Err(Fault::Invalid(Refused::TreeCount))),
+        (
+            12,
+            "c\n",
+            Err(Fault::Text(TextFault::Line(10, Expected::Node))),
+        ),
+    ] {
+        let text = certificate(alloc, latency, nodes)?;
+        let found = check_certificate(alloc, text.as_bytes()).map(|v| (
+            v.latency,
+            v.scenario.delay(),
+        ));
+        assert_eq!(rt; found, want, "latency {latency} {nodes}");
+    }
+    Ok(())
+}
+
+#[test]
+fn greatest_latencies(rt: HostRuntime) -> Result<(), Fail> {
+    let alloc = rt.alloc();
+    let (first, second) = (base(alloc)?, swapped(alloc)?);
+    for (instance, limit, want) in [
+        (&first, 1, Answer::Exactly(12)),
+        (&second, 10, Answer::Between { least: 6, most: 12 }),
+        (&second, 1_469, Answer::Exactly(6)),
+    ] {
+        let found = greatest_latency(alloc, instance, limit)?;
+        assert_eq!(rt; found, want, "limit {limit}");
+    }
+    Ok(())
+}
+
+#[test]
+fn greatest_latencies_by_workers(rt: HostRuntime) -> Result<(), Fail> {
+    let alloc = rt.alloc();
+    let (first, second) = (base(alloc)?, swapped(alloc)?);
+    for (instance, limit, want) in [
+        (&first, 1, Answer::Exactly(12)),
+        (&second, 10, Answer::Between { least: 6, most: 12 }),
+        (&second, 100_000, Answer::Exactly(6)),
+    ] {
+        for workers in [1, 4, 16] {
+            let found = greatest_latency_by(&rt, alloc, instance, workers, limit);
+            assert_eq!(rt; found, Ok(want), "{workers} workers, limit {limit}");
+        }
+    }
+    Ok(())
+}
+
+#[test]
+fn timeouts_are_judged(rt: HostRuntime) -> Result<(), Fail> {
+    let alloc = rt.alloc();
+    let (first, second) = (base(alloc)?, swapped(alloc)?);
+    for (instance, timeout, limit, want) in [
+        (&first, 12, 1, Judgement::Enough),
+        (&first, 11, 1, Judgement::TooShort(12)),
+        (&second, 12, 10, Judgement::Enough),
+        (&second, 5, 10, Judgement::TooShort(6)),
+        (&second, 6, 10, Judgement::Unknown { least: 6, most: 12 }),
+        (&second, 6, 1_469, Judgement::Enough),
+    ] {
+        let found = judge_timeout(alloc, instance, timeout, limit)?;
+        assert_eq!(rt; found, want, "timeout {timeout} limit {limit}");
+    }
+    Ok(())
+}
+
+/// A message alone takes twice the greatest delay: on its way, and with its stamps on theirs.
+#[test]
+fn exchanges_take_two_delays(rt: HostRuntime) -> Result<(), Fail> {
+    let alloc = rt.alloc();
+    for delay in [1, 3, 16] {
+        let scenario = exchange(alloc, delay).ok().ok_or("no scenario")?;
+        let instance = Instance::of(alloc, scenario)?;
+        assert_eq!(rt;
+            greatest_latency(alloc, &instance, 1)?,
+            Answer::Exactly(2 * delay)
+        );
+    }
+    for delay in [0, 17] {
+        let fault = exchange(alloc, delay).err();
+        assert_eq!(rt;
+            fault,
+            Some(Fault::Scenario(ScenarioFault::OverLimit(Limit::Delay)))
+        );
+    }
+    Ok(())
+}
+
+#[test]
+fn faults_tell_themselves(rt: HostRuntime) -> Result<(), Fail> {
+    let alloc = rt.alloc();
+    for (fault, want) in [
+        (
+            Fault::Scenario(ScenarioFault::LinkToItself),
+            "the scenario is faulty: a link leads from a group to itself",
+        ),
+        (
+            Fault::Schedule(ListFault::Range(4)),
+            "the delays are no schedule of the scenario: the schedule gives packet 4 a delay that it may not take",
+        ),
+        (
+            Fault::Text(TextFault::AfterEnd),
+            "the text is no certificate: the text goes on after the line `end`",
+        ),
+        (
+            Fault::Invalid(Refused::TreeCount),
+            "the certificate is not valid: the nodes are not one whole tree",
+        ),
+        (Fault::BoardFull, "the board takes no further record"),
+        (Fault::Memory, "out of memory"),
+    ] {
+        let line = format!(in alloc; "{fault}")?;
+        assert_eq!(rt; line.as_str(), want);
+    }
+    Ok(())
+}

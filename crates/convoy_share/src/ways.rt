@@ -1,0 +1,52 @@
+//! The search both ways by several workers.
+
+ghost use Rattle.std.specs.Prelude.{◌≡◌, ◌≤◌, IfOk};
+ghost use Rattle.convoy_packets.specs.Assignment.{ranges_of};
+ghost use Rattle.convoy_packets.specs.Table.{least_of};
+ghost use Rattle.convoy_sim.specs.Delivery.{latency_of};
+ghost use Rattle.convoy_branch.specs.BothWays.{IsOutcomeBothWays};
+ghost use Rattle.convoy_branch.specs.Outcomes.{best_of};
+ghost use Rattle.convoy_ledger.specs.Tickets.{most_tickets};
+
+use super::fault::SearchFault;
+use super::searching::search_from;
+use convoy_branch::{Bounds, Gate, Outcome, lead_share, plain_share};
+use convoy_packets::Instance;
+use convoy_sim::Record;
+use std::alloc::Global;
+use std::sync::Wait;
+use std::thread::Threads;
+
+/// Searches both ways with so many workers, from an opening record of the scenario: as
+/// [`convoy_branch::search_both_ways`] does, where each of the two searches is one as [`search_from`]
+/// makes. The gate is told of the second search before its threads start.
+///
+/// The errors are those of [`search_from`], in either search.
+pub fn search_both_ways<R: Threads + Wait + Sync, G: Gate + Sync>(
+    rt: &R,
+    alloc: Global,
+    instance: &Instance,
+    opening: Record,
+    workers: u32,
+    limit: u64,
+    gate: &G,
+) -> Result<Outcome, SearchFault>
+    requires of_scenario { opening.scenario ≡ instance.now }
+    requires least { latency_of instance.now (least_of (ranges_of instance.now)) ≤ opening.latency }
+    requires workers { (1 ≤ workers) × (workers ≤ 16) }
+    requires tickets { (1 ≤ limit) × (limit ≤ most_tickets) }
+    ensures value { IfOk result (λ outcome. IsOutcomeBothWays instance.now workers limit outcome) }
+    ensures opened { IfOk result (λ outcome. opening.latency ≤ best_of outcome) }
+{
+    let (by_plain, by_leads) = (plain_share(limit), lead_share(limit));
+    let (plain, lead) = (Bounds::Plain, Bounds::Lead);
+    let first = search_from(rt, alloc, instance, opening, workers, by_plain, plain, gate)?;
+    match first {
+        Outcome::Open { best, upper, .. } if by_leads > 0 => {
+            gate.begins_anew(lead, by_leads, best.latency(), upper);
+            let second = search_from(rt, alloc, instance, best, workers, by_leads, lead, gate)?;
+            Ok(second.with_upper(upper))
+        }
+        ended => Ok(ended),
+    }
+}

@@ -1,0 +1,366 @@
+//! Certificate texts.
+
+use super::scenarios::{base, instance_of, of_group};
+use convoy_certificate::{Certificate, MOST_NODES, Node, TextFault, read, write};
+use convoy_packets::{Delays, Instance};
+use convoy_scenario::ScenarioFault;
+use convoy_scenario_lines::Expected;
+use std::alloc::{AllocError, Global};
+use std::test::Fail;
+
+const BASE: &[u8] = b"convoy 1
+delay 3
+groups a b
+multicast x client 0 b
+multicast t client 0 a b
+multicast y a 6 a b
+target t a
+latency 12
+schedule 3 3 3 3 3 3 3 3
+b
+end
+";
+
+const LONE: &[u8] = b"convoy 1
+delay 5
+groups a
+multicast m a 0 a
+target m a
+latency 0
+schedule
+b
+end
+";
+
+/// A text with the first such part replaced.
+fn with(alloc: Global, text: &[u8], old: &[u8], new: &[u8]) -> Result<Vec<u8>, Fail> {
+    let mut changed = Vec::new(alloc);
+    for (i, byte) in text.iter().enumerate() {
+        if let Some(after) = text[i..].strip_prefix(old) {
+            changed.extend_from_slice(new)?;
+            changed.extend_from_slice(after)?;
+            return Ok(changed);
+        }
+        changed.push(*byte)?;
+    }
+    Ok(changed)
+}
+
+/// Whether what is read of a text is written as it stands.
+fn is_kept(alloc: Global, text: &[u8]) -> Result<bool, Fail> {
+    let certificate = read(alloc, text)?;
+    let mut written = Vec::new(alloc);
+    write(alloc, &certificate, &mut written)?;
+    Ok(written.as_slice() == text)
+}
+
+fn is_refused(alloc: Global, text: &[u8], fault: TextFault) -> bool {
+    match read(alloc, text) {
+        Ok(_) => false,
+        Err(told) => told == fault,
+    }
+}
+
+#[test]
+fn certificate_of_base(rt: HostRuntime) -> Result<(), Fail> {
+    assert_eq!(rt; BASE.len(), 149);
+    assert!(rt; is_kept(rt.alloc(), BASE)?);
+    let certificate = read(rt.alloc(), BASE)?;
+    assert_eq!(rt; certificate.latency(), 12);
+    assert_eq!(rt;
+        certificate.delays().as_slice(),
+        [3, 3, 3, 3, 3, 3, 3, 3].as_slice()
+    );
+    assert_eq!(rt; certificate.nodes(), [Node::Bound].as_slice());
+    assert_eq!(rt; certificate.scenario().delay(), 3);
+    Ok(())
+}
+
+#[test]
+fn certificate_of_lone_message(rt: HostRuntime) -> Result<(), Fail> {
+    assert_eq!(rt; LONE.len(), 80);
+    assert!(rt; is_kept(rt.alloc(), LONE)?);
+    Ok(())
+}
+
+#[test]
+fn tree_of_splits(rt: HostRuntime) -> Result<(), Fail> {
+    let text = with(rt.alloc(), BASE, b"b\nend", b"s 1023 16\np\nb\nend")?;
+    assert!(rt; is_kept(rt.alloc(), &text)?);
+    let none = with(rt.alloc(), BASE, b"b\nend", b"end")?;
+    assert!(rt; is_kept(rt.alloc(), &none)?);
+    Ok(())
+}
+
+#[test]
+fn stamp_leaf(rt: HostRuntime) -> Result<(), Fail> {
+    let alloc = rt.alloc();
+    let leaf = with(alloc, BASE, b"b\nend", b"t\nend")?;
+    let text = with(alloc, &leaf, b"convoy 1", b"convoy 2")?;
+    assert!(rt; is_kept(alloc, &text)?);
+    assert!(rt; is_refused(alloc, &leaf, TextFault::Line(10, Expected::Node)));
+    let none = with(alloc, &text, b"t\nend\n", b"p\nend\n\n")?;
+    assert!(rt; is_refused(alloc, &none, TextFault::Line(1, Expected::Convoy)));
+    Ok(())
+}
+
+#[test]
+fn lead_leaves(rt: HostRuntime) -> Result<(), Fail> {
+    let alloc = rt.alloc();
+    let third = with(alloc, BASE, b"convoy 1", b"convoy 3")?;
+    for nodes in [
+        b"c 12\nend".as_slice(),
+        b"c 0\nend",
+        b"c 4294967295\nend",
+        b"s 4 2\nt\nc 7\nend",
+    ] {
+        let text = with(alloc, &third, b"b\nend", nodes)?;
+        assert!(rt; is_kept(alloc, &text)?);
+    }
+    let text = with(
+        alloc,
+        &third,
+        b"groups a b\n",
+        b"groups a b\nlink b a 2 3\n",
+    )?;
+    let linked = with(alloc, &text, b"b\nend", b"c 12\nend")?;
+    assert!(rt; is_kept(alloc, &linked)?);
+    let certificate = read(alloc, &linked)?;
+    assert_eq!(rt;
+        certificate.nodes(),
+        [Node::Lead { latency: 12 }].as_slice()
+    );
+    Ok(())
+}
+
+#[test]
+fn faults_of_lead_leaves(rt: HostRuntime) -> Result<(), Fail> {
+    let alloc = rt.alloc();
+    let third = with(alloc, BASE, b"convoy 1", b"convoy 3")?;
+    assert!(rt; is_refused(alloc, &third, TextFault::Line(1, Expected::Convoy)));
+    let more = with(alloc, &third, b"b\nend\n", b"t\nend\n\n")?;
+    assert!(rt; is_refused(alloc, &more, TextFault::Line(1, Expected::Convoy)));
+    for nodes in [
+        b"c\nend".as_slice(),
+        b"c \nend",
+        b"c 012\nend",
+        b"c -1\nend",
+        b"c 4294967296\nend",
+        b"c 12 12\nend",
+        b"c 12 \nend",
+    ] {
+        let text = with(alloc, &third, b"b\nend", nodes)?;
+        assert!(rt; is_refused(alloc, &text, TextFault::Line(10, Expected::Node)));
+    }
+    for version in [b"convoy 1".as_slice(), b"convoy 2"] {
+        let older = with(alloc, BASE, b"convoy 1", version)?;
+        let text = with(alloc, &older, b"b\nend", b"s 4 2\nb\nc 12\nend")?;
+        assert!(rt; is_refused(alloc, &text, TextFault::Line(12, Expected::Node)));
+    }
+    let fourth = with(alloc, BASE, b"convoy 1", b"convoy 4")?;
+    assert!(rt; is_refused(alloc, &fourth, TextFault::Line(1, Expected::Convoy)));
+    Ok(())
+}
+
+/// What follows one lead leaf too many is not looked at.
+#[test]
+fn one_lead_leaf_too_many(rt: HostRuntime) -> Result<(), Fail> {
+    let alloc = rt.alloc();
+    let third = with(alloc, BASE, b"convoy 1", b"convoy 3")?;
+    let mut text = with(alloc, &third, b"end\n", b"")?;
+    for _ in 0..100_000 {
+        text.extend_from_slice(b"c 9\n")?;
+    }
+    let mut last = text.clone()?;
+    last.extend_from_slice(b"end\n")?;
+    assert!(rt; is_kept(alloc, &last)?);
+    text.extend_from_slice(b"t\nc 9\nno node\n")?;
+    assert!(rt; is_refused(alloc, &text, TextFault::TreeCount));
+    Ok(())
+}
+
+#[test]
+fn faults_of_form(rt: HostRuntime) -> Result<(), Fail> {
+    let without_end = with(rt.alloc(), BASE, b"end\n", b"")?;
+    assert!(rt;
+        is_refused(
+            rt.alloc(),
+            &without_end,
+            TextFault::Line(11, Expected::Node)
+        )
+    );
+    let second_space = with(rt.alloc(), BASE, b"x client", b"x  client")?;
+    assert!(rt;
+        is_refused(
+            rt.alloc(),
+            &second_space,
+            TextFault::Line(4, Expected::Multicast)
+        )
+    );
+    let leading_zero = with(rt.alloc(), BASE, b"latency 12", b"latency 012")?;
+    assert!(rt;
+        is_refused(
+            rt.alloc(),
+            &leading_zero,
+            TextFault::Line(8, Expected::Latency)
+        )
+    );
+    let carriage_return = with(rt.alloc(), BASE, b"delay 3", b"delay 3\r")?;
+    assert!(rt;
+        is_refused(
+            rt.alloc(),
+            &carriage_return,
+            TextFault::Line(2, Expected::Delay)
+        )
+    );
+    let no_last_line_end = with(rt.alloc(), BASE, b"\nend\n", b"\nend")?;
+    assert!(rt;
+        is_refused(
+            rt.alloc(),
+            &no_last_line_end,
+            TextFault::Line(11, Expected::Node)
+        )
+    );
+    Ok(())
+}
+
+#[test]
+fn faults_of_content(rt: HostRuntime) -> Result<(), Fail> {
+    let bare_multicast = with(rt.alloc(), BASE, b"target t a", b"multicast")?;
+    assert!(rt;
+        is_refused(
+            rt.alloc(),
+            &bare_multicast,
+            TextFault::Line(7, Expected::Multicast)
+        )
+    );
+    let no_destination = with(rt.alloc(), BASE, b"x client 0 b", b"x client 0")?;
+    assert!(rt;
+        is_refused(
+            rt.alloc(),
+            &no_destination,
+            TextFault::Scenario(ScenarioFault::NoDestination)
+        )
+    );
+    let unordered = with(rt.alloc(), BASE, b"t client 0 a b", b"t client 0 b a")?;
+    assert!(rt;
+        is_refused(
+            rt.alloc(),
+            &unordered,
+            TextFault::Line(5, Expected::Multicast)
+        )
+    );
+    let seven_delays = with(rt.alloc(), BASE, b"3 3 3 3\n", b"3 3 3\n")?;
+    assert!(rt; is_refused(rt.alloc(), &seven_delays, TextFault::Schedule));
+    let delay_of_four = with(rt.alloc(), BASE, b"3 3\n", b"3 4\n")?;
+    assert!(rt; is_refused(rt.alloc(), &delay_of_four, TextFault::Schedule));
+    Ok(())
+}
+
+#[test]
+fn faults_of_nodes_and_words(rt: HostRuntime) -> Result<(), Fail> {
+    let after_end = with(rt.alloc(), BASE, b"end\n", b"end\n\n")?;
+    assert!(rt; is_refused(rt.alloc(), &after_end, TextFault::AfterEnd));
+    let place_of_zero = with(rt.alloc(), BASE, b"b\nend", b"s 0 0\nend")?;
+    assert!(rt;
+        is_refused(
+            rt.alloc(),
+            &place_of_zero,
+            TextFault::Line(10, Expected::Node)
+        )
+    );
+    let packet_too_large = with(rt.alloc(), BASE, b"b\nend", b"s 1024 1\nend")?;
+    assert!(rt;
+        is_refused(
+            rt.alloc(),
+            &packet_too_large,
+            TextFault::Line(10, Expected::Node)
+        )
+    );
+    let not_utf8 = with(rt.alloc(), BASE, b"target t", b"target \xff")?;
+    assert!(rt;
+        is_refused(
+            rt.alloc(),
+            &not_utf8,
+            TextFault::Scenario(ScenarioFault::UnknownTarget)
+        )
+    );
+    let no_text = with(rt.alloc(), BASE, b"convoy 1\n", b"convoy 2\n")?;
+    assert!(rt; is_refused(rt.alloc(), &no_text, TextFault::Line(1, Expected::Convoy)));
+    Ok(())
+}
+
+#[test]
+fn one_node_too_many(rt: HostRuntime) -> Result<(), Fail> {
+    let mut text = with(rt.alloc(), BASE, b"b\nend\n", b"")?;
+    for _ in 0..MOST_NODES {
+        text.extend_from_slice(b"b\n")?;
+    }
+    assert!(rt;
+        is_refused(
+            rt.alloc(),
+            &text,
+            TextFault::Line(4_000_010, Expected::Node)
+        )
+    );
+    text.extend_from_slice(b"b\n")?;
+    assert!(rt; is_refused(rt.alloc(), &text, TextFault::TreeCount));
+    Ok(())
+}
+
+/// The certificate of a scenario with each packet at its greatest delay, and one leaf.
+fn one_leaf(alloc: Global, instance: Instance, latency: u32) -> Result<Certificate, AllocError> {
+    let delays = Delays::greatest(alloc, instance.table())?;
+    let mut nodes = Vec::new(alloc);
+    nodes.push(Node::Bound)?;
+    Ok(Certificate::new(instance, latency, delays, nodes))
+}
+
+/// The scenario of the second certificate above.
+fn lone(alloc: Global) -> Result<Instance, Fail> {
+    let messages = [of_group("m", "a", &["a"], 0)];
+    instance_of(alloc, 5, &["a"], &messages, ("m", "a"))
+}
+
+#[test]
+fn text_of_lead_leaf(rt: HostRuntime) -> Result<(), Fail> {
+    let alloc = rt.alloc();
+    let certificate = one_leaf(alloc, base(alloc)?, 12)?;
+    let (instance, latency, delays, _) = certificate.into_parts();
+    let mut nodes = Vec::new(alloc);
+    nodes.push(Node::Lead { latency: 11 })?;
+    let led = Certificate::new(instance, latency, delays, nodes);
+    let mut written = Vec::new(alloc);
+    write(alloc, &led, &mut written)?;
+    let third = with(alloc, BASE, b"convoy 1", b"convoy 3")?;
+    assert_eq!(rt; written, with(alloc, &third, b"b\nend", b"c 11\nend")?);
+    Ok(())
+}
+
+#[test]
+fn texts_of_values(rt: HostRuntime) -> Result<(), Fail> {
+    let alloc = rt.alloc();
+    for (instance, latency, text) in [(base(alloc)?, 12, BASE), (lone(alloc)?, 0, LONE)] {
+        let certificate = one_leaf(alloc, instance, latency)?;
+        let mut written = Vec::new(alloc);
+        write(alloc, &certificate, &mut written)?;
+        assert_eq!(rt; written.as_slice(), text);
+    }
+    Ok(())
+}
+
+#[test]
+fn faults_tell_themselves(rt: HostRuntime) -> Result<(), Fail> {
+    let alloc = rt.alloc();
+    let line = format!(in alloc; "{}", TextFault::Line(9, Expected::Schedule))?;
+    assert_eq!(rt;
+        line.as_str(),
+        "line 9 is not a line `schedule`, or is not ended"
+    );
+    let scenario = format!(in alloc; "{}", TextFault::Scenario(ScenarioFault::LinkToItself))?;
+    assert_eq!(rt;
+        scenario.as_str(),
+        "the lines are no scenario: a link leads from a group to itself"
+    );
+    Ok(())
+}

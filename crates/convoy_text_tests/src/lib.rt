@@ -1,0 +1,16 @@
+//! Tests of the texts that are read and written: scenarios, certificates, images
+//! and hints.
+#![tactic(auto)]
+
+#[cfg(test)]
+mod certificates;
+#[cfg(test)]
+mod drawings;
+#[cfg(test)]
+mod hints;
+#[cfg(test)]
+mod scenario_lines;
+#[cfg(test)]
+mod scenario_texts;
+#[cfg(test)]
+mod scenarios;
