@@ -1,0 +1,263 @@
+"""Scenarios and certificates of which the tests speak."""
+
+# x goes to b, t to both groups, and a sends y to both while t is on its way.
+BASE = """\
+delay = 3
+groups = ["a", "b"]
+
+[[multicast]]
+name = "x"
+to = ["b"]
+at = 0
+
+[[multicast]]
+name = "t"
+to = ["a", "b"]
+at = 0
+
+[[multicast]]
+name = "y"
+from = "a"
+to = ["a", "b"]
+at = 6
+
+[target]
+message = "t"
+group = "a"
+"""
+
+# The same with its groups in the other order, and with y one tick later and one earlier.
+SWAPPED = BASE.replace('groups = ["a", "b"]', 'groups = ["b", "a"]')
+LATER = BASE.replace("at = 6", "at = 7")
+EARLIER = BASE.replace("at = 6", "at = 5")
+
+# The base with each packet at its greatest delay.
+SLOWEST = "schedule = [3, 3, 3, 3, 3, 3, 3, 3]\n" + BASE
+
+# A link, to stand below the base.
+LINK = """
+[[link]]
+from = "b"
+to = "a"
+least = 1
+most = 2
+"""
+
+# A message from a client arrives at b alone while t is on its way.
+RIVALS = """\
+delay = 3
+groups = ["a", "b"]
+
+[[multicast]]
+name = "t"
+to = ["a", "b"]
+at = 0
+
+[[multicast]]
+name = "x"
+to = ["b"]
+at = 1
+
+[[multicast]]
+name = "y"
+from = "a"
+to = ["a", "b"]
+at = 5
+
+[target]
+message = "t"
+group = "a"
+"""
+
+# The base with a greatest delay of one tick, and y at tick 2: it has one schedule.
+ONE_TICK = BASE.replace("delay = 3", "delay = 1").replace("at = 6", "at = 2")
+
+# A message that its one destination sends itself; from a client; and from a client to two groups.
+LONE = """\
+delay = 5
+groups = ["a"]
+
+[[multicast]]
+name = "m"
+from = "a"
+to = ["a"]
+at = 0
+
+[target]
+message = "m"
+group = "a"
+"""
+LONE_OF_CLIENT = LONE.replace('from = "a"\n', "")
+LONE_TO_TWO = LONE_OF_CLIENT.replace('["a"]', '["a", "b"]')
+
+# The stamp of t is raised twice: u and v may raise the clock of a before t arrives there.
+RAISED_TWICE = """\
+delay = 3
+groups = ["c", "a", "b"]
+multicast = [
+    { name = "u", to = ["a", "b"], at = 0 },
+    { name = "v", to = ["a", "b"], at = 0 },
+    { name = "t", to = ["c", "a"], at = 5 },
+    { name = "w1", from = "c", to = ["c"], at = 9 },
+    { name = "w2", from = "c", to = ["c"], at = 9 },
+    { name = "n", from = "c", to = ["c", "b"], at = 10 },
+]
+target = { message = "t", group = "c" }
+"""
+
+# u and v may raise the clocks of a and b by turns.
+RAISED_BY_TURNS = """\
+delay = 3
+groups = ["a", "b"]
+multicast = [
+    { name = "t", from = "b", to = ["a", "b"], at = 1 },
+    { name = "u", from = "b", to = ["a", "b"], at = 1 },
+    { name = "v", from = "a", to = ["a", "b"], at = 0 },
+    { name = "w", from = "b", to = ["a", "b"], at = 4 },
+]
+target = { message = "t", group = "b" }
+"""
+
+# The base's certificate, of 149 bytes.
+CERTIFICATE = """\
+convoy 1
+delay 3
+groups a b
+multicast x client 0 b
+multicast t client 0 a b
+multicast y a 6 a b
+target t a
+latency 12
+schedule 3 3 3 3 3 3 3 3
+b
+end
+"""
+
+# Where b answers a in one tick.
+LINKED_CERTIFICATE = """\
+convoy 2
+delay 3
+groups a b
+link b a 1 1
+multicast x client 0 b
+multicast t client 0 a b
+multicast y a 6 a b
+target t a
+latency 4
+schedule 3 3 3 3 1 3 3 1
+b
+end
+"""
+
+# With the groups in the other order, by a stamp leaf.
+STAMP_CERTIFICATE = """\
+convoy 2
+delay 3
+groups b a
+multicast x client 0 b
+multicast t client 0 b a
+multicast y a 6 b a
+target t a
+latency 6
+schedule 3 3 3 3 3 3 3 3
+t
+end
+"""
+
+# The base's, by a lead leaf.
+LEAD_CERTIFICATE = """\
+convoy 3
+delay 3
+groups a b
+multicast x client 0 b
+multicast t client 0 a b
+multicast y a 6 a b
+target t a
+latency 12
+schedule 3 3 3 3 3 3 3 3
+c 12
+end
+"""
+
+# A point leaf: there is one schedule.
+ONE_TICK_CERTIFICATE = """\
+convoy 1
+delay 1
+groups a b
+multicast x client 0 b
+multicast t client 0 a b
+multicast y a 2 a b
+target t a
+latency 4
+schedule 1 1 1 1 1 1 1 1
+p
+end
+"""
+
+# No packets, so no delays.
+LONE_CERTIFICATE = """\
+convoy 1
+delay 5
+groups a
+multicast m a 0 a
+target m a
+latency 0
+schedule
+b
+end
+"""
+
+# One packet.
+ONE_PACKET_CERTIFICATE = """\
+convoy 1
+delay 2
+groups a
+multicast x client 0 a
+target x a
+latency 1
+schedule 1
+s 0 1
+p
+p
+end
+"""
+
+# Not valid: 6 is the greatest latency with the groups in the other order, and the plain bound is 12.
+SWAPPED_CERTIFICATE = STAMP_CERTIFICATE.replace("convoy 2", "convoy 1").replace("\nt\n", "\nb\n")
+
+# Not valid: the schedule has that latency, and the stamp bound is 12.
+LOW_STAMP_CERTIFICATE = (
+    CERTIFICATE.replace("convoy 1", "convoy 2").replace("latency 12", "latency 5").replace("3 3 3 3 3 3 3 3", "3 3 2 3 3 3 3 3").replace("\nb\n", "\nt\n")
+)
+
+# The scenarios in which clocks are raised, by a stamp leaf each.
+RAISED_TWICE_CERTIFICATE = """\
+convoy 2
+delay 3
+groups c a b
+multicast u client 0 a b
+multicast v client 0 a b
+multicast t client 5 c a
+multicast w1 c 9 c
+multicast w2 c 9 c
+multicast n c 10 c b
+target t c
+latency 11
+schedule 1 3 1 1 1 1 1 1 3 3 3 3 3 3 3
+t
+end
+"""
+RAISED_BY_TURNS_CERTIFICATE = """\
+convoy 2
+delay 3
+groups a b
+multicast t b 1 a b
+multicast u b 1 a b
+multicast v a 0 a b
+multicast w b 4 a b
+target t b
+latency 9
+schedule 3 3 3 2 3 3 1 3 1 3 3 3
+t
+end
+"""
