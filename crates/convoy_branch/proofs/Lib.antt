@@ -8,9 +8,3 @@ pub mod SearchSteps
 pub mod SearchOutcomes
 pub mod LeftBounds
 pub mod FrontUppers
-pub mod BranchLists
-pub mod LawfulEvents
-pub mod CoreSteps
-pub mod Endings
-pub mod EventLists
-mod MachineRows

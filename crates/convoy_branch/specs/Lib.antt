@@ -25,6 +25,3 @@ pub mod Laws
 -- Where the program stands between two steps: no promise above this crate rests on it.
 pub mod Looks
 pub mod Searching
--- The search of many workers as a machine, and what holds in each state that it comes to.
-pub mod Machine
-pub mod Replays

@@ -48,8 +48,8 @@ pub use Rattle.convoy_branch.specs.Outcomes
 pub use Rattle.convoy_branch.specs.BothWays
 pub use Rattle.convoy_share.specs.declared.fault.SearchFault
 -- the search of many workers as a machine
-pub use Rattle.convoy_branch.specs.Machine
-pub use Rattle.convoy_branch.specs.Replays
+pub use Rattle.convoy_machine.specs.Machine
+pub use Rattle.convoy_machine.specs.Replays
 -- what threads share: ledgers of tickets, and boards of records
 pub use Rattle.convoy_ledger.specs.Tickets
 pub use Rattle.convoy_incumbent.specs.Boards

@@ -9,6 +9,7 @@ pub use convoy_incumbent as incumbent;
 pub use convoy_intervals as intervals;
 pub use convoy_leads as leads;
 pub use convoy_ledger as ledger;
+pub use convoy_machine as machine;
 pub use convoy_packets as packets;
 pub use convoy_scenario as scenario;
 pub use convoy_scenario_lines as scenario_lines;

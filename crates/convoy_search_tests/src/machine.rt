@@ -2,11 +2,11 @@
 
 ghost use Rattle.std.specs.Prelude.{◌≡◌, IfOk};
 ghost use Rattle.std.specs.List.{All};
-ghost use Rattle.convoy_branch.specs.Replays.{IsEventOf};
+ghost use Rattle.convoy_machine.specs.Replays.{IsEventOf};
 
 use self::Move::{Close, Draw, Look, Publish, Put, Split, Take};
 use super::scenarios::base;
-use convoy_branch::{Event, ReplayFault, replay};
+use convoy_machine::{Event, ReplayFault, replay};
 use convoy_packets::{Delays, Instance};
 use convoy_sim::Record;
 use std::alloc::{AllocError, Global};

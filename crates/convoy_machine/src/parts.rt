@@ -1,7 +1,7 @@
 //! The workers and the branches of a search of many workers.
 
 ghost use Rattle.std.specs.Prelude.{◌≡◌, ◌<◌};
-ghost use Rattle.convoy_branch.specs.Machine.{has_ticket, is_free, is_left, is_with, worker_after};
+ghost use Rattle.convoy_machine.specs.Machine.{has_ticket, is_free, is_left, is_with, worker_after};
 
 use super::event::Event;
 use convoy_intervals::DelayBox;

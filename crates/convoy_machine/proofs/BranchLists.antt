@@ -5,11 +5,11 @@ use Rattle.std.proofs.Common.{arith, refl, sym, ap, subst, ◌∙◌, inl, inr, 
 use Rattle.std.proofs.lemmas.Bool.{false≢true, cases_eq}
 use Rattle.std.proofs.lemmas.List.{get_or_default, get_or-set_other, get_or_append_left, get_or-append-add, length-set}
 use Rattle.std.proofs.lemmas.List.Sums.{sum_by-set}
-use Rattle.convoy_branch.specs.declared.parts.Branch.{Branch}
-use Rattle.convoy_branch.specs.declared.parts.BranchState.{BranchState}
-use Rattle.convoy_branch.specs.declared.parts.BranchState.TheVariants.{Free, Taken, Split, Closed}
-use Rattle.convoy_branch.specs.Machine.{branch_at, is_free, is_left, is_with, stands, turned}
-use Rattle.convoy_branch.specs.Replays.{is_done}
+use Rattle.convoy_machine.specs.declared.parts.Branch.{Branch}
+use Rattle.convoy_machine.specs.declared.parts.BranchState.{BranchState}
+use Rattle.convoy_machine.specs.declared.parts.BranchState.TheVariants.{Free, Taken, Split, Closed}
+use Rattle.convoy_machine.specs.Machine.{branch_at, is_free, is_left, is_with, stands, turned}
+use Rattle.convoy_machine.specs.Replays.{is_done}
 
 -- what passes a test is there
 pub stands_told : (test : BranchState → Bool) (branches : List Branch) (number : ℕ) → stands test branches number ≡ true → (number < length branches) × (test (branch_at branches number).state ≡ true)

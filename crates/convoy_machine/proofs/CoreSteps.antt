@@ -16,17 +16,17 @@ use Rattle.convoy_sim.specs.Record.{Record, IsAttained, attained_by}
 use Rattle.convoy_intervals.specs.Boxes.{Box, CanSplit, IsBox, IsIn, root_of, lower_half, upper_half}
 use Rattle.convoy_intervals.specs.Laws.{HalvesAreBoxes, HalvesPartition, RootHoldsAll, RootIsBox}
 use Rattle.convoy_checker.specs.Laws.{BoundLeavesCover, PointLeavesCover}
-use Rattle.convoy_branch.specs.declared.parts.TheConstants.{WORKERS}
-use Rattle.convoy_branch.specs.declared.parts.Worker.{Worker}
-use Rattle.convoy_branch.specs.declared.parts.Branch.{Branch}
-use Rattle.convoy_branch.specs.declared.parts.BranchState.{BranchState}
-use Rattle.convoy_branch.specs.declared.parts.BranchState.TheVariants as states
-use Rattle.convoy_branch.specs.declared.event.Event.{Event}
-use Rattle.convoy_branch.specs.declared.event.Event.TheVariants.{Look, Publish, Draw, Put, Take, Split, Close}
-use Rattle.convoy_branch.specs.Machine.{Core, after, allows, best_after, branch_at, branches_after, halves_taken, is_left, stands, start, taken, turned, worker_after, worker_at, worker_of}
-use Rattle.convoy_branch.specs.Replays.{IsEventOf, IsFound, IsLeftIn, ends, is_done, tickets_spent}
-use Rattle.convoy_branch.proofs.BranchLists.{Any-append_left, Any-append_right, Any-set_cases, count_done-turned, stands-append, stands-set_other, stands-set_same}
-use Rattle.convoy_branch.proofs.LawfulEvents.{ClosesBranch, IsOpen, SplitsBranch, close_told, closed_covers, free_is_open, held_is_open, split_told}
+use Rattle.convoy_machine.specs.declared.parts.TheConstants.{WORKERS}
+use Rattle.convoy_machine.specs.declared.parts.Worker.{Worker}
+use Rattle.convoy_machine.specs.declared.parts.Branch.{Branch}
+use Rattle.convoy_machine.specs.declared.parts.BranchState.{BranchState}
+use Rattle.convoy_machine.specs.declared.parts.BranchState.TheVariants as states
+use Rattle.convoy_machine.specs.declared.event.Event.{Event}
+use Rattle.convoy_machine.specs.declared.event.Event.TheVariants.{Look, Publish, Draw, Put, Take, Split, Close}
+use Rattle.convoy_machine.specs.Machine.{Core, after, allows, best_after, branch_at, branches_after, halves_taken, is_left, stands, start, taken, turned, worker_after, worker_at, worker_of}
+use Rattle.convoy_machine.specs.Replays.{IsEventOf, IsFound, IsLeftIn, ends, is_done, tickets_spent}
+use Rattle.convoy_machine.proofs.BranchLists.{Any-append_left, Any-append_right, Any-set_cases, count_done-turned, stands-append, stands-set_other, stands-set_same}
+use Rattle.convoy_machine.proofs.LawfulEvents.{ClosesBranch, IsOpen, SplitsBranch, close_told, closed_covers, free_is_open, held_is_open, split_told}
 
 -- what the machine rests on
 pub record Grounds : Type 0 where

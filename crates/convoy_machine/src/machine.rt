@@ -7,11 +7,11 @@ ghost use Rattle.std.specs.List.{All};
 ghost use Rattle.convoy_scenario.specs.Scenario.{Scenario};
 ghost use Rattle.convoy_sim.specs.Record.{IsAttained};
 ghost use Rattle.convoy_intervals.specs.Boxes.{CanSplit, IsBox, lower_half, upper_half};
-ghost use Rattle.convoy_branch.specs.Machine.{after, allows, best_after, branch_at, branches_after};
-ghost use Rattle.convoy_branch.specs.Machine.{closes, is_free, is_lawful, taken, HasBranch};
-ghost use Rattle.convoy_branch.specs.Machine.{is_with, stands, start, worker_after, worker_at};
-ghost use Rattle.convoy_branch.specs.Machine.{worker_of};
-ghost use Rattle.convoy_branch.specs.Replays.{IsFound, left_of};
+ghost use Rattle.convoy_machine.specs.Machine.{after, allows, best_after, branch_at, branches_after};
+ghost use Rattle.convoy_machine.specs.Machine.{closes, is_free, is_lawful, taken, HasBranch};
+ghost use Rattle.convoy_machine.specs.Machine.{is_with, stands, start, worker_after, worker_at};
+ghost use Rattle.convoy_machine.specs.Machine.{worker_of};
+ghost use Rattle.convoy_machine.specs.Replays.{IsFound, left_of};
 
 use super::event::Event;
 use super::parts::{Branch, BranchState, WORKERS, Worker};
@@ -32,7 +32,7 @@ pub struct Core {
 }
 
 impl Model for Core {
-    ghost use Rattle.convoy_branch.specs.Machine.{Core};
+    ghost use Rattle.convoy_machine.specs.Machine.{Core};
 
     ghost Value = { Core };
 

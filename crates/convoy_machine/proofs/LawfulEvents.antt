@@ -9,12 +9,12 @@ use Rattle.convoy_intervals.specs.Bounds.{plain_bound}
 use Rattle.convoy_intervals.specs.Boxes.{Box, CanSplit, IsBox, IsIn, can_split, is_point, greatest_of}
 use Rattle.convoy_intervals.proofs.BoxTests.{Decides-can_split, Decides-is_point}
 use Rattle.convoy_checker.specs.Laws.{BoundLeavesCover, PointLeavesCover}
-use Rattle.convoy_branch.specs.declared.parts.TheConstants.{WORKERS}
-use Rattle.convoy_branch.specs.declared.parts.Branch.{Branch}
-use Rattle.convoy_branch.specs.declared.event.Event.{Event}
-use Rattle.convoy_branch.specs.declared.event.Event.TheVariants.{Look, Publish, Draw, Put, Take, Split, Close}
-use Rattle.convoy_branch.specs.Machine.{Core, HasBranch, allows, branch_at, closes, has_ticket, is_free, is_lawful, is_left, is_with, stands, worker_at, worker_of}
-use Rattle.convoy_branch.proofs.BranchLists.{left_since_free, left_since_with, stands_told}
+use Rattle.convoy_machine.specs.declared.parts.TheConstants.{WORKERS}
+use Rattle.convoy_machine.specs.declared.parts.Branch.{Branch}
+use Rattle.convoy_machine.specs.declared.event.Event.{Event}
+use Rattle.convoy_machine.specs.declared.event.Event.TheVariants.{Look, Publish, Draw, Put, Take, Split, Close}
+use Rattle.convoy_machine.specs.Machine.{Core, HasBranch, allows, branch_at, closes, has_ticket, is_free, is_lawful, is_left, is_with, stands, worker_at, worker_of}
+use Rattle.convoy_machine.proofs.BranchLists.{left_since_free, left_since_with, stands_told}
 
 -- the branch is there, and is left
 pub record IsOpen (branches : List Branch) (number : ℕ) : Type 0 where

@@ -8,15 +8,15 @@ use Rattle.convoy_sim.specs.Delivery.{latency_of}
 use Rattle.convoy_sim.specs.Record.{Record, attained_by}
 use Rattle.convoy_intervals.specs.Bounds.{plain_bound}
 use Rattle.convoy_intervals.specs.Boxes.{Box, CanSplit, can_split, is_point, root_of, lower_half, upper_half, greatest_of}
-use Rattle.convoy_branch.specs.declared.parts.TheConstants.{WORKERS}
-use Rattle.convoy_branch.specs.declared.parts.Worker.{Worker}
-use Rattle.convoy_branch.specs.declared.parts.Branch.{Branch}
-use Rattle.convoy_branch.specs.declared.parts.BranchState.{BranchState}
-use Rattle.convoy_branch.specs.declared.parts.BranchState.TheVariants as states
-use Rattle.convoy_branch.specs.declared.event.Event.{Event}
-use Rattle.convoy_branch.specs.declared.event.Event.TheVariants.{Look, Publish, Draw, Put, Take, Split, Close}
-use Rattle.convoy_branch.specs.declared.replaying.ReplayFault.{ReplayFault}
-use Rattle.convoy_branch.specs.declared.replaying.ReplayFault.TheVariants.{Unlawful}
+use Rattle.convoy_machine.specs.declared.parts.TheConstants.{WORKERS}
+use Rattle.convoy_machine.specs.declared.parts.Worker.{Worker}
+use Rattle.convoy_machine.specs.declared.parts.Branch.{Branch}
+use Rattle.convoy_machine.specs.declared.parts.BranchState.{BranchState}
+use Rattle.convoy_machine.specs.declared.parts.BranchState.TheVariants as states
+use Rattle.convoy_machine.specs.declared.event.Event.{Event}
+use Rattle.convoy_machine.specs.declared.event.Event.TheVariants.{Look, Publish, Draw, Put, Take, Split, Close}
+use Rattle.convoy_machine.specs.declared.replaying.ReplayFault.{ReplayFault}
+use Rattle.convoy_machine.specs.declared.replaying.ReplayFault.TheVariants.{Unlawful}
 
 -- the best record, the workers by number, and the branches by number
 pub record Core : Type 0 where

@@ -1,9 +1,9 @@
 use Rattle.std.specs.Prelude.{List}
 use Rattle.std.proofs.Common.{ap, subst, sym}
-use Rattle.convoy_branch.specs.declared.parts.Branch.{Branch}
-use Rattle.convoy_branch.specs.Machine.{Core, HasBranch}
-use Rattle.convoy_branch.proofs.LawfulEvents.{allowed_has_branch, lawful_parts}
-use Rattle.convoy_branch.proofs.machine.Core.follow.Goals as goal
+use Rattle.convoy_machine.specs.declared.parts.Branch.{Branch}
+use Rattle.convoy_machine.specs.Machine.{Core, HasBranch}
+use Rattle.convoy_machine.proofs.LawfulEvents.{allowed_has_branch, lawful_parts}
+use Rattle.convoy_machine.proofs.machine.Core.follow.Goals as goal
 
 pub turn-requires : goal.turn-requires
 turn-requires c =

@@ -1,5 +1,5 @@
 ghost use Rattle.std.specs.Prelude.{◌≡◌};
-ghost use Rattle.convoy_branch.specs.Machine.{worker_of};
+ghost use Rattle.convoy_machine.specs.Machine.{worker_of};
 
 use convoy_sim::Record;
 

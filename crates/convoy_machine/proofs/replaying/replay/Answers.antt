@@ -1,7 +1,7 @@
 use Rattle.std.proofs.Common.{sym, ◌∙◌}
-use Rattle.convoy_branch.proofs.CoreSteps.{Grounds}
-use Rattle.convoy_branch.proofs.EventLists.{IsReplaying-after, IsReplaying-start, IsReplayed-end}
-use Rattle.convoy_branch.proofs.replaying.replay.Goals as goal
+use Rattle.convoy_machine.proofs.CoreSteps.{Grounds}
+use Rattle.convoy_machine.proofs.EventLists.{IsReplaying-after, IsReplaying-start, IsReplayed-end}
+use Rattle.convoy_machine.proofs.replaying.replay.Goals as goal
 
 pub loop-place-init : goal.loop-place-init
 loop-place-init c =

@@ -1,5 +1,5 @@
-use Rattle.convoy_branch.proofs.EventLists.{IsReplaying}
-use Rattle.convoy_branch.proofs.replaying.replay.Given as goal
+use Rattle.convoy_machine.proofs.EventLists.{IsReplaying}
+use Rattle.convoy_machine.proofs.replaying.replay.Given as goal
 
 abbrev pub invariant-loop-place : goal.invariant-loop-place
 invariant-loop-place l = IsReplaying l.instance l.events l.place l.core

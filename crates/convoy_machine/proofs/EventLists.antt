@@ -12,17 +12,17 @@ use Rattle.convoy_packets.specs.Assignment.{IsAssignment}
 use Rattle.convoy_sim.specs.Delivery.{latency_of}
 use Rattle.convoy_sim.specs.Greatest.{IsGreatest}
 use Rattle.convoy_sim.specs.Record.{IsAttained}
-use Rattle.convoy_branch.specs.declared.parts.TheConstants.{WORKERS}
-use Rattle.convoy_branch.specs.declared.parts.Worker.{Worker}
-use Rattle.convoy_branch.specs.declared.parts.Branch.{Branch}
-use Rattle.convoy_branch.specs.declared.event.Event.{Event}
-use Rattle.convoy_branch.specs.declared.event.Event.TheVariants.{Look, Publish, Draw, Put, Take, Split, Close}
-use Rattle.convoy_branch.specs.declared.replaying.ReplayFault.{ReplayFault}
-use Rattle.convoy_branch.specs.Machine.{Core, after, best_after, is_lawful, is_left, replayed, run, stands, start, worker_after, worker_at, worker_of}
-use Rattle.convoy_branch.specs.Replays.{IsEventOf, IsFound, IsLeftIn, IsReplayed, ends, is_done, left_of}
-use Rattle.convoy_branch.proofs.CoreSteps.{Grounds, IsSound, IsSound-after, IsSound-start, IsWorker}
-use Rattle.convoy_branch.proofs.Endings.{done-after, flag}
-use Rattle.convoy_branch.proofs.LawfulEvents.{lawful_parts}
+use Rattle.convoy_machine.specs.declared.parts.TheConstants.{WORKERS}
+use Rattle.convoy_machine.specs.declared.parts.Worker.{Worker}
+use Rattle.convoy_machine.specs.declared.parts.Branch.{Branch}
+use Rattle.convoy_machine.specs.declared.event.Event.{Event}
+use Rattle.convoy_machine.specs.declared.event.Event.TheVariants.{Look, Publish, Draw, Put, Take, Split, Close}
+use Rattle.convoy_machine.specs.declared.replaying.ReplayFault.{ReplayFault}
+use Rattle.convoy_machine.specs.Machine.{Core, after, best_after, is_lawful, is_left, replayed, run, stands, start, worker_after, worker_at, worker_of}
+use Rattle.convoy_machine.specs.Replays.{IsEventOf, IsFound, IsLeftIn, IsReplayed, ends, is_done, left_of}
+use Rattle.convoy_machine.proofs.CoreSteps.{Grounds, IsSound, IsSound-after, IsSound-start, IsWorker}
+use Rattle.convoy_machine.proofs.Endings.{done-after, flag}
+use Rattle.convoy_machine.proofs.LawfulEvents.{lawful_parts}
 
 -- ---- The run, from a place on
 

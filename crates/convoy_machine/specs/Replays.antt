@@ -7,13 +7,13 @@ use Rattle.convoy_sim.specs.Delivery.{latency_of}
 use Rattle.convoy_sim.specs.Greatest.{IsGreatest}
 use Rattle.convoy_sim.specs.Record.{IsAttained}
 use Rattle.convoy_intervals.specs.Boxes.{IsBox, IsIn}
-use Rattle.convoy_branch.specs.declared.parts.TheConstants.{WORKERS}
-use Rattle.convoy_branch.specs.declared.parts.Worker.{Worker}
-use Rattle.convoy_branch.specs.declared.parts.Branch.{Branch}
-use Rattle.convoy_branch.specs.declared.parts.BranchState.{BranchState}
-use Rattle.convoy_branch.specs.declared.event.Event.{Event}
-use Rattle.convoy_branch.specs.declared.event.Event.TheVariants.{Publish, Split, Close}
-use Rattle.convoy_branch.specs.Machine.{Core, is_left, stands}
+use Rattle.convoy_machine.specs.declared.parts.TheConstants.{WORKERS}
+use Rattle.convoy_machine.specs.declared.parts.Worker.{Worker}
+use Rattle.convoy_machine.specs.declared.parts.Branch.{Branch}
+use Rattle.convoy_machine.specs.declared.parts.BranchState.{BranchState}
+use Rattle.convoy_machine.specs.declared.event.Event.{Event}
+use Rattle.convoy_machine.specs.declared.event.Event.TheVariants.{Publish, Split, Close}
+use Rattle.convoy_machine.specs.Machine.{Core, is_left, stands}
 
 -- the record of an event is of the scenario
 abbrev pub IsEventOf : Scenario → Event → Type 0

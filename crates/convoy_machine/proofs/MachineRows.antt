@@ -12,12 +12,12 @@ use Rattle.convoy_sim.specs.Stamps.{clocks_of, local_stamp, final_stamp}
 use Rattle.convoy_sim.specs.Delivery.{holds_back, deliver, latency_at, latency_of}
 use Rattle.convoy_sim.specs.Record.{Record, attained_by}
 use Rattle.convoy_intervals.specs.Bounds.{plain_bound}
-use Rattle.convoy_branch.specs.declared.event.Event.{Event}
-use Rattle.convoy_branch.specs.declared.event.Event.TheVariants.{Look, Publish, Draw, Put, Take, Split, Close}
-use Rattle.convoy_branch.specs.declared.replaying.ReplayFault.{ReplayFault}
-use Rattle.convoy_branch.specs.declared.replaying.ReplayFault.TheVariants.{Unlawful}
-use Rattle.convoy_branch.specs.Machine.{Core, replayed, worker_at}
-use Rattle.convoy_branch.specs.Replays.{left_of}
+use Rattle.convoy_machine.specs.declared.event.Event.{Event}
+use Rattle.convoy_machine.specs.declared.event.Event.TheVariants.{Look, Publish, Draw, Put, Take, Split, Close}
+use Rattle.convoy_machine.specs.declared.replaying.ReplayFault.{ReplayFault}
+use Rattle.convoy_machine.specs.declared.replaying.ReplayFault.TheVariants.{Unlawful}
+use Rattle.convoy_machine.specs.Machine.{Core, replayed, worker_at}
+use Rattle.convoy_machine.specs.Replays.{left_of}
 
 message : List ℕ → Sender → List ℕ → Message
 message name sender destinations =

@@ -1,8 +1,8 @@
 ghost use Rattle.std.specs.Prelude.{◌≡◌, IfOk};
 ghost use Rattle.std.specs.List.{All};
 ghost use Rattle.convoy_scenario.specs.Memory.{IsUnlessMemory};
-ghost use Rattle.convoy_branch.specs.Machine.{replayed};
-ghost use Rattle.convoy_branch.specs.Replays.{IsEventOf, IsReplayed};
+ghost use Rattle.convoy_machine.specs.Machine.{replayed};
+ghost use Rattle.convoy_machine.specs.Replays.{IsEventOf, IsReplayed};
 
 use super::event::Event;
 use super::machine::Core;
@@ -26,7 +26,7 @@ pub enum ReplayFault {
 
 impl From<AllocError> for ReplayFault {
     ghost use Rattle.std.specs.Prelude.{◌≡◌};
-    ghost use Rattle.convoy_branch.specs.declared.replaying.ReplayFault.TheVariants.{Memory};
+    ghost use Rattle.convoy_machine.specs.declared.replaying.ReplayFault.TheVariants.{Memory};
 
     ghost from_gives = { λ _ fault. fault ≡ Memory };
 

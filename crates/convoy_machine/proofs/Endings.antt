@@ -4,15 +4,15 @@ use Rattle.std.proofs.Common.{arith, refl, sym, ap, subst, ◌∙◌, inl, inr, 
 use Rattle.std.proofs.lemmas.Bool.{cases_eq, eq-eqb, ne_eqb, not_from_true}
 use Rattle.convoy_scenario.specs.Scenario.{Scenario}
 use Rattle.convoy_intervals.specs.Boxes.{Box}
-use Rattle.convoy_branch.specs.declared.parts.Branch.{Branch}
-use Rattle.convoy_branch.specs.declared.parts.BranchState.{BranchState}
-use Rattle.convoy_branch.specs.declared.parts.BranchState.TheVariants as states
-use Rattle.convoy_branch.specs.declared.event.Event.{Event}
-use Rattle.convoy_branch.specs.declared.event.Event.TheVariants.{Look, Publish, Draw, Put, Take, Split, Close}
-use Rattle.convoy_branch.specs.Machine.{Core, allows, branch_at, branches_after, halves_taken, is_left, stands, turned}
-use Rattle.convoy_branch.specs.Replays.{ends, is_done}
-use Rattle.convoy_branch.proofs.BranchLists.{stands-append, stands-at, stands-set_other, stands-set_same}
-use Rattle.convoy_branch.proofs.LawfulEvents.{IsOpen, close_told, free_is_open, held_is_open, split_told}
+use Rattle.convoy_machine.specs.declared.parts.Branch.{Branch}
+use Rattle.convoy_machine.specs.declared.parts.BranchState.{BranchState}
+use Rattle.convoy_machine.specs.declared.parts.BranchState.TheVariants as states
+use Rattle.convoy_machine.specs.declared.event.Event.{Event}
+use Rattle.convoy_machine.specs.declared.event.Event.TheVariants.{Look, Publish, Draw, Put, Take, Split, Close}
+use Rattle.convoy_machine.specs.Machine.{Core, allows, branch_at, branches_after, halves_taken, is_left, stands, turned}
+use Rattle.convoy_machine.specs.Replays.{ends, is_done}
+use Rattle.convoy_machine.proofs.BranchLists.{stands-append, stands-at, stands-set_other, stands-set_same}
+use Rattle.convoy_machine.proofs.LawfulEvents.{IsOpen, close_told, free_is_open, held_is_open, split_told}
 
 -- 1 for a branch that is done, or for an event that ends it, and else 0
 abbrev pub flag : Bool → ℕ
