@@ -16,6 +16,7 @@ pub use Rattle.convoy_checker.specs.Leaves
 pub use Rattle.convoy_checker.specs.Validity
 -- What a search promises: the bounds by which it goes, which boxes it closes, what it tells of those that are left, a step over a box, how far a search has come, what it answers, alone and both ways, and the laws of fronts.
 pub mod SearchBounds
+pub mod Options
 pub mod Uppers
 pub mod Steps
 pub mod Fronts

@@ -3,6 +3,9 @@
 
 pub use bounds::Bounds;
 pub use gate::{Gate, NoGate};
+pub use options::{
+    DEFAULT_LIMIT, DEFAULT_SIMULATIONS, MOST_SIMULATIONS, MOST_TICKETS, MOST_WORKERS, Options, Ways,
+};
 pub use outcome::Outcome;
 pub use search::{search_alone, search_from};
 pub use step::{Step, Turn, step_branch};
@@ -11,6 +14,7 @@ pub use ways::{PLAIN_TICKETS, lead_share, plain_share, search_both_ways};
 mod bounds;
 mod gate;
 pub mod laws;
+mod options;
 mod outcome;
 mod search;
 mod step;

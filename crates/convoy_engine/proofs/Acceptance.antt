@@ -16,9 +16,9 @@ use Rattle.convoy_checker.specs.Validity.{IsValid}
 use Rattle.convoy_branch.specs.declared.bounds.Bounds.{Bounds}
 use Rattle.convoy_branch.specs.declared.bounds.Bounds.TheVariants.{Plain, Lead}
 use Rattle.convoy_branch.specs.declared.outcome.Outcome.TheVariants.{Proved, Open}
-use Rattle.convoy_options.specs.Options.{Settings, first_bounds, highest_limit}
-use Rattle.convoy_options.specs.declared.ways.Ways.{Ways}
-use Rattle.convoy_options.specs.declared.ways.Ways.TheVariants.{One, Both}
+use Rattle.convoy_branch.specs.Options.{Settings, first_bounds, highest_limit}
+use Rattle.convoy_branch.specs.declared.options.Ways.{Ways}
+use Rattle.convoy_branch.specs.declared.options.Ways.TheVariants.{One, Both}
 use Rattle.convoy_engine.specs.declared.done.Done.TheVariants.{Fine}
 use Rattle.convoy_engine.specs.Checks.{check_reply}
 use Rattle.convoy_engine.specs.Lines.{accepted_line, greatest_line, open_line}

@@ -8,7 +8,7 @@ use Rattle.convoy_jobs.specs.Jobs.{ended_jobs}
 use Rattle.convoy_jobs.specs.Laws.{EndedJobsStay}
 use Rattle.convoy_devices.specs.Devices.{Answer, Moved, Failed, HasRun, IsPiece}
 use Rattle.convoy_devices.specs.Laws.{PiecesGoOn}
-use Rattle.convoy_options.specs.Options.{Settings}
+use Rattle.convoy_branch.specs.Options.{Settings}
 use Rattle.convoy_engine.specs.declared.batch.Batch.{Batch}
 use Rattle.convoy_engine.specs.declared.done.Done.TheVariants.{Fine}
 use Rattle.convoy_engine.specs.declared.fault.Fault.{Fault}

@@ -7,7 +7,7 @@ use Rattle.std.proofs.lemmas.List.{append-nil}
 use Rattle.std.proofs.lemmas.List.Elements.{All-append}
 use Rattle.convoy_devices.specs.Devices.{Answer, Failed, HasRun, IsPiece, bytes_of, joined}
 use Rattle.convoy_devices.specs.Writes.{WritesAll, FailsWithin}
-use Rattle.convoy_options.specs.Options.{Settings}
+use Rattle.convoy_branch.specs.Options.{Settings}
 use Rattle.convoy_engine.specs.declared.done.Done.{Done}
 use Rattle.convoy_engine.specs.declared.fault.Fault.{Fault}
 use Rattle.convoy_engine.specs.declared.fault.Fault.TheVariants.{Memory, Write, TooLong, TooManyJobs}

@@ -1,6 +1,6 @@
 -- The faults that a command's rule allows for a text.
 use Rattle.std.proofs.Common.{◌≡◌, ◌≢◌, ◌≤◌, inl, inr, ℕ, Bool, true, false, cond, nat_le, List, Result, Ok, Err, length, lit≤, arith}
-use Rattle.convoy_options.specs.Options.{Settings}
+use Rattle.convoy_branch.specs.Options.{Settings}
 use Rattle.convoy_engine.specs.declared.command.Command.{Command}
 use Rattle.convoy_engine.specs.declared.command.Command.TheVariants.{First, Simulate, Timeline, Packets, Check, Explain, Draw, Analyse, Latency}
 use Rattle.convoy_certificate.specs.Certificate.{Certificate}

@@ -11,9 +11,9 @@ use Rattle.convoy_branch.specs.declared.bounds.Bounds.{Bounds}
 use Rattle.convoy_branch.specs.declared.bounds.Bounds.TheVariants.{Plain, Stamp, Lead}
 use Rattle.convoy_branch.specs.declared.outcome.Outcome.{Outcome}
 use Rattle.convoy_branch.specs.declared.outcome.Outcome.TheVariants.{Proved, Open}
-use Rattle.convoy_options.specs.Options.{AreSettings, Settings, first_bounds}
-use Rattle.convoy_options.specs.declared.ways.Ways.{Ways}
-use Rattle.convoy_options.specs.declared.ways.Ways.TheVariants.{One, Both}
+use Rattle.convoy_branch.specs.Options.{AreSettings, Settings, first_bounds}
+use Rattle.convoy_branch.specs.declared.options.Ways.{Ways}
+use Rattle.convoy_branch.specs.declared.options.Ways.TheVariants.{One, Both}
 use Rattle.convoy_engine.specs.Searches.{IsEnd, IsOutcomeBy}
 
 -- one node can be read, by any bounds

@@ -5,7 +5,7 @@ use Rattle.convoy_jobs.specs.Splitting.{Holds, IsAfter, IsJobStart}
 use Rattle.convoy_jobs.specs.declared.splitter.Splitter.{Splitter}
 use Rattle.convoy_devices.specs.Devices.{Answer, HasRun}
 use Rattle.convoy_devices.specs.Writes.{WritesAll, FailsWithin}
-use Rattle.convoy_options.specs.Options.{Settings}
+use Rattle.convoy_branch.specs.Options.{Settings}
 use Rattle.convoy_engine.specs.declared.batch.Batch.{Batch}
 use Rattle.convoy_engine.specs.declared.batch.TheConstants.{MOST_JOBS}
 use Rattle.convoy_engine.specs.declared.limits.TheConstants.{LONGEST_JOB}

@@ -5,7 +5,7 @@ use Rattle.convoy_lines.specs.Texts.{ended, number_line}
 use Rattle.convoy_jobs.specs.Jobs.{ended_jobs, jobs_of}
 use Rattle.convoy_devices.specs.Devices.{Answer, Moved, Failed, IsPiece, joined}
 use Rattle.convoy_devices.specs.Writes.{WritesAll, FailsWithin}
-use Rattle.convoy_options.specs.Options.{Settings}
+use Rattle.convoy_branch.specs.Options.{Settings}
 use Rattle.convoy_engine.specs.declared.batch.TheConstants.{MOST_JOBS}
 use Rattle.convoy_engine.specs.declared.limits.TheConstants.{LONGEST_JOB}
 use Rattle.convoy_engine.specs.declared.done.Done.{Done}

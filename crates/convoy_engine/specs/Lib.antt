@@ -33,7 +33,7 @@ pub use Rattle.convoy_checker.specs.Validity
 pub use Rattle.convoy_branch.specs.SearchBounds
 pub use Rattle.convoy_branch.specs.Fronts
 pub use Rattle.convoy_branch.specs.Outcomes
-pub use Rattle.convoy_options.specs.Options
+pub use Rattle.convoy_branch.specs.Options
 -- what a reader has to believe: which answers each command may give, and what its run does at its devices
 pub mod Lines
 pub mod Faults

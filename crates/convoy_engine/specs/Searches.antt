@@ -18,9 +18,9 @@ use Rattle.convoy_branch.specs.BothWays.{IsFrontBothWays, IsOutcomeBothWays}
 use Rattle.convoy_branch.specs.Fronts.{IsFront}
 use Rattle.convoy_branch.specs.Outcomes.{IsOutcome}
 use Rattle.convoy_branch.specs.declared.outcome.Outcome.{Outcome}
-use Rattle.convoy_options.specs.Options.{Settings}
-use Rattle.convoy_options.specs.declared.ways.Ways.{Ways}
-use Rattle.convoy_options.specs.declared.ways.Ways.TheVariants.{One, Both}
+use Rattle.convoy_branch.specs.Options.{Settings}
+use Rattle.convoy_branch.specs.declared.options.Ways.{Ways}
+use Rattle.convoy_branch.specs.declared.options.Ways.TheVariants.{One, Both}
 use Rattle.convoy_engine.specs.declared.done.Done.TheVariants.{Fine, Open, Refused}
 use Rattle.convoy_engine.specs.declared.fault.Fault.{Fault}
 use Rattle.convoy_engine.specs.declared.fault.Fault.TheVariants.{Memory, PlaceTooLarge}

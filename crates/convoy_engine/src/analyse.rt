@@ -18,7 +18,7 @@ use convoy_certificate::laws::{texts_are_read, texts_are_short};
 use convoy_certificate::{Certificate, push_schedule, write};
 use convoy_checker::laws::{checked_is_valid, valid_is_greatest};
 use convoy_devices::{Sink, Source};
-use convoy_options::Options;
+use convoy_branch::Options;
 use convoy_sim::Record;
 use std::alloc::{AllocError, Global};
 use std::sync::Wait;

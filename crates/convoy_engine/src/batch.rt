@@ -16,7 +16,7 @@ use convoy_devices::laws::pieces_go_on;
 use convoy_devices::{BUFFER_LENGTH, Sink, Source, read_piece, write_all};
 use convoy_jobs::laws::ended_jobs_stay;
 use convoy_jobs::{JobFault, Splitter};
-use convoy_options::Options;
+use convoy_branch::Options;
 use std::alloc::{AllocError, Global};
 use std::sync::Wait;
 use std::thread::Threads;

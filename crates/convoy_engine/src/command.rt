@@ -20,7 +20,7 @@ use super::timeline::timeline_answer;
 use super::watch::Watch;
 use super::writing::write_reply;
 use convoy_devices::{Sink, Source, read_to_end};
-use convoy_options::Options;
+use convoy_branch::Options;
 use std::alloc::Global;
 use std::sync::Wait;
 use std::thread::Threads;

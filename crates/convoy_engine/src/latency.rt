@@ -14,7 +14,7 @@ use super::watch::Watch;
 use convoy_branch::{NoGate, Outcome};
 use convoy_devices::{Sink, Source};
 use convoy_lines::push_number_line;
-use convoy_options::Options;
+use convoy_branch::Options;
 use std::alloc::{AllocError, Global};
 use std::sync::Wait;
 use std::thread::Threads;

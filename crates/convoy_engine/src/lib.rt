@@ -9,7 +9,7 @@ pub use convoy_branch::{Bounds, Gate, NoGate, lead_share, plain_share};
 pub use convoy_devices::{
     DeviceFailed, Sink, SliceSource, Source, StreamSink, StreamSource, VecSink, write_all,
 };
-pub use convoy_options::{
+pub use convoy_branch::{
     DEFAULT_LIMIT, DEFAULT_SIMULATIONS, MOST_SIMULATIONS, MOST_TICKETS, MOST_WORKERS, Options, Ways,
 };
 pub use done::Done;

@@ -13,6 +13,8 @@ mod deques;
 #[cfg(test)]
 mod machine;
 #[cfg(test)]
+mod options;
+#[cfg(test)]
 mod scenarios;
 #[cfg(test)]
 mod steps;

@@ -1,4 +1,4 @@
-use crate::{MOST_TICKETS, MOST_WORKERS, Options};
+use convoy_branch::{MOST_TICKETS, MOST_WORKERS, Options};
 
 #[test]
 fn options_in_range(rt: HostRuntime) {

@@ -4,9 +4,9 @@ use Rattle.convoy_certificate.specs.declared.certificate.TheConstants.{MOST_NODE
 use Rattle.convoy_branch.specs.declared.bounds.Bounds.{Bounds}
 use Rattle.convoy_branch.specs.declared.bounds.Bounds.TheVariants.{Plain}
 use Rattle.convoy_branch.specs.SearchBounds.{most_nodes}
-use Rattle.convoy_options.specs.declared.options.TheConstants.{MOST_WORKERS, MOST_SIMULATIONS}
-use Rattle.convoy_options.specs.declared.ways.Ways.{Ways}
-use Rattle.convoy_options.specs.declared.ways.Ways.TheVariants.{One, Both}
+use Rattle.convoy_branch.specs.declared.options.TheConstants.{MOST_WORKERS, MOST_SIMULATIONS}
+use Rattle.convoy_branch.specs.declared.options.Ways.{Ways}
+use Rattle.convoy_branch.specs.declared.options.Ways.TheVariants.{One, Both}
 
 -- the highest limit of tickets: by one kind of bounds as many as nodes of its certificate can be read in any case; both ways any number of nodes that can be read, since few of the tickets are for leads
 abbrev pub highest_limit : Ways → ℕ

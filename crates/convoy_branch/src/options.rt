@@ -1,10 +1,9 @@
 ghost use Rattle.std.specs.Prelude.{◌≡◌, ◌↔◌, ◌≤◌, min, IfSome, IsSome};
 ghost use Rattle.convoy_branch.specs.SearchBounds.{most_nodes};
-ghost use Rattle.convoy_options.specs.Options.{AreSettings};
-ghost use Rattle.convoy_options.specs.declared.ways.Ways.TheVariants.{One, Both};
+ghost use Rattle.convoy_branch.specs.Options.{AreSettings, first_bounds};
+ghost use Rattle.convoy_branch.specs.declared.options.Ways.TheVariants.{One, Both};
 
-use super::ways::Ways;
-use convoy_branch::Bounds;
+use super::bounds::Bounds;
 use convoy_certificate::MOST_NODES;
 use std::marker::Model;
 
@@ -24,6 +23,27 @@ pub const MOST_SIMULATIONS: u64 = 1_000_000;
 /// How many schedules are simulated at most before a search where the user asks for no other number.
 pub const DEFAULT_SIMULATIONS: u64 = 20_000;
 
+/// By what a search goes (docs/PROTOCOL.md).
+#[derive(Clone, Copy, Debug, PartialEq, Eq)]
+pub enum Ways {
+    /// By those bounds alone.
+    One(Bounds),
+    /// By plain bounds, and where boxes are left then, by leads from the root.
+    Both,
+}
+
+impl Ways {
+    /// By what the search begins.
+    pub fn first_bounds(self) -> Bounds
+        ensures { result ≡ first_bounds self }
+    {
+        match self {
+            Ways::One(bounds) => bounds,
+            Ways::Both => Bounds::Plain,
+        }
+    }
+}
+
 /// How a search runs: its workers, from 1 to [`MOST_WORKERS`]; its limit of tickets, from 1 to
 /// [`MOST_TICKETS`], or by leads to as many as lead leaves are read; how many schedules are simulated
 /// at most to find a good one to start from, up to [`MOST_SIMULATIONS`]; how many reads of the input
@@ -38,7 +58,7 @@ pub struct Options {
 }
 
 impl Model for Options {
-    ghost use Rattle.convoy_options.specs.Options.{AreSettings, Settings};
+    ghost use Rattle.convoy_branch.specs.Options.{AreSettings, Settings};
 
     ghost Value = { Settings };
 
