@@ -4,7 +4,8 @@ use Rattle.convoy_certificate.specs.declared.certificate.TheConstants.{MOST_NODE
 use Rattle.convoy_branch.specs.declared.bounds.Bounds.{Bounds}
 use Rattle.convoy_branch.specs.declared.bounds.Bounds.TheVariants.{Plain}
 use Rattle.convoy_branch.specs.SearchBounds.{most_nodes}
-use Rattle.convoy_branch.specs.declared.options.TheConstants.{MOST_WORKERS, MOST_SIMULATIONS}
+use Rattle.convoy_shares.specs.declared.shares.TheConstants.{MOST_WORKERS}
+use Rattle.convoy_branch.specs.declared.options.TheConstants.{MOST_SIMULATIONS}
 use Rattle.convoy_branch.specs.declared.options.Ways.{Ways}
 use Rattle.convoy_branch.specs.declared.options.Ways.TheVariants.{One, Both}
 

@@ -2,9 +2,10 @@
 #![tactic(auto)]
 
 pub use bounds::Bounds;
+pub use convoy_shares::MOST_WORKERS;
 pub use gate::{Gate, NoGate};
 pub use options::{
-    DEFAULT_LIMIT, DEFAULT_SIMULATIONS, MOST_SIMULATIONS, MOST_TICKETS, MOST_WORKERS, Options, Ways,
+    DEFAULT_LIMIT, DEFAULT_SIMULATIONS, MOST_SIMULATIONS, MOST_TICKETS, Options, Ways,
 };
 pub use outcome::Outcome;
 pub use search::{search_alone, search_from};

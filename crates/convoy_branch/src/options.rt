@@ -5,10 +5,8 @@ ghost use Rattle.convoy_branch.specs.declared.options.Ways.TheVariants.{One, Bot
 
 use super::bounds::Bounds;
 use convoy_certificate::MOST_NODES;
+use convoy_shares::MOST_WORKERS;
 use std::marker::Model;
-
-/// How many workers a search has at most.
-pub const MOST_WORKERS: u32 = 16;
 
 /// How many tickets a search by plain or stamp bounds, or both ways, spends at most. A certificate has a
 /// node for each, and so no more than are read.

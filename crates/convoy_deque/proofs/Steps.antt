@@ -12,8 +12,8 @@ use Rattle.convoy_deque.specs.declared.rule.View.{View}
 use Rattle.convoy_deque.specs.declared.task.Task.{Task}
 use Rattle.convoy_deque.specs.Tasks.{whole_share, tasks_at, AreAllTaken, IsOf, IsPut}
 use Rattle.convoy_deque.specs.Rule.{opener, nobody, kept_share, given_share, joined, after_put, after_take, IsRight, IsKept, Holds, HasPut, HasTaken, IsEmptied}
-use Rattle.convoy_counts.specs.Counts.{once_below}
-use Rattle.convoy_counts.proofs.Sums.{sum_set, sum_push}
+use Rattle.convoy_shares.specs.Shares.{once_below}
+use Rattle.convoy_shares.proofs.Sums.{sum_set, sum_push}
 use Rattle.convoy_deque.proofs.Totals.{all_of_one, two_le_sum, tasks_at-append, once_more, none_below, get_last, put_more, none_put, All-parts}
 
 abbrev Each : Scenario → ℕ → List Box → List View → Type 0

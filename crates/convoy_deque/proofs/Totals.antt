@@ -8,8 +8,8 @@ use Rattle.std.proofs.lemmas.List.Sums.{sum_by-set, sum_by_push, sum_by-append, 
 use mathlib.Core.Option.{some, some-ne-none, some-injective}
 use lib.ListN.{get_elem?}
 use Rattle.atomic_table.proofs.Lists.{set_else}
-use Rattle.convoy_counts.specs.Counts.{once_below}
-use Rattle.convoy_counts.proofs.Sums.{sum_set, part_le_sum, sum_of_one}
+use Rattle.convoy_shares.specs.Shares.{once_below}
+use Rattle.convoy_shares.proofs.Sums.{sum_set, part_le_sum, sum_of_one}
 use Rattle.convoy_intervals.specs.Boxes.{Box}
 use Rattle.convoy_deque.specs.declared.rule.View.{View}
 use Rattle.convoy_deque.specs.declared.task.Task.{Task}

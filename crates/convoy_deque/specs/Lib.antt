@@ -1,4 +1,4 @@
-pub use Rattle.convoy_counts.specs.Counts
+pub use Rattle.convoy_shares.specs.Shares
 pub use Rattle.convoy_scenario.specs.Scenario
 pub use Rattle.convoy_intervals.specs.Boxes
 pub use Rattle.convoy_intervals.specs.Tracked

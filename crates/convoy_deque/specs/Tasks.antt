@@ -3,7 +3,7 @@ use Rattle.std.specs.Prelude.{◌≡◌, ℕ, List, Some, length, slice_get, ◌
 use Rattle.std.specs.List.{All, count_by}
 use Rattle.std.specs.declared.alloc.Global.{Global}
 use Rattle.atomic_blocks.specs.Lent.{RowsId}
-use Rattle.convoy_counts.specs.Counts.{once_below}
+use Rattle.convoy_shares.specs.Shares.{once_below}
 use Rattle.convoy_scenario.specs.Scenario.{Scenario}
 use Rattle.convoy_intervals.specs.Boxes.{Box}
 use Rattle.convoy_deque.specs.declared.rule.View.{View}

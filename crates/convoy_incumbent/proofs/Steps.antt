@@ -14,9 +14,10 @@ use Rattle.convoy_sim.specs.Greatest.{IsReached}
 use Rattle.convoy_incumbent.specs.declared.rule.Pair.{Pair}
 use Rattle.convoy_incumbent.specs.declared.rule.Store.{Store}
 use Rattle.convoy_incumbent.specs.declared.rule.View.{View}
-use Rattle.convoy_incumbent.specs.Boards.{whole, places}
+use Rattle.convoy_shares.specs.Shares.{whole}
+use Rattle.convoy_incumbent.specs.Boards.{places}
 use Rattle.convoy_incumbent.specs.Rule.{latency_in, pair_in, first_view, spent, kept_half, given_half, joined, IsRight, WasPut, IsKept, Holds, Looked, Published, Weighed}
-use Rattle.convoy_counts.proofs.Sums.{read, all_at, sum_set, sum_push, part_le_sum}
+use Rattle.convoy_shares.proofs.Sums.{read, all_at, sum_set, sum_push, part_le_sum}
 use Rattle.convoy_incumbent.proofs.Totals.{put_at, was_put, put_set, put_longer, alone}
 
 -- a view is right also at a word of a greater latency

@@ -5,7 +5,7 @@ use Rattle.std.proofs.Math.Decide.{ℕ_discrete}
 use Rattle.std.proofs.lemmas.List.Sums.{sum_by-set, sum_by_push, get_or-le-sum_by}
 use mathlib.Core.Option.{some, some-ne-none, some-injective}
 use lib.ListN.{get_elem?}
-use Rattle.convoy_counts.proofs.Sums.{read, sum_set, part_le_sum}
+use Rattle.convoy_shares.proofs.Sums.{read, sum_set, part_le_sum}
 use Rattle.atomic_table.proofs.Lists.{at_index, set_here, set_else, at_longer}
 use Rattle.convoy_incumbent.specs.declared.rule.Pair.{Pair}
 use Rattle.convoy_incumbent.specs.declared.rule.View.{View}

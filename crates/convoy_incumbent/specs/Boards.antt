@@ -25,10 +25,6 @@ pub record Holding : Type 0 where
   pub pairs : List Pair
   pub share : ℕ
 
--- the share of the one hand of a new board, and of all hands of a board together
-abbrev pub whole : ℕ
-whole = 4294967296
-
 -- the number of places that a word can name
 abbrev pub places : ℕ
 places = 4294967296

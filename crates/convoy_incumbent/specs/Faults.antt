@@ -1,7 +1,8 @@
 -- What comes back with a fault, and where it comes.
 use Rattle.std.specs.Prelude.{◌≡◌, ◌≢◌}
 use Rattle.convoy_sim.specs.Record.{Record}
-use Rattle.convoy_incumbent.specs.Boards.{BoardId, Holding, whole}
+use Rattle.convoy_shares.specs.Shares.{whole}
+use Rattle.convoy_incumbent.specs.Boards.{BoardId, Holding}
 use Rattle.convoy_incumbent.specs.declared.fault.NoteFault.{NoteFault}
 use Rattle.convoy_incumbent.specs.declared.fault.NoteFault.TheVariants.{Memory as NoMemory, PlaceTooLarge}
 use Rattle.convoy_incumbent.specs.declared.fault.CloseFault.{CloseFault}

@@ -1,3 +1,4 @@
+pub use Rattle.convoy_shares.specs.Shares
 pub use Rattle.convoy_sim.specs.Record
 pub use Rattle.convoy_sim.specs.Greatest
 pub mod Boards

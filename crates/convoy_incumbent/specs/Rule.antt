@@ -4,7 +4,8 @@ use Rattle.std.specs.List.{All, Any, Contains, sum_by}
 use Rattle.atomic_table.specs.Table.{State, Me, Step}
 use Rattle.convoy_scenario.specs.Scenario.{Scenario}
 use Rattle.convoy_sim.specs.Greatest.{IsReached}
-use Rattle.convoy_incumbent.specs.Boards.{whole, places}
+use Rattle.convoy_shares.specs.Shares.{whole}
+use Rattle.convoy_incumbent.specs.Boards.{places}
 use Rattle.convoy_incumbent.specs.declared.rule.Pair.{Pair}
 use Rattle.convoy_incumbent.specs.declared.rule.Store.{Store}
 use Rattle.convoy_incumbent.specs.declared.rule.View.{View}

@@ -4,22 +4,21 @@ ghost use Rattle.std.specs.Prelude.{◌≡◌, ℕ, ◌+◌, ◌-◌, ◌/◌, �
 ghost use Rattle.std.specs.Prelude.{IfOk, IfErr, OnErr};
 ghost use Rattle.convoy_sim.specs.Greatest.{IsReached};
 ghost use Rattle.convoy_sim.specs.Record.{IsAttained};
-ghost use Rattle.convoy_incumbent.specs.Boards.{whole, pair_of, IsGreatestOf, IsNoteOf};
+ghost use Rattle.convoy_shares.specs.Shares.{whole};
+ghost use Rattle.convoy_incumbent.specs.Boards.{pair_of, IsGreatestOf, IsNoteOf};
 ghost use Rattle.convoy_incumbent.specs.Boards.{NoneAbove};
 ghost use Rattle.convoy_incumbent.specs.Faults.{GiveBack, GivesBack};
 
-use super::fault::{BoardFault, CloseFault, NoteFault, ShareTooSmall};
+use super::fault::{BoardFault, CloseFault, NoteFault};
 use super::noted::{Noted, PLACES, better_of};
 use super::rule::{Halve, KeepsGreatest, Look, Publish, Store, View, Weigh};
 use atomic_table::{Seat, Table};
+use convoy_shares::{ShareTooSmall, WHOLE};
 use convoy_sim::Record;
 use std::alloc::{AllocError, Global};
 use std::fmt;
 use std::marker::Model;
 use std::sync::Wait;
-
-/// The share of the one hand of a new board, and of all hands of a board together.
-const WHOLE_SHARE: u64 = 4_294_967_296;
 
 /// The greatest latency that was published for a scenario, with its record. Threads share a board by
 /// `&`, each with a hand of its own; `look`, `publish`, `split` and `join` take no memory, wait for no
@@ -120,7 +119,7 @@ impl Board {
         };
         let hand = Hand {
             seat,
-            share: WHOLE_SHARE,
+            share: WHOLE,
             best: Some(noted),
         };
         Ok((Board { store, table }, hand))
@@ -237,7 +236,7 @@ impl Board {
         ensures least { IfOk result (λ best. hand.seen ≤ best.latency) }
         ensures err { IfErr result (λ fault. GiveBack self hand fault) }
     {
-        if hand.share != WHOLE_SHARE {
+        if hand.share != WHOLE {
             return Err(CloseFault::HandsOut(self, hand));
         }
         self.table.shared.load::<Weigh>(&mut hand.seat, 0);

@@ -47,8 +47,3 @@ pub enum CloseFault {
     #[error("out of memory")]
     Memory(Board, Hand),
 }
-
-/// A share of 1 can't be split.
-#[derive(Clone, Copy, Debug, PartialEq, Eq, Error)]
-#[error("a share of 1 can't be split")]
-pub struct ShareTooSmall;

@@ -3,7 +3,8 @@
 #![tactic(auto)]
 
 pub use board::{Board, Hand};
-pub use fault::{BoardFault, CloseFault, NoteFault, ShareTooSmall};
+pub use convoy_shares::ShareTooSmall;
+pub use fault::{BoardFault, CloseFault, NoteFault};
 pub use noted::{Late, Noted};
 
 mod board;

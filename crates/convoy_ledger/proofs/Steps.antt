@@ -9,9 +9,10 @@ use lib.ListN.{get_elem?}
 use Rattle.atomic_table.specs.Table.{State, step, Allows, Splits, Joins, keeps}
 use Rattle.atomic_table.proofs.Lists.{set_else, set_again}
 use Rattle.convoy_ledger.specs.declared.rule.View.{View}
-use Rattle.convoy_ledger.specs.Tickets.{Account, whole, times, AreAllBelow, HasAll}
+use Rattle.convoy_shares.specs.Shares.{whole}
+use Rattle.convoy_ledger.specs.Tickets.{Account, times, AreAllBelow, HasAll}
 use Rattle.convoy_ledger.specs.Rule.{spent, kept_half, given_half, joined, with_ticket, with_miss, active_share, IsRight, IsKept, Holds, Weighed, Drew}
-use Rattle.convoy_counts.proofs.Sums.{all_at, sum_set, sum_push, part_le_sum, sum_of_one}
+use Rattle.convoy_shares.proofs.Sums.{all_at, sum_set, sum_push, part_le_sum, sum_of_one}
 use Rattle.convoy_ledger.proofs.Totals.{times-append, times_one}
 
 -- a view is right also once a ticket more is drawn

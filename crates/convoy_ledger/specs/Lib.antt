@@ -1,3 +1,3 @@
-pub use Rattle.convoy_counts.specs.Counts
+pub use Rattle.convoy_shares.specs.Shares
 pub mod Tickets
 pub mod Rule

@@ -2,7 +2,7 @@
 use Rattle.std.specs.Prelude.{ℕ, ◌≡◌, ◌≤◌, List, Bool, true, length, ◌==◌}
 use Rattle.std.specs.List.{count_by}
 use Rattle.atomic_table.specs.Seated.{TableId}
-use Rattle.convoy_counts.specs.Counts.{once_below}
+use Rattle.convoy_shares.specs.Shares.{once_below}
 
 -- which ledger it is, and how many tickets it has
 pub record LedgerId : Type 0 where
@@ -15,10 +15,6 @@ pub record Account : Type 0 where
   pub tickets : List ℕ
   pub share : ℕ
   pub done : Bool
-
--- the share of the one clerk of a new ledger, and of all clerks of a ledger together
-abbrev pub whole : ℕ
-whole = 4294967296
 
 -- the most tickets that a ledger may have
 abbrev pub most_tickets : ℕ

@@ -5,8 +5,3 @@ use thiserror::Error;
 #[derive(Debug, Drop, Error)]
 #[error("other clerks are out")]
 pub struct ClerksOut(pub Ledger, pub Clerk);
-
-/// A share of 1 can't be split.
-#[derive(Clone, Copy, Debug, PartialEq, Eq, Error)]
-#[error("a share of 1 can't be split")]
-pub struct ShareTooSmall;

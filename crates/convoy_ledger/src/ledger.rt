@@ -2,17 +2,16 @@
 
 ghost use Rattle.std.specs.Prelude.{◌≡◌, ◌≢◌, ◌+◌, ◌-◌, ◌/◌, ◌<◌, ◌≤◌, ◌||◌, [], ◌∷◌, ◌++◌};
 ghost use Rattle.std.specs.Prelude.{true, false, length, All, IfOk, IfErr, IfSome, IfNone, IsNone, OnErr};
-ghost use Rattle.convoy_ledger.specs.Tickets.{whole, most_tickets, HasAll};
+ghost use Rattle.convoy_shares.specs.Shares.{whole};
+ghost use Rattle.convoy_ledger.specs.Tickets.{most_tickets, HasAll};
 
-use super::fault::{ClerksOut, ShareTooSmall};
+use super::fault::ClerksOut;
 use super::rule::{CountsDraws, Draw, Halve, View, Weigh};
 use atomic_table::{Seat, Table};
+use convoy_shares::{ShareTooSmall, WHOLE};
 use std::alloc::{AllocError, Global};
 use std::fmt;
 use std::marker::Model;
-
-/// The share of the one clerk of a new ledger, and of all clerks of a ledger together.
-const WHOLE_SHARE: u64 = 4_294_967_296;
 
 /// So many tickets, numbered from 0, which clerks draw. Threads share a ledger by `&`, each with a
 /// clerk of its own: no call on a shared ledger takes memory or waits for another thread.
@@ -79,7 +78,7 @@ impl Ledger {
         let (table, seat) = Table::of_words(alloc, &[0], &most)?;
         let clerk = Clerk {
             seat,
-            share: WHOLE_SHARE,
+            share: WHOLE,
             drawn: 0,
             done: false,
         };
@@ -170,7 +169,7 @@ impl Ledger {
         ensures all { IfOk result (λ drawn. HasAll clerk drawn) }
         ensures err { IfErr result (λ out. (out.0 ≡ self) × (out.1 ≡ clerk) × (clerk.share ≢ whole)) }
     {
-        if clerk.share != WHOLE_SHARE {
+        if clerk.share != WHOLE {
             return Err(ClerksOut(self, clerk));
         }
         let Ledger { table, most } = self;

@@ -1,7 +1,8 @@
 //! A ledger of numbered tickets that threads draw from: each ticket goes to one clerk, with no lock.
 #![tactic(auto)]
 
-pub use fault::{ClerksOut, ShareTooSmall};
+pub use convoy_shares::ShareTooSmall;
+pub use fault::ClerksOut;
 pub use ledger::{Clerk, Ledger};
 
 mod fault;

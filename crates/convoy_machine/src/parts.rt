@@ -5,9 +5,10 @@ ghost use Rattle.convoy_machine.specs.Machine.{has_ticket, is_free, is_left, is_
 
 use super::event::Event;
 use convoy_intervals::DelayBox;
+use convoy_shares::MOST_WORKERS;
 
-/// The number of workers.
-pub const WORKERS: usize = 16;
+/// The number of workers, which is the most that a search may have.
+pub const WORKERS: usize = MOST_WORKERS as usize;
 
 /// What a worker knows, and the tickets that it has.
 #[derive(Clone, Copy)]

@@ -5,7 +5,8 @@ use Rattle.std.proofs.Common.{arith, refl, ap, sym, subst, ◌∙◌, inl, inr}
 use Rattle.convoy_sim.specs.Record.{IsAttained}
 use Rattle.convoy_intervals.specs.Boxes.{Box}
 use Rattle.convoy_incumbent.specs.Boards.{BoardId, Holding}
-use Rattle.convoy_ledger.specs.Tickets.{LedgerId, Account, HasAll, whole}
+use Rattle.convoy_shares.specs.Shares.{whole}
+use Rattle.convoy_ledger.specs.Tickets.{LedgerId, Account, HasAll}
 use Rattle.convoy_branch.specs.Fronts.{left_in}
 use Rattle.convoy_branch.specs.Laws.{FrontsBetter}
 use Rattle.convoy_deque.specs.Tasks.{AreAllTaken, DequeId}

@@ -5,7 +5,7 @@ use Rattle.std.proofs.Common.{arith, refl, ap, ◌∙◌, get_or, length-append}
 use Rattle.std.proofs.lemmas.Bool.Decides.{nat_tests}
 use Rattle.std.proofs.lemmas.List.Elements.{All-nil, All-cons, All-head, All-tail, filter_map-append}
 use Rattle.std.proofs.lemmas.List.Sums.{sum_by-cons, sum_by-append}
-use Rattle.convoy_counts.specs.Counts.{once_below}
+use Rattle.convoy_shares.specs.Shares.{once_below}
 use Rattle.convoy_ledger.specs.Tickets.{times}
 use Rattle.convoy_deque.specs.declared.task.Task.{Task}
 use Rattle.convoy_deque.specs.Tasks.{tasks_at}

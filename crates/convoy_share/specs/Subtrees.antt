@@ -1,7 +1,7 @@
 -- What a worker promises of the trees that it searched.
 use Rattle.std.specs.Prelude.{◌≡◌, ℕ, ◌+◌, ◌≤◌, List, [], ◌∷◌, ◌++◌, length}
 use Rattle.std.specs.List.{All, sum_by}
-use Rattle.convoy_counts.specs.Counts.{once_below}
+use Rattle.convoy_shares.specs.Shares.{once_below}
 use Rattle.convoy_ledger.specs.Tickets.{times}
 use Rattle.convoy_scenario.specs.Scenario.{Scenario}
 use Rattle.convoy_intervals.specs.Boxes.{Box}

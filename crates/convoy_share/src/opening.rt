@@ -1,8 +1,9 @@
 //! How the workers are opened.
 
 ghost use Rattle.std.specs.Prelude.{◌≡◌, ◌≤◌, ◌<◌, ◌-◌, ◌/◌, [], length, IfOk, OnOk};
+ghost use Rattle.convoy_shares.specs.declared.shares.TheConstants.{MOST_WORKERS};
 ghost use Rattle.convoy_deque.specs.Tasks.{whole_share};
-ghost use Rattle.convoy_ledger.specs.Tickets.{whole};
+ghost use Rattle.convoy_shares.specs.Shares.{whole};
 ghost use Rattle.convoy_share.specs.Common.{common_of};
 ghost use Rattle.convoy_share.specs.Opening.{AreOpened};
 ghost use Rattle.convoy_share.specs.Workers.{IsOwner, IsThief, StaysOwner};
@@ -72,7 +73,7 @@ pub(crate) fn open_workers(
     hand: Hand,
     clerk: Clerk,
 ) -> Result<(OwnerWorker, Vec<ThiefWorker>), AllocError>
-    requires workers { (1 ≤ shared.now.workers) × (shared.now.workers ≤ 16) }
+    requires workers { (1 ≤ shared.now.workers) × (shared.now.workers ≤ MOST_WORKERS) }
     requires hand { (hand.board ≡ shared.now.board.now) × (hand.share ≡ whole) }
     requires clerk { (clerk.ledger ≡ shared.now.ledger.now) × (clerk.share ≡ whole) }
     requires none { clerk.tickets ≡ [] }

@@ -2,11 +2,13 @@
 
 ghost use Rattle.std.specs.Prelude.{◌≡◌, ℕ, ◌-◌, ◌+◌, ◌≤◌, [], false, true, length, IfOk};
 ghost use Rattle.std.specs.List.{list_any, sum};
+ghost use Rattle.convoy_shares.specs.declared.shares.TheConstants.{MOST_WORKERS};
 ghost use Rattle.convoy_packets.specs.Assignment.{ranges_of};
 ghost use Rattle.convoy_packets.specs.Table.{least_of};
 ghost use Rattle.convoy_sim.specs.Delivery.{latency_of};
 ghost use Rattle.convoy_branch.specs.Outcomes.{IsOutcome, best_of};
-ghost use Rattle.convoy_ledger.specs.Tickets.{most_tickets, whole};
+ghost use Rattle.convoy_shares.specs.Shares.{whole};
+ghost use Rattle.convoy_ledger.specs.Tickets.{most_tickets};
 ghost use Rattle.convoy_share.specs.Common.{Common, common_of};
 ghost use Rattle.convoy_share.specs.Ended.{IsClosed, IsEnded};
 ghost use Rattle.convoy_share.specs.Pieces.{is_left};
@@ -51,7 +53,7 @@ pub fn search<R: Threads + Wait + Sync, G: Gate + Sync>(
     bounds: Bounds,
     gate: &G,
 ) -> Result<Outcome, SearchFault>
-    requires workers { (1 ≤ workers) × (workers ≤ 16) }
+    requires workers { (1 ≤ workers) × (workers ≤ MOST_WORKERS) }
     requires tickets { (1 ≤ limit) × (limit ≤ most_tickets) }
     ensures { IfOk result (λ outcome. IsOutcome bounds instance.now workers limit outcome) }
 {
@@ -78,7 +80,7 @@ pub fn search_from<'a, R: Threads + Wait + Sync, G: Gate + Sync>(
 ) -> Result<Outcome, SearchFault>
     requires of_scenario { opening.scenario ≡ instance.now }
     requires least { latency_of instance.now (least_of (ranges_of instance.now)) ≤ opening.latency }
-    requires workers { (1 ≤ workers) × (workers ≤ 16) }
+    requires workers { (1 ≤ workers) × (workers ≤ MOST_WORKERS) }
     requires tickets { (1 ≤ limit) × (limit ≤ most_tickets) }
     ensures value { IfOk result (λ outcome. IsOutcome bounds instance.now workers limit outcome) }
     ensures opened { IfOk result (λ outcome. opening.latency ≤ best_of outcome) }
@@ -117,7 +119,7 @@ fn search_together<R: Threads + Wait + Sync, G: Gate + Sync>(
     hand: Hand,
     clerk: Clerk,
 ) -> Result<Ended, SearchFault>
-    requires workers { (1 ≤ shared.now.workers) × (shared.now.workers ≤ 16) }
+    requires workers { (1 ≤ shared.now.workers) × (shared.now.workers ≤ MOST_WORKERS) }
     requires hand { (hand.board ≡ shared.now.board.now) × (hand.share ≡ whole) }
     requires clerk { (clerk.ledger ≡ shared.now.ledger.now) × (clerk.share ≡ whole) }
     requires none { clerk.tickets ≡ [] }

@@ -1,6 +1,7 @@
 //! The search both ways by several workers.
 
 ghost use Rattle.std.specs.Prelude.{◌≡◌, ◌≤◌, IfOk};
+ghost use Rattle.convoy_shares.specs.declared.shares.TheConstants.{MOST_WORKERS};
 ghost use Rattle.convoy_packets.specs.Assignment.{ranges_of};
 ghost use Rattle.convoy_packets.specs.Table.{least_of};
 ghost use Rattle.convoy_sim.specs.Delivery.{latency_of};
@@ -33,7 +34,7 @@ pub fn search_both_ways<R: Threads + Wait + Sync, G: Gate + Sync>(
 ) -> Result<Outcome, SearchFault>
     requires of_scenario { opening.scenario ≡ instance.now }
     requires least { latency_of instance.now (least_of (ranges_of instance.now)) ≤ opening.latency }
-    requires workers { (1 ≤ workers) × (workers ≤ 16) }
+    requires workers { (1 ≤ workers) × (workers ≤ MOST_WORKERS) }
     requires tickets { (1 ≤ limit) × (limit ≤ most_tickets) }
     ensures value { IfOk result (λ outcome. IsOutcomeBothWays instance.now workers limit outcome) }
     ensures opened { IfOk result (λ outcome. opening.latency ≤ best_of outcome) }

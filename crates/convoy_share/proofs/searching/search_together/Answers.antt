@@ -1,6 +1,6 @@
 use Rattle.std.proofs.Common.{◌-◌, length}
 use Rattle.std.proofs.lemmas.Result.{IfOk-weaker}
-use Rattle.convoy_ledger.specs.Tickets.{whole}
+use Rattle.convoy_shares.specs.Shares.{whole}
 use Rattle.convoy_share.specs.Common.{common_of}
 use Rattle.convoy_share.specs.declared.ending.Ended.{Ended}
 use Rattle.convoy_share.specs.Ended.{IsEnded}

@@ -11,7 +11,7 @@ returns-clause-all c =
     let account = c.clerk.view_is in
     closed_has_all _ _ c.word-draws.result c.min.result _ state.0 _ c.args.clerk state.1.0 state.1.1 state.2 c.word-draws.ensures
     (c.min.ensures ∙ ap (λ most. min c.word-draws.result most) (sym table.0))
-    (clerk.1 ∙ c.if-clerk-ne-WHOLE_SHARE.false)
+    (clerk.1 ∙ c.if-clerk-ne-WHOLE.false)
     (ap (λ (a : Account). a.tickets) account)
     (sym (clerk.2 ∙ ap (λ (a : Account). a.done) account))
     (table.0 ∙ ap (λ (id : LedgerId). id.most) (c.self.view_is ∙ sym c.requires))
