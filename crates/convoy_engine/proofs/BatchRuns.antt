@@ -4,10 +4,9 @@ use Rattle.std.specs.List.{FoldsTo}
 use Rattle.std.proofs.lemmas.List.{take_more}
 use Rattle.std.proofs.lemmas.List.Elements.{All-nil}
 use Rattle.std.proofs.lemmas.Fn.{FoldsTo-push}
-use Rattle.convoy_jobs.specs.Jobs.{ended_jobs}
-use Rattle.convoy_jobs.specs.Laws.{EndedJobsStay}
-use Rattle.convoy_devices.specs.Devices.{Answer, Moved, Failed, HasRun, IsPiece}
-use Rattle.convoy_devices.specs.Laws.{PiecesGoOn}
+use Rattle.convoy_streams.specs.Jobs.{ended_jobs}
+use Rattle.convoy_streams.specs.Laws.{EndedJobsStay, PiecesGoOn}
+use Rattle.convoy_streams.specs.Devices.{Answer, Moved, Failed, HasRun, IsPiece}
 use Rattle.convoy_branch.specs.Options.{Settings}
 use Rattle.convoy_engine.specs.declared.batch.Batch.{Batch}
 use Rattle.convoy_engine.specs.declared.done.Done.TheVariants.{Fine}

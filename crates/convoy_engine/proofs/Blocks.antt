@@ -5,14 +5,14 @@ use Rattle.std.specs.Result.{IsOk, OnOk, OnErr, is_err}
 use Rattle.std.proofs.lemmas.Grind.{flat_map-append}
 use Rattle.std.proofs.lemmas.List.{append-nil}
 use Rattle.std.proofs.lemmas.List.Elements.{All-append}
-use Rattle.convoy_devices.specs.Devices.{Answer, Failed, HasRun, IsPiece, bytes_of, joined}
-use Rattle.convoy_devices.specs.Writes.{WritesAll, FailsWithin}
+use Rattle.convoy_streams.specs.Devices.{Answer, Failed, HasRun, IsPiece, bytes_of, joined}
+use Rattle.convoy_streams.specs.Writes.{WritesAll, FailsWithin}
 use Rattle.convoy_branch.specs.Options.{Settings}
 use Rattle.convoy_engine.specs.declared.done.Done.{Done}
 use Rattle.convoy_engine.specs.declared.fault.Fault.{Fault}
 use Rattle.convoy_engine.specs.declared.fault.Fault.TheVariants.{Memory, Write, TooLong, TooManyJobs}
-use Rattle.convoy_jobs.specs.Jobs.{ended_jobs, jobs_of}
-use Rattle.convoy_jobs.specs.Splitting.{IsJobStart}
+use Rattle.convoy_streams.specs.Jobs.{ended_jobs, jobs_of}
+use Rattle.convoy_streams.specs.Splitting.{IsJobStart}
 use Rattle.convoy_engine.specs.declared.batch.Batch.{Batch}
 use Rattle.convoy_engine.specs.declared.batch.TheConstants.{MOST_JOBS}
 use Rattle.convoy_engine.specs.Batches.{AnswersAll, AnswersMost, AreReplies, FailsAnswering, JobSays, block_of, blocks_from, job_line}

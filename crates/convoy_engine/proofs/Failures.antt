@@ -2,10 +2,10 @@
 use Rattle.std.proofs.Common.{◌⊎◌, ◌∙◌, ◌≡◌, ℕ, List, [], ◌∷◌, ◌++◌, Ok, Err, refl, inl, inr}
 use Rattle.std.specs.List.{All}
 use Rattle.std.proofs.lemmas.List.Elements.{All-head, All-tail}
-use Rattle.convoy_devices.specs.declared.reading.ReadFault.{ReadFault}
-use Rattle.convoy_devices.specs.declared.reading.ReadFault.TheVariants as reading
-use Rattle.convoy_devices.specs.Devices.{Answer, Moved, Failed, IsPiece, failures}
-use Rattle.convoy_devices.specs.Reads.{ReadsText, StopsReading}
+use Rattle.convoy_streams.specs.declared.reading.ReadFault.{ReadFault}
+use Rattle.convoy_streams.specs.declared.reading.ReadFault.TheVariants as reading
+use Rattle.convoy_streams.specs.Devices.{Answer, Moved, Failed, IsPiece, failures}
+use Rattle.convoy_streams.specs.Reads.{ReadsText, StopsReading}
 use Rattle.convoy_engine.specs.declared.fault.Fault.{Fault}
 use Rattle.convoy_engine.specs.declared.fault.Fault.TheVariants.{Memory, Read, Write}
 use Rattle.convoy_engine.specs.Faults.{row_of, told_of_reading}

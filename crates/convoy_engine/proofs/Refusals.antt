@@ -1,9 +1,9 @@
 -- How runs end before their text was read, and once it was.
 use Rattle.std.proofs.Common.{◌≡◌, inl, inr, ℕ, List, [], Result, Ok, Err, refl, sym, subst}
-use Rattle.convoy_devices.specs.declared.reading.ReadFault.{ReadFault}
-use Rattle.convoy_devices.specs.declared.reading.ReadFault.TheVariants as reading
-use Rattle.convoy_devices.specs.Devices.{Answer}
-use Rattle.convoy_devices.specs.Reads.{ReadsText, StopsReading}
+use Rattle.convoy_streams.specs.declared.reading.ReadFault.{ReadFault}
+use Rattle.convoy_streams.specs.declared.reading.ReadFault.TheVariants as reading
+use Rattle.convoy_streams.specs.Devices.{Answer}
+use Rattle.convoy_streams.specs.Reads.{ReadsText, StopsReading}
 use Rattle.convoy_engine.specs.declared.done.Done.{Done}
 use Rattle.convoy_engine.specs.declared.fault.Fault.{Fault}
 use Rattle.convoy_engine.specs.declared.fault.Fault.TheVariants.{Memory, Write}

@@ -1,10 +1,10 @@
 -- What holds of a batch between two bytes, and how it ends early.
 use Rattle.std.specs.Prelude.{◌≡◌, ◌⊎◌, ℕ, ◌+◌, ◌<◌, List, [], length, Result, Ok, Err, MatchResult, IsOk}
-use Rattle.convoy_jobs.specs.Jobs.{ended_jobs, jobs_of}
-use Rattle.convoy_jobs.specs.Splitting.{Holds, IsAfter, IsJobStart}
-use Rattle.convoy_jobs.specs.declared.splitter.Splitter.{Splitter}
-use Rattle.convoy_devices.specs.Devices.{Answer, HasRun}
-use Rattle.convoy_devices.specs.Writes.{WritesAll, FailsWithin}
+use Rattle.convoy_streams.specs.Jobs.{ended_jobs, jobs_of}
+use Rattle.convoy_streams.specs.Splitting.{Holds, IsAfter, IsJobStart}
+use Rattle.convoy_streams.specs.declared.splitter.Splitter.{Splitter}
+use Rattle.convoy_streams.specs.Devices.{Answer, HasRun}
+use Rattle.convoy_streams.specs.Writes.{WritesAll, FailsWithin}
 use Rattle.convoy_branch.specs.Options.{Settings}
 use Rattle.convoy_engine.specs.declared.batch.Batch.{Batch}
 use Rattle.convoy_engine.specs.declared.batch.TheConstants.{MOST_JOBS}

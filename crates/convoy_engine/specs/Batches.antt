@@ -2,9 +2,9 @@
 use Rattle.std.specs.Prelude.{◌≡◌, ◌⊎◌, ℕ, ◌+◌, ◌<◌, ◌≤◌, List, [], ◌∷◌, ◌++◌, length, All, codes, Result, Ok, Err}
 use Rattle.std.specs.List.{FoldsTo}
 use Rattle.convoy_lines.specs.Texts.{ended, number_line}
-use Rattle.convoy_jobs.specs.Jobs.{ended_jobs, jobs_of}
-use Rattle.convoy_devices.specs.Devices.{Answer, Moved, Failed, IsPiece, joined}
-use Rattle.convoy_devices.specs.Writes.{WritesAll, FailsWithin}
+use Rattle.convoy_streams.specs.Jobs.{ended_jobs, jobs_of}
+use Rattle.convoy_streams.specs.Devices.{Answer, Moved, Failed, IsPiece, joined}
+use Rattle.convoy_streams.specs.Writes.{WritesAll, FailsWithin}
 use Rattle.convoy_branch.specs.Options.{Settings}
 use Rattle.convoy_engine.specs.declared.batch.TheConstants.{MOST_JOBS}
 use Rattle.convoy_engine.specs.declared.limits.TheConstants.{LONGEST_JOB}

@@ -1,7 +1,7 @@
 -- The number and the text of each fault, and its line.
 use Rattle.std.specs.Prelude.{ℕ, ◌≤◌, List, [], ◌∷◌, ◌++◌, length, codes, decimal}
-use Rattle.convoy_devices.specs.declared.reading.ReadFault.{ReadFault}
-use Rattle.convoy_devices.specs.declared.reading.ReadFault.TheVariants as reading
+use Rattle.convoy_streams.specs.declared.reading.ReadFault.{ReadFault}
+use Rattle.convoy_streams.specs.declared.reading.ReadFault.TheVariants as reading
 use Rattle.convoy_packets.specs.declared.fault.ListFault.{ListFault}
 use Rattle.convoy_packets.specs.declared.fault.ListFault.TheVariants as lists
 use Rattle.convoy_scenario.specs.Keys.{key_word}

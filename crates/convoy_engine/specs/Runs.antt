@@ -1,11 +1,11 @@
 -- What a run of a command does, from the bytes that come to the bytes that go out.
 use Rattle.std.specs.Prelude.{◌≡◌, ◌⊎◌, ℕ, ◌≤◌, List, [], length, Result, Ok, Err}
 use Rattle.std.specs.List.{FoldsTo}
-use Rattle.convoy_devices.specs.declared.reading.ReadFault.{ReadFault}
-use Rattle.convoy_devices.specs.declared.reading.ReadFault.TheVariants as reading
-use Rattle.convoy_devices.specs.Devices.{Answer}
-use Rattle.convoy_devices.specs.Reads.{ReadsText, StopsReading}
-use Rattle.convoy_devices.specs.Writes.{WritesAll, FailsWithin}
+use Rattle.convoy_streams.specs.declared.reading.ReadFault.{ReadFault}
+use Rattle.convoy_streams.specs.declared.reading.ReadFault.TheVariants as reading
+use Rattle.convoy_streams.specs.Devices.{Answer}
+use Rattle.convoy_streams.specs.Reads.{ReadsText, StopsReading}
+use Rattle.convoy_streams.specs.Writes.{WritesAll, FailsWithin}
 use Rattle.convoy_engine.specs.declared.done.Done.{Done}
 use Rattle.convoy_engine.specs.declared.fault.Fault.{Fault}
 use Rattle.convoy_engine.specs.declared.fault.Fault.TheVariants.{Memory, Write}

@@ -15,8 +15,8 @@ use convoy_certificate::laws::texts_are_read;
 use convoy_certificate::{TextFault, read};
 use convoy_checker::laws::checked_is_valid;
 use convoy_checker::{Accepted, Refused, check};
-use convoy_devices::{Sink, Source};
 use convoy_lines::push_number_line;
+use convoy_streams::{Sink, Source};
 use std::alloc::Global;
 
 /// The command `check`: reads the text of a certificate to the end of the source, and writes the yes

@@ -13,10 +13,10 @@ use super::fault::Fault;
 use super::refusal::Refusal;
 use convoy_certificate::{Certificate, read};
 use convoy_checker::{Accepted, Refused, check};
-use convoy_devices::{Sink, Source};
 use convoy_draw::write_drawing;
 use convoy_picture::Picture;
 use convoy_sim::simulate;
+use convoy_streams::{Sink, Source};
 use std::alloc::{AllocError, Global};
 
 /// The command `draw`: reads the text of a certificate to the end of the source, checks it, and writes

@@ -12,9 +12,9 @@ use super::fault::Fault;
 use super::refusal::Refusal;
 use convoy_certificate::{Certificate, read};
 use convoy_checker::{Accepted, Refused, check};
-use convoy_devices::{Sink, Source};
 use convoy_explain::{explain, write_explanation};
 use convoy_sim::simulate;
+use convoy_streams::{Sink, Source};
 use std::alloc::{AllocError, Global};
 
 /// The command `explain`: reads the text of a certificate to the end of the source, checks it, and

@@ -1,10 +1,10 @@
 ghost use Rattle.std.specs.Prelude.{◌≡◌, ◌≤◌, ◌++◌, length, OnOk, OnErr, IfOk, string_bytes};
 ghost use Rattle.convoy_engine.specs.Faults.{IsShortEnding, limit_word, ending_text, row_of, fault_line_of};
 
-use convoy_devices::ReadFault;
 use convoy_packets::ListFault;
 use convoy_scenario::{Key, Limit, ScenarioFault};
 use convoy_share::SearchFault;
+use convoy_streams::ReadFault;
 use std::alloc::{AllocError, Global};
 use thiserror::Error;
 

@@ -10,10 +10,10 @@ use super::command::{Command, run_without_search};
 use super::done::Done;
 use super::fault::Fault;
 use convoy_certificate::push_schedule;
-use convoy_devices::{Sink, Source};
 use convoy_lines::push_number_line;
 use convoy_packets::{Delays, Instance};
 use convoy_sim::latency;
+use convoy_streams::{Sink, Source};
 use convoy_toml::read_toml;
 use std::alloc::{AllocError, Global};
 

@@ -5,12 +5,12 @@ pub use analyse::run_analyse;
 pub use batch::{MOST_JOBS, run_batch};
 pub use checking::run_check;
 pub use command::{Command, run_command};
-pub use convoy_branch::{Bounds, Gate, NoGate, lead_share, plain_share};
-pub use convoy_devices::{
-    DeviceFailed, Sink, SliceSource, Source, StreamSink, StreamSource, VecSink, write_all,
-};
 pub use convoy_branch::{
-    DEFAULT_LIMIT, DEFAULT_SIMULATIONS, MOST_SIMULATIONS, MOST_TICKETS, MOST_WORKERS, Options, Ways,
+    Bounds, DEFAULT_LIMIT, DEFAULT_SIMULATIONS, Gate, MOST_SIMULATIONS, MOST_TICKETS, MOST_WORKERS,
+    NoGate, Options, Ways, lead_share, plain_share,
+};
+pub use convoy_streams::{
+    DeviceFailed, Sink, SliceSource, Source, StreamSink, StreamSource, VecSink, write_all,
 };
 pub use done::Done;
 pub use drawing::run_draw;

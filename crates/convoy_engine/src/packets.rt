@@ -20,9 +20,9 @@ use super::fault::Fault;
 use super::input::{case_of, is_certificate_text};
 use super::limits::LONGEST_JOB;
 use convoy_certificate::read;
-use convoy_devices::{Sink, Source};
 use convoy_explain::{write_packets, write_scheduled_packets};
 use convoy_packets::Instance;
+use convoy_streams::{Sink, Source};
 use convoy_toml::read_toml;
 use std::alloc::{AllocError, Global};
 

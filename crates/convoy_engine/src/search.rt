@@ -6,8 +6,7 @@ ghost use Rattle.convoy_engine.specs.Searches.{IsEnd, IsOutcomeBy, IsUnanswered,
 
 use super::fault::Fault;
 use super::watch::Watch;
-use convoy_branch::{Outcome, plain_share, search_alone};
-use convoy_branch::{Options, Ways};
+use convoy_branch::{Options, Outcome, Ways, plain_share, search_alone};
 use convoy_packets::{Delays, Instance};
 use convoy_seek::seek;
 use convoy_sim::Record;

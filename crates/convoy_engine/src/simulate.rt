@@ -18,9 +18,9 @@ use super::fault::Fault;
 use super::input::{case_of, is_certificate_text};
 use super::limits::LONGEST_JOB;
 use convoy_certificate::{push_schedule, read};
-use convoy_devices::{Sink, Source};
 use convoy_lines::push_number_line;
 use convoy_sim::latency;
+use convoy_streams::{Sink, Source};
 use std::alloc::{AllocError, Global};
 
 /// The command `simulate`: reads a scenario to the end of the source, and writes the latency in ticks

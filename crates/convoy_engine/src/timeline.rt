@@ -18,8 +18,8 @@ use super::fault::Fault;
 use super::input::{case_of, is_certificate_text};
 use super::limits::LONGEST_JOB;
 use convoy_certificate::read;
-use convoy_devices::{Sink, Source};
 use convoy_sim::simulate;
+use convoy_streams::{Sink, Source};
 use convoy_timeline::write_timeline;
 use std::alloc::{AllocError, Global};
 

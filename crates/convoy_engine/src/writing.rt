@@ -1,10 +1,10 @@
-ghost use Rattle.convoy_devices.specs.Devices.{HasRun};
+ghost use Rattle.convoy_streams.specs.Devices.{HasRun};
 ghost use Rattle.convoy_engine.specs.Replies.{reply_of};
 ghost use Rattle.convoy_engine.specs.Runs.{WritesReply};
 
 use super::done::Done;
 use super::fault::Fault;
-use convoy_devices::{DeviceFailed, Sink, write_all};
+use convoy_streams::{DeviceFailed, Sink, write_all};
 
 /// Writes what a command answers. Where that is a fault nothing is written; `Fault::Write` where the
 /// sink fails.

@@ -1,6 +1,6 @@
-use convoy_jobs::{JobFault, Splitter};
 use convoy_scenario::ScenarioFault;
 use convoy_scenario_hints::{hint_for_fault, noun};
+use convoy_streams::{JobFault, Splitter};
 use convoy_toml::read_toml;
 use std::alloc::{AllocError, Global};
 

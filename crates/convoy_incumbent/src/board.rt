@@ -5,8 +5,7 @@ ghost use Rattle.std.specs.Prelude.{IfOk, IfErr, OnErr};
 ghost use Rattle.convoy_sim.specs.Greatest.{IsReached};
 ghost use Rattle.convoy_sim.specs.Record.{IsAttained};
 ghost use Rattle.convoy_shares.specs.Shares.{whole};
-ghost use Rattle.convoy_incumbent.specs.Boards.{pair_of, IsGreatestOf, IsNoteOf};
-ghost use Rattle.convoy_incumbent.specs.Boards.{NoneAbove};
+ghost use Rattle.convoy_incumbent.specs.Boards.{pair_of, IsGreatestOf, IsNoteOf, NoneAbove};
 ghost use Rattle.convoy_incumbent.specs.Faults.{GiveBack, GivesBack};
 
 use super::fault::{BoardFault, CloseFault, NoteFault};

@@ -2,8 +2,7 @@
 use Rattle.std.specs.Prelude.{◌≡◌, ℕ, ◌+◌, ◌-◌, ◌/◌, ◌<◌, ◌≤◌, List, [], ◌∷◌, ◌++◌, true, false, ◌||◌, length, if◌then◌else◌}
 use Rattle.std.specs.List.{All, sum_by}
 use Rattle.atomic_table.specs.Table.{State, Me, Step}
-use Rattle.convoy_shares.specs.Shares.{once_below}
-use Rattle.convoy_shares.specs.Shares.{whole}
+use Rattle.convoy_shares.specs.Shares.{once_below, whole}
 use Rattle.convoy_ledger.specs.Tickets.{times}
 use Rattle.convoy_ledger.specs.declared.rule.View.{View}
 

@@ -1,6 +1,6 @@
 use Rattle.std.proofs.Common.{arith}
 use Rattle.std.proofs.lemmas.Result.{err_from_is_err_and}
-use Rattle.convoy_jobs.specs.Splitting.{Holds}
+use Rattle.convoy_streams.specs.Splitting.{Holds}
 use Rattle.convoy_engine.specs.declared.limits.TheConstants.{LONGEST_JOB}
 use Rattle.convoy_engine.proofs.Blocks.{end_fails, end_most, end_ready}
 use Rattle.convoy_engine.proofs.batch.Batch.end_job.Goals as goal

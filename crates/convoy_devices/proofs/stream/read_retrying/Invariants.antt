@@ -1,6 +1,0 @@
--- A read that was interrupted took nothing.
-use Rattle.std.specs.Io.KnownBytes.{Keeps}
-use Rattle.convoy_devices.proofs.stream.read_retrying.Given as goal
-
-abbrev pub invariant-loop : goal.invariant-loop
-invariant-loop g l = Keeps (g.R.Read.remaining l.fn.reader) (g.R.Read.remaining l.reader)

@@ -1,8 +1,0 @@
--- what a call answers, and what the calls of a run answer together
-pub mod Devices
-pub mod Reads
-pub mod Writes
-pub mod Laws
--- words of single devices: those in memory, and the standard library's streams
-pub mod InMemory
-pub mod Streams

@@ -1,4 +1,0 @@
-pub mod Jobs
-pub mod Laws
-pub mod Steps
-pub mod Splitting
