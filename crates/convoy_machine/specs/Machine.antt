@@ -1,4 +1,4 @@
--- The search of many workers as a machine of its own, with no threads. Whatever order their steps take, it is a list of events.
+-- The search of many workers as a machine of its own, with no threads: a list of events, in any order that the rules allow.
 use Rattle.std.specs.Prelude.{ℕ, ◌+◌, ◌<◌, ◌==◌, nat_le, nat_lt, Bool, true, false, ◌&&◌, ◌||◌, if◌then◌else◌, List, [], ◌∷◌, ◌++◌, length, replicate, slice_get, slice_index_or, slice_set, Result, Ok, Err}
 use Rattle.std.specs.Option.{option_map_or}
 use Rattle.convoy_scenario.specs.Scenario.{Scenario}

@@ -37,7 +37,7 @@ impl From<AllocError> for ReplayFault {
 
 /// Replays a search of up to 16 workers as a list of events, from its start: the record of all least
 /// delays is the best, every worker has seen its latency, and worker 0 has the root box as branch 0
-/// (docs/PROTOCOL.md). Whatever the threads of a search do, and in whatever order, is such a list.
+/// (docs/PROTOCOL.md).
 ///
 /// Answers the state that the events lead to, where each is lawful in the state before it, or else
 /// the place of the first that is not.
