@@ -8,7 +8,7 @@ use Rattle.convoy_picture.specs.Pictures.{Picture}
 use Rattle.convoy_picture.specs.Words.{answer_text, entry_text, flight_text}
 use Rattle.convoy_picture.specs.declared.role.Role.{Role}
 use Rattle.convoy_picture.specs.declared.role.Role.TheVariants.{Target, Holder, Other}
-use Rattle.convoy_draw.specs.Drawings.{IsDrawing, Tells}
+use Rattle.convoy_draw.specs.Drawings.{IsDrawing, Tells, titled}
 use Rattle.convoy_draw.specs.Layers.{IsToldIn, Layers, element_text, layer_of, with_element}
 
 -- a text tells what a part of it tells
@@ -56,17 +56,22 @@ pub told_after : (layers : Layers) (role : Role) (element piece : List ℕ)
     → Tells piece element → IsToldIn (with_element layers role element) piece
 told_after layers role element piece told = record { role = role; told = now_told layers piece element role told }
 
+-- a title, and what comes after it
+titled_then : (words back : List ℕ) → titled words ++ back ≡ codes "<title>" ++ (words ++ (codes "</title>" ++ back))
+titled_then words back = simp append_assoc
+
+-- a text tells what stands in it as a title
+pub tells_title : (words front back text : List ℕ)
+    → text ≡ front ++ (codes "<title>" ++ (words ++ (codes "</title>" ++ back))) → Tells words text
+tells_title words front back text whole = record {
+  before = front;
+  after = back;
+  whole = rw (whole, titled_then words back) refl;
+}
+
 -- what an element tells
 pub element_tells : (told drawn : List ℕ) → Tells told (element_text told drawn)
-element_tells told drawn = record { before = codes "<g><title>"; after = codes "</title>" ++ (drawn ++ (codes "</g>" ++ 10 ∷ [])); whole = refl }
-
--- what stands in a text tells itself
-pub tells_itself : (piece first second back text : List ℕ) → text ≡ first ++ (second ++ (piece ++ back)) → Tells piece text
-tells_itself piece first second back text whole = record {
-  before = first ++ second;
-  after = back;
-  whole = rw whole (simp append_assoc);
-}
+element_tells told drawn = tells_title told (codes "<g>") (drawn ++ (codes "</g>" ++ 10 ∷ [])) (element_text told drawn) refl
 
 -- three layers in their groups
 abbrev pub joined : Layers → List ℕ → List ℕ → List ℕ → List ℕ

@@ -1,17 +1,21 @@
 -- What the image of a picture tells in words, for readers that show no images and where the mouse rests on a line or a sign.
-use Rattle.std.specs.Prelude.{◌≡◌, ℕ, List, ◌++◌}
+use Rattle.std.specs.Prelude.{◌≡◌, ℕ, List, ◌++◌, codes}
 use Rattle.std.specs.List.{All}
 use Rattle.convoy_scenario.specs.Scenario.{Scenario}
 use Rattle.convoy_picture.specs.Pictures.{Picture}
 use Rattle.convoy_picture.specs.Words.{answer_text, entry_text, flight_text}
 
--- a text has a piece, whatever stands before it and after it
-pub record Tells (piece text : List ℕ) : Type 0 where
+-- words as the title of an element
+abbrev pub titled : List ℕ → List ℕ
+titled words = codes "<title>" ++ (words ++ codes "</title>")
+
+-- a text has words as a title, and nothing besides in that title
+pub record Tells (words text : List ℕ) : Type 0 where
   pub before : List ℕ
   pub after : List ℕ
-  pub whole : text ≡ before ++ (piece ++ after)
+  pub whole : text ≡ before ++ (titled words ++ after)
 
--- the text of an image is that of a picture: it tells the answer, each packet and all that happens
+-- the text of an image is that of a picture: it has the answer, each packet and all that happens as titles
 pub record IsDrawing (scenario : Scenario) (picture : Picture) (text : List ℕ) : Type 0 where
   pub answer : Tells (answer_text scenario picture.why) text
   pub flights : All (λ flight. Tells (flight_text scenario flight) text) picture.flights
