@@ -32,6 +32,21 @@ fn ledger_tickets(rt: HostRuntime) -> Result<(), Fail> {
 }
 
 #[test]
+fn dropped_clerk(rt: HostRuntime) -> Result<(), Fail> {
+    let (ledger, mut first) = Ledger::open(rt.alloc(), 4)?;
+    let Ok(second) = ledger.split(&mut first) else {
+        panic!(rt; "a new clerk could not be split");
+    };
+    drop(second);
+    assert_eq!(rt; ledger.draw(&mut first), Some(0));
+    let Err(ClerksOut(ledger, mut first)) = ledger.close(first) else {
+        panic!(rt; "closed without the share of a clerk that was dropped");
+    };
+    assert_eq!(rt; ledger.draw(&mut first), Some(1));
+    Ok(())
+}
+
+#[test]
 fn two_draws_of_ten(rt: HostRuntime) -> Result<(), Fail> {
     let (ledger, mut clerk) = Ledger::open(rt.alloc(), 10)?;
     assert_eq!(rt; ledger.draw(&mut clerk), Some(0));

@@ -142,6 +142,20 @@ fn hand_shares(rt: HostRuntime) -> Result<(), Fail> {
     Ok(())
 }
 
+#[test]
+fn dropped_hand(rt: HostRuntime) -> Result<(), Fail> {
+    let alloc = rt.alloc();
+    let instance = lone(alloc)?;
+    let least = record_of(alloc, &instance, &LATENCY_2)?;
+    let (board, mut first) = opened(&rt, alloc, least);
+    drop(half_of(&rt, &board, &mut first));
+    let Err(CloseFault::HandsOut(board, mut first)) = board.close(first) else {
+        panic!(rt; "closed without the share of a hand that was dropped");
+    };
+    assert_eq!(rt; board.look(&mut first), 2);
+    Ok(())
+}
+
 /// Notes and publishes a record, and looks so many times.
 fn publish_and_look<R: Abort + Wait>(
     rt: &R,
