@@ -3,10 +3,12 @@
 
 pub use accepted::Accepted;
 pub use checking::check;
+pub use refusal::Refusal;
 pub use refused::Refused;
 
 mod accepted;
 mod checking;
 pub mod laws;
+mod refusal;
 mod refused;
 mod walk;
