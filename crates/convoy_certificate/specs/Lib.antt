@@ -17,4 +17,5 @@ pub mod Text
 pub mod Laws
 -- which text is read as what, and which fault it has
 pub mod Forms
+pub mod TextForms
 pub mod Reading

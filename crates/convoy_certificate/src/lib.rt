@@ -2,6 +2,7 @@
 #![tactic(auto)]
 
 pub use certificate::{Certificate, LONGEST_TEXT, MOST_LEADS, MOST_NODES};
+pub use form::{Form, form_of};
 pub use node::{GREATEST_PACKET, Node};
 pub use reading::read;
 pub use text_fault::TextFault;
@@ -9,6 +10,7 @@ pub use version::Version;
 pub use writing::{push_schedule, write};
 
 mod certificate;
+mod form;
 pub mod laws;
 mod lines;
 mod node;
