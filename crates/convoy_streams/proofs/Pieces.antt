@@ -96,18 +96,20 @@ module _ {S : Type 0} (step : S → Answer → S → Type 0) (old mid new : S) (
   pub ended_by_failure : step mid Failed new → HasRun step old new (λ answers. (length answers ≤ most_reads) × FailsReading longest answers)
   ended_by_failure failed = ended (FailsReading longest) Failed failed (record { pieces = p.answers; last = refl; given = given })
 
-  -- with the first byte past the limit
+  -- with the first byte past the limit, which is told
   pub ended_by_length : (more : List ℕ) → step mid (Moved more) new → longest < length bytes + length more →
-      HasRun step old new (λ answers. (length answers ≤ most_reads) × ReadsTooMuch longest answers)
+      HasRun step old new (λ answers. (length answers ≤ most_reads) × ((longest ≡ longest) × ReadsTooMuch longest answers))
   ended_by_length more moved long =
-      ended (ReadsTooMuch longest) (Moved more) moved
-      (record {
-        pieces = p.answers;
-        bytes = more;
-        last = refl;
-        given = given;
-        long = rw (joined_push, p.whole, length-append) long;
-      })
+      ended (λ answers. (longest ≡ longest) × ReadsTooMuch longest answers) (Moved more) moved (
+        refl,
+        record {
+          pieces = p.answers;
+          bytes = more;
+          last = refl;
+          given = given;
+          long = rw (joined_push, p.whole, length-append) long;
+        },
+      )
 
   -- with memory refused for the last piece, which is within the limit too
   pub ended_by_memory : (more : List ℕ) → step mid (Moved more) new → 0 < length more → length bytes + length more ≤ longest →

@@ -34,7 +34,8 @@ pub record ReadsTooMuch (longest : ℕ) (answers : List Answer) : Type 0 where
 -- at most so many reads are made.
 abbrev pub StopsReading : ℕ → ℕ → List Answer → ReadFault → Type 0
 StopsReading longest most_reads answers Read = FailsReading longest answers
-StopsReading longest most_reads answers TooLong = ReadsTooMuch longest answers
+-- the fault tells the limit that the input exceeds
+StopsReading longest most_reads answers (TooLong limit) = (limit ≡ longest) × ReadsTooMuch longest answers
 -- as many reads as there may be gave pieces, and none the end
 StopsReading longest most_reads answers TooManyReads = ArePieces longest answers × (length answers ≡ most_reads)
 -- memory ran out at the last piece

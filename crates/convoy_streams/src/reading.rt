@@ -15,9 +15,9 @@ pub enum ReadFault {
     /// The source failed in its last read.
     #[error("the input could not be read")]
     Read,
-    /// The source has more bytes than were asked for at most.
-    #[error("the input is too long")]
-    TooLong,
+    /// The source has more bytes than were asked for at most, which are that many.
+    #[error("the input has more than {0} bytes")]
+    TooLong(usize),
     /// As many reads as the caller allows were made, and the end was not seen.
     #[error("the input did not end within the reads that are allowed")]
     TooManyReads,
@@ -40,8 +40,8 @@ impl From<AllocError> for ReadFault {
 /// Reads a source to its end, in at most `most_reads` reads of at most [`BUFFER_LENGTH`] bytes each,
 /// and answers its bytes.
 ///
-/// `ReadFault::Read` where the source fails; `ReadFault::TooLong` at the read that brings a byte past
-/// `longest`; `ReadFault::TooManyReads` where `most_reads` reads give bytes and none the end; and
+/// `ReadFault::Read` where the source fails; `ReadFault::TooLong`, with `longest`, at the read that brings a byte
+/// past that; `ReadFault::TooManyReads` where `most_reads` reads give bytes and none the end; and
 /// `ReadFault::Memory` where memory runs out.
 pub fn read_to_end<S: Source>(
     alloc: Global,
@@ -62,7 +62,7 @@ pub fn read_to_end<S: Source>(
             return Ok(text);
         }
         if piece.len() > longest - text.len() {
-            return Err(ReadFault::TooLong);
+            return Err(ReadFault::TooLong(longest));
         }
         text.extend_from_slice(piece)?;
     }

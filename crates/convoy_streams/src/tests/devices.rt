@@ -54,8 +54,8 @@ fn texts_in_pieces(rt: HostRuntime) -> Result<(), Fail> {
 #[test]
 fn stopped_reading(rt: HostRuntime) {
     for (piece, longest, reads, want) in [
-        (5, 11, 13, ReadFault::TooLong),
-        (100, 11, 13, ReadFault::TooLong),
+        (5, 11, 13, ReadFault::TooLong(11)),
+        (100, 11, 13, ReadFault::TooLong(11)),
         (5, 12, 3, ReadFault::TooManyReads),
         (1, 12, 0, ReadFault::TooManyReads),
     ] {
