@@ -34,7 +34,7 @@ IsVerdict Memory = Unit {0}
 abbrev pub status_of : Done → ℕ
 status_of Fine = 0
 status_of Open = 3
-status_of Refused = 4
+status_of (Refused refusal) = 4
 
 -- From the old states of the source and the sink to the new ones the verdict is done, with an exit
 -- status or a fault. Only a command reads.

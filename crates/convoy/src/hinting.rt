@@ -69,7 +69,7 @@ pub fn hint_for<R, W>(
             Some(error) => Ok(Some(hint_for_writing(alloc, &error)?)),
             None => Ok(None),
         },
-        Err(Fault::TooLong) => {
+        Err(Fault::TooLong(_)) => {
             let text = ended.reader.text();
             let most = longest_for(ended.verdict, text);
             Ok(Some(hint_for_length(alloc, text, most)?))

@@ -136,7 +136,7 @@ fn status_of(done: Done) -> u8
     match done {
         Done::Fine => FINE,
         Done::Open => OPEN,
-        Done::Refused => NOT_VALID,
+        Done::Refused(_) => NOT_VALID,
     }
 }
 

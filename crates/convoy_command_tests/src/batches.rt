@@ -115,6 +115,6 @@ fn batch_memory(rt: HostRuntime) {
         }
         // A sink in memory fails where memory runs out in it.
         Err(Fault::Memory | Fault::Write) => assert!(rt; sink.bytes().is_empty()),
-        Ok(Done::Open | Done::Refused) | Err(_) => assert!(rt; false, "another end"),
+        Ok(Done::Open | Done::Refused(_)) | Err(_) => assert!(rt; false, "another end"),
     }
 }

@@ -15,6 +15,7 @@ use Rattle.convoy_streams.specs.Jobs.{ended_jobs, jobs_of}
 use Rattle.convoy_streams.specs.Splitting.{IsJobStart}
 use Rattle.convoy_engine.specs.declared.batch.Batch.{Batch}
 use Rattle.convoy_engine.specs.declared.batch.TheConstants.{MOST_JOBS}
+use Rattle.convoy_engine.specs.declared.limits.TheConstants.{LONGEST_JOB}
 use Rattle.convoy_engine.specs.Batches.{AnswersAll, AnswersMost, AreReplies, FailsAnswering, JobSays, block_of, blocks_from, job_line}
 use Rattle.convoy_engine.specs.BatchSteps.{AnswersOne, EndsBatch, IsBlockFor, IsFresh, IsReady, IsUnderWay, StopsAnswering}
 use Rattle.convoy_engine.specs.Faults.{fault_line_of, row_of}
@@ -151,7 +152,7 @@ told_allowed : (settings : Settings) (job : List ℕ) (want reply : Reply) → J
     (reply ≡ want) ⊎ (IsOk want × (reply ≡ Err Memory)) → JobSays settings job reply
 told_allowed settings job want reply says (inl same) = subst (JobSays settings job) (sym same) says
 told_allowed settings job want reply says (inr memory) = record {
-  long = λ more. let bad : IsOk {T = Done × List ℕ} {E = Fault} (Err TooLong) = subst IsOk (says.long more) memory.0 in cc;
+  long = λ more. let bad : IsOk {T = Done × List ℕ} {E = Fault} (Err (TooLong LONGEST_JOB)) = subst IsOk (says.long more) memory.0 in cc;
   short = λ few. inr memory.1;
 }
 

@@ -47,10 +47,10 @@ low_is_none number low = record { no_read = λ is. omega arith; no_write = λ is
 -- a job's fault is one of its text, or that it is too long
 job_number : (answer : Result (List ℕ) Fault) (fault : Fault) →
     ((refused : Fault) → answer ≡ Err refused → (row_of refused).0 ≤ 14) → (b : Bool) →
-    Err fault ≡ cond b (fine answer) (Err TooLong) → IsNoDevice (row_of fault).0
+    Err fault ≡ cond b (fine answer) (Err (TooLong LONGEST_JOB)) → IsNoDevice (row_of fault).0
 job_number answer fault low true is = low_is_none _ (low fault (fault_of_fine answer fault is))
 job_number answer fault low false is =
-    let same : fault ≡ TooLong = cc in
+    let same : fault ≡ TooLong LONGEST_JOB = cc in
     rw same (record { no_read = λ i. omega arith; no_write = λ i. omega arith })
 
 -- a certificate's fault is want of memory

@@ -36,7 +36,8 @@ in_text longest reads text read = rw read.end (after_pieces read.pieces (Moved [
 in_stop : (longest most_reads : ℕ) (reads : List Answer) (cause : ReadFault) →
     StopsReading longest most_reads reads cause → failures reads ≡ told_reads (Err (told_of_reading cause))
 in_stop longest most_reads reads reading.Read stop = rw stop.last (after_pieces stop.pieces Failed stop.given.each)
-in_stop longest most_reads reads reading.TooLong stop = rw stop.last (after_pieces stop.pieces (Moved stop.bytes) stop.given.each)
+in_stop longest most_reads reads (reading.TooLong limit) stop =
+    let much = stop.1 in rw much.last (after_pieces much.pieces (Moved much.bytes) much.given.each)
 in_stop longest most_reads reads reading.TooManyReads stop = none_in_pieces reads stop.0.each
 in_stop longest most_reads reads reading.Memory stop = none_in_pieces reads stop.each
 

@@ -15,7 +15,8 @@ use Rattle.convoy_engine.specs.Runs.{RunsTo, WritesReply}
 pub unread_run : (longest : ℕ) (says : Rule) (most_reads : ℕ) (reads : List Answer) (cause : ReadFault) →
     StopsReading longest most_reads reads cause → RunsTo longest says most_reads reads [] (Err (told_of_reading cause))
 unread_run longest says most_reads reads reading.Read stop = (inl (record { cause = reading.Read; stopped = stop; told = refl }), refl)
-unread_run longest says most_reads reads reading.TooLong stop = (inl (record { cause = reading.TooLong; stopped = stop; told = refl }), refl)
+unread_run longest says most_reads reads (reading.TooLong limit) stop =
+    (inl (record { cause = reading.TooLong limit; stopped = stop; told = refl }), refl)
 unread_run longest says most_reads reads reading.TooManyReads stop = (inl (record { cause = reading.TooManyReads; stopped = stop; told = refl }), refl)
 unread_run longest says most_reads reads reading.Memory stop = (inl stop, refl)
 

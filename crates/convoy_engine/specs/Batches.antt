@@ -18,7 +18,7 @@ use Rattle.convoy_engine.specs.Searches.{LatencySays}
 
 -- What may be answered for a job, by its own text alone: that it is too long just where it is, and else what `latency` answers, unless memory ran out.
 pub record JobSays (settings : Settings) (job : List ℕ) (reply : Reply) : Type 0 where
-  pub long : LONGEST_JOB < length job → reply ≡ Err TooLong
+  pub long : LONGEST_JOB < length job → reply ≡ Err (TooLong LONGEST_JOB)
   pub short : length job ≤ LONGEST_JOB → SaysUnlessMemory (LatencySays settings) job reply
 
 -- the first line of a block

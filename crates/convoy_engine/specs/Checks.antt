@@ -9,6 +9,7 @@ use Rattle.convoy_checker.specs.Validity.{IsValid}
 use Rattle.convoy_sim.specs.Greatest.{IsGreatest}
 use Rattle.convoy_checker.specs.declared.refused.Refused.{Refused as Fault-of-check}
 use Rattle.convoy_checker.specs.declared.refused.Refused.TheVariants as checks
+use Rattle.convoy_checker.specs.declared.refusal.Refusal.TheVariants.{Text, Check}
 use Rattle.convoy_engine.specs.declared.done.Done.TheVariants.{Fine, Refused}
 use Rattle.convoy_engine.specs.declared.fault.Fault.TheVariants as faults
 use Rattle.convoy_engine.specs.Lines.{accepted_line}
@@ -19,13 +20,13 @@ use Rattle.convoy_engine.specs.Replies.{Reply, Rule}
 abbrev pub reply_of_check : Result ℕ Fault-of-check → Reply
 reply_of_check (Ok latency) = Ok (Fine, accepted_line latency)
 reply_of_check (Err checks.Memory) = Err faults.Memory
-reply_of_check (Err fault) = Ok (Refused, refused_line (row_of_check fault))
+reply_of_check (Err fault) = Ok (Refused (Check fault), refused_line (row_of_check fault))
 
 -- what is read is checked; or else its text is refused
 abbrev pub reply_of_text : Result Certificate TextFault → Reply
 reply_of_text (Ok certificate) = reply_of_check (checked certificate)
 reply_of_text (Err texts.Memory) = Err faults.Memory
-reply_of_text (Err fault) = Ok (Refused, refused_line (row_of_text fault))
+reply_of_text (Err fault) = Ok (Refused (Text fault), refused_line (row_of_text fault))
 
 -- What is written for a text: a yes, or else the first refusal, of the text and then of the certificate.
 unfoldable pub check_reply : List ℕ → Reply

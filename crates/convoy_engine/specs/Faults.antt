@@ -43,7 +43,7 @@ row_of Memory = (11, codes "out of memory")
 row_of PlaceTooLarge = (30, codes "place too large")
 row_of Read = (40, codes "read failed")
 row_of Write = (41, codes "write failed")
-row_of TooLong = (42, codes "job too long")
+row_of (TooLong limit) = (42, codes "job too long")
 row_of TooManyJobs = (43, codes "too many jobs")
 row_of TooManyReads = (44, codes "too many reads")
 
@@ -64,7 +64,7 @@ fault_line_of fault = codes "fault " ++ (decimal (row_of fault).0 ++ 32 ∷ ((ro
 -- why a text was not read to its end, as the engine tells it
 abbrev pub told_of_reading : ReadFault → Fault
 told_of_reading reading.Read = Read
-told_of_reading reading.TooLong = TooLong
+told_of_reading (reading.TooLong limit) = TooLong limit
 told_of_reading reading.TooManyReads = TooManyReads
 told_of_reading reading.Memory = Memory
 

@@ -26,7 +26,7 @@ reply_of_reading made (Err fault) = reply_of_text (Err fault)
 
 -- the answer for a scenario's text, where that has no more bytes than it may have
 abbrev pub reply_of_job : (List ℕ → Result (List ℕ) Fault) → List ℕ → Reply
-reply_of_job answer text = if nat_le (length text) LONGEST_JOB then fine (answer text) else Err TooLong
+reply_of_job answer text = if nat_le (length text) LONGEST_JOB then fine (answer text) else Err (TooLong LONGEST_JOB)
 
 -- the reply to a certificate, and to a scenario
 abbrev pub reply_by_form : (Certificate → List ℕ) → (List ℕ → Result (List ℕ) Fault) → List ℕ → Reply

@@ -7,8 +7,8 @@ use Rattle.convoy_certificate.specs.declared.text_fault.TextFault.{TextFault}
 use Rattle.convoy_certificate.specs.declared.text_fault.TextFault.TheVariants as texts
 use Rattle.convoy_checker.specs.declared.refused.Refused.{Refused}
 use Rattle.convoy_checker.specs.declared.refused.Refused.TheVariants as checks
-use Rattle.convoy_engine.specs.declared.refusal.Refusal.{Refusal}
-use Rattle.convoy_engine.specs.declared.refusal.Refusal.TheVariants.{Text, Check}
+use Rattle.convoy_checker.specs.declared.refusal.Refusal.{Refusal}
+use Rattle.convoy_checker.specs.declared.refusal.Refusal.TheVariants.{Text, Check}
 use Rattle.convoy_engine.specs.Faults.{row_of, told_of}
 
 -- the word of what a line has to be

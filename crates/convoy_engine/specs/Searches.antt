@@ -115,7 +115,7 @@ pub record IsOpenProof (settings : Settings) (text out : List ℕ) : Type 0 wher
 abbrev pub AnalyseSays : Settings → Rule
 AnalyseSays settings text (Ok (Fine, out)) = IsProof settings text out
 AnalyseSays settings text (Ok (Open, out)) = IsOpenProof settings text out
-AnalyseSays settings text (Ok (Refused, out)) = ⊥
+AnalyseSays settings text (Ok (Refused refusal, out)) = ⊥
 AnalyseSays settings text (Err fault) = IsSearchFault settings text fault
 
 -- The greatest latency of the scenario that was read is written.
@@ -139,5 +139,5 @@ pub record IsFrontTold (settings : Settings) (text out : List ℕ) : Type 0 wher
 abbrev pub LatencySays : Settings → Rule
 LatencySays settings text (Ok (Fine, out)) = IsGreatestTold text out
 LatencySays settings text (Ok (Open, out)) = IsFrontTold settings text out
-LatencySays settings text (Ok (Refused, out)) = ⊥
+LatencySays settings text (Ok (Refused refusal, out)) = ⊥
 LatencySays settings text (Err fault) = IsSearchFault settings text fault

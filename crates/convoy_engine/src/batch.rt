@@ -206,7 +206,7 @@ fn job_answer<R: Threads + Wait + Sync>(
 {
     match splitter.job() {
         Ok(text) => latency_answer(rt, alloc, text, options, &NoGate),
-        Err(JobFault::TooLong) => Err(Fault::TooLong),
+        Err(JobFault::TooLong) => Err(Fault::TooLong(LONGEST_JOB)),
         Err(JobFault::Memory) => Err(Fault::Memory),
     }
 }

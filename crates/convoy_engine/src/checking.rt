@@ -10,11 +10,11 @@ ghost use Rattle.convoy_engine.specs.Runs.{IsRun};
 use super::command::{Command, run_without_search};
 use super::done::Done;
 use super::fault::Fault;
-use super::refusal::{Refusal, refusal_line};
+use super::refusal::refusal_line;
 use convoy_certificate::laws::texts_are_read;
 use convoy_certificate::{TextFault, read};
 use convoy_checker::laws::checked_is_valid;
-use convoy_checker::{Accepted, Refused, check};
+use convoy_checker::{Accepted, Refusal, Refused, check};
 use convoy_lines::push_number_line;
 use convoy_streams::{Sink, Source};
 use std::alloc::Global;
@@ -24,8 +24,8 @@ use std::alloc::Global;
 /// certificate is refused (docs/FORMATS.md, "What `check` writes").
 ///
 /// At most `most_reads` reads are made. Nothing is written before the answer is known. It ends as
-/// `Done::Fine` or `Done::Refused`. The faults are `Fault::Memory`; `Fault::Read` where the source
-/// fails; `Fault::TooLong` at the read that brings a byte past
+/// `Done::Fine` or, with the refusal, as `Done::Refused`. The faults are `Fault::Memory`; `Fault::Read`
+/// where the source fails; `Fault::TooLong` at the read that brings a byte past
 /// [`LONGEST_CERTIFICATE`](super::LONGEST_CERTIFICATE); `Fault::TooManyReads` where `most_reads` reads give
 /// bytes and none the end; `Fault::Write` where the sink fails, after a front of the answer has gone
 /// out.
@@ -85,9 +85,9 @@ fn accept(alloc: Global, latency: u32) -> Result<(Done, Vec<u8>), Fault>
 
 /// A refusal.
 pub(crate) fn refuse(alloc: Global, refusal: Refusal) -> Result<(Done, Vec<u8>), Fault>
-    ensures { IsReply (Ok (ends.Refused, refused_line (row_of_refusal refusal))) (reply_of result) }
+    ensures { IsReply (Ok (ends.Refused refusal, refused_line (row_of_refusal refusal))) (reply_of result) }
 {
     let mut line = Vec::new(alloc);
     refusal_line(refusal, &mut line)?;
-    Ok((Done::Refused, line))
+    Ok((Done::Refused(refusal), line))
 }

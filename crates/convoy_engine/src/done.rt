@@ -1,3 +1,5 @@
+use convoy_checker::Refusal;
+
 /// How a command ended that gave an answer.
 #[derive(Clone, Copy, Debug, PartialEq, Eq)]
 pub enum Done {
@@ -5,6 +7,6 @@ pub enum Done {
     Fine,
     /// The search did not end within its limit: what it found so far was written.
     Open,
-    /// The certificate is not valid: the refusal was written.
-    Refused,
+    /// The text is not that of a valid certificate, for this cause: the line of the refusal was written.
+    Refused(Refusal),
 }

@@ -66,10 +66,10 @@ pub enum Fault {
     /// The sink failed in its last write, or took none of the bytes offered.
     #[error("the output could not be written")]
     Write,
-    /// The input has more bytes than the command takes: more than `LONGEST_JOB`, or of a certificate
-    /// more than `LONGEST_CERTIFICATE`.
-    #[error("the input is too long")]
-    TooLong,
+    /// The input has more bytes than the command takes. It names that limit: `LONGEST_JOB`, or
+    /// `LONGEST_CERTIFICATE` where the input may be a certificate.
+    #[error("the input has more than {0} bytes")]
+    TooLong(usize),
     /// The input of a batch has more than `MOST_JOBS` jobs.
     #[error("there are too many jobs")]
     TooManyJobs,
@@ -98,7 +98,7 @@ impl From<ReadFault> for Fault {
     fn from(cause: ReadFault) -> Self {
         match cause {
             ReadFault::Read => Fault::Read,
-            ReadFault::TooLong => Fault::TooLong,
+            ReadFault::TooLong(limit) => Fault::TooLong(limit),
             ReadFault::TooManyReads => Fault::TooManyReads,
             ReadFault::Memory => Fault::Memory,
         }
@@ -211,7 +211,7 @@ pub(crate) fn row(fault: &Fault) -> (u8, &'static str, Ending)
         Fault::PlaceTooLarge => (30, "place too large", NOTHING),
         Fault::Read => (40, "read failed", NOTHING),
         Fault::Write => (41, "write failed", NOTHING),
-        Fault::TooLong => (42, "job too long", NOTHING),
+        Fault::TooLong(_) => (42, "job too long", NOTHING),
         Fault::TooManyJobs => (43, "too many jobs", NOTHING),
         Fault::TooManyReads => (44, "too many reads", NOTHING),
     }

@@ -55,7 +55,7 @@ pub(crate) fn packets_answer(alloc: Global, text: &[u8]) -> Result<(Done, Vec<u8
         return packets_certificate(alloc, text);
     }
     if text.len() > LONGEST_JOB {
-        return Err(Fault::TooLong);
+        return Err(Fault::TooLong(LONGEST_JOB));
     }
     Ok((Done::Fine, packets_scenario(alloc, text)?))
 }

@@ -3,20 +3,10 @@ ghost use Rattle.convoy_engine.specs.Refusals.{line_word, refused_line, row_of_c
 
 use super::fault::{Ending, Fault, row};
 use convoy_certificate::TextFault;
-use convoy_checker::Refused;
+use convoy_checker::{Refusal, Refused};
 use convoy_scenario::ScenarioFault;
 use convoy_scenario_lines::Expected;
 use std::alloc::{AllocError, Global};
-
-/// Why a certificate is refused. Each has a number and a line of its own (docs/FORMATS.md,
-/// "Refusals").
-#[derive(Clone, Copy)]
-pub(crate) enum Refusal {
-    /// The text is that of no certificate.
-    Text(TextFault),
-    /// The certificate is not valid.
-    Check(Refused),
-}
 
 /// Appends the line of a refusal: `refused`, its number, its text, and byte 10. Where memory runs
 /// out the vector is as it was.

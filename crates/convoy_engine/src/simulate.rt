@@ -53,7 +53,7 @@ pub(crate) fn simulate_answer(alloc: Global, text: &[u8]) -> Result<(Done, Vec<u
         return simulate_certificate(alloc, text);
     }
     if text.len() > LONGEST_JOB {
-        return Err(Fault::TooLong);
+        return Err(Fault::TooLong(LONGEST_JOB));
     }
     Ok((Done::Fine, simulate_scenario(alloc, text)?))
 }

@@ -49,7 +49,7 @@ pub(crate) fn timeline_answer(alloc: Global, text: &[u8]) -> Result<(Done, Vec<u
         return timeline_certificate(alloc, text);
     }
     if text.len() > LONGEST_JOB {
-        return Err(Fault::TooLong);
+        return Err(Fault::TooLong(LONGEST_JOB));
     }
     Ok((Done::Fine, timeline_scenario(alloc, text)?))
 }
