@@ -16,7 +16,7 @@ impl Version {
     ghost use Rattle.convoy_certificate.specs.Text.{lines_version};
 
     /// The version of the lines of the scenario in such a text.
-    pub(crate) fn of_lines(self) -> LinesVersion
+    pub fn of_lines(self) -> LinesVersion
         ensures { result ≡ lines_version self }
     {
         match self {
