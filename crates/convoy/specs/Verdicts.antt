@@ -12,6 +12,8 @@ use Rattle.convoy_engine.specs.Faults.{fault_line_of}
 use Rattle.convoy_engine.specs.Runs.{IsRun}
 use Rattle.convoy_engine.specs.Writes.{WritesAll, FailsWithin}
 use Rattle.convoy.specs.declared.TheConstants.{MOST_READS}
+use Rattle.convoy.specs.declared.ending.End.{End}
+use Rattle.convoy.specs.declared.ending.End.TheVariants.{Answered, Told}
 use Rattle.convoy.specs.declared.judge.Verdict.{Verdict}
 use Rattle.convoy.specs.declared.judge.Verdict.TheVariants.{Run, Batch, Text, Memory}
 
@@ -30,29 +32,34 @@ IsVerdict (Batch options) = options.most_reads ≡ MOST_READS
 IsVerdict (Text text status) = EndsAtOnce (Text text status)
 IsVerdict Memory = Unit {0}
 
--- the exit status of a run, by how it ended
-abbrev pub status_of : Done → ℕ
-status_of Fine = 0
-status_of Open = 3
-status_of (Refused refusal) = 4
+-- the exit status of a run that had no fault: that of its answer, or of the text that was written
+abbrev pub status_of : End → ℕ
+status_of (Answered Fine) = 0
+status_of (Answered Open) = 3
+status_of (Answered (Refused refusal)) = 4
+status_of (Told status) = status
 
--- From the old states of the source and the sink to the new ones the verdict is done, with an exit
--- status or a fault. Only a command reads.
+-- how the program ends, by how its command did
+abbrev pub end_of : Result Done Fault → Result End Fault
+end_of ended = result_map_both (λ done. Answered done) (λ fault. fault) ended
+
+-- From the old states of the source and the sink to the new ones the verdict is done, with an end
+-- or a fault. Only a command reads.
 abbrev pub Obeys : {S K : Type 0} → (S → Answer → S → Type 0) → (K → Answer → K → Type 0) → Verdict →
-    S → S → K → K → Result ℕ Fault → Type 0
+    S → S → K → K → Result End Fault → Type 0
 Obeys may_read may_write (Run command) source new_source sink new_sink result =
     (ended : Result Done Fault)
     × IsRun (longest_for command) (says_for command) MOST_READS
     may_read may_write source new_source sink new_sink ended
-    × (result ≡ result_map_both status_of (λ fault. fault) ended)
+    × (result ≡ end_of ended)
 Obeys may_read may_write (Batch options) source new_source sink new_sink result =
     (ended : Result Done Fault)
     × IsBatchRun options MOST_READS may_read may_write source new_source sink new_sink ended
-    × (result ≡ result_map_both status_of (λ fault. fault) ended)
+    × (result ≡ end_of ended)
 Obeys may_read may_write (Text text status) source new_source sink new_sink result =
     (new_source ≡ source)
     × HasRun may_write sink new_sink (λ answers. MatchResult result
-    (λ given. (given ≡ status) × WritesAll (string_bytes text) answers)
+    (λ end. (end ≡ Told status) × WritesAll (string_bytes text) answers)
     (λ fault. (fault ≡ faults.Write) × FailsWithin (string_bytes text) answers))
 Obeys may_read may_write Memory source new_source sink new_sink result =
     (new_source ≡ source) × (new_sink ≡ sink) × (result ≡ Err faults.Memory)

@@ -1,12 +1,12 @@
 //! What the program writes to standard error, for people: a line before it waits for a terminal, and a
 //! hint where it has no answer, or an open one (docs/HINTS.md).
 
+use super::REJECTED;
+use super::ending::End;
 use super::judge::Verdict;
 use super::kept::{KeptReader, KeptWriter};
-use super::{NOT_VALID, OPEN, REJECTED};
 use convoy_engine::{
-    Bounds, Command, Fault, LONGEST_CERTIFICATE, LONGEST_JOB, MOST_JOBS, Ways, lead_share,
-    plain_share,
+    Bounds, Command, Done, Fault, LONGEST_JOB, MOST_JOBS, Ways, lead_share, plain_share,
 };
 use convoy_hints::{
     hint_for_batch, hint_for_both, hint_for_certificate, hint_for_jobs, hint_for_leads,
@@ -22,7 +22,7 @@ use std::io::{Error, Write};
 pub struct Ended<'a, R, W> {
     pub verdict: &'a Verdict,
     pub words: &'a [String],
-    pub result: &'a Result<u8, Fault>,
+    pub result: &'a Result<End, Fault>,
     pub reader: &'a KeptReader<R>,
     pub writer: &'a KeptWriter<W>,
 }
@@ -53,13 +53,14 @@ pub fn hint_for<R, W>(
     ended: &Ended<'_, R, W>,
 ) -> Result<Option<String>, AllocError> {
     match ended.result {
-        Ok(REJECTED) => hint_for_words(alloc, ended.words),
-        Ok(NOT_VALID) => {
-            let (reader, line) = (ended.reader, ended.writer.text());
-            hint_for_certificate(alloc, reader.text(), reader.is_whole(), line)
+        Ok(End::Told(REJECTED)) => hint_for_words(alloc, ended.words),
+        Ok(End::Told(_)) => Ok(None),
+        Ok(End::Answered(Done::Refused(refusal))) => {
+            let reader = ended.reader;
+            hint_for_certificate(alloc, reader.text(), reader.is_whole(), *refusal)
         }
-        Ok(OPEN) => hint_for_open(alloc, ended.verdict, ended.words),
-        Ok(_) => hint_for_answer(alloc, ended),
+        Ok(End::Answered(Done::Open)) => hint_for_open(alloc, ended.verdict, ended.words),
+        Ok(End::Answered(Done::Fine)) => hint_for_answer(alloc, ended),
         Err(Fault::Memory | Fault::TooManyReads) => Ok(None),
         Err(Fault::Read) => match ended.reader.failure() {
             Some(error) => Ok(Some(hint_for_reading(alloc, &error)?)),
@@ -69,10 +70,8 @@ pub fn hint_for<R, W>(
             Some(error) => Ok(Some(hint_for_writing(alloc, &error)?)),
             None => Ok(None),
         },
-        Err(Fault::TooLong(_)) => {
-            let text = ended.reader.text();
-            let most = longest_for(ended.verdict, text);
-            Ok(Some(hint_for_length(alloc, text, most)?))
+        Err(Fault::TooLong(most)) => {
+            Ok(Some(hint_for_length(alloc, ended.reader.text(), *most)?))
         }
         Err(Fault::TooManyJobs) => Ok(Some(hint_for_jobs(alloc, MOST_JOBS)?)),
         Err(_) if ended.reader.is_whole() => hint_for_scenario(alloc, ended.reader.text()),
@@ -123,16 +122,6 @@ fn hint_for_answer<R, W>(
     match ended.verdict {
         Verdict::Batch(_) => hint_for_batch(alloc, reader.text(), reader.is_whole(), LONGEST_JOB),
         _ => Ok(None),
-    }
-}
-
-/// How many bytes the text has at most that is read for the verdict and begins so.
-fn longest_for(verdict: &Verdict, text: &[u8]) -> usize {
-    match verdict {
-        Verdict::Run(Command::First | Command::Analyse(_) | Command::Latency(_)) => LONGEST_JOB,
-        Verdict::Run(Command::Check | Command::Explain | Command::Draw) => LONGEST_CERTIFICATE,
-        _ if text.starts_with(b"convoy ") => LONGEST_CERTIFICATE,
-        _ => LONGEST_JOB,
     }
 }
 

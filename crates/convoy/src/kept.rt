@@ -8,9 +8,6 @@ use std::io::{Error, Read, Write};
 /// before its tree.
 const MOST_KEPT: usize = 131_072;
 
-/// How many bytes of the output are kept at most: the line of a refusal.
-const MOST_TOLD: usize = 128;
-
 /// A reader, with a copy of the first bytes that it gave.
 #[derive(Drop)]
 pub struct KeptReader<R> {
@@ -55,7 +52,7 @@ impl<R: Read> Read for KeptReader<R> {
         match &result {
             Ok(count) => {
                 if self.is_whole {
-                    self.is_whole = keep(&mut self.text, &buffer[..*count], MOST_KEPT);
+                    self.is_whole = keep(&mut self.text, &buffer[..*count]);
                 }
             }
             Err(error) => self.failure = Some(*error),
@@ -64,34 +61,27 @@ impl<R: Read> Read for KeptReader<R> {
     }
 }
 
-/// Keeps bytes, up to that many in all, and answers whether there was room for all.
-fn keep(text: &mut Vec<u8>, bytes: &[u8], most: usize) -> bool {
-    let room = most.saturating_sub(text.len());
+/// Keeps bytes, up to `MOST_KEPT` in all, and answers whether there was room for all.
+fn keep(text: &mut Vec<u8>, bytes: &[u8]) -> bool {
+    let room = MOST_KEPT.saturating_sub(text.len());
     let count = room.min(bytes.len());
     text.extend_from_slice(&bytes[..count]).is_ok() && count == bytes.len()
 }
 
-/// A writer, with a copy of the first bytes that it took, that knows why it failed.
+/// A writer that knows why it failed.
 #[derive(Drop)]
 pub struct KeptWriter<W> {
     writer: W,
-    text: Vec<u8>,
     failure: Option<Error>,
 }
 
 impl<W> KeptWriter<W> {
     /// The writer, to which nothing was written yet.
-    pub fn new(alloc: Global, writer: W) -> Self {
+    pub fn new(writer: W) -> Self {
         KeptWriter {
             writer,
-            text: Vec::new(alloc),
             failure: None,
         }
-    }
-
-    /// The first bytes that were written: as many as are kept, and fewer where memory ran out.
-    pub fn text(&self) -> &[u8] {
-        self.text.as_slice()
     }
 
     /// Why the last write that failed did.
@@ -105,11 +95,8 @@ impl<W: Write> Write for KeptWriter<W> {
 
     fn write(&mut self, bytes: &[u8]) -> io::Result<usize> {
         let result = self.writer.write(bytes);
-        match &result {
-            Ok(count) => {
-                let _ = keep(&mut self.text, &bytes[..*count], MOST_TOLD);
-            }
-            Err(error) => self.failure = Some(*error),
+        if let Err(error) = &result {
+            self.failure = Some(*error);
         }
         result
     }

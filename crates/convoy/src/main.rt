@@ -2,18 +2,19 @@
 //! by the functions of `convoy_engine`.
 #![tactic(auto)]
 
-ghost use Rattle.std.specs.Prelude.{◌≡◌};
-ghost use Rattle.convoy.specs.Verdicts.{IsVerdict, Obeys, Tells, status_of};
+ghost use Rattle.convoy.specs.Verdicts.{IsVerdict, Obeys, Tells};
 
+mod ending;
 mod hinting;
 mod judge;
 mod kept;
 mod progress;
 
 use convoy_engine::{
-    DeviceFailed, Done, Fault, Sink, Source, StreamSink, StreamSource, Watch, fault_line,
-    run_batch, run_command, write_all,
+    DeviceFailed, Fault, Sink, Source, StreamSink, StreamSource, Watch, fault_line, run_batch,
+    run_command, write_all,
 };
+use ending::End;
 use hinting::{Ended, greeting, hint_for, is_quiet, write_line};
 use judge::{Verdict, judge, judge_bytes};
 use kept::{KeptReader, KeptWriter};
@@ -57,13 +58,13 @@ fn main(rt: HostRuntime) -> ExitCode {
         reader: KeptReader::new(alloc, rt.stdin()),
     };
     let mut sink = StreamSink {
-        writer: KeptWriter::new(alloc, rt.stdout()),
+        writer: KeptWriter::new(rt.stdout()),
     };
     let screen = screen_for(&words, rt.stderr().is_terminal());
     let progress = Progress::new(&rt, alloc, rt.stderr(), screen);
     let result = obey(&rt, alloc, &verdict, &mut source, &mut sink, &progress);
     let status = match &result {
-        Ok(status) => *status,
+        Ok(end) => end.status(),
         Err(fault) => {
             tell(alloc, fault, &mut sink);
             FAULT
@@ -100,7 +101,7 @@ fn words<R: Env + AllocGlobal>(rt: &R) -> io::Result<Vec<String>> {
     Ok(words.collect(rt.alloc())?)
 }
 
-/// Does what the command line asks for, and answers the exit status.
+/// Does what the command line asks for, and answers how that ended.
 fn obey<R: Threads + Wait + Sync, S: Source, K: Sink, W: Watch + Sync>(
     rt: &R,
     alloc: Global,
@@ -108,35 +109,24 @@ fn obey<R: Threads + Wait + Sync, S: Source, K: Sink, W: Watch + Sync>(
     source: &mut S,
     sink: &mut K,
     watch: &W,
-) -> Result<u8, Fault>
+) -> Result<End, Fault>
     requires { IsVerdict verdict.now }
     ensures { Obeys S.reads K.writes verdict.now source.old source.new sink.old sink.new result }
 {
     match verdict {
         Verdict::Run(command) => {
             let done = run_command(rt, alloc, *command, source, sink, MOST_READS, watch)?;
-            Ok(status_of(done))
+            Ok(End::Answered(done))
         }
         Verdict::Batch(options) => {
             let done = run_batch(rt, alloc, source, sink, options)?;
-            Ok(status_of(done))
+            Ok(End::Answered(done))
         }
         Verdict::Text { text, status } => match write_all(sink, text.as_bytes()) {
-            Ok(()) => Ok(*status),
+            Ok(()) => Ok(End::Told(*status)),
             Err(DeviceFailed) => Err(Fault::Write),
         },
         Verdict::Memory => Err(Fault::Memory),
-    }
-}
-
-/// The exit status of a run, by how it ended.
-fn status_of(done: Done) -> u8
-    ensures { result ≡ status_of done }
-{
-    match done {
-        Done::Fine => FINE,
-        Done::Open => OPEN,
-        Done::Refused(_) => NOT_VALID,
     }
 }
 

@@ -1,28 +1,30 @@
 use super::lines::{delays_of, scenario_in, sketch_of_lines};
-use super::refusal::refusal_in;
-use super::tree_hints::hint_for_refusal;
+use super::tree_hints::hint_for_refused;
 use convoy_certificate::{TextFault, read};
-use convoy_lines::LineReader;
+use convoy_checker::{Refusal, Refused};
 use convoy_scenario::ScenarioFault;
 use convoy_scenario_hints::{
     Quoted, hint_for_bytes, hint_for_damage, hint_for_schedule, hint_for_sketch,
-    is_meant_as_scenario, with_label,
+    is_meant_as_certificate, is_meant_as_scenario, with_label,
 };
 use convoy_scenario_lines::Expected;
 use std::alloc::{AllocError, Global};
 
 /// Why a certificate is refused, in one line `hint: ..`: by its text, which may have been cut where it
-/// is not `whole`, and by the `line` that was answered, `refused NUMBER TEXT`. None where nothing can be
-/// said beyond that line.
+/// is not `whole`, and by the refusal that was answered. None where nothing can be said beyond that.
 pub fn hint_for_certificate(
     alloc: Global,
     text: &[u8],
     whole: bool,
-    line: &[u8],
+    refusal: Refusal,
 ) -> Result<Option<String>, AllocError> {
-    let hint = match refusal_in(line) {
-        Some(refusal) => hint_for_refusal(alloc, text, whole, refusal)?,
-        None => hint_for_refused_text(alloc, text, whole)?,
+    let hint = match refusal {
+        // Whether there are too many nodes to be read or for a tree, it is the tree that shows it.
+        Refusal::Text(TextFault::TreeCount) => {
+            hint_for_refused(alloc, text, whole, Refused::TreeCount)?
+        }
+        Refusal::Text(fault) => hint_for_refused_text(alloc, text, whole, fault)?,
+        Refusal::Check(refused) => hint_for_refused(alloc, text, whole, refused)?,
     };
     with_label(alloc, hint)
 }
@@ -32,10 +34,11 @@ fn hint_for_refused_text(
     alloc: Global,
     text: &[u8],
     whole: bool,
+    fault: TextFault,
 ) -> Result<Option<String>, AllocError> {
     match hint_for_damage(alloc, text)? {
         Some(hint) => Ok(Some(hint)),
-        None if text.starts_with(b"convoy ") => hint_for_lines(alloc, text, whole),
+        None if is_meant_as_certificate(text) => hint_for_lines(alloc, text, whole, fault),
         None => Ok(Some(hint_for_other_text(alloc, text)?)),
     }
 }
@@ -72,29 +75,37 @@ fn hint_for_other_text(alloc: Global, text: &[u8]) -> Result<String, AllocError>
     )
 }
 
-/// What is wrong with a text that begins as a certificate does.
-fn hint_for_lines(alloc: Global, text: &[u8], whole: bool) -> Result<Option<String>, AllocError> {
+/// What is wrong with a text that begins as a certificate does, and has that fault.
+fn hint_for_lines(
+    alloc: Global,
+    text: &[u8],
+    whole: bool,
+    fault: TextFault,
+) -> Result<Option<String>, AllocError> {
     let words = match std::str::from_utf8(text) {
         Ok(words) => words,
         Err(error) => return hint_for_cut_bytes(alloc, text, whole, error.valid_up_to()),
     };
-    match read(alloc, text) {
-        Ok(_) | Err(TextFault::Memory) => Ok(None),
-        Err(TextFault::Line(number, expected)) => {
-            if whole || is_ended(words, number) {
-                Ok(Some(hint_for_line(alloc, words, number, expected)?))
-            } else {
-                Ok(None)
-            }
+    if !whole && !has_fault(alloc, text, fault) {
+        return Ok(None);
+    }
+    match fault {
+        TextFault::Line(number, expected) if whole || is_ended(words, number) => {
+            Ok(Some(hint_for_line(alloc, words, number, expected)?))
         }
-        Err(TextFault::Scenario(fault)) => hint_for_scenario_lines(alloc, words, fault),
-        Err(TextFault::Schedule) => hint_for_schedule_line(alloc, text),
-        Err(TextFault::TreeCount) => Ok(None),
-        Err(TextFault::AfterEnd) => Ok(Some(String::from_str(
+        TextFault::Line(_, _) | TextFault::TreeCount | TextFault::Memory => Ok(None),
+        TextFault::Scenario(fault) => hint_for_scenario_lines(alloc, words, fault),
+        TextFault::Schedule => hint_for_schedule_line(alloc, text),
+        TextFault::AfterEnd => Ok(Some(String::from_str(
             alloc,
             "something follows the line 'end': cut the text after that line",
         )?)),
     }
+}
+
+/// Whether a text has that fault: the front of one that has it may have another, or none.
+fn has_fault(alloc: Global, text: &[u8], fault: TextFault) -> bool {
+    matches!(read(alloc, text), Err(found) if found == fault)
 }
 
 /// How many bytes a character has at most.
@@ -138,8 +149,7 @@ fn hint_for_scenario_lines(
 
 /// What is wrong with the schedule in a certificate.
 fn hint_for_schedule_line(alloc: Global, text: &[u8]) -> Result<Option<String>, AllocError> {
-    let mut reader = LineReader::over(text);
-    let Some(scenario) = scenario_in(alloc, &mut reader) else {
+    let Some((scenario, mut reader)) = scenario_in(alloc, text) else {
         return Ok(None);
     };
     let _ = reader.line();
@@ -154,7 +164,7 @@ fn hint_for_line(
     number: usize,
     expected: Expected,
 ) -> Result<String, AllocError> {
-    let form = form_of(expected);
+    let form = form_of_line(expected);
     let Some(line) = line_at(text, number) else {
         return format!(in alloc;
             "the text ends before line {number}, which is to be {form}: a part of it is missing"
@@ -195,7 +205,7 @@ fn flaw_of(line: &str) -> Option<&'static str> {
 }
 
 /// The form of a line (docs/FORMATS.md, "Certificate text").
-fn form_of(expected: Expected) -> &'static str {
+fn form_of_line(expected: Expected) -> &'static str {
     match expected {
         Expected::Convoy => "'convoy 1', 'convoy 2' or 'convoy 3'",
         Expected::Delay => "'delay D'",

@@ -1,4 +1,4 @@
-use convoy_scenario_hints::begins_as_certificate;
+use convoy_certificate::{Form, form_of};
 use std::alloc::{AllocError, Global};
 use std::io::Error;
 
@@ -15,7 +15,7 @@ pub fn hint_for_writing(alloc: Global, error: &Error) -> Result<String, AllocErr
 /// What to do with a text that begins so and has more bytes than the `most` that its command reads, in
 /// one line `hint: ..`.
 pub fn hint_for_length(alloc: Global, text: &[u8], most: usize) -> Result<String, AllocError> {
-    if begins_as_certificate(text) {
+    if let Form::Certificate(Some(_)) = form_of(text) {
         return format!(in alloc;
             "hint: the input has more than {most} bytes and begins as a certificate: 'convoy check' reads certificates\n"
         );

@@ -16,7 +16,6 @@ mod device_hints;
 mod job_hints;
 mod lines;
 mod paths;
-mod refusal;
 mod search_hints;
 mod tree_hints;
 mod word_hints;

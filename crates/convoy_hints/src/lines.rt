@@ -1,7 +1,8 @@
+use convoy_certificate::{Form, form_of};
 use convoy_lines::LineReader;
 use convoy_scenario::Scenario;
 use convoy_scenario_hints::{Link, Multicast, Part, PartKind, Sketch};
-use convoy_scenario_lines::{Version, read_lines};
+use convoy_scenario_lines::read_lines;
 use std::alloc::{AllocError, Global};
 
 /// The scenario that stands in the lines of a certificate; what is not of its form is left out.
@@ -25,15 +26,16 @@ pub(crate) fn sketch_of_lines(alloc: Global, text: &str) -> Result<Sketch<'_>, A
     Ok(sketch)
 }
 
-/// The scenario of a certificate, read from its first line on; None where the lines have a fault, or
+/// The scenario of a certificate, and what follows its lines; None where the lines have a fault, or
 /// memory ran out.
-pub(crate) fn scenario_in(alloc: Global, reader: &mut LineReader) -> Option<Scenario> {
-    let version = if reader.line()? == b"convoy 1".as_slice() {
-        Version::One
-    } else {
-        Version::Two
+pub(crate) fn scenario_in(alloc: Global, text: &[u8]) -> Option<(Scenario, LineReader<'_>)> {
+    let Form::Certificate(Some(version)) = form_of(text) else {
+        return None;
     };
-    read_lines(alloc, version, reader).ok()
+    let mut reader = LineReader::over(text);
+    let _ = reader.line();
+    let scenario = read_lines(alloc, version.of_lines(), &mut reader).ok()?;
+    Some((scenario, reader))
 }
 
 /// The delays in a line `schedule`; none where its bytes are not UTF-8.

@@ -1,35 +1,35 @@
 use super::body::{Body, Line, split_of};
 use super::lines::scenario_in;
 use super::paths::{path_to, range_along};
-use super::refusal::Refusal;
-use convoy_lines::LineReader;
+use convoy_checker::Refused;
 use convoy_packets::PacketTable;
 use convoy_scenario_hints::noun;
 use std::alloc::{AllocError, Global};
 
 /// Why the latency or the tree of a certificate is refused, whose text has its form. The text may
 /// have been cut, where it is not `whole`.
-pub(crate) fn hint_for_refusal(
+pub(crate) fn hint_for_refused(
     alloc: Global,
     text: &[u8],
     whole: bool,
-    refusal: Refusal,
+    refused: Refused,
 ) -> Result<Option<String>, AllocError> {
     let Some(body) = Body::of(text, whole) else {
         return Ok(None);
     };
-    match refusal {
-        Refusal::Latency(simulated) => Ok(Some(hint_for_latency(alloc, &body, simulated)?)),
-        Refusal::Split(node) => hint_for_split(alloc, &body, node),
-        Refusal::TreeCount => hint_for_count(alloc, &body),
-        Refusal::BoundLeaf(node, bound) => {
+    match refused {
+        Refused::Latency(simulated) => Ok(Some(hint_for_latency(alloc, &body, simulated)?)),
+        Refused::Split(node) => hint_for_split(alloc, &body, node),
+        Refused::TreeCount => hint_for_count(alloc, &body),
+        Refused::BoundLeaf(node, bound) => {
             Ok(Some(hint_for_bound(alloc, &body, node, "plain", bound)?))
         }
-        Refusal::PointLeaf(node) => hint_for_point(alloc, &body, node),
-        Refusal::StampLeaf(node, bound) => {
+        Refused::PointLeaf(node) => hint_for_point(alloc, &body, node),
+        Refused::StampLeaf(node, bound) => {
             Ok(Some(hint_for_bound(alloc, &body, node, "stamp", bound)?))
         }
-        Refusal::LeadLeaf(node) => Ok(Some(hint_for_lead(alloc, &body, node)?)),
+        Refused::LeadLeaf(node) => Ok(Some(hint_for_lead(alloc, &body, node)?)),
+        Refused::Memory => Ok(None),
     }
 }
 
@@ -81,9 +81,8 @@ fn hint_for_split(
 
 /// The packets of the scenario; None where its lines have a fault.
 fn packets_of(alloc: Global, body: &Body<'_>) -> Result<Option<PacketTable>, AllocError> {
-    let mut reader = LineReader::over(body.text.as_bytes());
-    match scenario_in(alloc, &mut reader) {
-        Some(scenario) => Ok(Some(PacketTable::of(alloc, &scenario)?)),
+    match scenario_in(alloc, body.text.as_bytes()) {
+        Some((scenario, _)) => Ok(Some(PacketTable::of(alloc, &scenario)?)),
         None => Ok(None),
     }
 }

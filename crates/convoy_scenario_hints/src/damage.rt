@@ -1,3 +1,4 @@
+use super::inputs::is_meant_as_certificate;
 use super::spot::spot_at;
 use std::alloc::{AllocError, Global};
 
@@ -9,7 +10,7 @@ pub fn hint_for_damage(alloc: Global, text: &[u8]) -> Result<Option<String>, All
         "the input begins with a byte order mark: take its first three bytes away"
     } else if text.starts_with(b"> ") || text.starts_with(b">convoy") {
         "the input begins with '>', the mark of a mail that is answered: take the marks away"
-    } else if text.starts_with(b"convoy ") && has_carriage_returns(text) {
+    } else if is_meant_as_certificate(text) && has_carriage_returns(text) {
         "the lines of the certificate end with a carriage return, as a mail or an editor writes them: each is to end with byte 10 alone"
     } else {
         return Ok(None);

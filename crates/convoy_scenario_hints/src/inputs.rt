@@ -1,11 +1,9 @@
 use std::alloc::Global;
 
-/// Whether a text that is given as something else seems to be a certificate: its first line is that of
-/// one, in any version.
-pub fn begins_as_certificate(text: &[u8]) -> bool {
-    text.starts_with(b"convoy 1\n")
-        || text.starts_with(b"convoy 2\n")
-        || text.starts_with(b"convoy 3\n")
+/// Whether a text is meant as a certificate: it begins with the word of one, in whatever version, and
+/// damaged though it may be. What a text that was not damaged is, `form_of` tells.
+pub fn is_meant_as_certificate(text: &[u8]) -> bool {
+    text.starts_with(b"convoy ")
 }
 
 /// Whether a text that is given as something else seems to be a scenario: TOML with the key `groups` or

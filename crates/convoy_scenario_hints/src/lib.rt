@@ -6,7 +6,7 @@
 
 pub use counting::noun;
 pub use damage::{hint_for_bytes, hint_for_damage};
-pub use inputs::{begins_as_certificate, is_meant_as_scenario};
+pub use inputs::{is_meant_as_certificate, is_meant_as_scenario};
 pub use part::{Part, PartKind};
 pub use quoting::Quoted;
 pub use scenario_hints::{hint_for_fault, hint_for_scenario, hint_for_sketch, with_label};

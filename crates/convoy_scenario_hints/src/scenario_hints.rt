@@ -1,5 +1,5 @@
 use super::damage::{hint_for_bytes, hint_for_damage};
-use super::inputs::begins_as_certificate;
+use super::inputs::is_meant_as_certificate;
 use super::names::{hint_for_bad_name, hint_for_double_name};
 use super::numbers::hint_for_limit;
 use super::quoting::Quoted;
@@ -11,6 +11,7 @@ use super::schedules::hint_for_schedule;
 use super::shape::hint_for_shape;
 use super::sketch::{Sketch, sketch_of_table};
 use super::spot::spot_at;
+use convoy_certificate::{Form, form_of};
 use convoy_scenario::ScenarioFault;
 use convoy_toml::{Input, read_toml};
 use std::alloc::{AllocError, Global};
@@ -63,7 +64,7 @@ fn hint_for_text(alloc: Global, text: &[u8]) -> Result<Option<String>, AllocErro
     if let Some(hint) = hint_for_damage(alloc, text)? {
         return Ok(Some(hint));
     }
-    if text.starts_with(b"convoy") {
+    if is_meant_as_certificate(text) {
         return Ok(Some(hint_for_given_certificate(alloc, text)?));
     }
     match std::str::from_utf8(text) {
@@ -74,10 +75,11 @@ fn hint_for_text(alloc: Global, text: &[u8]) -> Result<Option<String>, AllocErro
 
 /// A certificate was given where a scenario is read, or its first line is not of its form.
 fn hint_for_given_certificate(alloc: Global, text: &[u8]) -> Result<String, AllocError> {
-    let hint = if begins_as_certificate(text) {
-        "the input is a certificate, and a scenario is read here: 'convoy check' reads certificates"
-    } else {
-        "the input begins as a certificate, but its first line is not 'convoy 1', 'convoy 2' or 'convoy 3'"
+    let hint = match form_of(text) {
+        Form::Certificate(Some(_)) =>
+            "the input is a certificate, and a scenario is read here: 'convoy check' reads certificates",
+        Form::Certificate(None) | Form::Other =>
+            "the input begins as a certificate, but its first line is not 'convoy 1', 'convoy 2' or 'convoy 3'",
     };
     String::from_str(alloc, hint)
 }

@@ -1,8 +1,11 @@
 //! Hints for what the built program does not meet with in small texts: a text of which only the front was
 //! kept, and what is quoted from one. `tests/hints` at the root has the hint for each mistake.
 
+use convoy_certificate::TextFault;
+use convoy_checker::{Refusal, Refused};
 use convoy_hints::{hint_for_batch, hint_for_certificate};
 use convoy_scenario_hints::Quoted;
+use convoy_scenario_lines::Expected;
 use std::alloc::{AllocError, Global};
 
 /// The front of a certificate, with two nodes and a piece of the third.
@@ -21,40 +24,39 @@ b
 s 0";
 
 /// What is hinted at for a front of a certificate that was refused so.
-fn told(alloc: Global, front: &str, refusal: &str) -> Result<String, AllocError> {
-    let line = format!(in alloc; "refused {refusal}\n")?;
-    let hint = hint_for_certificate(alloc, front.as_bytes(), false, line.as_bytes())?;
+fn told(alloc: Global, front: &str, refusal: Refusal) -> Result<String, AllocError> {
+    let hint = hint_for_certificate(alloc, front.as_bytes(), false, refusal)?;
     Ok(hint.unwrap_or(String::new(alloc)))
 }
 
 /// A line that is not at hand is told by its number alone.
 #[test]
 fn cut_trees(rt: HostRuntime) -> Result<(), AllocError> {
-    for (refusal, want) in [
+    for (refused, want) in [
         (
-            "23 simulated 9",
+            Refused::Latency(9),
             "hint: line 8 states the latency 12, and the schedule in line 9 has the latency 9\n",
         ),
         (
-            "24 split node 7",
+            Refused::Split(7),
             "hint: line 17 splits a packet that the scenario does not have, or after a delay at which its range there can't be split\n",
         ),
-        ("25 tree count", ""),
+        (Refused::TreeCount, ""),
         (
-            "26 bound leaf 7 bound 20",
+            Refused::BoundLeaf(7, 20),
             "hint: line 17 closes its box by the plain bound only for latencies from 20 on, and line 8 states 12\n",
         ),
         (
-            "27 point leaf 7",
+            Refused::PointLeaf(7),
             "hint: line 17 closes a box of several schedules, or of one whose latency is above the 12 that line 8 states\n",
         ),
         (
-            "36 lead leaf 7",
+            Refused::LeadLeaf(7),
             "hint: line 17 names a latency above the 12 that line 8 states, or one for which leads do not close its box\n",
         ),
     ] {
-        let hint = told(rt.alloc(), FRONT, refusal)?;
-        assert_eq!(rt; hint.as_str(), want, "at {refusal}");
+        let hint = told(rt.alloc(), FRONT, Refusal::Check(refused))?;
+        assert_eq!(rt; hint.as_str(), want, "at {refused}");
     }
     Ok(())
 }
@@ -65,7 +67,7 @@ fn cut_lines(rt: HostRuntime) -> Result<(), AllocError> {
     let hint = told(
         rt.alloc(),
         "convoy 1\ndelay 3\ngro",
-        "20 line 3 expected groups",
+        Refusal::Text(TextFault::Line(3, Expected::Groups)),
     )?;
     assert_eq!(rt; hint.as_str(), "");
     Ok(())
