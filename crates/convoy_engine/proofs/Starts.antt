@@ -1,5 +1,5 @@
--- A search that its first ticket has ended.
-use Rattle.std.proofs.Common.{◌≡◌, ◌≤◌, ℕ, List, Vec, refl, inl, arith}
+-- How a search ended, by all its workers or with its first ticket.
+use Rattle.std.proofs.Common.{◌≡◌, ◌≤◌, ℕ, List, Vec, refl, inl, inr, arith}
 use Rattle.std.specs.declared.alloc.Global.{Global}
 use Rattle.convoy_scenario.specs.Scenario.{Scenario}
 use Rattle.convoy_certificate.specs.Certificate.{Certificate}
@@ -55,6 +55,11 @@ pub one_ticket : (settings : Settings) (scenario : Scenario) (outcome : Outcome)
 one_ticket settings scenario (Open best upper tickets by_worker) lawful search not_open = absurd (not_open best upper tickets by_worker refl)
 one_ticket settings scenario (Proved certificate tickets by_worker) lawful search not_open = record {
   workers = 1;
-  few = lawful.some_worker;
+  as_said = inr (refl, search.few);
   found = more_by settings.ways scenario settings.limit certificate tickets by_worker lawful.some_ticket search;
 }
+
+-- where all workers searched that there are to be
+pub by_all : (settings : Settings) (scenario : Scenario) (outcome : Outcome) (workers : ℕ) → workers ≡ settings.workers →
+    IsOutcomeBy settings.ways scenario workers settings.limit outcome → IsEnd settings scenario outcome
+by_all settings scenario outcome workers same found = record { workers = workers; as_said = inl same; found = found }

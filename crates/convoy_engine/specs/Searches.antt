@@ -18,6 +18,7 @@ use Rattle.convoy_branch.specs.BothWays.{IsFrontBothWays, IsOutcomeBothWays}
 use Rattle.convoy_branch.specs.Fronts.{IsFront}
 use Rattle.convoy_branch.specs.Outcomes.{IsOutcome}
 use Rattle.convoy_branch.specs.declared.outcome.Outcome.{Outcome}
+use Rattle.convoy_branch.specs.declared.outcome.Outcome.TheVariants as outcomes
 use Rattle.convoy_branch.specs.Options.{Settings}
 use Rattle.convoy_branch.specs.declared.options.Ways.{Ways}
 use Rattle.convoy_branch.specs.declared.options.Ways.TheVariants.{One, Both}
@@ -46,10 +47,15 @@ abbrev pub IsFrontBy : Ways → Scenario → ℕ → ℕ → ℕ → Type 0
 IsFrontBy (One bounds) scenario least most limit = IsFront bounds scenario least most limit
 IsFrontBy Both scenario least most limit = IsFrontBothWays scenario least most limit
 
--- A search with these settings for the scenario ended so. It had as many workers as they say, or one where its first ticket was enough.
+-- how many tickets an outcome took
+abbrev pub tickets_of : Outcome → ℕ
+tickets_of (outcomes.Proved certificate tickets by_worker) = tickets
+tickets_of (outcomes.Open best upper tickets by_worker) = tickets
+
+-- A search with these settings for the scenario ended so. It had just as many workers as they say, or one where its first ticket was enough.
 pub record IsEnd (settings : Settings) (scenario : Scenario) (outcome : Outcome) : Type 0 where
   pub workers : ℕ
-  pub few : workers ≤ settings.workers
+  pub as_said : (workers ≡ settings.workers) ⊎ ((workers ≡ 1) × (tickets_of outcome ≤ 1))
   pub found : IsOutcomeBy settings.ways scenario workers settings.limit outcome
 
 -- A search of several workers found more records than their board can name.

@@ -77,6 +77,7 @@ fn tell_begin<W: Watch>(watch: &W, options: &Options, least: u32, most: Option<u
 }
 
 /// The search from an opening record of the scenario, with one worker or in several threads.
+#[tactic(auto, using(crate::proofs::Starts::by_all))]
 fn search_from<R: Threads + Wait + Sync, W: Watch + Sync>(
     rt: &R,
     alloc: Global,
@@ -119,6 +120,7 @@ fn search_by_one<W: Watch>(
 }
 
 /// The search from an opening record of the scenario, in several threads.
+#[tactic(auto, using(crate::proofs::Starts::by_all))]
 fn search_together<R: Threads + Wait + Sync, W: Watch + Sync>(
     rt: &R,
     alloc: Global,
