@@ -1,6 +1,7 @@
 -- What the owner has with one branch more that it took back and left.
-use Rattle.std.specs.Prelude.{◌≡◌, ℕ, ◌+◌, List, [], ◌∷◌, ◌++◌, false}
-use Rattle.std.proofs.Common.{refl, ap, sym, subst, ◌∙◌}
+use Rattle.std.specs.Prelude.{◌≡◌, ◌+◌, List, [], ◌∷◌, ◌++◌, false}
+use Rattle.std.proofs.Common.{ap, sym, subst, ◌∙◌}
+use Rattle.std.proofs.lemmas.Bool.{false≢true}
 use Rattle.convoy_intervals.specs.Boxes.{Box}
 use Rattle.convoy_branch.specs.Laws.{FrontsBetter}
 use Rattle.convoy_deque.specs.declared.task.Task.{Task}
@@ -11,7 +12,6 @@ use Rattle.convoy_share.specs.declared.piece.Piece.{Piece}
 use Rattle.convoy_share.specs.declared.piece.Piece.TheVariants.{Todo}
 use Rattle.convoy_share.specs.Common.{Common}
 use Rattle.convoy_share.specs.Means.{IsGrown}
-use Rattle.convoy_share.specs.Subtrees.{Subtree}
 use Rattle.convoy_share.specs.Workers.{StaysOwner}
 use Rattle.convoy_share.proofs.Grown.{IsGrown-start}
 use Rattle.convoy_share.proofs.Worked.{owner_more}
@@ -21,7 +21,7 @@ owner_drained better shared old new task pieces is of_scenario means end left tr
     let bounds = shared.bounds in
     let plan = shared.scenario in
     let put : new.end.put ≡ old.end.put = ap (λ (e : OwnerEnd). e.put) end in
-    let start = IsGrown-start bounds plan old.means old.end.put (task.number + 1) task.branch (of_scenario ∙ is.scenario_is) in
+    let start = IsGrown-start bounds plan old.means old.end.put (task.number + 1) task.branch false (of_scenario ∙ is.scenario_is, λ told. absurd (false≢true told)) in
     let by_means = subst (λ (m : Means). IsGrown bounds plan old.means m old.end.put old.end.put (task.number + 1) (task.branch.space ∷ []) (Todo task.branch false ∷ [])) (sym means) start in
     let by_put = subst (λ (bs : List Box). IsGrown bounds plan old.means new.means old.end.put bs (task.number + 1) (task.branch.space ∷ []) (Todo task.branch false ∷ [])) (sym put) by_means in
     let grown = subst (λ (ps : List Piece). IsGrown bounds plan old.means new.means old.end.put new.end.put (task.number + 1) (task.branch.space ∷ []) ps) (sym left) by_put in

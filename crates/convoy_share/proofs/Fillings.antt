@@ -1,6 +1,6 @@
 -- The steps by which the trees of all tasks become one.
 use Rattle.std.specs.Prelude.{◌≡◌, ℕ, ◌+◌, ◌≤◌, ◌<◌, List, [], ◌∷◌, ◌++◌, length, None, reverse, Bool}
-use Rattle.std.specs.List.{All, sum_by}
+use Rattle.std.specs.List.{sum_by}
 use Rattle.std.proofs.Common.{arith, refl, ap, sym, subst, ◌∙◌, inl, inr, get_or, set, append_assoc}
 use Rattle.std.proofs.lemmas.Bool.{cases_eq}
 use Rattle.std.proofs.lemmas.List.{append-nil, map-append, reverse-append, get_or-set_same, get_or-set_other}
@@ -11,7 +11,6 @@ use Rattle.convoy_scenario.specs.Scenario.{Scenario}
 use Rattle.convoy_intervals.specs.Boxes.{Box, root_of}
 use Rattle.convoy_intervals.specs.Tracked.{Tracked}
 use Rattle.convoy_branch.specs.declared.bounds.Bounds.{Bounds}
-use Rattle.convoy_branch.specs.declared.step.Turn.{Turn}
 use Rattle.convoy_certificate.specs.declared.node.Node.{Node}
 use Rattle.convoy_branch.specs.Fronts.{FrontNode, Spent, left_box, left_in}
 use Rattle.convoy_branch.specs.Laws.{FrontsBetter}
@@ -19,10 +18,9 @@ use Rattle.convoy_share.specs.declared.piece.Piece.{Piece}
 use Rattle.convoy_share.specs.declared.piece.Piece.TheVariants.{Done, Todo, Pushed}
 use Rattle.convoy_share.specs.Pieces.{front, front_of, pushed_number, AreTreesOf, places_in, spent, IsPiece}
 use Rattle.convoy_share.specs.Filling.{slot_at, there, IsFilling}
-use Rattle.convoy_share.specs.Turns.{pieces_of, IsTurned}
+use Rattle.convoy_share.specs.Subtrees.{IsUnderWay}
 use Rattle.convoy_share.proofs.Counts.{times-cons, places-append, spent-append, own_number, other_number}
-use Rattle.convoy_share.proofs.Places.{AreTreesOf-filled, AreTreesOf-better, AreTreesOf-later, pieces_better, pieces_later}
-use Rattle.convoy_share.proofs.Turns.{places_in-turn, spent-turn}
+use Rattle.convoy_share.proofs.Places.{AreTreesOf-filled, AreTreesOf-better, AreTreesOf-later, pieces_better, pieces_later, places_none}
 use Rattle.convoy_share.proofs.Joins.{IsSlot-better}
 use Rattle.convoy_share.proofs.Slots.{there_le, slot_there, there_below, IsSlot-set}
 
@@ -82,19 +80,20 @@ IsFilling-moved bounds scenario seen tickets put done rest piece slots is fillin
       nodes = omega (arith, filling.nodes, ap spent same);
     }
 
--- a branch that is left is taken up
-pub IsFilling-turned : (bounds : Bounds) (scenario : Scenario) (seen tickets : ℕ) (put : List Box) (done rest : List Piece) (branch : Tracked) (tried : Bool) (turn : Turn) (slots : List (List Piece)) → IsTurned bounds scenario seen branch.space turn → IsFilling bounds scenario seen tickets put done (Todo branch tried ∷ rest) slots → IsFilling bounds scenario seen (tickets + 1) put done (pieces_of turn ++ rest) slots
-IsFilling-turned bounds scenario seen tickets put done rest branch tried turn slots is filling =
+-- a branch that is left is searched, and its tree settled
+pub IsFilling-searched : (bounds : Bounds) (scenario : Scenario) (seen tickets : ℕ) (put : List Box) (done rest : List Piece) (branch : Tracked) (tried : Bool) (pieces : List Piece) (more : ℕ) (slots : List (List Piece)) → IsUnderWay bounds scenario seen [] [] 0 (branch.space ∷ []) pieces more → IsFilling bounds scenario seen tickets put done (Todo branch tried ∷ rest) slots → IsFilling bounds scenario seen (tickets + more) put (done ++ pieces) rest slots
+IsFilling-searched bounds scenario seen tickets put done rest branch tried pieces more slots way filling =
     let P = IsPiece scenario seen put in
-    let pieces = pieces_of turn in
+    let each = way.trees.each in
+    let tree = AreTreesOf-filled bounds scenario seen put (root_of scenario ∷ []) branch.space (Todo branch tried) done pieces rest refl (AreTreesOf-later bounds scenario seen [] put (branch.space ∷ []) pieces each way.trees.tree) filling.tree in
     record {
-      tree = AreTreesOf-filled bounds scenario seen put (root_of scenario ∷ []) branch.space (Todo branch tried) done pieces rest refl (AreTreesOf-later bounds scenario seen [] put (branch.space ∷ []) pieces is.each is.tree) filling.tree;
-      settled = filling.settled;
-      each_done = filling.each_done;
-      each_rest = All-append P pieces rest (pieces_later scenario seen [] put pieces is.each) (All-tail P (Todo branch tried) rest filling.each_rest);
+      tree = subst (λ (ps : List Piece). AreTreesOf bounds scenario seen put (root_of scenario ∷ []) ps) (sym (append_assoc done pieces rest)) tree;
+      settled = filter_map-append pushed_number done pieces ∙ ap (λ (ts : List ℕ). places_in done ++ ts) (places_none scenario seen pieces each) ∙ append-nil (places_in done) ∙ filling.settled;
+      each_done = All-append P done pieces filling.each_done (pieces_later scenario seen [] put pieces each);
+      each_rest = All-tail P (Todo branch tried) rest filling.each_rest;
       each_slot = filling.each_slot;
-      once = λ x. omega (arith, filling.once x, places-append x pieces rest, ap (times x) (places_in-turn turn));
-      nodes = omega (arith, filling.nodes, spent-append done (Todo branch tried ∷ rest), spent-append done (pieces ++ rest), spent-append pieces rest, spent-turn turn);
+      once = filling.once;
+      nodes = omega (arith, filling.nodes, way.nodes, spent-append done (Todo branch tried ∷ rest), spent-append (done ++ pieces) rest, spent-append done pieces);
     }
 
 -- a better latency leaves all right

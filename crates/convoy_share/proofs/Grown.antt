@@ -1,7 +1,8 @@
 -- How far a worker's boxes are, after it took up one of them.
-use Rattle.std.specs.Prelude.{◌≡◌, ℕ, ◌+◌, ◌≤◌, List, [], ◌∷◌, ◌++◌, length, Bool, true, false}
-use Rattle.std.proofs.Common.{arith, refl, sym, subst, ◌∙◌}
-use Rattle.std.proofs.lemmas.List.Elements.{All-head}
+use Rattle.std.specs.Prelude.{◌≡◌, ℕ, ◌+◌, ◌≤◌, List, [], ◌∷◌, ◌++◌, length, Bool}
+use Rattle.std.specs.List.{All}
+use Rattle.std.proofs.Common.{arith, refl, sym, subst, ◌∙◌, inl, inr}
+use Rattle.std.proofs.lemmas.List.Elements.{All-head, All-nil}
 use Rattle.convoy_scenario.specs.Scenario.{Scenario}
 use Rattle.convoy_intervals.specs.Boxes.{Box}
 use Rattle.convoy_intervals.specs.Tracked.{Tracked}
@@ -13,14 +14,16 @@ use Rattle.convoy_share.specs.declared.means.Means.{Means}
 use Rattle.convoy_share.specs.declared.means.TakenUp.TheVariants.{Turned, Left}
 use Rattle.convoy_share.specs.declared.piece.Piece.{Piece}
 use Rattle.convoy_share.specs.declared.piece.Piece.TheVariants.{Todo, Pushed}
-use Rattle.convoy_share.specs.Pieces.{IsPiece}
+use Rattle.convoy_share.specs.Pieces.{IsPiece, left_boxes}
+use Rattle.convoy_share.specs.Subtrees.{ArePieces}
 use Rattle.convoy_share.specs.Turns.{parted, pieces_of}
-use Rattle.convoy_share.specs.Means.{IsLater, IsTakenUp, IsGrown, drawn}
+use Rattle.convoy_share.specs.Means.{IsLater, IsTakenUp, IsGrown, IsLeftAtEnd}
 use Rattle.convoy_share.proofs.Counts.{All-parts}
+use Rattle.convoy_share.proofs.Places.{places_none}
 use Rattle.convoy_share.proofs.UnderWay.{IsUnderWay-start, IsUnderWay-better, IsUnderWay-turned, IsUnderWay-put}
 
 IsLater-same : (means : Means) → IsLater means means
-IsLater-same means = record { board = refl; ledger = refl; hand = refl; clerk = refl; seen = omega arith }
+IsLater-same means = record { board = refl; ledger = refl; hand = refl; clerk = refl; seen = omega arith; done = λ told. told }
 
 pub IsLater-then : (before between after : Means) → IsLater before between → IsLater between after → IsLater before after
 IsLater-then before between after first second = record {
@@ -29,6 +32,7 @@ IsLater-then before between after first second = record {
   hand = second.hand ∙ first.hand;
   clerk = second.clerk ∙ first.clerk;
   seen = omega (arith, first.seen, second.seen);
+  done = λ told. second.done (first.done told);
 }
 
 -- a branch that is left is one of the scenario, and was tried if it is told to be
@@ -37,12 +41,12 @@ todo_right bounds scenario before after first put low boxes front rest branch tr
     let P = IsPiece scenario after.hand.seen put in
     All-head P (Todo branch tried) rest (All-parts P front (Todo branch tried ∷ rest) grown.way.trees.each).1
 
-pub IsGrown-start : (bounds : Bounds) (scenario : Scenario) (means : Means) (put : List Box) (low : ℕ) (branch : Tracked) → branch.scenario ≡ scenario → IsGrown bounds scenario means means put put low (branch.space ∷ []) (Todo branch false ∷ [])
-IsGrown-start bounds scenario means put low branch of_scenario = record {
+pub IsGrown-start : (bounds : Bounds) (scenario : Scenario) (means : Means) (put : List Box) (low : ℕ) (branch : Tracked) (tried : Bool) → IsPiece scenario means.hand.seen put (Todo branch tried) → IsGrown bounds scenario means means put put low (branch.space ∷ []) (Todo branch tried ∷ [])
+IsGrown-start bounds scenario means put low branch tried is = record {
   later = IsLater-same means;
   tickets = 0;
   spent = omega arith;
-  way = IsUnderWay-start bounds scenario means.hand.seen put low branch of_scenario;
+  way = IsUnderWay-start bounds scenario means.hand.seen put low branch tried is;
 }
 
 pub IsGrown-turned : (better : FrontsBetter) (bounds : Bounds) (scenario : Scenario) (most : ℕ) (before between after : Means) (first put : List Box) (low : ℕ) (boxes : List Box) (front rest : List Piece) (branch : Tracked) (tried : Bool) (turn : Turn) → IsTakenUp bounds scenario most branch between after (Turned turn) → IsGrown bounds scenario before between first put low boxes (front ++ Todo branch tried ∷ rest) → IsGrown bounds scenario before after first put low boxes (front ++ (pieces_of turn ++ rest))
@@ -76,3 +80,28 @@ IsGrown-left better bounds scenario most before between after first put low boxe
       spent = omega (arith, taken.ticket.1, same.spent);
       way = IsUnderWay-better better bounds scenario between.hand.seen after.hand.seen first put low boxes (front ++ Todo left tried ∷ rest) same.tickets taken.later.seen same.way;
     }
+
+-- where nothing was put, there is no place, and so none below any number
+pub IsGrown-kept : (bounds : Bounds) (scenario : Scenario) (before after : Means) (low : ℕ) (boxes : List Box) (pieces : List Piece) → IsGrown bounds scenario before after [] [] 0 boxes pieces → IsGrown bounds scenario before after [] [] low boxes pieces
+IsGrown-kept bounds scenario before after low boxes pieces grown =
+    let way = grown.way in
+    let Q : ℕ → Type 0 = λ n. low ≤ n in
+    let none = places_none scenario after.hand.seen pieces way.trees.each in
+    let trees : ArePieces bounds scenario after.hand.seen [] low boxes pieces = record {
+      tree = way.trees.tree;
+      above = subst (λ (ns : List ℕ). All Q ns) (sym none) (All-nil Q);
+      each = way.trees.each;
+    } in
+    record {
+      later = grown.later;
+      tickets = grown.tickets;
+      spent = grown.spent;
+      way = record { trees = trees; places = way.places; nodes = way.nodes; more = way.more };
+    }
+
+-- other pieces may leave the same boxes
+pub IsLeftAtEnd-by : (means : Means) (pieces others : List Piece) → left_boxes others ≡ left_boxes pieces → IsLeftAtEnd means pieces → IsLeftAtEnd means others
+IsLeftAtEnd-by means pieces others same left = elim left [
+  | inl none ↦ inl (same ∙ none)
+  | inr done ↦ inr done
+]

@@ -11,7 +11,7 @@ pub mod Endings
 pub mod LeftUppers
 pub mod Outcomes
 pub mod Grown
-pub mod Offered
+pub mod Placed
 pub mod Worked
 pub mod Drained
 pub mod Openings

@@ -1,5 +1,5 @@
 -- A tree in the place of a box that is left.
-use Rattle.std.specs.Prelude.{◌≡◌, ℕ, ◌≤◌, List, [], ◌∷◌, ◌++◌, map}
+use Rattle.std.specs.Prelude.{◌≡◌, ℕ, ◌≤◌, ◌<◌, List, [], ◌∷◌, ◌++◌, map}
 use Rattle.std.specs.List.{All}
 use Rattle.std.proofs.Common.{arith, refl, length-append, ap, sym, subst, ◌∙◌}
 use Rattle.std.proofs.lemmas.List.{map-append, get_or_append_left}
@@ -14,7 +14,7 @@ use Rattle.convoy_branch.specs.Fronts.{AreFronts, FrontNode, Left, front_below, 
 use Rattle.convoy_branch.specs.Laws.{FrontsBetter}
 use Rattle.convoy_share.specs.declared.piece.Piece.{Piece}
 use Rattle.convoy_share.specs.declared.piece.Piece.TheVariants.{Done, Todo, Pushed}
-use Rattle.convoy_share.specs.Pieces.{front_of, AreTreesOf, IsPiece}
+use Rattle.convoy_share.specs.Pieces.{front_of, AreTreesOf, IsPiece, places_in}
 
 -- a tree over a box that is left may stand in for the box
 pub AreTreesOf-filled : (bounds : Bounds) (scenario : Scenario) (seen : ℕ) (put boxes : List Box) (branch : Box) (piece : Piece) (front inner rest : List Piece) → front_of put piece ≡ Left branch → AreTreesOf bounds scenario seen put (branch ∷ []) inner → AreTreesOf bounds scenario seen put boxes (front ++ piece ∷ rest) → AreTreesOf bounds scenario seen put boxes (front ++ (inner ++ rest))
@@ -68,3 +68,13 @@ IsPiece-later scenario seen put later (Pushed number) is = omega (arith, is, len
 pub pieces_later : (scenario : Scenario) (seen : ℕ) (put later : List Box) (pieces : List Piece) → All (IsPiece scenario seen put) pieces → All (IsPiece scenario seen (put ++ later)) pieces
 pieces_later scenario seen put later pieces each =
     All-weaker (IsPiece scenario seen put) (IsPiece scenario seen (put ++ later)) (IsPiece-later scenario seen put later) pieces each
+
+-- where nothing was put there are no places
+pub places_none : (scenario : Scenario) (seen : ℕ) (pieces : List Piece) → All (IsPiece scenario seen []) pieces → places_in pieces ≡ []
+places_none scenario seen [] each = refl
+places_none scenario seen (Done node ∷ pieces) each =
+    places_none scenario seen pieces (All-tail (IsPiece scenario seen []) (Done node) pieces each)
+places_none scenario seen (Todo branch tried ∷ pieces) each =
+    places_none scenario seen pieces (All-tail (IsPiece scenario seen []) (Todo branch tried) pieces each)
+places_none scenario seen (Pushed number ∷ pieces) each =
+    let low : number < 0 = All-head (IsPiece scenario seen []) (Pushed number) pieces each in absurd (omega (arith, low))

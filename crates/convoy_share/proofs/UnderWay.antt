@@ -13,10 +13,9 @@ use Rattle.convoy_intervals.specs.Boxes.{Box}
 use Rattle.convoy_intervals.specs.Tracked.{Tracked}
 use Rattle.convoy_branch.specs.declared.bounds.Bounds.{Bounds}
 use Rattle.convoy_branch.specs.declared.step.Turn.{Turn}
-use Rattle.convoy_branch.specs.declared.step.Turn.TheVariants.{Closed, Halves}
+use Rattle.convoy_branch.specs.declared.step.Turn.TheVariants.{Halves}
 use Rattle.convoy_branch.specs.Fronts.{AreFronts, Spent, Left}
 use Rattle.convoy_branch.specs.Laws.{FrontsBetter}
-use Rattle.convoy_branch.specs.Steps.{IsTriedIf}
 use Rattle.convoy_deque.specs.declared.task.Task.{Task}
 use Rattle.convoy_share.specs.declared.piece.Piece.{Piece}
 use Rattle.convoy_share.specs.declared.piece.Piece.TheVariants.{Done, Todo, Pushed}
@@ -43,13 +42,13 @@ ArePieces-filled bounds scenario seen put low boxes branch tried front inner res
       each = All-append P front (inner ++ rest) each.0 (All-append P inner rest new.each (All-tail P (Todo branch tried) rest each.1));
     }
 
--- a branch that nobody has looked at
-pub IsUnderWay-start : (bounds : Bounds) (scenario : Scenario) (seen : ℕ) (put : List Box) (low : ℕ) (branch : Tracked) → branch.scenario ≡ scenario → IsUnderWay bounds scenario seen put put low (branch.space ∷ []) (Todo branch false ∷ []) 0
-IsUnderWay-start bounds scenario seen put low branch of_scenario = record {
+-- a branch that nobody has taken up
+pub IsUnderWay-start : (bounds : Bounds) (scenario : Scenario) (seen : ℕ) (put : List Box) (low : ℕ) (branch : Tracked) (tried : Bool) → IsPiece scenario seen put (Todo branch tried) → IsUnderWay bounds scenario seen put put low (branch.space ∷ []) (Todo branch tried ∷ []) 0
+IsUnderWay-start bounds scenario seen put low branch tried is = record {
   trees = record {
     tree = (refl, tt);
     above = All-nil (λ (n : ℕ). low ≤ n);
-    each = All-cons (IsPiece scenario seen put) (Todo branch false) [] (of_scenario, λ told. absurd (cc)) (All-nil (IsPiece scenario seen put));
+    each = All-cons (IsPiece scenario seen put) (Todo branch tried) [] is (All-nil (IsPiece scenario seen put));
   };
   places = λ x. omega arith;
   nodes = refl;

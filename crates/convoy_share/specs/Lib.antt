@@ -14,7 +14,7 @@ pub mod Laws
 pub mod Kept
 pub mod Growing
 pub mod Means
-pub mod Offers
+pub mod Halves
 pub mod Common
 pub mod Workers
 pub mod Opening

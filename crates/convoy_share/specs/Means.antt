@@ -1,5 +1,5 @@
 -- What a worker looks, publishes and draws with, from step to step.
-use Rattle.std.specs.Prelude.{◌≡◌, ℕ, ◌+◌, ◌≤◌, List, false, true, length}
+use Rattle.std.specs.Prelude.{◌≡◌, ◌⊎◌, ℕ, ◌+◌, ◌≤◌, List, [], false, true, length}
 use Rattle.convoy_scenario.specs.Scenario.{Scenario}
 use Rattle.convoy_intervals.specs.Boxes.{Box}
 use Rattle.convoy_intervals.specs.Tracked.{Tracked}
@@ -8,6 +8,7 @@ use Rattle.convoy_share.specs.declared.means.Means.{Means}
 use Rattle.convoy_share.specs.declared.means.TakenUp.{TakenUp}
 use Rattle.convoy_share.specs.declared.means.TakenUp.TheVariants.{Turned, Left}
 use Rattle.convoy_share.specs.declared.piece.Piece.{Piece}
+use Rattle.convoy_share.specs.Pieces.{left_boxes}
 use Rattle.convoy_share.specs.Subtrees.{IsUnderWay}
 use Rattle.convoy_share.specs.Turns.{IsTurned}
 
@@ -18,6 +19,7 @@ pub record IsLater (before after : Means) : Type 0 where
   pub hand : after.hand.share ≡ before.hand.share
   pub clerk : after.clerk.share ≡ before.clerk.share
   pub seen : before.hand.seen ≤ after.hand.seen
+  pub done : before.clerk.done ≡ true → after.clerk.done ≡ true
 
 -- how many tickets were drawn
 abbrev pub drawn : Means → ℕ
@@ -40,3 +42,7 @@ pub record IsGrown (bounds : Bounds) (scenario : Scenario) (before after : Means
   pub tickets : ℕ
   pub spent : drawn after ≡ drawn before + tickets
   pub way : IsUnderWay bounds scenario after.hand.seen first put low boxes pieces tickets
+
+-- a branch is left among the pieces only where all tickets were drawn
+abbrev pub IsLeftAtEnd : Means → List Piece → Type 0
+IsLeftAtEnd means pieces = (left_boxes pieces ≡ []) ⊎ (means.clerk.done ≡ true)

@@ -134,4 +134,14 @@ impl Filling {
         }
         Ok(None)
     }
+    /// Settles a tree that stood next, of which the pieces stand from the last one back.
+    pub fn settle(&mut self, mut pieces: Vec<Settled>) -> Result<(), AllocError>
+        ensures done { OnOk result (self.new.done.items ≡ self.old.done.items ++ reverse pieces.items) }
+        ensures rest { OnOk result (self.new.rest.items ≡ self.old.rest.items) }
+        ensures slots { OnOk result (self.new.slots.items ≡ self.old.slots.items) }
+    {
+        pieces.reverse();
+        self.done.append(&mut pieces)?;
+        Ok(())
+    }
 }

@@ -1,12 +1,12 @@
 //! A tree that one worker is searching.
 
-ghost use Rattle.std.specs.Prelude.{◌≡◌, ◌≤◌, ◌<◌, ◌+◌, [], ◌∷◌, ◌++◌, false, length, reverse};
+ghost use Rattle.std.specs.Prelude.{◌≡◌, ◌≤◌, ◌<◌, ◌+◌, [], ◌∷◌, ◌++◌, length, reverse};
 ghost use Rattle.std.specs.Prelude.{IfNone, IfOk, IfSome, OnOk};
 ghost use Rattle.convoy_share.specs.Growing.{pieces_in};
-ghost use Rattle.convoy_share.specs.Turns.{parted, pieces_of};
+ghost use Rattle.convoy_share.specs.Pieces.{left_boxes};
+ghost use Rattle.convoy_share.specs.Turns.{parted};
 
 use super::piece::{Piece, Settled};
-use convoy_branch::Turn;
 use convoy_certificate::Node;
 use convoy_intervals::Tracked;
 use std::alloc::{AllocError, Global};
@@ -21,16 +21,13 @@ pub(crate) struct Growing {
 }
 
 impl Growing {
-    /// A branch that nobody has looked at.
-    pub fn of(alloc: Global, branch: Tracked) -> Result<Growing, AllocError>
+    /// A branch that nobody has taken up.
+    pub fn of(alloc: Global, branch: Tracked, tried: bool) -> Result<Growing, AllocError>
         ensures { IfOk result (λ growing.
-            (growing.work.items ≡ Piece.Todo branch false ∷ []) × (growing.written.items ≡ [])) }
+            (growing.work.items ≡ Piece.Todo branch tried ∷ []) × (growing.written.items ≡ [])) }
     {
         let mut work = Vec::new(alloc);
-        work.push(Piece::Todo {
-            branch,
-            tried: false,
-        })?;
+        work.push(Piece::Todo { branch, tried })?;
         Ok(Growing {
             work,
             written: Vec::new(alloc),
@@ -46,6 +43,8 @@ impl Growing {
             length self.new.work.items < length self.old.work.items)) }
         ensures none { IfOk result (λ next. IfNone next
             (pieces_in self.old ≡ reverse self.new.written.items)) }
+        ensures left { OnOk result (left_boxes (reverse self.new.written.items)
+            ≡ left_boxes (reverse self.old.written.items)) }
     {
         while let Some(piece) = self.work.pop() {
             match piece {
@@ -57,27 +56,15 @@ impl Growing {
         Ok(None)
     }
 
-    /// The pieces of a turn come in the place of a branch.
-    pub fn follow(&mut self, turn: Turn) -> Result<(), AllocError>
+    /// A node comes in the place of a branch.
+    pub fn close(&mut self, node: Node) -> Result<(), AllocError>
         ensures pieces { OnOk result (pieces_in self.new
-            ≡ self.old.work.items ++ (pieces_of turn ++ reverse self.old.written.items)) }
-        ensures few { OnOk result (length self.new.work.items ≤ length self.old.work.items + 3) }
+            ≡ self.old.work.items ++ Piece.Done node ∷ reverse self.old.written.items) }
+        ensures few { OnOk result (self.new.work.items ≡ self.old.work.items) }
+        ensures left { OnOk result (left_boxes (reverse self.new.written.items)
+            ≡ left_boxes (reverse self.old.written.items)) }
     {
-        match turn {
-            Turn::Closed(node) => self.work.push(Piece::Done(node))?,
-            Turn::Halves {
-                packet,
-                at,
-                lower,
-                upper,
-            } => {
-                let lower = Piece::Todo {
-                    branch: lower,
-                    tried: false,
-                };
-                self.part(packet, at, lower, upper)?;
-            }
-        }
+        self.written.push(Settled::done(node))?;
         Ok(())
     }
 
@@ -93,6 +80,7 @@ impl Growing {
         ensures pieces { OnOk result (pieces_in self.new
             ≡ self.old.work.items ++ (parted packet at lower upper ++ reverse self.old.written.items)) }
         ensures few { OnOk result (length self.new.work.items ≤ length self.old.work.items + 3) }
+        ensures written { OnOk result (self.new.written.items ≡ self.old.written.items) }
     {
         self.work.push(Piece::Done(Node::Split { packet, at }))?;
         self.work.push(lower)?;

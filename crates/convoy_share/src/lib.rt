@@ -13,6 +13,7 @@ mod filling;
 mod finishing;
 mod gathering;
 mod growing;
+mod halves;
 pub mod laws;
 mod means;
 mod opening;

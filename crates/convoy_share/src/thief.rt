@@ -5,6 +5,7 @@ ghost use Rattle.convoy_share.specs.Common.{common_of};
 ghost use Rattle.convoy_share.specs.Workers.{StaysThief};
 
 use super::fault::SearchFault;
+use super::halves::Keeps;
 use super::means::Means;
 use super::shared::Shared;
 use super::tree::{Tree, keep};
@@ -41,7 +42,15 @@ fn rob_once<R: Wait, G: Gate>(
     match worker.end.steal() {
         Steal::Success(task) => {
             let number = task.number;
-            let pieces = search_branch(rt, gate, shared, &mut worker.means, task.branch)?;
+            let pieces = search_branch(
+                rt,
+                gate,
+                shared,
+                &mut worker.means,
+                &mut Keeps,
+                task.branch,
+                false,
+            )?;
             keep(&mut worker.trees, Tree::of(number, pieces))?;
             Ok(true)
         }

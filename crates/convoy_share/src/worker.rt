@@ -1,74 +1,98 @@
-//! How a worker searches a branch that nobody else puts aside.
+//! How a worker searches a branch, depth first.
 
 ghost use Rattle.std.specs.Prelude.{◌≡◌, ◌≤◌, ◌+◌, ◌*◌, ◌-◌, ℕ, List, [], ◌∷◌, ◌++◌, length, reverse};
 ghost use Rattle.std.specs.Prelude.{IfOk, OnOk};
 ghost use Rattle.convoy_intervals.specs.Boxes.{Box};
 ghost use Rattle.convoy_branch.specs.Steps.{IsTriedIf};
 ghost use Rattle.convoy_share.specs.Growing.{pieces_in};
-ghost use Rattle.convoy_share.specs.Means.{IsGrown, drawn};
+ghost use Rattle.convoy_share.specs.Means.{IsGrown, IsLeftAtEnd, drawn};
 
 use super::fault::SearchFault;
 use super::growing::Growing;
+use super::halves::Halves;
 use super::means::{Means, TakenUp, take_up};
 use super::piece::{Piece, Settled};
 use super::shared::Shared;
-use convoy_branch::Gate;
 use convoy_branch::laws::fronts_better;
+use convoy_branch::{Gate, Turn};
 use convoy_intervals::Tracked;
 use std::sync::Wait;
 
-/// Takes up the branch that is next in a tree, and keeps both halves of a split.
-fn advance<R: Wait, G: Gate>(
+/// Takes up the branch that is next in a tree.
+fn advance<R: Wait, G: Gate, H: Halves>(
     rt: &R,
     gate: &G,
     shared: &Shared,
     means: &mut Means,
+    halves: &mut H,
     growing: &mut Growing,
     branch: Tracked,
     tried: bool,
 ) -> Result<(), SearchFault>
     requires hand { means.old.hand.board ≡ shared.now.board.now }
     requires clerk { means.old.clerk.ledger ≡ shared.now.ledger.now }
+    requires halves { H.takes (H.fixed halves.old) shared.now.instance.now }
     requires of_scenario { branch.scenario ≡ shared.now.instance.now }
     requires known { IsTriedIf shared.now.instance.now branch.space tried means.old.hand.seen }
-    ensures grown { (before : Means) (first put : List Box) (low : ℕ) (boxes : List Box)
-        → IsGrown shared.now.bounds shared.now.instance.now before means.old first put low boxes
+    ensures grown { (before : Means) (first : List Box) (low : ℕ) (boxes : List Box)
+        → low ≤ length first
+        → IsGrown shared.now.bounds shared.now.instance.now before means.old first (H.put halves.old) low boxes
         (growing.old.work.items ++ Piece.Todo branch tried ∷ reverse growing.old.written.items)
-        → OnOk result (IsGrown shared.now.bounds shared.now.instance.now before means.new first put low boxes
-        (pieces_in growing.new)) }
+        → OnOk result (IsGrown shared.now.bounds shared.now.instance.now before means.new first (H.put halves.new) low
+        boxes (pieces_in growing.new)) }
+    ensures left { IsLeftAtEnd means.old (reverse growing.old.written.items)
+        → OnOk result (IsLeftAtEnd means.new (reverse growing.new.written.items)) }
     ensures board { OnOk result (means.new.hand.board ≡ shared.now.board.now) }
     ensures ledger { OnOk result (means.new.clerk.ledger ≡ shared.now.ledger.now) }
+    ensures fixed { OnOk result (H.fixed halves.new ≡ H.fixed halves.old) }
     ensures fewer { OnOk result
         (3 * (shared.now.ledger.now.most - drawn means.new) + length growing.new.work.items
         ≤ 3 * (shared.now.ledger.now.most - drawn means.old) + length growing.old.work.items) }
 {
     fronts_better();
     match take_up(rt, gate, shared, means, branch, tried)? {
-        TakenUp::Turned(turn) => growing.follow(turn)?,
+        TakenUp::Turned(Turn::Closed(node)) => growing.close(node)?,
+        TakenUp::Turned(
+            Turn::Halves {
+                packet,
+                at,
+                lower,
+                upper,
+            },
+        ) => {
+            let lower = halves.place(lower, shared.workers);
+            growing.part(packet, at, lower, upper)?;
+        }
         TakenUp::Left(branch) => growing.leave(shared.alloc, branch, tried)?,
     }
     Ok(())
 }
 
-/// Searches a branch as far as there are tickets. The pieces of its tree are answered from the last one
-/// back.
-pub(crate) fn search_branch<R: Wait, G: Gate>(
+/// Searches a branch as far as there are tickets: the upper half of each split first, and then what
+/// became of the lower half. The pieces of its tree are answered from the last one back.
+pub(crate) fn search_branch<R: Wait, G: Gate, H: Halves>(
     rt: &R,
     gate: &G,
     shared: &Shared,
     means: &mut Means,
+    halves: &mut H,
     branch: Tracked,
+    tried: bool,
 ) -> Result<Vec<Settled>, SearchFault>
     requires hand { means.old.hand.board ≡ shared.now.board.now }
     requires clerk { means.old.clerk.ledger ≡ shared.now.ledger.now }
+    requires halves { H.takes (H.fixed halves.old) shared.now.instance.now }
     requires of_scenario { branch.scenario ≡ shared.now.instance.now }
-    ensures { (put : List Box) (low : ℕ) → IfOk result (λ pieces.
-        IsGrown shared.now.bounds shared.now.instance.now means.old means.new put put low (branch.space ∷ [])
-        (reverse pieces.items)) }
+    requires known { IsTriedIf shared.now.instance.now branch.space tried means.old.hand.seen }
+    ensures grown { (low : ℕ) → low ≤ length (H.put halves.old) → IfOk result (λ pieces.
+        IsGrown shared.now.bounds shared.now.instance.now means.old means.new (H.put halves.old) (H.put halves.new) low
+        (branch.space ∷ []) (reverse pieces.items)) }
+    ensures left { IfOk result (λ pieces. IsLeftAtEnd means.new (reverse pieces.items)) }
+    ensures fixed { OnOk result (H.fixed halves.new ≡ H.fixed halves.old) }
 {
-    let mut growing = Growing::of(shared.alloc, branch)?;
+    let mut growing = Growing::of(shared.alloc, branch, tried)?;
     while let Some((branch, tried)) = growing.next()? {
-        advance(rt, gate, shared, means, &mut growing, branch, tried)?;
+        advance(rt, gate, shared, means, halves, &mut growing, branch, tried)?;
     }
     Ok(growing.written)
 }

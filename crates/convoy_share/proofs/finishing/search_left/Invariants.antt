@@ -1,5 +1,5 @@
 use Rattle.std.specs.List.{sum_by}
-use Rattle.std.proofs.Common.{◌≡◌, ◌≤◌, ◌+◌, ◌*◌, ◌-◌, List, reverse, length}
+use Rattle.std.proofs.Common.{◌≤◌, ◌+◌, List, reverse, length}
 use Rattle.convoy_intervals.specs.Boxes.{Box}
 use Rattle.convoy_share.specs.Common.{common_of}
 use Rattle.convoy_share.specs.Finishing.{IsFinishing}
@@ -13,4 +13,4 @@ invariant-loop-branch g l =
     × (drawn l.fn.means ≤ drawn l.means)
 
 abbrev pub decreases-loop-branch : goal.decreases-loop-branch
-decreases-loop-branch g l = 3 * (l.shared.ledger.now.most - drawn l.means) + length l.filling.rest.items + sum_by length l.filling.slots.items
+decreases-loop-branch g l = length l.filling.rest.items + sum_by length l.filling.slots.items

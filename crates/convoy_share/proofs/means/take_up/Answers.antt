@@ -1,4 +1,5 @@
 use Rattle.std.proofs.Common.{ℕ, sym, ap, subst, ◌∙◌, arith, ◌≤◌}
+use Rattle.std.proofs.lemmas.Bool.{false≢true}
 use Rattle.convoy_scenario.specs.Scenario.{Scenario}
 use Rattle.convoy_intervals.specs.Boxes.{IsBox}
 use Rattle.convoy_incumbent.specs.Boards.{Holding}
@@ -26,6 +27,7 @@ returns-in-Ok g c =
         hand = publish.same.1 ∙ ap (λ (h : Holding). h.share) look.hand;
         clerk = c.has_drawn.ensures.same.1;
         seen = omega (arith, look.least.0, seen, publish.seen);
+        done = λ told. absurd (false≢true (sym ticket.2 ∙ told));
       };
       ticket = (
         ticket.0,

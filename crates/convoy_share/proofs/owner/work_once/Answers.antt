@@ -13,11 +13,11 @@ returns-in_ok-keep-in-Some g c =
     let shared = c.args.shared.now in
     let old = c.args.worker.now in
     let trees = c.in_ok-keep-in-Some.ensures ∙ ap (λ (t : Subtree). old.trees.items ++ t ∷ []) c.of.ensures in
-    let new : OwnerWorker = record { means = c.search_own.new.means; end = c.search_own.new.owner; trees = c.keep.new.trees; drawn_by_thieves = old.drawn_by_thieves } in
+    let new : OwnerWorker = record { means = c.search_branch.new.means; end = c.search_branch.new.halves; trees = c.keep.new.trees; drawn_by_thieves = old.drawn_by_thieves } in
     let took = c.in-Some.ensures.some in
     let told = c.in_ok-pieces-in-Some.ensures in
     let task = c.in-Some.task in
-    let end = told.owner ∙ ap (λ (o : OwnerEnd). record o { put = new.end.put }) took.0 in
+    let end = ap (λ (o : OwnerEnd). record o { put = new.end.put }) (told.fixed ∙ ap (λ (o : OwnerEnd). record o { put = [] }) took.0) in
     let put : c.take.new.self.put ≡ old.end.put = ap (λ (o : OwnerEnd). o.put) took.0 in
     let pieces = reverse c.in_ok-pieces-in-Some.pieces.items in
     let below = subst (λ (bs : List Box). task.number + 1 ≤ length bs) (sym put) (number_below old.end.put task took.2) in
