@@ -1,16 +1,16 @@
 -- What the program does for a verdict on its command line.
 use Rattle.std.specs.Prelude.{◌≡◌, ◌⊎◌, ℕ, MatchResult, Result, Err, string_bytes}
 use Rattle.std.specs.Result.{result_map_both}
-use Rattle.convoy_engine.specs.declared.done.Done.{Done}
-use Rattle.convoy_engine.specs.declared.done.Done.TheVariants.{Fine, Open, Refused}
-use Rattle.convoy_engine.specs.declared.fault.Fault.{Fault}
-use Rattle.convoy_engine.specs.declared.fault.Fault.TheVariants as faults
-use Rattle.convoy_engine.specs.Batches.{IsBatchRun}
-use Rattle.convoy_engine.specs.Commands.{longest_for, says_for}
-use Rattle.convoy_engine.specs.Devices.{Answer, HasRun}
-use Rattle.convoy_engine.specs.Faults.{fault_line_of}
-use Rattle.convoy_engine.specs.Runs.{IsRun}
-use Rattle.convoy_engine.specs.Writes.{WritesAll, FailsWithin}
+use Rattle.convoy_commands.specs.declared.done.Done.{Done}
+use Rattle.convoy_commands.specs.declared.done.Done.TheVariants.{Fine, Open, Refused}
+use Rattle.convoy_commands.specs.declared.fault.Fault.{Fault}
+use Rattle.convoy_commands.specs.declared.fault.Fault.TheVariants as faults
+use Rattle.convoy_commands.specs.Batches.{IsBatchRun}
+use Rattle.convoy_commands.specs.Commands.{longest_for, says_for}
+use Rattle.convoy_commands.specs.Devices.{Answer, HasRun}
+use Rattle.convoy_commands.specs.Faults.{fault_line_of}
+use Rattle.convoy_commands.specs.Runs.{IsRun}
+use Rattle.convoy_commands.specs.Writes.{WritesAll, FailsWithin}
 use Rattle.convoy.specs.declared.TheConstants.{MOST_READS}
 use Rattle.convoy.specs.declared.ending.End.{End}
 use Rattle.convoy.specs.declared.ending.End.TheVariants.{Answered, Told}

@@ -2,7 +2,7 @@ ghost use Rattle.std.specs.Prelude.{◌≡◌};
 ghost use Rattle.convoy.specs.Verdicts.{status_of};
 
 use super::{FINE, NOT_VALID, OPEN};
-use convoy_engine::Done;
+use convoy_commands::Done;
 
 /// How a run ended that had no fault.
 #[derive(Clone, Copy, Debug)]

@@ -5,7 +5,7 @@ use super::REJECTED;
 use super::ending::End;
 use super::judge::Verdict;
 use super::kept::{KeptReader, KeptWriter};
-use convoy_engine::{
+use convoy_commands::{
     Bounds, Command, Done, Fault, LONGEST_JOB, MOST_JOBS, Ways, lead_share, plain_share,
 };
 use convoy_hints::{

@@ -6,7 +6,7 @@ ghost use Rattle.convoy.specs.Verdicts.{EndsAtOnce, IsVerdict};
 use super::{MOST_READS, REJECTED};
 use clap::error::ErrorKind;
 use clap::{Arg, ArgAction, ArgMatches, Error, value_parser};
-use convoy_engine::{
+use convoy_commands::{
     Bounds, Command, DEFAULT_LIMIT, DEFAULT_SIMULATIONS, MOST_SIMULATIONS, MOST_TICKETS,
     MOST_WORKERS, Options, Ways,
 };

@@ -1,5 +1,5 @@
 //! Convoy, the program: its command line and the standard streams. What a command writes is said
-//! by the functions of `convoy_engine`.
+//! by the functions of `convoy_commands`.
 #![tactic(auto)]
 
 ghost use Rattle.convoy.specs.Verdicts.{IsVerdict, Obeys, Tells};
@@ -10,7 +10,7 @@ mod judge;
 mod kept;
 mod progress;
 
-use convoy_engine::{
+use convoy_commands::{
     DeviceFailed, Fault, Sink, Source, StreamSink, StreamSource, Watch, fault_line, run_batch,
     run_command, write_all,
 };

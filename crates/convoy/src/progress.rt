@@ -1,6 +1,6 @@
 //! How far a long search has come, told on standard error.
 
-use convoy_engine::{Bounds, Gate, Watch};
+use convoy_commands::{Bounds, Gate, Watch};
 use std::alloc::{AllocError, Global};
 use std::convert::AsStr;
 use std::io::{Stderr, Write};

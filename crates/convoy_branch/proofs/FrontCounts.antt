@@ -37,4 +37,4 @@ pub spent_in-turned : (front rest : List FrontNode) (branch : Box) (turn : Turn)
 spent_in-turned front rest branch (Closed node) =
     omega (arith, length-spent_in front (Spent node ∷ rest), length-spent_in front (Left branch ∷ rest))
 spent_in-turned front rest branch (Halves packet at lower upper) =
-    omega (arith, length-spent_in front (Spent (Split packet at) ∷ Left lower.space ∷ Left upper.space ∷ rest), length-spent_in front (Left branch ∷ rest))
+    omega (arith, length-spent_in front (Spent (Split packet at) ∷ Left lower.delay_box ∷ Left upper.delay_box ∷ rest), length-spent_in front (Left branch ∷ rest))

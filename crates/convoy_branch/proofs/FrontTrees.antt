@@ -54,7 +54,7 @@ AreFronts-turned bounds plan best branch (Closed (Lead known)) turn =
 AreFronts-turned bounds plan best branch (Halves packet at lower upper) turn =
     let stays : StaysOpen bounds plan branch best = turn.0 in
     let split : IsSearchedSplit bounds plan best packet at branch = record { part = turn.1; known = best; open_box = stays.not_closed; tried = stays.tried; passed = omega arith } in
-    (split, (ap (λ (t : Tracked). t.space) turn.2, (ap (λ (t : Tracked). t.space) turn.3, tt)))
+    (split, (ap (λ (t : Tracked). t.delay_box) turn.2, (ap (λ (t : Tracked). t.delay_box) turn.3, tt)))
 
 -- a front with no box left is a tree
 pub AreTrees-spent : (bounds : Bounds) (plan : Scenario) (best : ℕ) (nodes : List Node) (boxes : List Box) → AreFronts bounds plan best boxes (map Spent nodes) → AreTrees boxes_below (IsRight plan best) boxes nodes

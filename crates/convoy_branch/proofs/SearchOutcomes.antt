@@ -24,7 +24,7 @@ use Rattle.convoy_branch.specs.declared.search.Work.{Work}
 use Rattle.convoy_branch.specs.declared.search.Work.TheVariants.{Branch}
 use Rattle.convoy_branch.specs.Fronts.{AreFronts, FrontNode, Left, Spent, IsFront, left_in}
 use Rattle.convoy_branch.specs.Laws.{FrontsBound}
-use Rattle.convoy_branch.specs.Outcomes.{AreShares, IsProved, IsOpen}
+use Rattle.convoy_branch.specs.Outcomes.{AreTicketsByWorker, IsProved, IsOpen}
 use Rattle.convoy_branch.specs.Searching.{IsSearching, front_of, front_nodes}
 use Rattle.convoy_branch.proofs.FrontTrees.{AreTrees-spent, no_leads-spent, no_stamps-spent}
 use Rattle.convoy_branch.proofs.Readable.{AreReadable-spent}
@@ -59,7 +59,7 @@ no_leads bounds plan best nodes tickets searching other =
     no_leads-spent bounds plan best.latency (reverse nodes) (root_of plan ∷ []) other searching.tree
 
 -- the tickets of one worker are all
-one_share : (tickets : ℕ) (by_worker : List ℕ) → by_worker ≡ tickets ∷ [] → AreShares 1 tickets by_worker
+one_share : (tickets : ℕ) (by_worker : List ℕ) → by_worker ≡ tickets ∷ [] → AreTicketsByWorker 1 tickets by_worker
 one_share tickets by_worker workers =
     record { each = ap (λ (ts : List ℕ). length ts) workers; all = ap (λ (ts : List ℕ). sum ts) workers ∙ omega arith }
 
@@ -97,8 +97,8 @@ left work branch tried nodes = left_in-append_spent (map front_of (work ++ Branc
 
 some_left : (work : List Work) (branch : Tracked) (tried : Bool) (nodes : List Node) → 0 < length (left_in (front_nodes (work ++ Branch branch tried ∷ []) nodes))
 some_left work branch tried nodes =
-    let last : left_in (map front_of (work ++ Branch branch tried ∷ [])) ≡ left_in (map front_of work) ++ branch.space ∷ [] = ap (λ (front : List FrontNode). left_in front) (map_push front_of work (Branch branch tried)) ∙ left_in-append (map front_of work) (Left branch.space ∷ []) in
-    omega (arith, ap length (left work branch tried nodes ∙ last), length-append (left_in (map front_of work)) (branch.space ∷ []))
+    let last : left_in (map front_of (work ++ Branch branch tried ∷ [])) ≡ left_in (map front_of work) ++ branch.delay_box ∷ [] = ap (λ (front : List FrontNode). left_in front) (map_push front_of work (Branch branch tried)) ∙ left_in-append (map front_of work) (Left branch.delay_box ∷ []) in
+    omega (arith, ap length (left work branch tried nodes ∙ last), length-append (left_in (map front_of work)) (branch.delay_box ∷ []))
 
 front_left : (bounds : Bounds) (plan : Scenario) (best : Record) (work pushed : List Work) (branch : Tracked) (tried : Bool) (nodes : List Node) (tickets latency upper : ℕ) → IsAttained best → IsSearching bounds plan best (work ++ Branch branch tried ∷ []) nodes tickets → pushed ≡ work ++ Branch branch tried ∷ [] → latency ≡ best.latency → IsUpperOf bounds plan latency (left_in (map front_of pushed)) upper → IsFront bounds plan best.latency upper tickets
 front_left bounds plan best work pushed branch tried nodes tickets latency upper attained searching pushed_is latency_is upper_is =

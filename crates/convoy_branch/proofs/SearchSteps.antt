@@ -57,7 +57,7 @@ IsFrontOf bounds plan latency tickets front =
 -- a better record leaves what waits as it is
 IsWork-better : (plan : Scenario) (best better : ℕ) (piece : Work) → best ≤ better → IsWork plan best piece → IsWork plan better piece
 IsWork-better plan best better (Branch branch tried) above is =
-    (is.0, λ told. (let known : latency_of plan (greatest_of branch.space) ≤ best = is.1 told in omega arith), is.2)
+    (is.0, λ told. (let known : latency_of plan (greatest_of branch.delay_box) ≤ best = is.1 told in omega arith), is.2)
 IsWork-better plan best better (Write node) above is = is
 
 -- a search with a better record
@@ -94,7 +94,7 @@ IsSearching-popped bounds plan best work rest nodes next tickets piece node popp
     subst (λ (ns : List Node). IsSearching bounds plan best rest ns tickets) (sym written) (IsSearching-written bounds plan best rest nodes tickets node last)
 
 -- the front of a search that takes up a box
-taken : (bounds : Bounds) (plan : Scenario) (best : Record) (work : List Work) (nodes : List Node) (tickets : ℕ) (branch : Tracked) (tried : Bool) → IsSearching bounds plan best (work ++ Branch branch tried ∷ []) nodes tickets → IsFrontOf bounds plan best.latency tickets (map front_of work ++ Left branch.space ∷ done nodes)
+taken : (bounds : Bounds) (plan : Scenario) (best : Record) (work : List Work) (nodes : List Node) (tickets : ℕ) (branch : Tracked) (tried : Bool) → IsSearching bounds plan best (work ++ Branch branch tried ∷ []) nodes tickets → IsFrontOf bounds plan best.latency tickets (map front_of work ++ Left branch.delay_box ∷ done nodes)
 taken bounds plan best work nodes tickets branch tried searching =
     subst (λ (f : List FrontNode). IsFrontOf bounds plan best.latency tickets f) (front-pushed work (Branch branch tried) (done nodes)) (searching.tree, searching.spent)
 
@@ -117,10 +117,10 @@ pub record HalvesWait (plan : Scenario) (known : ℕ) (lower upper : Tracked) : 
 halves_wait : (bounds : Bounds) (plan : Scenario) (known packet at : ℕ) (box : Box) (lower upper : Tracked) → HalvesAreBoxes → UpperKeepsGreatest → IsBox plan box → IsTurn bounds plan box known (Halves packet at lower upper) → HalvesWait plan known lower upper
 halves_wait bounds plan known packet at box lower upper are_boxes keeps is_box turn =
     let halves = are_boxes plan box packet at is_box turn.1 in
-    let low : lower.space ≡ lower_half box packet at = ap (λ (t : Tracked). t.space) turn.2 in
-    let high : upper.space ≡ upper_half box packet at = ap (λ (t : Tracked). t.space) turn.3 in
-    let same : greatest_of upper.space ≡ greatest_of box = ap (λ (b : Box). greatest_of b) high ∙ keeps box packet at in
-    let tried : latency_of plan (greatest_of upper.space) ≤ known = subst (λ (ds : List ℕ). latency_of plan ds ≤ known) (sym same) turn.0.tried in
+    let low : lower.delay_box ≡ lower_half box packet at = ap (λ (t : Tracked). t.delay_box) turn.2 in
+    let high : upper.delay_box ≡ upper_half box packet at = ap (λ (t : Tracked). t.delay_box) turn.3 in
+    let same : greatest_of upper.delay_box ≡ greatest_of box = ap (λ (b : Box). greatest_of b) high ∙ keeps box packet at in
+    let tried : latency_of plan (greatest_of upper.delay_box) ≤ known = subst (λ (ds : List ℕ). latency_of plan ds ≤ known) (sym same) turn.0.tried in
     record {
       low = (subst (λ (b : Box). IsBox plan b) (sym low) halves.0, λ told. absurd (false≢true told), ap (λ (t : Tracked). t.scenario) turn.2);
       high = (subst (λ (b : Box). IsBox plan b) (sym high) halves.1, λ told. tried, ap (λ (t : Tracked). t.scenario) turn.3);
@@ -137,11 +137,11 @@ work_turned bounds plan known work box (Halves packet at lower upper) are_boxes 
     All-push Waits ((work ++ node ∷ []) ++ Branch lower false ∷ []) (Branch upper true) with_lower halves.high
 
 -- a box is taken up, and what becomes of it is known
-turned : (bounds : Bounds) (plan : Scenario) (best : Record) (work : List Work) (nodes : List Node) (tickets : ℕ) (branch : Tracked) (tried : Bool) (turn : Turn) → HalvesAreBoxes → UpperKeepsGreatest → IsTable (table_of plan) → IsTurn bounds plan branch.space best.latency turn → IsSearching bounds plan best (work ++ Branch branch tried ∷ []) nodes tickets → IsSearching bounds plan best (work_after work turn) (nodes_after nodes turn) (tickets + 1)
+turned : (bounds : Bounds) (plan : Scenario) (best : Record) (work : List Work) (nodes : List Node) (tickets : ℕ) (branch : Tracked) (tried : Bool) (turn : Turn) → HalvesAreBoxes → UpperKeepsGreatest → IsTable (table_of plan) → IsTurn bounds plan branch.delay_box best.latency turn → IsSearching bounds plan best (work ++ Branch branch tried ∷ []) nodes tickets → IsSearching bounds plan best (work_after work turn) (nodes_after nodes turn) (tickets + 1)
 turned bounds plan best work nodes tickets branch tried turn are_boxes keeps table is searching =
     let old = taken bounds plan best work nodes tickets branch tried searching in
-    let tree = AreFronts-filled bounds plan best.latency branch.space (front_after turn) (AreFronts-turned bounds plan best.latency branch.space turn is) (map front_of work) (done nodes) (root_of plan ∷ []) old.0 in
-    let spent : length (spent_in (map front_of work ++ (front_after turn ++ done nodes))) ≡ tickets + 1 = omega (arith, spent_in-turned (map front_of work) (done nodes) branch.space turn, old.1) in
+    let tree = AreFronts-filled bounds plan best.latency branch.delay_box (front_after turn) (AreFronts-turned bounds plan best.latency branch.delay_box turn is) (map front_of work) (done nodes) (root_of plan ∷ []) old.0 in
+    let spent : length (spent_in (map front_of work ++ (front_after turn ++ done nodes))) ≡ tickets + 1 = omega (arith, spent_in-turned (map front_of work) (done nodes) branch.delay_box turn, old.1) in
     let front = subst (λ (f : List FrontNode). IsFrontOf bounds plan best.latency (tickets + 1) f) (sym (front_turned work nodes turn)) (tree, spent) in
     let parts = All-front (IsWork plan best.latency) work (Branch branch tried) searching.all_work in
     record {
@@ -149,16 +149,16 @@ turned bounds plan best work nodes tickets branch tried turn are_boxes keeps tab
       least = searching.least;
       tree = front.0;
       spent = front.1;
-      all_work = work_turned bounds plan best.latency work branch.space turn are_boxes keeps table parts.1.0 is parts.0;
-      all_nodes = nodes_turned bounds plan best.latency nodes branch.space turn is searching.all_nodes;
+      all_work = work_turned bounds plan best.latency work branch.delay_box turn are_boxes keeps table parts.1.0 is parts.0;
+      all_nodes = nodes_turned bounds plan best.latency nodes branch.delay_box turn is searching.all_nodes;
     }
 
 -- a step over the box
-pub IsSearching-step : (bounds : Bounds) (plan : Scenario) (best : Record) (work : List Work) (nodes : List Node) (tickets : ℕ) (branch : Tracked) (tried : Bool) (step : Step) → HalvesAreBoxes → UpperKeepsGreatest → IsTable (table_of plan) → IsStep bounds plan branch.space best.latency step → IsSearching bounds plan best (work ++ Branch branch tried ∷ []) nodes tickets → IsSearching bounds plan (unwrap_or step.found best) (work_after work step.turn) (nodes_after nodes step.turn) (tickets + 1)
+pub IsSearching-step : (bounds : Bounds) (plan : Scenario) (best : Record) (work : List Work) (nodes : List Node) (tickets : ℕ) (branch : Tracked) (tried : Bool) (step : Step) → HalvesAreBoxes → UpperKeepsGreatest → IsTable (table_of plan) → IsStep bounds plan branch.delay_box best.latency step → IsSearching bounds plan best (work ++ Branch branch tried ∷ []) nodes tickets → IsSearching bounds plan (unwrap_or step.found best) (work_after work step.turn) (nodes_after nodes step.turn) (tickets + 1)
 IsSearching-step bounds plan best work nodes tickets branch tried step are_boxes keeps table is searching =
     let next = unwrap_or step.found best in
-    let no_worse = IsNoWorse-found bounds plan best branch.space step.found searching.of_scenario is.found in
-    let turn : IsTurn bounds plan branch.space next.latency step.turn = subst (λ (n : ℕ). IsTurn bounds plan branch.space n step.turn) no_worse.known is.turn in
+    let no_worse = IsNoWorse-found bounds plan best branch.delay_box step.found searching.of_scenario is.found in
+    let turn : IsTurn bounds plan branch.delay_box next.latency step.turn = subst (λ (n : ℕ). IsTurn bounds plan branch.delay_box n step.turn) no_worse.known is.turn in
     turned bounds plan next work nodes tickets branch tried step.turn are_boxes keeps table turn (better bounds plan best next (work ++ Branch branch tried ∷ []) nodes tickets no_worse.scenario no_worse.above searching)
 
 -- a turn adds three pieces of work at most
@@ -168,10 +168,10 @@ length-work_after work (Halves packet at lower upper) =
     omega (arith, length_push ((work ++ Write (Split packet at) ∷ []) ++ Branch lower false ∷ []) (Branch upper true), length_push (work ++ Write (Split packet at) ∷ []) (Branch lower false), length_push work (Write (Split packet at)))
 
 -- the same by what the program makes of its parts
-pub IsSearching-taken : (bounds : Bounds) (plan : Scenario) (best next : Record) (work new : List Work) (nodes written : List Node) (tickets seen : ℕ) (branch : Tracked) (tried : Bool) (table : PacketTable) (step : Step) → HalvesAreBoxes → UpperKeepsGreatest → table ≡ table_of plan → IsTable table → seen ≡ best.latency → IsStep bounds plan branch.space seen step → next ≡ unwrap_or step.found best → new ≡ work_after work step.turn → written ≡ nodes_after nodes step.turn → IsSearching bounds plan best (work ++ Branch branch tried ∷ []) nodes tickets → IsSearching bounds plan next new written (tickets + 1)
+pub IsSearching-taken : (bounds : Bounds) (plan : Scenario) (best next : Record) (work new : List Work) (nodes written : List Node) (tickets seen : ℕ) (branch : Tracked) (tried : Bool) (table : PacketTable) (step : Step) → HalvesAreBoxes → UpperKeepsGreatest → table ≡ table_of plan → IsTable table → seen ≡ best.latency → IsStep bounds plan branch.delay_box seen step → next ≡ unwrap_or step.found best → new ≡ work_after work step.turn → written ≡ nodes_after nodes step.turn → IsSearching bounds plan best (work ++ Branch branch tried ∷ []) nodes tickets → IsSearching bounds plan next new written (tickets + 1)
 IsSearching-taken bounds plan best next work new nodes written tickets seen branch tried table step are_boxes keeps packets lawful seen_is is next_is new_is written_is searching =
     let lawful' : IsTable (table_of plan) = subst (λ (t : PacketTable). IsTable t) packets lawful in
-    let is' : IsStep bounds plan branch.space best.latency step = subst (λ (n : ℕ). IsStep bounds plan branch.space n step) seen_is is in
+    let is' : IsStep bounds plan branch.delay_box best.latency step = subst (λ (n : ℕ). IsStep bounds plan branch.delay_box n step) seen_is is in
     rw (next_is, new_is, written_is) (IsSearching-step bounds plan best work nodes tickets branch tried step are_boxes keeps lawful' is' searching)
 
 -- the best record after a step is no worse than before

@@ -9,7 +9,7 @@ use Rattle.convoy_branch.specs.declared.ways.TheConstants.{PLAIN_TICKETS}
 use Rattle.convoy_branch.specs.declared.outcome.Outcome.{Outcome}
 use Rattle.convoy_branch.specs.declared.outcome.Outcome.TheVariants.{Proved, Open}
 use Rattle.convoy_branch.specs.Fronts.{IsFront}
-use Rattle.convoy_branch.specs.Outcomes.{AreShares, IsOpen, IsProved}
+use Rattle.convoy_branch.specs.Outcomes.{AreTicketsByWorker, IsOpen, IsProved}
 
 -- how many of the tickets may be spent by plain bounds, and of the others by leads
 abbrev pub plain_share : ℕ → ℕ
@@ -41,7 +41,7 @@ pub record IsOpenBothWays (scenario : Scenario) (workers limit : ℕ) (best : Re
   pub none_greater : IsUpper scenario upper
   pub all : tickets ≡ lead_share limit
   pub fronts : AreFrontsBothWays scenario best.latency upper limit
-  pub shares : AreShares workers tickets by_worker
+  pub shares : AreTicketsByWorker workers tickets by_worker
 
 -- what a search both ways by so many workers answers, where at most `limit` tickets may be spent in all
 abbrev pub IsOutcomeBothWays : Scenario → ℕ → ℕ → Outcome → Type 0

@@ -57,7 +57,7 @@ AreFronts bounds scenario best boxes nodes = AreTrees front_below (IsOfFront bou
 -- what becomes of a box, as a front: the leaf that closes it, or a split and the halves that are left
 abbrev pub front_after : Turn → List FrontNode
 front_after (Closed node) = Spent node ∷ []
-front_after (Halves packet at lower upper) = Spent (kinds.Split packet at) ∷ Left lower.space ∷ Left upper.space ∷ []
+front_after (Halves packet at lower upper) = Spent (kinds.Split packet at) ∷ Left lower.delay_box ∷ Left upper.delay_box ∷ []
 
 -- the nodes for which tickets were spent, and the boxes that are left
 abbrev pub spent_node : FrontNode → Option Node

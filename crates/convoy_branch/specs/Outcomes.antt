@@ -16,7 +16,7 @@ use Rattle.convoy_branch.specs.Fronts.{IsFront}
 use Rattle.convoy_branch.specs.SearchBounds.{most_nodes}
 
 -- so many workers have spent these tickets, which are that many in all
-pub record AreShares (workers tickets : ℕ) (by_worker : List ℕ) : Type 0 where
+pub record AreTicketsByWorker (workers tickets : ℕ) (by_worker : List ℕ) : Type 0 where
   pub each : length by_worker ≡ workers
   pub all : sum by_worker ≡ tickets
 
@@ -33,7 +33,7 @@ pub record IsProved (bounds : Bounds) (scenario : Scenario) (workers limit : ℕ
   pub few : tickets ≤ limit
   -- the certificate's text can be read, where the limit is within that of nodes, or of lead leaves
   pub readable : limit ≤ most_nodes bounds → AreReadable certificate.nodes
-  pub shares : AreShares workers tickets by_worker
+  pub shares : AreTicketsByWorker workers tickets by_worker
 
 -- An open outcome: as many tickets as there may be were spent, and boxes are left.
 pub record IsOpen (bounds : Bounds) (scenario : Scenario) (workers limit : ℕ) (best : Record) (upper tickets : ℕ) (by_worker : List ℕ) : Type 0 where
@@ -43,7 +43,7 @@ pub record IsOpen (bounds : Bounds) (scenario : Scenario) (workers limit : ℕ) 
   pub none_greater : IsUpper scenario upper
   pub all : tickets ≡ limit
   pub front : IsFront bounds scenario best.latency upper tickets
-  pub shares : AreShares workers tickets by_worker
+  pub shares : AreTicketsByWorker workers tickets by_worker
 
 -- what a search of so many workers by those bounds answers, where at most `limit` tickets may be spent
 abbrev pub IsOutcome : Bounds → Scenario → ℕ → ℕ → Outcome → Type 0

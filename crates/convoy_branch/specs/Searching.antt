@@ -21,7 +21,7 @@ use Rattle.convoy_branch.specs.Uppers.{IsRaised}
 
 -- the node of the front that a piece of work stands for
 abbrev pub front_of : Work → FrontNode
-front_of (Branch branch tried) = Left branch.space
+front_of (Branch branch tried) = Left branch.delay_box
 front_of (Write node) = Spent node
 
 -- the front: the work that is left, and then the nodes that are written, the last one first
@@ -31,7 +31,7 @@ front_nodes work nodes = map front_of work ++ map Spent (reverse nodes)
 -- what is left, where that is the best latency: a box of the scenario, whose greatest delays have no greater latency if it is told to be tried, or a node that may stand in a certificate
 abbrev pub IsWork : Scenario → ℕ → Work → Type 0
 IsWork scenario best (Branch branch tried) =
-    IsBox scenario branch.space × IsTriedIf scenario branch.space tried best × (branch.scenario ≡ scenario)
+    IsBox scenario branch.delay_box × IsTriedIf scenario branch.delay_box tried best × (branch.scenario ≡ scenario)
 IsWork scenario best (Write node) = IsNode node
 
 -- The search by those bounds has come to this: its best record, the work that is left, the nodes that are written, and the tickets that were spent.
@@ -56,5 +56,5 @@ nodes_after nodes (Halves packet at lower upper) = nodes
 
 -- what a piece of work raises the best latency to: a box that is left, and nothing else
 abbrev pub IsRaisedOver : Bounds → Scenario → Work → ℕ → ℕ → Type 0
-IsRaisedOver bounds plan (Branch branch tried) best raised = IsRaised bounds plan branch.space best raised
+IsRaisedOver bounds plan (Branch branch tried) best raised = IsRaised bounds plan branch.delay_box best raised
 IsRaisedOver bounds plan (Write node) best raised = raised ≡ best

@@ -46,7 +46,7 @@ impl Bounds {
     ) -> Result<Option<Node>, AllocError>
         requires of_scenario { branch.now.scenario ≡ instance.now }
         ensures { IfOk result
-            (λ leaf. leaf ≡ leaf_for self instance.now branch.now.space latency) }
+            (λ leaf. leaf ≡ leaf_for self instance.now branch.now.delay_box latency) }
     {
         if branch.bound() <= latency {
             return Ok(Some(Node::Bound));
@@ -64,7 +64,7 @@ impl Bounds {
     ) -> Result<Option<Node>, AllocError>
         requires of_scenario { branch.now.scenario ≡ instance.now }
         ensures { IfOk result
-            (λ leaf. leaf ≡ further_leaf self instance.now branch.now.space latency) }
+            (λ leaf. leaf ≡ further_leaf self instance.now branch.now.delay_box latency) }
     {
         if self == Bounds::Plain {
             return Ok(None);
@@ -72,7 +72,7 @@ impl Bounds {
         if stamp_bound_of(alloc, instance, branch)? <= latency {
             return Ok(Some(Node::Stamp));
         }
-        if self == Bounds::Lead && closes_by_leads(alloc, instance, branch.space(), latency)? {
+        if self == Bounds::Lead && closes_by_leads(alloc, instance, branch.delay_box(), latency)? {
             return Ok(Some(Node::Lead { latency }));
         }
         Ok(None)
@@ -90,7 +90,7 @@ impl Bounds {
     ) -> Result<u32, AllocError>
         requires of_scenario { branch.now.scenario ≡ instance.now }
         ensures { IfOk result
-            (λ raised. IsRaised self instance.now branch.now.space upper raised) }
+            (λ raised. IsRaised self instance.now branch.now.delay_box upper raised) }
     {
         match self {
             Bounds::Plain => Ok(upper.max(branch.bound())),
@@ -113,15 +113,15 @@ fn raised_by_leads(
     bound: u32,
 ) -> Result<u32, AllocError>
     requires of_scenario { branch.now.scenario ≡ instance.now }
-    requires bound { bound ≡ stamp_bound instance.now branch.now.space }
+    requires bound { bound ≡ stamp_bound instance.now branch.now.delay_box }
     ensures { IfOk result
-        (λ raised. IsRaisedByLeads instance.now branch.now.space upper raised) }
+        (λ raised. IsRaisedByLeads instance.now branch.now.delay_box upper raised) }
 {
     let mut low = upper;
     let mut high = upper.max(bound);
     while low < high {
         let middle = low + (high - low) / 2;
-        if closes_by_leads(alloc, instance, branch.space(), middle)? {
+        if closes_by_leads(alloc, instance, branch.delay_box(), middle)? {
             high = middle;
         } else {
             low = middle + 1;

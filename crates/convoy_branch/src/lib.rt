@@ -8,7 +8,7 @@ pub use options::{
     DEFAULT_LIMIT, DEFAULT_SIMULATIONS, MOST_SIMULATIONS, MOST_TICKETS, Options, Ways,
 };
 pub use outcome::Outcome;
-pub use search::{search_alone, search_from};
+pub use search::{search_alone, search_alone_from};
 pub use step::{Step, Turn, step_branch};
 pub use ways::{PLAIN_TICKETS, lead_share, plain_share, search_both_ways};
 

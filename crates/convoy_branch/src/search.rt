@@ -43,14 +43,14 @@ pub fn search_alone(
 {
     let delays = Delays::least(alloc, instance.table())?;
     let opening = Record::of(instance, delays);
-    search_from(alloc, instance, opening, limit, bounds, &NoGate)
+    search_alone_from(alloc, instance, opening, limit, bounds, &NoGate)
 }
 
 /// The search of [`search_alone`] from an opening record of the scenario. Its latency is at least
 /// that of the least delays, and the latency that the search finds is at least that of the record.
 /// The gate is called before each box that is taken up, by worker 0. The error is that memory ran
 /// out.
-pub fn search_from<G: Gate>(
+pub fn search_alone_from<G: Gate>(
     alloc: Global,
     instance: &Instance,
     opening: Record,

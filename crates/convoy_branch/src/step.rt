@@ -60,8 +60,8 @@ pub fn step_branch(
     bounds: Bounds,
 ) -> Result<Step, (Tracked, AllocError)>
     requires of_scenario { branch.scenario ≡ instance.now }
-    requires known { IsTriedIf instance.now branch.space tried seen }
-    ensures value { IfOk result (λ step. IsStep bounds instance.now branch.space seen step) }
+    requires known { IsTriedIf instance.now branch.delay_box tried seen }
+    ensures value { IfOk result (λ step. IsStep bounds instance.now branch.delay_box seen step) }
     ensures back { IfErr result (λ refused. refused.0 ≡ branch) }
 {
     stamp_bound_at_most_plain();
@@ -99,8 +99,8 @@ fn look_at(
     bounds: Bounds,
 ) -> Result<Look, AllocError>
     requires of_scenario { branch.now.scenario ≡ instance.now }
-    requires known { IsTriedIf instance.now branch.now.space tried seen }
-    ensures value { IfOk result (λ look. IsLook bounds instance.now branch.now.space seen look) }
+    requires known { IsTriedIf instance.now branch.now.delay_box tried seen }
+    ensures value { IfOk result (λ look. IsLook bounds instance.now branch.now.delay_box seen look) }
 {
     stamp_bound_at_most_plain();
     let leaf = bounds.leaf_for(alloc, instance, branch, seen)?;
@@ -130,8 +130,8 @@ fn try_greatest(
     seen: u32,
 ) -> Result<Option<Record>, AllocError>
     requires of_scenario { branch.now.scenario ≡ instance.now }
-    requires known { IsTriedIf instance.now branch.now.space tried seen }
-    ensures { let delays = greatest_of branch.now.space in IfOk result (λ found. found
+    requires known { IsTriedIf instance.now branch.now.delay_box tried seen }
+    ensures { let delays = greatest_of branch.now.delay_box in IfOk result (λ found. found
         ≡ (if nat_le (latency_of instance.now delays) seen
         then None else Some (attained_by instance.now delays))) }
 {
@@ -139,18 +139,18 @@ fn try_greatest(
         return Ok(None);
     }
     members_are_assignments();
-    let delays = branch.space().greatest(alloc)?;
+    let delays = branch.delay_box().greatest(alloc)?;
     Ok(Some(Record::of(instance, delays)))
 }
 
 /// What becomes of a box that is not closed: a leaf where it has one member, and else its halves. Where memory runs out the box comes back as it was.
 fn open_turn(instance: &Instance, branch: Tracked) -> Result<Turn, (Tracked, AllocError)>
     requires of_scenario { branch.scenario ≡ instance.now }
-    ensures value { (bounds : Bounds) (known : ℕ) → StaysOpen bounds instance.now branch.space known
-        → IfOk result (λ turn. IsTurn bounds instance.now branch.space known turn) }
+    ensures value { (bounds : Bounds) (known : ℕ) → StaysOpen bounds instance.now branch.delay_box known
+        → IfOk result (λ turn. IsTurn bounds instance.now branch.delay_box known turn) }
     ensures back { IfErr result (λ refused. refused.0 ≡ branch) }
 {
-    match place_to_split(instance.table(), branch.space()) {
+    match place_to_split(instance.table(), branch.delay_box()) {
         None => Ok(Turn::Closed(Node::Point)),
         Some((packet, at)) => {
             let (lower, upper) = branch.halves(instance, usize::from(packet), at)?;

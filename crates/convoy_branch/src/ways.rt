@@ -13,7 +13,7 @@ ghost use Rattle.convoy_branch.specs.declared.bounds.Bounds.TheVariants.{Lead, P
 use super::bounds::Bounds;
 use super::gate::Gate;
 use super::outcome::Outcome;
-use super::search::search_from;
+use super::search::search_alone_from;
 use convoy_certificate::MOST_LEADS;
 use convoy_packets::Instance;
 use convoy_scenario::Scenario;
@@ -40,7 +40,7 @@ pub fn lead_share(limit: u64) -> u64
 }
 
 /// Searches both ways with one worker, from an opening record of the scenario as
-/// [`search_from`] does: first by plain bounds, with at most [`PLAIN_TICKETS`] of the `limit`
+/// [`search_alone_from`] does: first by plain bounds, with at most [`PLAIN_TICKETS`] of the `limit`
 /// tickets, and where boxes are left and tickets too, by leads from the root, with the best record that was
 /// found. The gate is told of the second search. The tickets of the outcome are those of the search that
 /// ended last.
@@ -60,11 +60,11 @@ pub fn search_both_ways<G: Gate>(
     ensures opened { IfOk result (λ outcome. opening.latency ≤ best_of outcome) }
 {
     let (tickets, by_leads) = (plain_share(limit), lead_share(limit));
-    let first = search_from(alloc, instance, opening, tickets, Bounds::Plain, gate)?;
+    let first = search_alone_from(alloc, instance, opening, tickets, Bounds::Plain, gate)?;
     match first {
         Outcome::Open { best, upper, .. } if by_leads > 0 => {
             gate.begins_anew(Bounds::Lead, by_leads, best.latency(), upper);
-            let second = search_from(alloc, instance, best, by_leads, Bounds::Lead, gate)?;
+            let second = search_alone_from(alloc, instance, best, by_leads, Bounds::Lead, gate)?;
             Ok(second.with_upper(upper))
         }
         ended => Ok(ended),

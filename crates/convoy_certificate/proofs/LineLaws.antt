@@ -9,7 +9,7 @@ use Rattle.std.proofs.lemmas.Option.{same_Some}
 use Rattle.std.proofs.lemmas.Slice.Eq.{bytes_eq-Decides}
 use Rattle.convoy_lines.specs.Laws.{IsWord, IsLine, NumbersAreDecimals, DecimalsAreWords, WordsOfLines, WordsMakeLines, LabelledLines, NumberLines, LinesOfTexts}
 use Rattle.convoy_scenario_lines.specs.Laws.{ScenarioLinesAreLines, ScenariosAreTheirLines}
-use Rattle.convoy_lines.specs.Options.{◌>>=◌}
+use Rattle.convoy_lines.specs.Chains.{◌>>=◌}
 use Rattle.convoy_lines.specs.Labels.{greatest_number, words_after, number_in}
 use Rattle.convoy_lines.specs.Places.{lines_in}
 use Rattle.convoy_lines.specs.Words.{words_of, next_word, number_of}

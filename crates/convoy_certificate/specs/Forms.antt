@@ -2,7 +2,7 @@
 use Rattle.std.specs.Prelude.{ℕ, nat_le, ◌==◌, ◌&&◌, if◌then◌else◌, List, [], ◌∷◌, length, codes, Option, Some, None, option_map, option_and_then}
 use Rattle.std.specs.Str.{bytes_eq}
 use Rattle.convoy_scenario.specs.declared.limits.TheConstants.{GREATEST_DELAY}
-use Rattle.convoy_lines.specs.Options.{◌>>=◌}
+use Rattle.convoy_lines.specs.Chains.{◌>>=◌}
 use Rattle.convoy_lines.specs.Labels.{greatest_number, words_after}
 use Rattle.convoy_lines.specs.Words.{words_of, next_word, number_of}
 use Rattle.convoy_certificate.specs.declared.node.Node.{Node}

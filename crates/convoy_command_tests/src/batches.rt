@@ -3,7 +3,7 @@
 use super::cases::{READS, options};
 use super::failing::{FailingSink, FailingSource};
 use super::texts::{BASE, LONE};
-use convoy_engine::{DEFAULT_LIMIT, Done, Fault, SliceSource, VecSink, run_batch};
+use convoy_commands::{DEFAULT_LIMIT, Done, Fault, SliceSource, VecSink, run_batch};
 use std::alloc::{AllocError, Global};
 use std::sync::Wait;
 use std::test::Fail;

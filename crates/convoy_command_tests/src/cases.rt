@@ -4,7 +4,7 @@ use super::texts::{
     BASE, CERTIFICATE_OF_BASE, CERTIFICATE_OF_SWAPPED, FIRST_OF_BASE, PACKETS_OF_BASE,
     TIMELINE_OF_BASE, WHY_BASE,
 };
-use convoy_engine::{
+use convoy_commands::{
     Command, DEFAULT_LIMIT, Done, Fault, MOST_TICKETS, NoGate, Options, Sink, Source, run_command,
 };
 use std::alloc::Global;

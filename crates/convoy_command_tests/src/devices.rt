@@ -3,7 +3,7 @@
 use super::cases::{Asked, CASES, Case, READS, run};
 use super::failing::{FailingSink, FailingSource};
 use super::texts::{BASE, CERTIFICATE_OF_BASE, FIRST_OF_BASE};
-use convoy_engine::{Fault, LONGEST_JOB, SliceSource, VecSink, fault_line};
+use convoy_commands::{Fault, LONGEST_JOB, SliceSource, VecSink, fault_line};
 use std::alloc::{AllocError, Global};
 use std::sync::Wait;
 use std::test::Fail;

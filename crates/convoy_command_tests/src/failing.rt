@@ -1,6 +1,6 @@
 //! Devices in memory that fail once.
 
-use convoy_engine::{DeviceFailed, Sink, SliceSource, Source, VecSink};
+use convoy_commands::{DeviceFailed, Sink, SliceSource, Source, VecSink};
 
 /// A source in memory that fails once, after some reads; a further read would be good again.
 #[derive(Drop)]

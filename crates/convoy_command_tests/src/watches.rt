@@ -1,7 +1,7 @@
 //! What a search tells of itself to who watches it.
 
 use super::texts::{BASE, SWAPPED};
-use convoy_engine::{
+use convoy_commands::{
     Bounds, Command, DEFAULT_LIMIT, Done, Gate, Options, SliceSource, VecSink, Watch, run_command,
 };
 use std::alloc::Global;

@@ -60,19 +60,19 @@ put_in port v t tasks views scenario owner_seat put kept at owns is same others 
     let f = kept.each port v at in
     let mine = f.owner owns in
     let w = after_put v t in
-    let put' = put ++ t.branch.space ∷ [] in
+    let put' = put ++ t.branch.delay_box ∷ [] in
     let n : t.number ≡ length put = is ∙ ap length mine.1 in (
       t.branch.scenario,
       owner_seat,
       put',
       record {
-        once = λ x. let s = sum_set (λ u. tasks_at x u.taken) views port v w at in let p = kept.once x in let l = tasks_at-append x tasks (t ∷ []) in let m = once_more x t in let a = ap (once_below x) n in let b = ap (once_below x) (length-append put (t.branch.space ∷ []) ∙ ap (λ k. k + 1) (sym n)) in omega arith;
-        right = All-push (IsPut put') tasks t (put_more put t.branch.space tasks kept.right) (get_last put t.branch.space t.number n);
+        once = λ x. let s = sum_set (λ u. tasks_at x u.taken) views port v w at in let p = kept.once x in let l = tasks_at-append x tasks (t ∷ []) in let m = once_more x t in let a = ap (once_below x) n in let b = ap (once_below x) (length-append put (t.branch.delay_box ∷ []) ∙ ap (λ k. k + 1) (sym n)) in omega arith;
+        right = All-push (IsPut put') tasks t (put_more put t.branch.delay_box tasks kept.right) (get_last put t.branch.delay_box t.number n);
         of_scenario = All-push (IsOf t.branch.scenario) tasks t same refl;
         shares = let s = sum_set (λ u. u.share) views port v w at in let p = kept.shares in omega arith;
         each = each_set t.branch.scenario owner_seat put' views port w
-            (λ j u other e. let g = kept.each j u e in record { named = others j u other e; owner = λ o. absurd (other ((g.owner o).0 ∙ sym mine.0)); right = put_more put t.branch.space u.taken g.right; empty = g.empty })
-            record { named = λ _. refl; owner = λ o. (mine.0, ap (λ l. l ++ t.branch.space ∷ []) mine.1); right = put_more put t.branch.space v.taken f.right; empty = f.empty };
+            (λ j u other e. let g = kept.each j u e in record { named = others j u other e; owner = λ o. absurd (other ((g.owner o).0 ∙ sym mine.0)); right = put_more put t.branch.delay_box u.taken g.right; empty = g.empty })
+            record { named = λ _. refl; owner = λ o. (mine.0, ap (λ l. l ++ t.branch.delay_box ∷ []) mine.1); right = put_more put t.branch.delay_box v.taken f.right; empty = f.empty };
       },
     )
 

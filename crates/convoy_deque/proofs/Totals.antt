@@ -66,7 +66,7 @@ get_last (p ∷ ps) b (suc n) e = get_last ps b n (omega arith)
 
 -- what was put stays put where more is
 pub put_more : (put : List Box) (b : Box) (tasks : List Task) → All (IsPut put) tasks → All (IsPut (put ++ b ∷ [])) tasks
-put_more put b tasks all = All-weaker (IsPut put) (IsPut (put ++ b ∷ [])) (λ task. get_front put b task.number task.branch.space) tasks all
+put_more put b tasks all = All-weaker (IsPut put) (IsPut (put ++ b ∷ [])) (λ task. get_front put b task.number task.branch.delay_box) tasks all
 
 -- where nothing was put, no task is right
 pub none_put : (put : List Box) (tasks : List Task) → put ≡ [] → All (IsPut put) tasks → tasks ≡ []

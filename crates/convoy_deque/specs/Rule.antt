@@ -34,7 +34,7 @@ abbrev pub joined : View → View → View
 joined view other = record view { share = view.share + other.share; taken = view.taken ++ other.taken }
 
 abbrev pub after_put : View → Task → View
-after_put view task = record view { scenario = task.branch.scenario; put = view.put ++ task.branch.space ∷ [] }
+after_put view task = record view { scenario = task.branch.scenario; put = view.put ++ task.branch.delay_box ∷ [] }
 
 abbrev pub after_take : View → Task → View
 after_take view task = record view { taken = view.taken ++ task ∷ [] }

@@ -53,7 +53,7 @@ IsOf scenario task = task.branch.scenario ≡ scenario
 
 -- the task's branch is the one that was put under its number
 abbrev pub IsPut : List Box → Task → Type 0
-IsPut put task = slice_get put task.number ≡ Some task.branch.space
+IsPut put task = slice_get put task.number ≡ Some task.branch.delay_box
 
 -- how many of the tasks have that number
 abbrev pub tasks_at : ℕ → List Task → ℕ

@@ -47,7 +47,7 @@ impl Owner {
         ensures { IfOk result (λ owner. owner ≡ record {
           deque = owner.deque;
           scenario = first.scenario;
-          put = first.space ∷ [];
+          put = first.delay_box ∷ [];
           taken = [];
           share = whole_share;
         }) }
@@ -69,7 +69,7 @@ impl Owner {
         requires { branch.scenario ≡ self.old.scenario }
         ensures { MatchResult result
             (λ number. (number ≡ length self.old.put)
-            × (self.new ≡ record self.old { put = self.old.put ++ branch.space ∷ [] }))
+            × (self.new ≡ record self.old { put = self.old.put ++ branch.delay_box ∷ [] }))
             (λ back. (back ≡ branch) × (self.new ≡ self.old)) }
     {
         let number = self.count;

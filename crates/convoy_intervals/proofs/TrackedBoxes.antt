@@ -33,27 +33,27 @@ plain_bound-spans plan ranges spans well are =
 -- a box of the scenario with a smaller range in one place
 module _ (plan : Scenario) (fields whole : Tracked) (spans : List Span) (bound : ℕ) (is : IsTracked fields spans bound) (same : fields ≡ whole) (of_scenario : whole.scenario ≡ plan) where
   abbrev over : Scenario → Tracked
-  over scenario = record { scenario = scenario; space = whole.space }
+  over scenario = record { scenario = scenario; delay_box = whole.delay_box }
 
   tracked : IsTracked (over plan) spans bound
   tracked = subst (λ (t : Tracked). IsTracked t spans bound) (same ∙ ap over of_scenario) is
 
-  module _ (packet : ℕ) (place : packet < length whole.space) where
+  module _ (packet : ℕ) (place : packet < length whole.delay_box) where
     -- the packet is one of the table
     pub stands_in_table : (table : PacketTable) → table ≡ table_of plan → packet < length table.packets
     stands_in_table table packets =
-        omega (arith, place, length-box plan whole.space tracked.inside, ap (λ (t : PacketTable). length t.packets) packets)
+        omega (arith, place, length-box plan whole.delay_box tracked.inside, ap (λ (t : PacketTable). length t.packets) packets)
 
-    module _ (range : ℕ × ℕ) (new : Box) (is_new : new ≡ set fields.space packet range) where
-      new_box : new ≡ set whole.space packet range
-      new_box = is_new ∙ ap (λ (t : Tracked). set t.space packet range) same
+    module _ (range : ℕ × ℕ) (new : Box) (is_new : new ≡ set fields.delay_box packet range) where
+      new_box : new ≡ set whole.delay_box packet range
+      new_box = is_new ∙ ap (λ (t : Tracked). set t.delay_box packet range) same
 
-      pub narrower_box : range.0 ≤ range.1 → (range_at whole.space packet).0 ≤ range.0 → range.1 ≤ (range_at whole.space packet).1 → IsBox plan new
+      pub narrower_box : range.0 ≤ range.1 → (range_at whole.delay_box packet).0 ≤ range.0 → range.1 ≤ (range_at whole.delay_box packet).1 → IsBox plan new
       narrower_box holds low high =
-          rw new_box (AllZip-set_inside (ranges_of plan) whole.space packet range tracked.inside place holds low high)
+          rw new_box (AllZip-set_inside (ranges_of plan) whole.delay_box packet range tracked.inside place holds low high)
 
       -- the spans are those of the new box, but for what the packet moves
       pub narrower_spans : (now : List Span) (p : Packet) (table : PacketTable) → SpansAreCarried → table ≡ table_of plan → slice_get table.packets packet ≡ Some p → now ≡ spans → AreSpansBut p plan new now
       narrower_spans now p table carried packets stands is_now =
           let stands' : slice_get (packets_of plan) packet ≡ Some p = ap (λ (t : PacketTable). slice_get t.packets packet) (sym packets) ∙ stands in
-          rw (new_box, is_now) (AreSpansBut-carried plan whole.space packet range p spans carried stands' tracked.kept)
+          rw (new_box, is_now) (AreSpansBut-carried plan whole.delay_box packet range p spans carried stands' tracked.kept)

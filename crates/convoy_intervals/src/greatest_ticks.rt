@@ -23,13 +23,13 @@ impl<'a> Ticks for GreatestTicks<'a> {
 
     ghost scheduled = { λ t. record {
       scenario = t.tracked.now.scenario;
-      delays = greatest_of t.tracked.now.space;
+      delays = greatest_of t.tracked.now.delay_box;
     } };
 
     fn scenario(&self) -> &Scenario {
         greatest_is_member();
         members_are_assignments();
-        let _space = self.tracked.space();
+        let _delay_box = self.tracked.delay_box();
         self.instance.scenario()
     }
 

@@ -46,28 +46,28 @@ pub(crate) fn place(instance: &Instance, message: usize, group: usize) -> usize
 pub(crate) fn list_spans(
     alloc: Global,
     instance: &Instance,
-    space: &DelayBox,
+    delay_box: &DelayBox,
 ) -> Result<Vec<Span>, AllocError>
-    requires inside { IsBox instance.now space.now }
-    ensures { IfOk result (λ spans. AreSpans instance.now space.now spans.items) }
+    requires inside { IsBox instance.now delay_box.now }
+    ensures { IfOk result (λ spans. AreSpans instance.now delay_box.now spans.items) }
 {
     let mut spans = Vec::new(alloc);
     spans.resize(
         instance.group_count() * instance.message_count(),
         Span::NONE,
     )?;
-    write_spans(spans.as_mut_slice(), instance, space);
+    write_spans(spans.as_mut_slice(), instance, delay_box);
     Ok(spans)
 }
 
 /// Writes the spans of all messages.
-fn write_spans(spans: &mut [Span], instance: &Instance, space: &DelayBox)
-    requires inside { IsBox instance.now space.now }
+fn write_spans(spans: &mut [Span], instance: &Instance, delay_box: &DelayBox)
+    requires inside { IsBox instance.now delay_box.now }
     requires all { AreAllSpans instance.now spans.old }
-    ensures { AreSpans instance.now space.now spans.new }
+    ensures { AreSpans instance.now delay_box.now spans.new }
 {
     for message in 0..instance.message_count() {
-        write_message(spans, instance, space, message);
+        write_message(spans, instance, delay_box, message);
     }
 }
 
@@ -75,56 +75,56 @@ fn write_spans(spans: &mut [Span], instance: &Instance, space: &DelayBox)
 pub(crate) fn follow_packet(
     spans: &mut [Span],
     instance: &Instance,
-    space: &DelayBox,
+    delay_box: &DelayBox,
     packet: Packet,
 )
-    requires inside { IsBox instance.now space.now }
+    requires inside { IsBox instance.now delay_box.now }
     requires sent { IsTrue (is_sent instance.now packet) }
-    requires but { AreSpansBut packet instance.now space.now spans.old }
-    ensures { AreSpans instance.now space.now spans.new }
+    requires but { AreSpansBut packet instance.now delay_box.now spans.old }
+    ensures { AreSpans instance.now delay_box.now spans.new }
 {
     let _delay = instance.delay();
     match packet {
         Packet::Multicast { message, .. } => {
-            write_message(spans, instance, space, message);
+            write_message(spans, instance, delay_box, message);
         }
         Packet::Propose { message, to, .. } => {
-            write_settling(spans, instance, space, message, to);
+            write_settling(spans, instance, delay_box, message, to);
         }
     }
 }
 
 /// Writes the spans of a message at all groups.
-fn write_message(spans: &mut [Span], instance: &Instance, space: &DelayBox, message: usize)
+fn write_message(spans: &mut [Span], instance: &Instance, delay_box: &DelayBox, message: usize)
     requires known { message < length instance.now.multicasts }
-    requires inside { IsBox instance.now space.now }
+    requires inside { IsBox instance.now delay_box.now }
     requires all { AreAllSpans instance.now spans.old }
-    ensures arrivals { AreArrivals instance.now space.now spans.new message
+    ensures arrivals { AreArrivals instance.now delay_box.now spans.new message
         (length instance.now.groups) }
-    ensures settlings { AreSettlings instance.now space.now spans.new message
+    ensures settlings { AreSettlings instance.now delay_box.now spans.new message
         (length instance.now.groups) }
     ensures others { AreOthersKept instance.now message spans.old spans.new }
     ensures all { AreAllSpans instance.now spans.new }
 {
-    write_arrivals(spans, instance, space, message);
+    write_arrivals(spans, instance, delay_box, message);
     for group in 0..instance.group_count() {
-        write_settling(spans, instance, space, message, group);
+        write_settling(spans, instance, delay_box, message, group);
     }
 }
 
 /// Writes from when to when a message may arrive at each group.
-fn write_arrivals(spans: &mut [Span], instance: &Instance, space: &DelayBox, message: usize)
+fn write_arrivals(spans: &mut [Span], instance: &Instance, delay_box: &DelayBox, message: usize)
     requires known { message < length instance.now.multicasts }
-    requires inside { IsBox instance.now space.now }
+    requires inside { IsBox instance.now delay_box.now }
     requires all { AreAllSpans instance.now spans.old }
-    ensures arrivals { AreArrivals instance.now space.now spans.new message
+    ensures arrivals { AreArrivals instance.now delay_box.now spans.new message
         (length instance.now.groups) }
     ensures others { AreOthersKept instance.now message spans.old spans.new }
     ensures all { AreAllSpans instance.now spans.new }
 {
     for group in 0..instance.group_count() {
         let span = &mut spans[place(instance, message, group)];
-        span.arrival = arrivals(instance, space, message, group);
+        span.arrival = arrivals(instance, delay_box, message, group);
     }
 }
 
@@ -132,21 +132,21 @@ fn write_arrivals(spans: &mut [Span], instance: &Instance, space: &DelayBox, mes
 fn write_settling(
     spans: &mut [Span],
     instance: &Instance,
-    space: &DelayBox,
+    delay_box: &DelayBox,
     message: usize,
     group: usize,
 )
     requires known { message < length instance.now.multicasts }
     requires group { group < length instance.now.groups }
-    requires inside { IsBox instance.now space.now }
+    requires inside { IsBox instance.now delay_box.now }
     requires all { AreAllSpans instance.now spans.old }
-    requires arrivals { AreArrivals instance.now space.now spans.old message
+    requires arrivals { AreArrivals instance.now delay_box.now spans.old message
         (length instance.now.groups) }
     ensures { spans.new ≡ slice_set spans.old (span_place instance.now message group)
         (record (span_at instance.now spans.old message group)
-        { settling = settling_span instance.now space.now message group }) }
+        { settling = settling_span instance.now delay_box.now message group }) }
 {
-    let settling = settling_from(spans, instance, space, message, group);
+    let settling = settling_from(spans, instance, delay_box, message, group);
     let span = &mut spans[place(instance, message, group)];
     span.settling = settling;
 }
@@ -156,22 +156,22 @@ fn write_settling(
 fn settling_from(
     spans: &[Span],
     instance: &Instance,
-    space: &DelayBox,
+    delay_box: &DelayBox,
     message: usize,
     group: usize,
 ) -> (u32, u32)
     requires known { message < length instance.now.multicasts }
-    requires inside { IsBox instance.now space.now }
+    requires inside { IsBox instance.now delay_box.now }
     requires all { AreAllSpans instance.now spans.now }
-    requires arrivals { AreArrivals instance.now space.now spans.now message
+    requires arrivals { AreArrivals instance.now delay_box.now spans.now message
         (length instance.now.groups) }
-    ensures { result ≡ settling_span instance.now space.now message group }
+    ensures { result ≡ settling_span instance.now delay_box.now message group }
 {
     let mut least = 0;
     let mut most = 0;
     for from in instance.destinations(message) {
-        let arrival = arrival_from(spans, instance, space, message, *from);
-        let (first, last) = proposals_after(instance, space, arrival, message, *from, group);
+        let arrival = arrival_from(spans, instance, delay_box, message, *from);
+        let (first, last) = proposals_after(instance, delay_box, arrival, message, *from, group);
         least = least.max(first);
         most = most.max(last);
     }
@@ -182,20 +182,20 @@ fn settling_from(
 fn arrival_from(
     spans: &[Span],
     instance: &Instance,
-    space: &DelayBox,
+    delay_box: &DelayBox,
     message: usize,
     group: usize,
 ) -> (u32, u32)
     requires known { message < length instance.now.multicasts }
     requires group { group < length instance.now.groups }
-    requires inside { IsBox instance.now space.now }
+    requires inside { IsBox instance.now delay_box.now }
     requires all { AreAllSpans instance.now spans.now }
-    requires arrivals { AreArrivals instance.now space.now spans.now message
+    requires arrivals { AreArrivals instance.now delay_box.now spans.now message
         (length instance.now.groups) }
-    ensures value { result ≡ arrival_span instance.now space.now message group }
+    ensures value { result ≡ arrival_span instance.now delay_box.now message group }
     ensures fits { (result.0 ≤ GREATEST_AT + u16.MAX) × (result.1 ≤ GREATEST_AT + u16.MAX) }
 {
     arrives_within_one_delay();
-    let _space = space;
+    let _delay_box = delay_box;
     spans[place(instance, message, group)].arrival
 }

@@ -24,7 +24,7 @@ use std::marker::Model;
 /// of it.
 #[derive(Drop)]
 pub struct Tracked {
-    space: DelayBox,
+    delay_box: DelayBox,
     spans: Vec<Span>,
     bound: u32,
     scenario: Tag<Scenario>,
@@ -35,10 +35,10 @@ impl Model for Tracked {
 
     ghost Value = { Tracked };
 
-    ghost view = { λ t. record { scenario = t.scenario.value; space = t.space } };
+    ghost view = { λ t. record { scenario = t.scenario.value; delay_box = t.delay_box } };
 
     ghost invariant = { λ t. IsTracked
-        (record { scenario = t.scenario.value; space = t.space }) t.spans.items t.bound };
+        (record { scenario = t.scenario.value; delay_box = t.delay_box }) t.spans.items t.bound };
 }
 
 impl Tracked {
@@ -52,24 +52,28 @@ impl Tracked {
 
     /// A box of the scenario, with all that is kept of it computed from the box. Fails where memory
     /// runs out, and else never; the box does not come back then.
-    pub fn over(alloc: Global, instance: &Instance, space: DelayBox) -> Result<Tracked, AllocError>
-        requires inside { IsBox instance.now space }
-        ensures { IfOk result (λ tracked. tracked ≡ tracked_of instance.now space) }
+    pub fn over(
+        alloc: Global,
+        instance: &Instance,
+        delay_box: DelayBox,
+    ) -> Result<Tracked, AllocError>
+        requires inside { IsBox instance.now delay_box }
+        ensures { IfOk result (λ tracked. tracked ≡ tracked_of instance.now delay_box) }
     {
-        let spans = list_spans(alloc, instance, &space)?;
-        Ok(Tracked::of(instance, space, spans))
+        let spans = list_spans(alloc, instance, &delay_box)?;
+        Ok(Tracked::of(instance, delay_box, spans))
     }
 
     /// A box with its spans.
-    fn of(instance: &Instance, space: DelayBox, spans: Vec<Span>) -> Tracked
-        requires inside { IsBox instance.now space }
-        requires spans { AreSpans instance.now space spans.items }
-        ensures { result ≡ tracked_of instance.now space }
+    fn of(instance: &Instance, delay_box: DelayBox, spans: Vec<Span>) -> Tracked
+        requires inside { IsBox instance.now delay_box }
+        requires spans { AreSpans instance.now delay_box spans.items }
+        ensures { result ≡ tracked_of instance.now delay_box }
     {
         let _delay = instance.delay();
         let bound = bound_over(instance, &spans);
         Tracked {
-            space,
+            delay_box,
             spans,
             bound,
             scenario: Tag::of(instance.scenario()),
@@ -77,24 +81,24 @@ impl Tracked {
     }
 
     /// The box.
-    pub fn space(&self) -> &DelayBox
-        ensures value { result.now ≡ self.now.space }
-        ensures lawful { IsBox self.now.scenario self.now.space }
+    pub fn delay_box(&self) -> &DelayBox
+        ensures value { result.now ≡ self.now.delay_box }
+        ensures lawful { IsBox self.now.scenario self.now.delay_box }
     {
-        &self.space
+        &self.delay_box
     }
 
     /// Whether each packet has one delay left, so that the box has one member.
     pub fn is_point(&self) -> bool
-        ensures { IsTrue result ↔ IsPoint self.now.space }
+        ensures { IsTrue result ↔ IsPoint self.now.delay_box }
     {
-        self.space.is_point()
+        self.delay_box.is_point()
     }
 
     /// The plain bound of the box, in ticks: no schedule of the box has a greater latency.
     pub fn bound(&self) -> u32
-        ensures value { result ≡ plain_bound self.now.scenario self.now.space }
-        ensures holds { (delays : List ℕ) → IsIn self.now.space delays
+        ensures value { result ≡ plain_bound self.now.scenario self.now.delay_box }
+        ensures holds { (delays : List ℕ) → IsIn self.now.delay_box delays
             → latency_of self.now.scenario delays ≤ result }
     {
         plain_bound_holds();
@@ -107,7 +111,7 @@ impl Tracked {
         requires of_scenario { self.now.scenario ≡ instance.now }
         requires message { message < length self.now.scenario.multicasts }
         requires group { group < length self.now.scenario.groups }
-        ensures { result ≡ span_of self.now.scenario self.now.space message group }
+        ensures { result ≡ span_of self.now.scenario self.now.delay_box message group }
     {
         self.spans[place(instance, message, group)]
     }
@@ -115,7 +119,7 @@ impl Tracked {
     /// The latency of the scenario in ticks where each packet takes the greatest time of its range.
     pub fn greatest_latency(&self, instance: &Instance) -> u32
         requires { self.now.scenario ≡ instance.now }
-        ensures { result ≡ latency_of self.now.scenario (greatest_of self.now.space) }
+        ensures { result ≡ latency_of self.now.scenario (greatest_of self.now.delay_box) }
     {
         latency_by(&GreatestTicks {
             instance,
@@ -128,7 +132,7 @@ impl Tracked {
         ensures { IfOk result (λ t. t ≡ self.now) }
     {
         Ok(Tracked {
-            space: self.space.copy()?,
+            delay_box: self.delay_box.copy()?,
             spans: Vec::from_slice(*self.spans.allocator(), &self.spans)?,
             bound: self.bound,
             scenario: self.scenario.copy(),
@@ -145,15 +149,15 @@ impl Tracked {
         at: u16,
     ) -> Result<(Tracked, Tracked), (Tracked, AllocError)>
         requires of_scenario { self.scenario ≡ instance.now }
-        requires can_split { CanSplit self.space packet at }
+        requires can_split { CanSplit self.delay_box packet at }
         ensures { MatchResult result
             (λ halves. halves ≡ (
-              tracked_of self.scenario (lower_half self.space packet at),
-              tracked_of self.scenario (upper_half self.space packet at),
+              tracked_of self.scenario (lower_half self.delay_box packet at),
+              tracked_of self.scenario (upper_half self.delay_box packet at),
             ))
             (λ refused. refused.0 ≡ self) }
     {
-        let (least, most) = self.space.range(packet);
+        let (least, most) = self.delay_box.range(packet);
         match self.copy() {
             Ok(copy) => {
                 let lower = self.with_range(instance, packet, (least, at));
@@ -167,27 +171,27 @@ impl Tracked {
     /// The box with a smaller range in the place of a packet's.
     fn with_range(self, instance: &Instance, packet: usize, range: (u16, u16)) -> Tracked
         requires of_scenario { self.scenario ≡ instance.now }
-        requires place { packet < length self.space }
+        requires place { packet < length self.delay_box }
         requires holds { range.0 ≤ range.1 }
-        requires low { (range_at self.space packet).0 ≤ range.0 }
-        requires high { range.1 ≤ (range_at self.space packet).1 }
-        ensures { result ≡ tracked_of self.scenario (slice_set self.space packet range) }
+        requires low { (range_at self.delay_box packet).0 ≤ range.0 }
+        requires high { range.1 ≤ (range_at self.delay_box packet).1 }
+        ensures { result ≡ tracked_of self.scenario (slice_set self.delay_box packet range) }
     {
         spans_are_carried();
         packets_are_those_sent();
         packets_stand_once();
         let Tracked {
-            mut space,
+            mut delay_box,
             mut spans,
             ..
         } = self;
-        space.replace(packet, range);
+        delay_box.replace(packet, range);
         follow_packet(
             &mut spans,
             instance,
-            &space,
+            &delay_box,
             instance.table().packet(packet),
         );
-        Tracked::of(instance, space, spans)
+        Tracked::of(instance, delay_box, spans)
     }
 }

@@ -10,7 +10,7 @@ ghost use Rattle.convoy_leads.specs.Tests.{is_less_elsewhere};
 ghost use Rattle.convoy_leads.specs.Closing.{closes_over, is_behind, is_behind_after, is_behind_by};
 ghost use Rattle.convoy_leads.specs.Closing.{is_behind_late, is_behind_target};
 
-use super::case::Case;
+use super::facts::Facts;
 use super::start::Start;
 use super::told::Told;
 use convoy_scenario::{MOST_GROUPS, MOST_MULTICASTS};
@@ -21,16 +21,16 @@ use std::alloc::{AllocError, Global};
 
 /// Memory that tests use, one after the other.
 #[derive(Drop)]
-pub(crate) struct Memory {
+pub(crate) struct Scratch {
     pub(crate) alloc: Global,
     pub(crate) starts: Vec<Start>,
     pub(crate) told: Vec<Told>,
 }
 
-impl Memory {
+impl Scratch {
     /// Memory for tests, of which none is taken yet.
-    pub(crate) fn new(alloc: Global) -> Memory {
-        Memory {
+    pub(crate) fn new(alloc: Global) -> Scratch {
+        Scratch {
             alloc,
             starts: Vec::new(alloc),
             told: Vec::new(alloc),
@@ -38,7 +38,7 @@ impl Memory {
     }
 }
 
-impl<'a> Case<'a> {
+impl<'a> Facts<'a> {
     /// What is sure of a message at the target's group.
     fn sure_of(&self, alloc: Global, windows: &Windows, n: usize) -> Result<Sure, AllocError>
         requires { n < length self.now.scenario.now.multicasts }
@@ -80,13 +80,13 @@ impl<'a> Case<'a> {
         windows: &Windows,
         sure: &Sure,
         barring: bool,
-        memory: &mut Memory,
+        scratch: &mut Scratch,
     ) -> Result<bool, AllocError>
         ensures { IfOk result (λ less. less
             ≡ is_less_elsewhere self.now.scenario.now (tables_by windows.now) sure.now barring) }
     {
         let setting = self.setting(windows, sure, barring);
-        setting.is_led(&self.pairs, &mut memory.starts, &mut memory.told)
+        setting.is_led(&self.pairs, &mut scratch.starts, &mut scratch.told)
     }
 
     /// The same at first with no message barred, and then with each.
@@ -94,16 +94,16 @@ impl<'a> Case<'a> {
         &self,
         windows: &Windows,
         sure: &Sure,
-        memory: &mut Memory,
+        scratch: &mut Scratch,
     ) -> Result<bool, AllocError>
         ensures { IfOk result (λ less. less
             ≡ (is_less_elsewhere self.now.scenario.now (tables_by windows.now) sure.now false
             || is_less_elsewhere self.now.scenario.now (tables_by windows.now) sure.now true)) }
     {
-        if self.is_less_elsewhere(windows, sure, false, memory)? {
+        if self.is_less_elsewhere(windows, sure, false, scratch)? {
             return Ok(true);
         }
-        self.is_less_elsewhere(windows, sure, true, memory)
+        self.is_less_elsewhere(windows, sure, true, scratch)
     }
 
     /// Whether a message that surely arrives at the target's group after the target has a stamp there
@@ -112,7 +112,7 @@ impl<'a> Case<'a> {
         &self,
         windows: &Windows,
         n: usize,
-        memory: &mut Memory,
+        scratch: &mut Scratch,
     ) -> Result<bool, AllocError>
         requires { n < length self.now.scenario.now.multicasts }
         ensures { let tables = tables_by windows.now in
@@ -121,12 +121,12 @@ impl<'a> Case<'a> {
             ≡ (is_less_elsewhere self.now.scenario.now tables sure false
             || is_less_elsewhere self.now.scenario.now tables sure true)) }
     {
-        let sure = self.sure_of(memory.alloc, windows, n)?;
-        self.is_less_either(windows, &sure, memory)
+        let sure = self.sure_of(scratch.alloc, windows, n)?;
+        self.is_less_either(windows, &sure, scratch)
     }
 
     /// The same of any message.
-    fn is_led(&self, windows: &Windows, n: usize, memory: &mut Memory) -> Result<bool, AllocError>
+    fn is_led(&self, windows: &Windows, n: usize, scratch: &mut Scratch) -> Result<bool, AllocError>
         requires { n < length self.now.scenario.now.multicasts }
         ensures { IfOk result (λ led. led
             ≡ (is_led self.now.scenario.now (tables_by windows.now) false n
@@ -135,7 +135,7 @@ impl<'a> Case<'a> {
         if !self.arrives_behind(windows, n) {
             return Ok(false);
         }
-        self.is_led_behind(windows, n, memory)
+        self.is_led_behind(windows, n, scratch)
     }
 
     /// Whether a message surely arrives at the target's group after the target is committed there.
@@ -157,7 +157,7 @@ impl<'a> Case<'a> {
         &self,
         windows: &Windows,
         n: usize,
-        memory: &mut Memory,
+        scratch: &mut Scratch,
     ) -> Result<bool, AllocError>
         requires { n < length self.now.scenario.now.multicasts }
         ensures { IfOk result
@@ -166,7 +166,7 @@ impl<'a> Case<'a> {
         if self.arrives_late(windows, n) {
             return Ok(true);
         }
-        self.is_led(windows, n, memory)
+        self.is_led(windows, n, scratch)
     }
 
     /// Whether message `m` cannot arrive at group `k` at that tick or later, or message `n` is behind
@@ -178,7 +178,7 @@ impl<'a> Case<'a> {
         m: usize,
         k: usize,
         tick: u32,
-        memory: &mut Memory,
+        scratch: &mut Scratch,
     ) -> Result<bool, AllocError>
         requires message { n < length self.now.scenario.now.multicasts }
         requires other { m < length self.now.scenario.now.multicasts }
@@ -190,8 +190,8 @@ impl<'a> Case<'a> {
         if windows.greatest_arrival(m, k) < tick {
             return Ok(true);
         }
-        let cut = windows.with_arrival(memory.alloc, self.scenario, m, k, tick)?;
-        self.is_behind(&cut, n, memory)
+        let cut = windows.with_arrival(scratch.alloc, self.scenario, m, k, tick)?;
+        self.is_behind(&cut, n, scratch)
     }
 
     /// Whether the target's stamp of group `f` does not keep the target back until message `n` arrives,
@@ -201,7 +201,7 @@ impl<'a> Case<'a> {
         windows: &Windows,
         n: usize,
         f: usize,
-        memory: &mut Memory,
+        scratch: &mut Scratch,
     ) -> Result<bool, AllocError>
         requires message { n < length self.now.scenario.now.multicasts }
         requires group { f < MOST_GROUPS }
@@ -212,7 +212,7 @@ impl<'a> Case<'a> {
         let group = target_group(self.scenario);
         let arrival = windows.least_arrival(n, group);
         let tick = arrival.saturating_sub(windows.greatest_proposal(target, f, group));
-        self.is_behind_by(windows, n, target, f, tick, memory)
+        self.is_behind_by(windows, n, target, f, tick, scratch)
     }
 
     /// Whether message `n` is behind by way of each group whose stamp may keep the target back until
@@ -221,7 +221,7 @@ impl<'a> Case<'a> {
         &self,
         windows: &Windows,
         n: usize,
-        memory: &mut Memory,
+        scratch: &mut Scratch,
     ) -> Result<bool, AllocError>
         requires { n < length self.now.scenario.now.multicasts }
         ensures { IfOk result
@@ -229,7 +229,7 @@ impl<'a> Case<'a> {
             (message_at self.now.scenario.now self.now.scenario.now.target_message).destinations) }
     {
         for f in destinations(self.scenario, self.scenario.target_message()) {
-            if !self.is_behind_target(windows, n, *f, memory)? {
+            if !self.is_behind_target(windows, n, *f, scratch)? {
                 return Ok(false);
             }
         }
@@ -244,7 +244,7 @@ impl<'a> Case<'a> {
         n: usize,
         k: usize,
         tick: u32,
-        memory: &mut Memory,
+        scratch: &mut Scratch,
     ) -> Result<bool, AllocError>
         requires message { n < length self.now.scenario.now.multicasts }
         requires known { n < MOST_MULTICASTS }
@@ -255,11 +255,11 @@ impl<'a> Case<'a> {
         if windows.greatest_arrival(n, k) < tick {
             return Ok(true);
         }
-        let late = windows.with_arrival(memory.alloc, self.scenario, n, k, tick)?;
-        if self.is_behind(&late, n, memory)? {
+        let late = windows.with_arrival(scratch.alloc, self.scenario, n, k, tick)?;
+        if self.is_behind(&late, n, scratch)? {
             return Ok(true);
         }
-        self.is_behind_targets(&late, n, memory)
+        self.is_behind_targets(&late, n, scratch)
     }
 
     /// Whether message `n` is behind by way of each of its groups whose stamp may keep its commit at
@@ -269,7 +269,7 @@ impl<'a> Case<'a> {
         windows: &Windows,
         tick: u32,
         n: usize,
-        memory: &mut Memory,
+        scratch: &mut Scratch,
     ) -> Result<bool, AllocError>
         requires { n < length self.now.scenario.now.multicasts }
         ensures { IfOk result
@@ -280,7 +280,7 @@ impl<'a> Case<'a> {
         let group = target_group(self.scenario);
         for k in destinations(self.scenario, n) {
             let from = tick.saturating_sub(windows.greatest_proposal(n, *k, group));
-            if !self.is_behind_after(windows, n, *k, from, memory)? {
+            if !self.is_behind_after(windows, n, *k, from, scratch)? {
                 return Ok(false);
             }
         }
@@ -294,7 +294,7 @@ impl<'a> Case<'a> {
         windows: &Windows,
         tick: u64,
         n: usize,
-        memory: &mut Memory,
+        scratch: &mut Scratch,
     ) -> Result<bool, AllocError>
         requires message { n < length self.now.scenario.now.multicasts }
         requires known { n < MOST_MULTICASTS }
@@ -305,11 +305,11 @@ impl<'a> Case<'a> {
         if u64::from(last) < tick {
             return Ok(true);
         }
-        self.is_behind_ways(windows, tick as u32, n, memory)
+        self.is_behind_ways(windows, tick as u32, n, scratch)
     }
 }
 
-impl<'a> Case<'a> {
+impl<'a> Facts<'a> {
     /// Whether a message may arrive at the target's group by that tick.
     fn may_arrive_by(&self, windows: &Windows, committed: u32, n: usize) -> bool
         requires { n < MOST_MULTICASTS }
@@ -341,7 +341,7 @@ impl<'a> Case<'a> {
         &self,
         windows: &Windows,
         tick: u64,
-        memory: &mut Memory,
+        scratch: &mut Scratch,
     ) -> Result<bool, AllocError>
         ensures { IfOk result
             (λ behind. behind ≡ list_all (is_behind_late self.now.scenario.now windows.now tick)
@@ -349,7 +349,7 @@ impl<'a> Case<'a> {
     {
         let rivals = self.rivals(windows);
         for n in rivals.numbers() {
-            if !self.is_behind_late(windows, tick, *n, memory)? {
+            if !self.is_behind_late(windows, tick, *n, scratch)? {
                 return Ok(false);
             }
         }
@@ -362,7 +362,7 @@ impl<'a> Case<'a> {
         &self,
         windows: &Windows,
         latency: u32,
-        memory: &mut Memory,
+        scratch: &mut Scratch,
     ) -> Result<bool, AllocError>
         ensures { IfOk result
             (λ closed. closed ≡ closes_over self.now.scenario.now windows.now latency) }
@@ -374,6 +374,6 @@ impl<'a> Case<'a> {
         if u64::from(committed) >= tick {
             return Ok(false);
         }
-        self.are_behind_late(windows, tick, memory)
+        self.are_behind_late(windows, tick, scratch)
     }
 }

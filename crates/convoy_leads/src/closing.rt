@@ -3,8 +3,8 @@ ghost use Rattle.convoy_sim.specs.Delivery.{latency_of};
 ghost use Rattle.convoy_intervals.specs.Boxes.{IsBox, IsIn};
 ghost use Rattle.convoy_leads.specs.Closing.{closes_by_leads};
 
-use super::behind::Memory;
-use super::case::Case;
+use super::behind::Scratch;
+use super::facts::Facts;
 use super::laws::leads_hold;
 use convoy_intervals::DelayBox;
 use convoy_packets::Instance;
@@ -26,9 +26,9 @@ pub fn closes_by_leads(
         → IsIn delay_box.now delays → latency_of instance.now delays ≤ latency) }
 {
     leads_hold();
-    let case = Case::of(alloc, instance.scenario())?;
+    let facts = Facts::of(alloc, instance.scenario())?;
     let windows = Windows::of(alloc, instance, delay_box)?;
-    let mut memory = Memory::new(alloc);
-    let closed = case.closes_over(&windows, latency, &mut memory)?;
+    let mut scratch = Scratch::new(alloc);
+    let closed = facts.closes_over(&windows, latency, &mut scratch)?;
     Ok(closed)
 }

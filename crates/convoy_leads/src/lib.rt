@@ -5,8 +5,8 @@
 pub use closing::closes_by_leads;
 
 mod behind;
-mod case;
 mod closing;
+mod facts;
 pub mod laws;
 mod led;
 mod mosts;

@@ -7,7 +7,7 @@ use Rattle.std.proofs.lemmas.Option.{cond_some, same_Some}
 use Rattle.std.proofs.lemmas.Slice.Eq.{bytes_eq-Decides}
 use Rattle.convoy_lines.specs.Labels.{greatest_number, is_spaced, words_after, number_in}
 use Rattle.convoy_lines.specs.Laws.{IsWord}
-use Rattle.convoy_lines.specs.Options.{◌>>=◌}
+use Rattle.convoy_lines.specs.Chains.{◌>>=◌}
 use Rattle.convoy_lines.specs.Texts.{line_of, number_line}
 use Rattle.convoy_lines.specs.Words.{words_of, next_word, number_of}
 use Rattle.convoy_lines.proofs.Spelling.{AreWords, words_again, line_again, by_words, number_again, number_takes, decimal_word}

@@ -1,6 +1,6 @@
 pub mod Labels
 pub mod Laws
-pub mod Options
+pub mod Chains
 pub mod Places
 pub mod Results
 pub mod Texts

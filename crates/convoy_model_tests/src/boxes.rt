@@ -26,13 +26,13 @@ fn half_bounds(
     at: u16,
 ) -> Result<(u32, u32), Fail> {
     let root = Tracked::root(alloc, instance)?;
-    assert!(rt; packet < root.space().len());
-    let (least, most) = root.space().range(packet);
+    assert!(rt; packet < root.delay_box().len());
+    let (least, most) = root.delay_box().range(packet);
     assert!(rt; least <= at && at < most);
     match root.halves(instance, packet, at) {
         Ok((lower, upper)) => {
-            assert_eq!(rt; bound(instance, lower.space()), lower.bound());
-            assert_eq!(rt; bound(instance, upper.space()), upper.bound());
+            assert_eq!(rt; bound(instance, lower.delay_box()), lower.bound());
+            assert_eq!(rt; bound(instance, upper.delay_box()), upper.bound());
             Ok((lower.bound(), upper.bound()))
         }
         Err((_, error)) => Err(error.into()),

@@ -5,7 +5,7 @@ use Rattle.std.proofs.lemmas.List.Elements.{All-from_recursion}
 use Rattle.std.proofs.lemmas.Option.{same_Some}
 use Rattle.convoy_lines.specs.Labels.{greatest_number, words_after, number_in}
 use Rattle.convoy_lines.specs.Laws.{IsWord, IsLine, NumbersAreDecimals, DecimalsAreWords, WordsOfLines, WordsMakeLines, LabelledLines, NumberLines}
-use Rattle.convoy_lines.specs.Options.{◌>>=◌}
+use Rattle.convoy_lines.specs.Chains.{◌>>=◌}
 use Rattle.convoy_lines.specs.Texts.{line_of, number_line}
 use Rattle.convoy_lines.specs.Words.{words_of, next_word, number_of}
 

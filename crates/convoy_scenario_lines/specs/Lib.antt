@@ -1,6 +1,6 @@
 -- what a reader has to know of the crates below
 pub use Rattle.convoy_lines.specs.Labels
-pub use Rattle.convoy_lines.specs.Options
+pub use Rattle.convoy_lines.specs.Chains
 pub use Rattle.convoy_lines.specs.Places
 pub use Rattle.convoy_lines.specs.Results
 pub use Rattle.convoy_lines.specs.Texts

@@ -1,7 +1,7 @@
 //! Searches of one worker.
 
 use super::scenarios::{base, base_with, swapped};
-use convoy_branch::{Bounds, Gate, NoGate, Outcome, search_alone, search_from};
+use convoy_branch::{Bounds, Gate, NoGate, Outcome, search_alone, search_alone_from};
 use convoy_certificate::Node;
 use convoy_packets::{Delays, Instance};
 use convoy_sim::Record;
@@ -32,7 +32,7 @@ fn outcome_from_greatest(
     let least = Record::of(instance, Delays::least(alloc, instance.table())?);
     let opening = Record::of(instance, Delays::greatest(alloc, instance.table())?);
     assert!(rt; least.latency() <= opening.latency());
-    Ok(search_from(alloc, instance, opening, limit, Bounds::Plain, &NoGate)?)
+    Ok(search_alone_from(alloc, instance, opening, limit, Bounds::Plain, &NoGate)?)
 }
 
 fn ending_of(outcome: &Outcome) -> Ending {
@@ -196,7 +196,7 @@ fn calls_its_gate(rt: HostRuntime) -> Result<(), Fail> {
         calls: AtomicU64::new(0),
         in_turn: AtomicBool::new(true),
     };
-    let outcome = search_from(alloc, &instance, opening, 10, Bounds::Plain, &gate)?;
+    let outcome = search_alone_from(alloc, &instance, opening, 10, Bounds::Plain, &gate)?;
     assert_eq!(rt; ending_of(&outcome), Ending::Open(6, 12, 10));
     assert_eq!(rt; gate.calls.load(Ordering::Relaxed), 10);
     assert!(rt; gate.in_turn.load(Ordering::Relaxed));

@@ -71,7 +71,7 @@ fn greatest_point(alloc: Global, instance: &Instance) -> Result<Tracked, AllocEr
     ensures { IfOk result (λ b. b.scenario ≡ instance.now) }
 {
     let mut point = Tracked::root(alloc, instance)?;
-    for packet in 0..point.space().len() {
+    for packet in 0..point.delay_box().len() {
         point = at_greatest(instance, point, packet)?;
     }
     Ok(point)
@@ -80,11 +80,11 @@ fn greatest_point(alloc: Global, instance: &Instance) -> Result<Tracked, AllocEr
 /// The box with only the greatest delay of that packet.
 fn at_greatest(instance: &Instance, branch: Tracked, packet: usize) -> Result<Tracked, AllocError>
     requires of_scenario { branch.scenario ≡ instance.now }
-    requires place { packet < length branch.space }
-    ensures same_length { IfOk result (λ b. length b.space ≡ length branch.space) }
+    requires place { packet < length branch.delay_box }
+    ensures same_length { IfOk result (λ b. length b.delay_box ≡ length branch.delay_box) }
     ensures of_scenario { IfOk result (λ b. b.scenario ≡ instance.now) }
 {
-    let (least, most) = branch.space().range(packet);
+    let (least, most) = branch.delay_box().range(packet);
     if least == most {
         return Ok(branch);
     }

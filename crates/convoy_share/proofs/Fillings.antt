@@ -81,11 +81,11 @@ IsFilling-moved bounds scenario seen tickets put done rest piece slots is fillin
     }
 
 -- a branch that is left is searched, and its tree settled
-pub IsFilling-searched : (bounds : Bounds) (scenario : Scenario) (seen tickets : ℕ) (put : List Box) (done rest : List Piece) (branch : Tracked) (tried : Bool) (pieces : List Piece) (more : ℕ) (slots : List (List Piece)) → IsUnderWay bounds scenario seen [] [] 0 (branch.space ∷ []) pieces more → IsFilling bounds scenario seen tickets put done (Todo branch tried ∷ rest) slots → IsFilling bounds scenario seen (tickets + more) put (done ++ pieces) rest slots
+pub IsFilling-searched : (bounds : Bounds) (scenario : Scenario) (seen tickets : ℕ) (put : List Box) (done rest : List Piece) (branch : Tracked) (tried : Bool) (pieces : List Piece) (more : ℕ) (slots : List (List Piece)) → IsUnderWay bounds scenario seen [] [] 0 (branch.delay_box ∷ []) pieces more → IsFilling bounds scenario seen tickets put done (Todo branch tried ∷ rest) slots → IsFilling bounds scenario seen (tickets + more) put (done ++ pieces) rest slots
 IsFilling-searched bounds scenario seen tickets put done rest branch tried pieces more slots way filling =
     let P = IsPiece scenario seen put in
     let each = way.trees.each in
-    let tree = AreTreesOf-filled bounds scenario seen put (root_of scenario ∷ []) branch.space (Todo branch tried) done pieces rest refl (AreTreesOf-later bounds scenario seen [] put (branch.space ∷ []) pieces each way.trees.tree) filling.tree in
+    let tree = AreTreesOf-filled bounds scenario seen put (root_of scenario ∷ []) branch.delay_box (Todo branch tried) done pieces rest refl (AreTreesOf-later bounds scenario seen [] put (branch.delay_box ∷ []) pieces each way.trees.tree) filling.tree in
     record {
       tree = subst (λ (ps : List Piece). AreTreesOf bounds scenario seen put (root_of scenario ∷ []) ps) (sym (append_assoc done pieces rest)) tree;
       settled = filter_map-append pushed_number done pieces ∙ ap (λ (ts : List ℕ). places_in done ++ ts) (places_none scenario seen pieces each) ∙ append-nil (places_in done) ∙ filling.settled;

@@ -26,7 +26,7 @@ left_append put done pieces =
     ap (λ (ns : List FrontNode). left_in ns) (map-append (front_of put) done pieces) ∙ filter_map-append left_box (front put done) (front put pieces)
 
 -- the branch that is next is searched, and its tree settled
-pub IsFinishing-searched : (better : FrontsBetter) (shared : Common) (put : List Box) (before after : Means) (done rest : List Piece) (slots : List (List Piece)) (branch : Tracked) (tried : Bool) (pieces : List Piece) → IsGrown shared.bounds shared.scenario before after [] [] 0 (branch.space ∷ []) pieces → IsLeftAtEnd after pieces → IsFinishing shared put before done (Todo branch tried ∷ rest) slots → IsFinishing shared put after (done ++ pieces) rest slots
+pub IsFinishing-searched : (better : FrontsBetter) (shared : Common) (put : List Box) (before after : Means) (done rest : List Piece) (slots : List (List Piece)) (branch : Tracked) (tried : Bool) (pieces : List Piece) → IsGrown shared.bounds shared.scenario before after [] [] 0 (branch.delay_box ∷ []) pieces → IsLeftAtEnd after pieces → IsFinishing shared put before done (Todo branch tried ∷ rest) slots → IsFinishing shared put after (done ++ pieces) rest slots
 IsFinishing-searched better shared put before after done rest slots branch tried pieces grown left is =
     let bounds = shared.bounds in
     let plan = shared.scenario in

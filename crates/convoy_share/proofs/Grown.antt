@@ -41,7 +41,7 @@ todo_right bounds scenario before after first put low boxes front rest branch tr
     let P = IsPiece scenario after.hand.seen put in
     All-head P (Todo branch tried) rest (All-parts P front (Todo branch tried ∷ rest) grown.way.trees.each).1
 
-pub IsGrown-start : (bounds : Bounds) (scenario : Scenario) (means : Means) (put : List Box) (low : ℕ) (branch : Tracked) (tried : Bool) → IsPiece scenario means.hand.seen put (Todo branch tried) → IsGrown bounds scenario means means put put low (branch.space ∷ []) (Todo branch tried ∷ [])
+pub IsGrown-start : (bounds : Bounds) (scenario : Scenario) (means : Means) (put : List Box) (low : ℕ) (branch : Tracked) (tried : Bool) → IsPiece scenario means.hand.seen put (Todo branch tried) → IsGrown bounds scenario means means put put low (branch.delay_box ∷ []) (Todo branch tried ∷ [])
 IsGrown-start bounds scenario means put low branch tried is = record {
   later = IsLater-same means;
   tickets = 0;
@@ -60,7 +60,7 @@ IsGrown-turned better bounds scenario most before between after first put low bo
       way = IsUnderWay-turned bounds scenario after.hand.seen first put low boxes front rest branch tried grown.tickets turn taken.ticket.3 way;
     }
 
-pub IsGrown-put : (better : FrontsBetter) (bounds : Bounds) (scenario : Scenario) (most : ℕ) (before between after : Means) (first put : List Box) (low : ℕ) (boxes : List Box) (front rest : List Piece) (branch : Tracked) (tried : Bool) (packet at : ℕ) (lower upper : Tracked) (number : ℕ) → IsTakenUp bounds scenario most branch between after (Turned (Halves packet at lower upper)) → number ≡ length put → low ≤ length put → IsGrown bounds scenario before between first put low boxes (front ++ Todo branch tried ∷ rest) → IsGrown bounds scenario before after first (put ++ lower.space ∷ []) low boxes (front ++ (parted packet at (Pushed number) upper ++ rest))
+pub IsGrown-put : (better : FrontsBetter) (bounds : Bounds) (scenario : Scenario) (most : ℕ) (before between after : Means) (first put : List Box) (low : ℕ) (boxes : List Box) (front rest : List Piece) (branch : Tracked) (tried : Bool) (packet at : ℕ) (lower upper : Tracked) (number : ℕ) → IsTakenUp bounds scenario most branch between after (Turned (Halves packet at lower upper)) → number ≡ length put → low ≤ length put → IsGrown bounds scenario before between first put low boxes (front ++ Todo branch tried ∷ rest) → IsGrown bounds scenario before after first (put ++ lower.delay_box ∷ []) low boxes (front ++ (parted packet at (Pushed number) upper ++ rest))
 IsGrown-put better bounds scenario most before between after first put low boxes front rest branch tried packet at lower upper number taken same below grown =
     let pieces = front ++ Todo branch tried ∷ rest in
     let way = IsUnderWay-better better bounds scenario between.hand.seen after.hand.seen first put low boxes pieces grown.tickets taken.later.seen grown.way in

@@ -38,7 +38,7 @@ AreSubtrees-better better bounds scenario seen more put later [] (subtree ∷ su
 AreSubtrees-better better bounds scenario seen more put later (task ∷ tasks) [] above are = absurd are
 AreSubtrees-better better bounds scenario seen more put later (task ∷ tasks) (subtree ∷ subtrees) above are = (
   are.0,
-  ArePieces-later bounds scenario more put later (task.number + 1) (task.branch.space ∷ []) subtree.pieces (ArePieces-better better bounds scenario seen more put (task.number + 1) (task.branch.space ∷ []) subtree.pieces above are.1),
+  ArePieces-later bounds scenario more put later (task.number + 1) (task.branch.delay_box ∷ []) subtree.pieces (ArePieces-better better bounds scenario seen more put (task.number + 1) (task.branch.delay_box ∷ []) subtree.pieces above are.1),
   AreSubtrees-better better bounds scenario seen more put later tasks subtrees above are.2,
 )
 

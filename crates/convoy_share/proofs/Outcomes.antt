@@ -34,7 +34,7 @@ use Rattle.convoy_share.proofs.Endings.{IsTree-filled, IsFront-filled, spent_nod
 pub left_boxes_in : (put : List Box) (pieces : List Piece) → places_in pieces ≡ [] → left_in (front put pieces) ≡ left_boxes pieces
 left_boxes_in put [] none = refl
 left_boxes_in put (Done node ∷ pieces) none = left_boxes_in put pieces none
-left_boxes_in put (Todo branch tried ∷ pieces) none = ap (λ (bs : List Box). branch.space ∷ bs) (left_boxes_in put pieces none)
+left_boxes_in put (Todo branch tried ∷ pieces) none = ap (λ (bs : List Box). branch.delay_box ∷ bs) (left_boxes_in put pieces none)
 left_boxes_in put (Pushed number ∷ pieces) none = absurd (cc)
 
 none_left : (pieces : List Piece) → list_any is_left pieces ≡ false → left_boxes pieces ≡ []

@@ -35,7 +35,7 @@ AreTreesOf-better better bounds scenario seen more put boxes pieces above tree =
 pub IsPiece-better : (scenario : Scenario) (seen more : ℕ) (put : List Box) → seen ≤ more → (piece : Piece) → IsPiece scenario seen put piece → IsPiece scenario more put piece
 IsPiece-better scenario seen more put above (Done node) is = is
 IsPiece-better scenario seen more put above (Todo branch tried) is =
-    (is.0, λ told. (let known : latency_of scenario (greatest_of branch.space) ≤ seen = is.1 told in omega arith))
+    (is.0, λ told. (let known : latency_of scenario (greatest_of branch.delay_box) ≤ seen = is.1 told in omega arith))
 IsPiece-better scenario seen more put above (Pushed number) is = is
 
 pub pieces_better : (scenario : Scenario) (seen more : ℕ) (put : List Box) (pieces : List Piece) → seen ≤ more → All (IsPiece scenario seen put) pieces → All (IsPiece scenario more put) pieces

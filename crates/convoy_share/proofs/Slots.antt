@@ -18,8 +18,8 @@ use Rattle.convoy_share.specs.Filling.{slot_at, there, IsSlot}
 use Rattle.convoy_share.proofs.Counts.{sum_none, times_above}
 
 -- the branch that was put under a number
-pub put_is : (put : List Box) (task : Task) → IsPut put task → get_or put task.number [] ≡ task.branch.space
-put_is put task is = get_or_from_slice_get put task.number task.branch.space [] is
+pub put_is : (put : List Box) (task : Task) → IsPut put task → get_or put task.number [] ≡ task.branch.delay_box
+put_is put task is = get_or_from_slice_get put task.number task.branch.delay_box [] is
 
 pub there_le : (slot : List Piece) → there slot ≤ 1
 there_le [] = omega arith

@@ -46,8 +46,8 @@ pieces_right nodes keeps bounds scenario known branch (Closed node) table inside
 pieces_right nodes keeps bounds scenario known branch (Halves packet at lower upper) table inside is =
     let P = IsPiece scenario known [] in
     let split : IsNode (Split packet at) = All-head IsNode (Split packet at) [] (nodes bounds scenario known branch (Halves packet at lower upper) table inside is) in
-    let same : greatest_of upper.space ≡ greatest_of branch = ap (λ (t : Tracked). greatest_of t.space) is.3 ∙ keeps branch packet at in
-    let tried : latency_of scenario (greatest_of upper.space) ≤ known = subst (λ (ds : List ℕ). latency_of scenario ds ≤ known) (sym same) is.0.tried in
+    let same : greatest_of upper.delay_box ≡ greatest_of branch = ap (λ (t : Tracked). greatest_of t.delay_box) is.3 ∙ keeps branch packet at in
+    let tried : latency_of scenario (greatest_of upper.delay_box) ≤ known = subst (λ (ds : List ℕ). latency_of scenario ds ≤ known) (sym same) is.0.tried in
     All-cons P (Done (Split packet at)) (Todo lower false ∷ Todo upper true ∷ []) split (
     All-cons P (Todo lower false) (Todo upper true ∷ []) (ap (λ (t : Tracked). t.scenario) is.2, λ told. absurd (false≢true told)) (
     All-cons P (Todo upper true) [] (ap (λ (t : Tracked). t.scenario) is.3, λ told. tried) (All-nil P)

@@ -40,7 +40,7 @@ result_by : (bounds : Bounds) (scenario : Scenario) (roots : ℕ) (seen : ℕ) (
 result_by bounds scenario roots seen tickets tickets' put put' taken taken' trees trees' t p k r is = rw (t, p, k, r) is
 
 -- one branch more
-pub thief_more : (better : FrontsBetter) (shared : Common) (deque : DequeId) (hand clerk : ℕ) (old new : ThiefWorker) (task : Task) (pieces : List Piece) → IsThief shared deque hand clerk old → new.end ≡ record old.end { taken = old.end.taken ++ task ∷ [] } → IsGrown shared.bounds shared.scenario old.means new.means [] [] (task.number + 1) (task.branch.space ∷ []) pieces → new.trees.items ≡ old.trees.items ++ record { number = task.number; pieces = pieces } ∷ [] → IsThief shared deque hand clerk new
+pub thief_more : (better : FrontsBetter) (shared : Common) (deque : DequeId) (hand clerk : ℕ) (old new : ThiefWorker) (task : Task) (pieces : List Piece) → IsThief shared deque hand clerk old → new.end ≡ record old.end { taken = old.end.taken ++ task ∷ [] } → IsGrown shared.bounds shared.scenario old.means new.means [] [] (task.number + 1) (task.branch.delay_box ∷ []) pieces → new.trees.items ≡ old.trees.items ++ record { number = task.number; pieces = pieces } ∷ [] → IsThief shared deque hand clerk new
 thief_more better shared deque hand clerk old new task pieces is end grown trees =
     let later = grown.later in
     let more = IsResult-more better shared.bounds shared.scenario old.means.hand.seen new.means.hand.seen (drawn old.means) grown.tickets 0 [] [] old.end.taken old.trees.items task pieces later.seen is.result grown.way in
@@ -75,9 +75,9 @@ owner_own shared deque hand clerk share joined least worker is = record {
 -- a branch that the owner takes has a number below the count of those that it put
 pub number_below : (put : List Box) (task : Task) → IsPut put task → task.number + 1 ≤ length put
 number_below put task is =
-    let low = slice_get_within put task.number task.branch.space is in omega arith
+    let low = slice_get_within put task.number task.branch.delay_box is in omega arith
 
-pub owner_more : (better : FrontsBetter) (shared : Common) (old new : OwnerWorker) (task : Task) (pieces : List Piece) → StaysOwner shared old old → new.end ≡ record old.end { taken = old.end.taken ++ task ∷ []; put = new.end.put } → IsGrown shared.bounds shared.scenario old.means new.means old.end.put new.end.put (task.number + 1) (task.branch.space ∷ []) pieces → new.trees.items ≡ old.trees.items ++ record { number = task.number; pieces = pieces } ∷ [] → new.drawn_by_thieves.items ≡ old.drawn_by_thieves.items → StaysOwner shared old new
+pub owner_more : (better : FrontsBetter) (shared : Common) (old new : OwnerWorker) (task : Task) (pieces : List Piece) → StaysOwner shared old old → new.end ≡ record old.end { taken = old.end.taken ++ task ∷ []; put = new.end.put } → IsGrown shared.bounds shared.scenario old.means new.means old.end.put new.end.put (task.number + 1) (task.branch.delay_box ∷ []) pieces → new.trees.items ≡ old.trees.items ++ record { number = task.number; pieces = pieces } ∷ [] → new.drawn_by_thieves.items ≡ old.drawn_by_thieves.items → StaysOwner shared old new
 owner_more better shared old new task pieces is end grown trees thieves =
     let later = grown.later in
     let put = grown.way.more in

@@ -6,7 +6,7 @@ use Rattle.convoy_sim.specs.Record.{IsAttained}
 use Rattle.convoy_intervals.specs.Boxes.{Box}
 use Rattle.convoy_branch.specs.declared.bounds.Bounds.{Bounds}
 use Rattle.convoy_branch.specs.Fronts.{left_in}
-use Rattle.convoy_branch.specs.Outcomes.{AreShares}
+use Rattle.convoy_branch.specs.Outcomes.{AreTicketsByWorker}
 use Rattle.convoy_share.specs.declared.ending.Ended.{Ended}
 use Rattle.convoy_share.specs.declared.piece.Piece.{Piece}
 use Rattle.convoy_share.specs.declared.searching.Closed.{Closed}
@@ -37,6 +37,6 @@ pub record IsClosed (bounds : Bounds) (scenario : Scenario) (workers limit : ℕ
   pub of_scenario : closed.best.scenario ≡ scenario
   pub attained : IsAttained closed.best
   pub few : closed.tickets ≤ limit
-  pub shares : AreShares workers closed.tickets closed.by_worker.items
+  pub shares : AreTicketsByWorker workers closed.tickets closed.by_worker.items
   pub whole : IsWhole bounds scenario closed.best.latency closed.tickets closed.pieces.items
   pub left : (left_in (front whole.put closed.pieces.items) ≡ []) ⊎ (closed.tickets ≡ limit)

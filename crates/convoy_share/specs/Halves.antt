@@ -7,6 +7,6 @@ use Rattle.convoy_share.specs.declared.piece.Piece.TheVariants.{Done, Todo, Push
 
 -- it was put under the next number, or it is kept
 abbrev pub IsPlaced : List Box → List Box → Tracked → Piece → Type 0
-IsPlaced before after branch (Pushed number) = (number ≡ length before) × (after ≡ before ++ branch.space ∷ [])
+IsPlaced before after branch (Pushed number) = (number ≡ length before) × (after ≡ before ++ branch.delay_box ∷ [])
 IsPlaced before after branch (Todo kept tried) = (kept ≡ branch) × (tried ≡ false) × (after ≡ before)
 IsPlaced before after branch (Done node) = ⊥

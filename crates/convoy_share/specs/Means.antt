@@ -28,7 +28,7 @@ drawn means = length means.clerk.tickets
 -- what becomes of a branch that is taken up: a ticket is spent for its turn, or there was none and it is left
 abbrev pub IsSpentFor : Bounds → Scenario → ℕ → Tracked → Means → Means → TakenUp → Type 0
 IsSpentFor bounds scenario most branch before after (Turned turn) =
-    (drawn after ≡ drawn before + 1) × (drawn after ≤ most) × (before.clerk.done ≡ false) × IsTurned bounds scenario after.hand.seen branch.space turn
+    (drawn after ≡ drawn before + 1) × (drawn after ≤ most) × (before.clerk.done ≡ false) × IsTurned bounds scenario after.hand.seen branch.delay_box turn
 IsSpentFor bounds scenario most branch before after (Left left) =
     (left ≡ branch) × (drawn after ≡ drawn before) × (after.clerk.done ≡ true)
 

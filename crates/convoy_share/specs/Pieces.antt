@@ -15,7 +15,7 @@ use Rattle.convoy_share.specs.declared.piece.Piece.TheVariants.{Done, Todo, Push
 -- the node of a front that a piece stands for, where those branches were put: a branch that was pushed is a box that is left
 abbrev pub front_of : List Box → Piece → FrontNode
 front_of put (Done node) = Spent node
-front_of put (Todo branch tried) = Left branch.space
+front_of put (Todo branch tried) = Left branch.delay_box
 front_of put (Pushed number) = Left (slice_index_or put number [])
 
 abbrev pub front : List Box → List Piece → List FrontNode
@@ -50,7 +50,7 @@ is_left (Todo branch tried) = true
 is_left piece = false
 
 abbrev pub todo_box : Piece → Option Box
-todo_box (Todo branch tried) = Some branch.space
+todo_box (Todo branch tried) = Some branch.delay_box
 todo_box piece = None
 
 abbrev pub left_boxes : List Piece → List Box
@@ -60,11 +60,11 @@ left_boxes pieces = filter_map todo_box pieces
 abbrev pub IsPiece : Scenario → ℕ → List Box → Piece → Type 0
 IsPiece scenario seen put (Done node) = IsNode node
 IsPiece scenario seen put (Todo branch tried) =
-    (branch.scenario ≡ scenario) × IsTriedIf scenario branch.space tried seen
+    (branch.scenario ≡ scenario) × IsTriedIf scenario branch.delay_box tried seen
 IsPiece scenario seen put (Pushed number) = number < length put
 
 -- what a piece raises an upper bound to: a branch that is left, and nothing else
 abbrev pub IsRaisedOver : Bounds → Scenario → Piece → ℕ → ℕ → Type 0
-IsRaisedOver bounds scenario (Todo branch tried) upper raised = IsRaised bounds scenario branch.space upper raised
+IsRaisedOver bounds scenario (Todo branch tried) upper raised = IsRaised bounds scenario branch.delay_box upper raised
 IsRaisedOver bounds scenario (Done node) upper raised = raised ≡ upper
 IsRaisedOver bounds scenario (Pushed number) upper raised = raised ≡ upper

@@ -30,7 +30,7 @@ abbrev pub AreSubtrees : Bounds → Scenario → ℕ → List Box → List Task 
 AreSubtrees bounds scenario seen put [] [] = Unit {0}
 AreSubtrees bounds scenario seen put (task ∷ tasks) (subtree ∷ subtrees) =
     (subtree.number ≡ task.number)
-    × IsSubtree bounds scenario seen put task.number task.branch.space subtree.pieces
+    × IsSubtree bounds scenario seen put task.number task.branch.delay_box subtree.pieces
     × AreSubtrees bounds scenario seen put tasks subtrees
 AreSubtrees bounds scenario seen put tasks subtrees = ⊥
 

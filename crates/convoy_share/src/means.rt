@@ -63,7 +63,7 @@ pub(crate) fn take_up<R: Wait, G: Gate>(
     requires hand { means.old.hand.board ≡ shared.now.board.now }
     requires clerk { means.old.clerk.ledger ≡ shared.now.ledger.now }
     requires of_scenario { branch.scenario ≡ shared.now.instance.now }
-    requires known { IsTriedIf shared.now.instance.now branch.space tried means.old.hand.seen }
+    requires known { IsTriedIf shared.now.instance.now branch.delay_box tried means.old.hand.seen }
     ensures { IfOk result (λ taken. IsTakenUp shared.now.bounds shared.now.instance.now
         shared.now.ledger.now.most branch means.old means.new taken) }
 {
@@ -72,7 +72,7 @@ pub(crate) fn take_up<R: Wait, G: Gate>(
     turns_are_nodes();
     upper_keeps_greatest();
     let _ = shared.instance.table();
-    let _space = branch.space();
+    let _delay_box = branch.delay_box();
     means.taken_up = means.taken_up.saturating_add(1);
     gate.before_branch(means.worker, means.taken_up);
     let seen = shared.board.look(&mut means.hand);

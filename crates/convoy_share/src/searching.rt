@@ -86,7 +86,9 @@ pub fn search_from<'a, R: Threads + Wait + Sync, G: Gate + Sync>(
     ensures opened { IfOk result (λ outcome. opening.latency ≤ best_of outcome) }
 {
     if workers == 1 {
-        let outcome = convoy_branch::search_from(alloc, instance, opening, limit, bounds, gate)?;
+        let outcome = convoy_branch::search_alone_from(
+            alloc, instance, opening, limit, bounds, gate,
+        )?;
         return Ok(outcome);
     }
     let (board, hand) = match Board::open(rt, alloc, opening) {

@@ -33,7 +33,7 @@ fn advance<R: Wait, G: Gate, H: Halves>(
     requires clerk { means.old.clerk.ledger ≡ shared.now.ledger.now }
     requires halves { H.takes (H.fixed halves.old) shared.now.instance.now }
     requires of_scenario { branch.scenario ≡ shared.now.instance.now }
-    requires known { IsTriedIf shared.now.instance.now branch.space tried means.old.hand.seen }
+    requires known { IsTriedIf shared.now.instance.now branch.delay_box tried means.old.hand.seen }
     ensures grown { (before : Means) (first : List Box) (low : ℕ) (boxes : List Box)
         → low ≤ length first
         → IsGrown shared.now.bounds shared.now.instance.now before means.old first (H.put halves.old) low boxes
@@ -83,10 +83,10 @@ pub(crate) fn search_branch<R: Wait, G: Gate, H: Halves>(
     requires clerk { means.old.clerk.ledger ≡ shared.now.ledger.now }
     requires halves { H.takes (H.fixed halves.old) shared.now.instance.now }
     requires of_scenario { branch.scenario ≡ shared.now.instance.now }
-    requires known { IsTriedIf shared.now.instance.now branch.space tried means.old.hand.seen }
+    requires known { IsTriedIf shared.now.instance.now branch.delay_box tried means.old.hand.seen }
     ensures grown { (low : ℕ) → low ≤ length (H.put halves.old) → IfOk result (λ pieces.
         IsGrown shared.now.bounds shared.now.instance.now means.old means.new (H.put halves.old) (H.put halves.new) low
-        (branch.space ∷ []) (reverse pieces.items)) }
+        (branch.delay_box ∷ []) (reverse pieces.items)) }
     ensures left { IfOk result (λ pieces. IsLeftAtEnd means.new (reverse pieces.items)) }
     ensures fixed { OnOk result (H.fixed halves.new ≡ H.fixed halves.old) }
 {

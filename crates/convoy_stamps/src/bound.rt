@@ -39,8 +39,8 @@ pub fn stamp_bound_of(
     tracked: &Tracked,
 ) -> Result<u32, AllocError>
     requires { tracked.now.scenario ≡ instance.now }
-    ensures value { IfOk result (λ bound. bound ≡ stamp_bound instance.now tracked.now.space) }
-    ensures holds { IfOk result (λ bound. (delays : List ℕ) → IsIn tracked.now.space delays
+    ensures value { IfOk result (λ bound. bound ≡ stamp_bound instance.now tracked.now.delay_box) }
+    ensures holds { IfOk result (λ bound. (delays : List ℕ) → IsIn tracked.now.delay_box delays
         → latency_of instance.now delays ≤ bound) }
 {
     stamp_bound_holds();

@@ -20,7 +20,7 @@ impl<'a> Model for Spans<'a> {
 
     ghost Value = { Boxed };
 
-    ghost view = { λ s. record { scenario = s.instance.now; ranges = s.tracked.now.space } };
+    ghost view = { λ s. record { scenario = s.instance.now; ranges = s.tracked.now.delay_box } };
 
     ghost invariant = { λ s. IsBoxed s.instance.now s.tracked.now };
 }
@@ -34,7 +34,7 @@ impl<'a> Spans<'a> {
     /// The spans of a box of the scenario.
     pub(crate) fn of(instance: &'a Instance, tracked: &'a Tracked) -> Self
         requires { tracked.now.scenario ≡ instance.now }
-        ensures { result ≡ record { scenario = instance.now; ranges = tracked.now.space } }
+        ensures { result ≡ record { scenario = instance.now; ranges = tracked.now.delay_box } }
     {
         let _delay = instance.delay();
         Spans { instance, tracked }

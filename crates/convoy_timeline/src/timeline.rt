@@ -50,13 +50,13 @@ fn text_of(alloc: Global, scenario: &Scenario, run: &Run) -> Result<Vec<u8>, All
 {
     let mut text = Vec::new(alloc);
     for entry in &list_entries(alloc, scenario, run)? {
-        append_line(scenario, entry, &mut text)?;
+        push_line(scenario, entry, &mut text)?;
     }
     Ok(text)
 }
 
 /// Appends the line of an entry.
-fn append_line(scenario: &Scenario, entry: &Entry, text: &mut Vec<u8>) -> Result<(), AllocError>
+fn push_line(scenario: &Scenario, entry: &Entry, text: &mut Vec<u8>) -> Result<(), AllocError>
     ensures { OnOk result (text.new.items ≡ text.old.items ++ line_of scenario.now entry.now) }
 {
     let line = line_of(*text.allocator(), scenario, entry)?;

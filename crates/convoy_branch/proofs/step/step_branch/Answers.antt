@@ -8,7 +8,7 @@ pub returns-clause-value : goal.returns-clause-value
 returns-clause-value c =
     let bounds = c.args.bounds in
     let plan = c.args.instance.now in
-    let box = c.args.branch.space in
+    let box = c.args.branch.delay_box in
     let look = c.in-Ok.look in
     let shows = c.in-Ok.ensures.value in
     let known = known_after c.args.seen look.found in

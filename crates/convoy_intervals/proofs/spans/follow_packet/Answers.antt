@@ -22,5 +22,5 @@ returns-in-Propose c =
     let to = goes (goal.at.returns-in-Propose c).In-Propose in
     let known = message_of_goes plan c.in-Propose.message c.in-Propose.to to in
     let group = group_of_goes plan c.delay-delay.ensures.lawful c.in-Propose.message c.in-Propose.to to in
-    let but = subst (λ (p : Packet). AreSpansBut p plan c.args.space.now c.args.spans.now) c.in-Propose.is c.requires.but in
-    rw c.write_settling.ensures (AreSpans-propose plan c.args.space.now c.args.spans.now c.in-Propose.message c.in-Propose.from c.in-Propose.to _ known group but refl refl)
+    let but = subst (λ (p : Packet). AreSpansBut p plan c.args.delay_box.now c.args.spans.now) c.in-Propose.is c.requires.but in
+    rw c.write_settling.ensures (AreSpans-propose plan c.args.delay_box.now c.args.spans.now c.in-Propose.message c.in-Propose.from c.in-Propose.to _ known group but refl refl)

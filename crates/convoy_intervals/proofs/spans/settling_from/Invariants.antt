@@ -6,5 +6,5 @@ use Rattle.convoy_intervals.proofs.spans.settling_from.Given as goal
 
 abbrev pub invariant-loop-from : goal.invariant-loop-from
 invariant-loop-from l =
-    (l.least ≡ greatest (map (propose_arrive l.instance (least_of l.space) l.message l.group) (take l.from-index l.from-items)))
-    × (l.most ≡ greatest (map (propose_arrive l.instance (greatest_of l.space) l.message l.group) (take l.from-index l.from-items)))
+    (l.least ≡ greatest (map (propose_arrive l.instance (least_of l.delay_box) l.message l.group) (take l.from-index l.from-items)))
+    × (l.most ≡ greatest (map (propose_arrive l.instance (greatest_of l.delay_box) l.message l.group) (take l.from-index l.from-items)))

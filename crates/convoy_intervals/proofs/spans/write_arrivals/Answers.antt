@@ -8,9 +8,9 @@ loop-group-preserved c =
     let plan = c.args.instance.now in
     let before = c.loop-group.invariant in
     let group : c.loop-group.group < length plan.groups = omega (arith, c.loop-group-test.true, c.group_count-group-end.ensures.value) in
-    let here : c.arrivals-span.result ≡ arrival_span plan c.args.space.now c.args.message c.loop-group.group = ap₂ (λ (a b : ℕ). (a, b)) c.arrivals-span.ensures.least c.arrivals-span.ensures.greatest in
+    let here : c.arrivals-span.result ≡ arrival_span plan c.args.delay_box.now c.args.message c.loop-group.group = ap₂ (λ (a b : ℕ). (a, b)) c.arrivals-span.ensures.least c.arrivals-span.ensures.greatest in
     rw c.place.ensures.value (record {
-      arrivals = arrivals_more plan c.loop-group.spans before.all c.args.message c.loop-group.group c.requires.known group c.args.space.now _ before.arrivals here;
+      arrivals = arrivals_more plan c.loop-group.spans before.all c.args.message c.loop-group.group c.requires.known group c.args.delay_box.now _ before.arrivals here;
       others = others_more plan c.loop-group.spans before.all c.args.message c.loop-group.group c.requires.known group c.args.spans.now _ before.others;
       all = all_set plan c.loop-group.spans before.all c.args.message c.loop-group.group c.requires.known group _;
     })

@@ -3,7 +3,7 @@ use Rattle.convoy_intervals.proofs.spans.write_arrivals.Given as goal
 
 abbrev pub invariant-loop-group : goal.invariant-loop-group
 invariant-loop-group l = record {
-  arrivals : AreArrivals l.instance l.space l.spans l.message l.group;
+  arrivals : AreArrivals l.instance l.delay_box l.spans l.message l.group;
   others : AreOthersKept l.instance l.message l.initial.spans l.spans;
   all : AreAllSpans l.instance l.spans;
 }

@@ -8,8 +8,8 @@ loop-group-preserved c =
     let before = c.loop-group.invariant in
     let group : c.loop-group.group < length plan.groups = omega (arith, c.loop-group-test.true, c.group_count-group-end.ensures.value) in
     rw c.write_settling.ensures (record {
-      arrivals = arrivals_kept plan c.loop-group.spans before.all c.args.message c.loop-group.group c.requires.known group c.args.space.now _ before.arrivals refl;
-      settlings = settlings_more plan c.loop-group.spans before.all c.args.message c.loop-group.group c.requires.known group c.args.space.now _ before.settlings refl;
+      arrivals = arrivals_kept plan c.loop-group.spans before.all c.args.message c.loop-group.group c.requires.known group c.args.delay_box.now _ before.arrivals refl;
+      settlings = settlings_more plan c.loop-group.spans before.all c.args.message c.loop-group.group c.requires.known group c.args.delay_box.now _ before.settlings refl;
       others = others_more plan c.loop-group.spans before.all c.args.message c.loop-group.group c.requires.known group c.args.spans.now _ before.others;
       all = all_set plan c.loop-group.spans before.all c.args.message c.loop-group.group c.requires.known group _;
     })

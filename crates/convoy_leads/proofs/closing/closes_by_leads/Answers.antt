@@ -9,7 +9,7 @@ unfolding closes_by_leads
 returns-clause-value c =
     let told = λ (scenario : Scenario) (windows : Windows). c.in_ok-closed.closed ≡ closes_over scenario windows c.args.latency in
     subst (told c.args.instance.now) c.in_ok-windows.ensures
-    (subst (λ (s : Scenario). told s c.in_ok-windows.windows) (c.in_ok-case.ensures ∙ c.scenario.ensures.value) c.in_ok-closed.ensures)
+    (subst (λ (s : Scenario). told s c.in_ok-windows.windows) (c.in_ok-facts.ensures ∙ c.scenario.ensures.value) c.in_ok-closed.ensures)
 
 pub returns-clause-holds : goal.returns-clause-holds
 returns-clause-holds c told delays member =

@@ -17,7 +17,7 @@ returns-in-Ok g c =
     let found = c.in-Ok.field-0.found in
     let seen = ap (λ (h : Holding). h.seen) look.hand in
     let lawful = c.table.ensures.lawful in
-    let inside = subst (λ (s : Scenario). IsBox s c.args.branch.space) c.requires.of_scenario c.space-space.ensures.lawful in
+    let inside = subst (λ (s : Scenario). IsBox s c.args.branch.delay_box) c.requires.of_scenario c.delay_box-delay_box.ensures.lawful in
     let known = subst (λ (n : ℕ). known_after n found ≤ after) seen publish.known in
     let turn = c.in-Ok.ensures.value.turn in
     record {
@@ -33,6 +33,6 @@ returns-in-Ok g c =
         ticket.0,
         ticket.1,
         ticket.2,
-        IsTurned-step c.fronts_better.ensures c.turns_are_fronts.ensures c.turns_are_nodes.ensures c.upper_keeps_greatest.ensures shared.bounds shared.instance.now (known_after c.look-seen.result found) after c.args.branch.space c.in-Ok.field-0.turn lawful inside known turn,
+        IsTurned-step c.fronts_better.ensures c.turns_are_fronts.ensures c.turns_are_nodes.ensures c.upper_keeps_greatest.ensures shared.bounds shared.instance.now (known_after c.look-seen.result found) after c.args.branch.delay_box c.in-Ok.field-0.turn lawful inside known turn,
       );
     }

@@ -14,7 +14,7 @@ advance-requires-clause-of_scenario g c =
     let H = g.H.Halves in
     let some = rw c.in-Some.is at c.in_ok-branch.ensures.some in
     let means = c.loop-growing.means in
-    let boxes = c.args.branch.space ∷ [] in
+    let boxes = c.args.branch.delay_box ∷ [] in
     let first = H.put c.args.halves.now in
     let put = H.put c.loop-growing.halves in
     let grown = subst (λ (ps : List Piece). IsGrown c.args.shared.now.bounds c.args.shared.now.instance.now c.args.means.now means first put 0 boxes ps) some (c.loop-growing.invariant.0 0 (omega arith)) in
@@ -25,7 +25,7 @@ advance-requires-clause-known g c =
     let H = g.H.Halves in
     let some = rw c.in-Some.is at c.in_ok-branch.ensures.some in
     let means = c.loop-growing.means in
-    let boxes = c.args.branch.space ∷ [] in
+    let boxes = c.args.branch.delay_box ∷ [] in
     let first = H.put c.args.halves.now in
     let put = H.put c.loop-growing.halves in
     let grown = subst (λ (ps : List Piece). IsGrown c.args.shared.now.bounds c.args.shared.now.instance.now c.args.means.now means first put 0 boxes ps) some (c.loop-growing.invariant.0 0 (omega arith)) in
@@ -35,7 +35,7 @@ pub loop-growing-preserved : goal.loop-growing-preserved
 loop-growing-preserved g c =
     let H = g.H.Halves in
     let some = rw c.in-Some.is at c.in_ok-branch.ensures.some in
-    let boxes = c.args.branch.space ∷ [] in
+    let boxes = c.args.branch.delay_box ∷ [] in
     let first = H.put c.args.halves.now in
     let put = H.put c.loop-growing.halves in
     let held = c.loop-growing.invariant in
@@ -53,7 +53,7 @@ pub returns-clause-grown : goal.returns-clause-grown
 returns-clause-grown g c low below =
     let H = g.H.Halves in
     let none = rw c.in_default.is at c.in_ok-branch.ensures.none in
-    subst (λ (ps : List Piece). IsGrown c.args.shared.now.bounds c.args.shared.now.instance.now c.args.means.now c.loop-growing.means (H.put c.args.halves.now) (H.put c.loop-growing.halves) low (c.args.branch.space ∷ []) ps) none (c.loop-growing.invariant.0 low below)
+    subst (λ (ps : List Piece). IsGrown c.args.shared.now.bounds c.args.shared.now.instance.now c.args.means.now c.loop-growing.means (H.put c.args.halves.now) (H.put c.loop-growing.halves) low (c.args.branch.delay_box ∷ []) ps) none (c.loop-growing.invariant.0 low below)
 
 pub returns-clause-left : goal.returns-clause-left
 returns-clause-left g c =

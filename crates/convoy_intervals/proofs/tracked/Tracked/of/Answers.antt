@@ -12,5 +12,5 @@ invariant_of-result c =
       well = c.delay-delay.ensures.lawful;
       inside = c.requires.inside;
       kept = c.requires.spans;
-      bounded = over ∙ plain_bound-spans plan c.args.space c.args.spans.items c.delay-delay.ensures.lawful c.requires.spans;
+      bounded = over ∙ plain_bound-spans plan c.args.delay_box c.args.spans.items c.delay-delay.ensures.lawful c.requires.spans;
     })

@@ -1,0 +1,21 @@
+use Rattle.std.proofs.Common.{ap, arith}
+use Rattle.convoy_sim.specs.Record.{Record}
+use Rattle.convoy_branch.proofs.SearchSteps.{IsSearching-popped}
+use Rattle.convoy_branch.proofs.search.search_alone_from.Goals as goal
+
+pub loop-work-init : goal.loop-work-init
+loop-work-init g c = record {
+  searching = c.in_ok-search.ensures.searching c.args.bounds;
+  few = omega (arith, c.in_ok-search.ensures.tickets);
+  opened = omega (arith, ap (λ (r : Record). r.latency) c.in_ok-search.ensures.best);
+}
+
+pub loop-work-preserved-in-Continue-branch-2 : goal.loop-work-preserved-in-Continue-branch-2
+loop-work-preserved-in-Continue-branch-2 g c = record {
+  searching = IsSearching-popped c.args.bounds c.args.instance.now c.loop-work.search.best c.loop-work.search.work.items c.pop.new.self.items c.loop-work.search.nodes.items c.push.new.self.items c.loop-work.search.tickets c.in-Some.work c.in-Write.node c.in-Some.ensures.items c.in-Write.is c.in_ok-push-in-Write.ensures.items c.loop-work.invariant.searching;
+  few = c.loop-work.invariant.few;
+  opened = c.loop-work.invariant.opened;
+}
+
+pub returns-clause-value : goal.returns-clause-value
+returns-clause-value g c = c.into_proved.ensures.value c.args.limit c.loop-work.invariant.few

@@ -1,0 +1,188 @@
+-- What is written for a scenario of which a search has ended, and what `check` answers for it.
+use Rattle.std.proofs.Common.{◌≡◌, ◌≢◌, ◌≤◌, ◌++◌, ◌∙◌, ℕ, List, Vec, length, Ok, false, inl, inr, refl, sym, ap, arith}
+use Rattle.std.specs.List.{list_any}
+use Rattle.std.specs.declared.alloc.Global.{Global}
+use Rattle.convoy_lines.specs.Texts.{ended}
+use Rattle.convoy_scenario.specs.Scenario.{Scenario}
+use Rattle.convoy_sim.specs.Delivery.{latency_of}
+use Rattle.convoy_sim.specs.Greatest.{IsGreatest, IsReached, IsUpper}
+use Rattle.convoy_sim.specs.Record.{Record, IsAttained}
+use Rattle.convoy_certificate.specs.Certificate.{Certificate, IsCertificate}
+use Rattle.convoy_certificate.specs.Laws.{TextsAreRead, TextsAreShort}
+use Rattle.convoy_certificate.specs.Reading.{AreReadable}
+use Rattle.convoy_certificate.specs.Text.{certificate_text, is_lead, is_stamp, schedule_line}
+use Rattle.convoy_checker.specs.Laws.{CheckedIsValid, ValidIsGreatest}
+use Rattle.convoy_checker.specs.Validity.{IsValid}
+use Rattle.convoy_branch.specs.declared.bounds.Bounds.{Bounds}
+use Rattle.convoy_branch.specs.declared.bounds.Bounds.TheVariants.{Plain, Lead}
+use Rattle.convoy_branch.specs.declared.outcome.Outcome.TheVariants.{Proved, Open}
+use Rattle.convoy_branch.specs.Options.{Settings, first_bounds, highest_limit}
+use Rattle.convoy_branch.specs.declared.options.Ways.{Ways}
+use Rattle.convoy_branch.specs.declared.options.Ways.TheVariants.{One, Both}
+use Rattle.convoy_commands.specs.declared.done.Done.TheVariants.{Fine}
+use Rattle.convoy_commands.specs.Checks.{check_reply}
+use Rattle.convoy_commands.specs.Lines.{accepted_line, greatest_line, open_line}
+use Rattle.convoy_commands.specs.Searches.{IsFrontBy, IsFrontTold, IsGreatestTold, IsOpenBetween, IsOpenProof, IsOutcomeBy, IsProof, IsSearchOf}
+
+-- the text of a valid certificate gets a yes
+pub accepts : TextsAreRead → CheckedIsValid → (certificate : Certificate) → IsCertificate certificate →
+    AreReadable certificate.nodes → IsValid certificate →
+    check_reply (certificate_text certificate) ≡ Ok (Fine, accepted_line certificate.latency)
+unfolding check_reply
+accepts are_read is_valid certificate lawful readable valid =
+    rw (are_read certificate lawful readable, (is_valid certificate).1 valid) refl
+
+-- What a proved end says of its certificate.
+record IsProvedEnd (ways : Ways) (scenario : Scenario) (limit : ℕ) (certificate : Certificate) : Type 0 where
+  of_scenario : certificate.scenario ≡ scenario
+  valid : IsValid certificate
+  greatest : IsGreatest scenario certificate.latency
+  few : length certificate.nodes ≤ limit
+  plain : ways ≡ One Plain → list_any is_stamp certificate.nodes ≡ false
+  no_leads : (bounds : Bounds) → ways ≡ One bounds → bounds ≢ Lead → list_any is_lead certificate.nodes ≡ false
+  readable : AreReadable certificate.nodes
+
+one_is : (bounds other : Bounds) → One bounds ≡ One other → bounds ≡ other
+one_is bounds other is = ap first_bounds is
+
+-- by whatever the search goes
+proved_end : (ways : Ways) (scenario : Scenario) (workers limit : ℕ) (certificate : Certificate) (tickets : ℕ) (by_worker : Vec ℕ Global) →
+    IsOutcomeBy ways scenario workers limit (Proved certificate tickets by_worker) → limit ≤ highest_limit ways →
+    IsProvedEnd ways scenario limit certificate
+proved_end (One bounds) scenario workers limit certificate tickets by_worker proved within = record {
+  of_scenario = proved.of_scenario;
+  valid = proved.valid;
+  greatest = proved.greatest;
+  few = omega (arith, proved.nodes, proved.few);
+  plain = λ is. proved.plain (one_is bounds Plain is);
+  no_leads = λ other is not. proved.no_leads (λ lead. not (sym (one_is bounds other is) ∙ lead));
+  readable = proved.readable within;
+}
+proved_end Both scenario workers limit certificate tickets by_worker (inl proved) within = record {
+  of_scenario = proved.of_scenario;
+  valid = proved.valid;
+  greatest = proved.greatest;
+  few = omega (arith, proved.nodes, proved.few);
+  plain = λ is. proved.plain refl;
+  no_leads = λ other is not. absurd (cc);
+  readable = proved.readable (omega arith);
+}
+proved_end Both scenario workers limit certificate tickets by_worker (inr proved) within = record {
+  of_scenario = proved.of_scenario;
+  valid = proved.valid;
+  greatest = proved.greatest;
+  few = omega (arith, proved.nodes, proved.few);
+  plain = λ is. absurd (cc);
+  no_leads = λ other is not. absurd (cc);
+  readable = proved.readable (omega arith);
+}
+
+-- What an open end says of the scenario.
+record IsOpenEnd (ways : Ways) (scenario : Scenario) (limit : ℕ) (best : Record) (upper : ℕ) : Type 0 where
+  of_scenario : best.scenario ≡ scenario
+  reached : IsReached scenario best.latency
+  none_greater : IsUpper scenario upper
+  front : IsFrontBy ways scenario best.latency upper limit
+
+open_end : (ways : Ways) (scenario : Scenario) (workers limit : ℕ) (best : Record) (upper tickets : ℕ) (by_worker : Vec ℕ Global) →
+    IsOutcomeBy ways scenario workers limit (Open best upper tickets by_worker) → IsOpenEnd ways scenario limit best upper
+open_end (One bounds) scenario workers limit best upper tickets by_worker found = record {
+  of_scenario = found.of_scenario;
+  reached = found.reached;
+  none_greater = found.none_greater;
+  front = rw found.all at found.front;
+}
+open_end Both scenario workers limit best upper tickets by_worker (inl found) = record {
+  of_scenario = found.1.of_scenario;
+  reached = found.1.reached;
+  none_greater = found.1.none_greater;
+  front = inl (found.0, rw found.1.all at found.1.front);
+}
+open_end Both scenario workers limit best upper tickets by_worker (inr found) = record {
+  of_scenario = found.of_scenario;
+  reached = found.reached;
+  none_greater = found.none_greater;
+  front = inr found.fronts;
+}
+
+-- What is written where a search for the scenario of the text has ended.
+module _ (settings : Settings) (text out : List ℕ) where
+  -- the text of a proved outcome's certificate
+  pub proof_written : TextsAreRead → TextsAreShort → CheckedIsValid → ValidIsGreatest →
+      (certificate : Certificate) (tickets : ℕ) (by_worker : Vec ℕ Global) → IsCertificate certificate →
+      IsSearchOf settings text (Proved certificate tickets by_worker) → settings.limit ≤ highest_limit settings.ways →
+      out ≡ certificate_text certificate → IsProof settings text out
+  proof_written are_read are_short is_valid is_greatest certificate tickets by_worker lawful search few written =
+      let ended = proved_end settings.ways search.scenario search.ended.workers settings.limit certificate tickets by_worker search.ended.found few in
+      record {
+        certificate = certificate;
+        lawful = lawful;
+        read = rw ended.of_scenario search.read;
+        written = written;
+        latency = ended.valid.latency;
+        greatest = is_greatest certificate lawful ended.valid;
+        valid = ended.valid;
+        few = ended.few;
+        plain = ended.plain;
+        no_leads = ended.no_leads;
+        fits = rw written (are_short certificate lawful ended.readable.few);
+        accepted = rw written (accepts are_read is_valid certificate lawful ended.readable ended.valid);
+      }
+
+  -- the latency of a proved outcome
+  pub greatest_written : (certificate : Certificate) (tickets : ℕ) (by_worker : Vec ℕ Global) →
+      IsSearchOf settings text (Proved certificate tickets by_worker) → settings.limit ≤ highest_limit settings.ways →
+      out ≡ greatest_line certificate.latency → IsGreatestTold text out
+  greatest_written certificate tickets by_worker search few written =
+      let ended = proved_end settings.ways search.scenario search.ended.workers settings.limit certificate tickets by_worker search.ended.found few in
+      record {
+        scenario = search.scenario;
+        latency = certificate.latency;
+        read = search.read;
+        lawful = search.lawful;
+        greatest = ended.greatest;
+        written = written;
+      }
+
+  -- what an open outcome says of the scenario
+  open_between : (best : Record) (upper tickets : ℕ) (by_worker : Vec ℕ Global) →
+      (search : IsSearchOf settings text (Open best upper tickets by_worker)) →
+      IsOpenBetween settings text search.scenario best.latency upper
+  open_between best upper tickets by_worker search =
+      let ended = open_end settings.ways search.scenario search.ended.workers settings.limit best upper tickets by_worker search.ended.found in
+      record {
+        read = search.read;
+        lawful = search.lawful;
+        reached = ended.reached;
+        upper = ended.none_greater;
+        front = ended.front;
+      }
+
+  -- the bounds of an open outcome
+  pub bounds_written : (best : Record) (upper tickets : ℕ) (by_worker : Vec ℕ Global) →
+      IsSearchOf settings text (Open best upper tickets by_worker) →
+      out ≡ open_line best.latency upper → IsFrontTold settings text out
+  bounds_written best upper tickets by_worker search written = record {
+    scenario = search.scenario;
+    least = best.latency;
+    most = upper;
+    between = open_between best upper tickets by_worker search;
+    written = written;
+  }
+
+  -- the bounds of an open outcome, and the schedule of its record
+  pub open_written : (best : Record) (upper tickets : ℕ) (by_worker : Vec ℕ Global) → IsAttained best →
+      IsSearchOf settings text (Open best upper tickets by_worker) →
+      out ≡ open_line best.latency upper ++ ended (schedule_line best.delays) → IsOpenProof settings text out
+  open_written best upper tickets by_worker attained search written =
+      let end = open_end settings.ways search.scenario search.ended.workers settings.limit best upper tickets by_worker search.ended.found in
+      let of_scenario = end.of_scenario in
+      let same : best.latency ≡ latency_of search.scenario best.delays = rw of_scenario at attained.latency in
+      record {
+        scenario = search.scenario;
+        delays = best.delays;
+        most = upper;
+        assigned = rw of_scenario at attained.assignment;
+        between = rw same at (open_between best upper tickets by_worker search);
+        written = rw same at written;
+      }

@@ -1,0 +1,90 @@
+-- The faults that a command's rule allows for a text.
+use Rattle.std.proofs.Common.{◌≡◌, ◌≢◌, ◌≤◌, inl, inr, ℕ, Bool, true, false, cond, nat_le, List, Result, Ok, Err, length, lit≤, arith}
+use Rattle.convoy_branch.specs.Options.{Settings}
+use Rattle.convoy_commands.specs.declared.command.Command.{Command}
+use Rattle.convoy_commands.specs.declared.command.Command.TheVariants.{First, Simulate, Timeline, Packets, Check, Explain, Draw, Analyse, Latency}
+use Rattle.convoy_certificate.specs.Certificate.{Certificate}
+use Rattle.convoy_certificate.specs.Reading.{certificate_of}
+use Rattle.convoy_certificate.specs.declared.text_fault.TextFault.{TextFault}
+use Rattle.convoy_commands.specs.declared.limits.TheConstants.{LONGEST_JOB}
+use Rattle.convoy_commands.specs.declared.fault.Fault.{Fault}
+use Rattle.convoy_commands.specs.declared.fault.Fault.TheVariants.{TooLong}
+use Rattle.convoy_commands.specs.Faults.{row_of}
+use Rattle.convoy_commands.specs.Commands.{says_for}
+use Rattle.convoy_commands.specs.First.{first_text}
+use Rattle.convoy_commands.specs.Inputs.{is_certificate_text, reply_of_job, reply_of_reading}
+use Rattle.convoy_commands.specs.PacketsTold.{certificate_packets, packets_of_text}
+use Rattle.convoy_commands.specs.Replies.{fine}
+use Rattle.convoy_commands.specs.Searches.{IsFaulty, IsSearchFault}
+use Rattle.convoy_commands.specs.Simulate.{certificate_simulated, simulate_text}
+use Rattle.convoy_commands.specs.Timelines.{certificate_timeline, timeline_of_text}
+use Rattle.convoy_commands.proofs.CaseTexts.{made_number}
+use Rattle.convoy_commands.proofs.CheckTexts.{check_number, text_fault}
+use Rattle.convoy_commands.proofs.DrawTexts.{draw_number}
+use Rattle.convoy_commands.proofs.ExplainTexts.{explain_number}
+use Rattle.convoy_commands.proofs.FirstTexts.{first_number, told_number}
+use Rattle.convoy_commands.proofs.PacketsTexts.{packets_number}
+
+-- the fault of an answer is that of the reply
+fault_of_fine : (answer : Result (List ℕ) Fault) (fault : Fault) → Err fault ≡ fine answer → answer ≡ Err fault
+fault_of_fine (Ok out) fault is = cc
+fault_of_fine (Err refused) fault is = cc
+
+-- the fault of a text is one of its scenario
+faulty_number : (text : List ℕ) (fault : Fault) → IsFaulty text fault → (row_of fault).0 ≤ 14
+faulty_number text fault faulty =
+    let low = told_number faulty.cause in
+    rw faulty.told (omega (arith, low))
+
+-- the number is that of no device's fault
+pub record IsNoDevice (number : ℕ) : Type 0 where
+  pub no_read : number ≢ 40
+  pub no_write : number ≢ 41
+
+low_is_none : (number : ℕ) → number ≤ 14 → IsNoDevice number
+low_is_none number low = record { no_read = λ is. omega arith; no_write = λ is. omega arith }
+
+-- a job's fault is one of its text, or that it is too long
+job_number : (answer : Result (List ℕ) Fault) (fault : Fault) →
+    ((refused : Fault) → answer ≡ Err refused → (row_of refused).0 ≤ 14) → (b : Bool) →
+    Err fault ≡ cond b (fine answer) (Err (TooLong LONGEST_JOB)) → IsNoDevice (row_of fault).0
+job_number answer fault low true is = low_is_none _ (low fault (fault_of_fine answer fault is))
+job_number answer fault low false is =
+    let same : fault ≡ TooLong LONGEST_JOB = cc in
+    rw same (record { no_read = λ i. omega arith; no_write = λ i. omega arith })
+
+-- a certificate's fault is want of memory
+reading_number : (made : Certificate → List ℕ) (read : Result Certificate TextFault) (fault : Fault) →
+    Err fault ≡ reply_of_reading made read → IsNoDevice (row_of fault).0
+reading_number made (Ok certificate) fault is = cc
+reading_number made (Err refused) fault is =
+    let none = text_fault (Err refused) fault is in low_is_none _ (rw none (lit≤ tt))
+
+form_number : (made : Certificate → List ℕ) (answer : List ℕ → Result (List ℕ) Fault) (text : List ℕ) (fault : Fault) →
+    ((refused : Fault) → answer text ≡ Err refused → (row_of refused).0 ≤ 14) → (b : Bool) →
+    Err fault ≡ cond b (reply_of_reading made (certificate_of text)) (reply_of_job answer text) → IsNoDevice (row_of fault).0
+form_number made answer text fault low true is = reading_number made (certificate_of text) fault is
+form_number made answer text fault low false is = job_number (answer text) fault low (nat_le (length text) LONGEST_JOB) is
+
+-- a search's fault is one of its text, or that its board was full
+search_number : (settings : Settings) (text : List ℕ) (fault : Fault) → IsSearchFault settings text fault → IsNoDevice (row_of fault).0
+search_number settings text fault (inl faulty) = low_is_none _ (faulty_number text fault faulty)
+search_number settings text fault (inr full) = rw full.told (record { no_read = λ is. omega arith; no_write = λ is. omega arith })
+
+-- none is a device's, by its number
+pub says_number : (command : Command) (text : List ℕ) (fault : Fault) →
+    says_for command text (Err fault) → IsNoDevice (row_of fault).0
+unfolding simulate_text timeline_of_text
+says_number First text fault says =
+    let low = first_number text fault (fault_of_fine (first_text text) fault says) in low_is_none _ low
+says_number Simulate text fault says =
+    form_number certificate_simulated simulate_text text fault (λ refused is. made_number _ text refused is) (is_certificate_text text) says
+says_number Timeline text fault says =
+    form_number certificate_timeline timeline_of_text text fault (λ refused is. made_number _ text refused is) (is_certificate_text text) says
+says_number Packets text fault says =
+    form_number certificate_packets packets_of_text text fault (λ refused is. packets_number text refused is) (is_certificate_text text) says
+says_number Check text fault says = low_is_none _ (check_number text fault says)
+says_number Explain text fault says = low_is_none _ (explain_number text fault says)
+says_number Draw text fault says = low_is_none _ (draw_number text fault says)
+says_number (Analyse options) text fault says = search_number options text fault says
+says_number (Latency options) text fault says = search_number options text fault says

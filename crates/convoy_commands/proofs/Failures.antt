@@ -1,0 +1,78 @@
+-- How many failures a list of answers has.
+use Rattle.std.proofs.Common.{◌⊎◌, ◌∙◌, ◌≡◌, ℕ, List, [], ◌∷◌, ◌++◌, Ok, Err, refl, inl, inr}
+use Rattle.std.specs.List.{All}
+use Rattle.std.proofs.lemmas.List.Elements.{All-head, All-tail}
+use Rattle.convoy_streams.specs.declared.reading.ReadFault.{ReadFault}
+use Rattle.convoy_streams.specs.declared.reading.ReadFault.TheVariants as reading
+use Rattle.convoy_streams.specs.Devices.{Answer, Moved, Failed, IsPiece, failures}
+use Rattle.convoy_streams.specs.Reads.{ReadsText, StopsReading}
+use Rattle.convoy_commands.specs.declared.fault.Fault.{Fault}
+use Rattle.convoy_commands.specs.declared.fault.Fault.TheVariants.{Memory, Read, Write}
+use Rattle.convoy_commands.specs.Faults.{row_of, told_of_reading}
+use Rattle.convoy_commands.specs.Commands.{longest_for, says_for}
+use Rattle.convoy_commands.specs.declared.command.Command.{Command}
+use Rattle.convoy_commands.proofs.CommandTexts.{IsNoDevice, says_number}
+use Rattle.convoy_commands.specs.Runs.{IsUnread, Replied}
+use Rattle.convoy_commands.specs.Laws.{told_reads, FailuresAreTold}
+
+-- pieces are no failures
+none_in_pieces : (answers : List Answer) → All IsPiece answers → failures answers ≡ 0
+none_in_pieces [] each = refl
+none_in_pieces (Moved bytes ∷ answers) each = none_in_pieces answers (All-tail IsPiece (Moved bytes) answers each)
+none_in_pieces (Failed ∷ answers) each = absurd (All-head IsPiece Failed answers each)
+
+-- after pieces, all depends on the last answer
+after_pieces : (pieces : List Answer) (last : Answer) → All IsPiece pieces →
+    failures (pieces ++ last ∷ []) ≡ failures (last ∷ [])
+after_pieces [] last each = refl
+after_pieces (Moved bytes ∷ pieces) last each = after_pieces pieces last (All-tail IsPiece (Moved bytes) pieces each)
+after_pieces (Failed ∷ pieces) last each = absurd (All-head IsPiece Failed pieces each)
+
+-- where a text was read
+in_text : (longest : ℕ) (reads : List Answer) (text : List ℕ) → ReadsText longest reads text → failures reads ≡ 0
+in_text longest reads text read = rw read.end (after_pieces read.pieces (Moved []) read.given.each)
+
+-- where reading stopped
+in_stop : (longest most_reads : ℕ) (reads : List Answer) (cause : ReadFault) →
+    StopsReading longest most_reads reads cause → failures reads ≡ told_reads (Err (told_of_reading cause))
+in_stop longest most_reads reads reading.Read stop = rw stop.last (after_pieces stop.pieces Failed stop.given.each)
+in_stop longest most_reads reads (reading.TooLong limit) stop =
+    let much = stop.1 in rw much.last (after_pieces much.pieces (Moved much.bytes) much.given.each)
+in_stop longest most_reads reads reading.TooManyReads stop = none_in_pieces reads stop.0.each
+in_stop longest most_reads reads reading.Memory stop = none_in_pieces reads stop.each
+
+-- where the text has a fault, which is no device's
+in_refusal : (fault : Fault) → IsNoDevice (row_of fault).0 → 0 ≡ told_reads (Err fault)
+in_refusal Read none = absurd (none.no_read refl)
+in_refusal other none = refl
+
+-- where nothing was written
+in_nothing : (writes : List Answer) → writes ≡ [] → failures writes ≡ 0
+in_nothing writes none = rw none refl
+
+in_fault : (command : Command) (most_reads : ℕ) (reads writes : List Answer) (fault : Fault) →
+    IsUnread (longest_for command) most_reads reads fault ⊎ Replied (longest_for command) (says_for command) reads (Err fault) →
+    writes ≡ [] → (failures reads ≡ told_reads (Err fault)) × (failures writes ≡ 0)
+in_fault command most_reads reads writes fault (inl unread) none = (
+  rw unread.told (in_stop (longest_for command) most_reads reads unread.cause unread.stopped),
+  in_nothing writes none,
+)
+in_fault command most_reads reads writes fault (inr replied) none = (
+  in_text (longest_for command) reads replied.text replied.read
+      ∙ in_refusal fault (says_number command replied.text fault replied.allowed),
+  in_nothing writes none,
+)
+
+in_memory : (longest most_reads : ℕ) (reads : List Answer) →
+    StopsReading longest most_reads reads reading.Memory ⊎ ((text : List ℕ) × ReadsText longest reads text) → failures reads ≡ 0
+in_memory longest most_reads reads (inl stop) = in_stop longest most_reads reads reading.Memory stop
+in_memory longest most_reads reads (inr text) = in_text longest reads text.0 text.1
+
+pub failures_told : (command : Command) → FailuresAreTold (longest_for command) (says_for command)
+failures_told command most_reads reads writes (Ok done) ran =
+    (in_text (longest_for command) reads ran.1.text ran.1.read, none_in_pieces writes ran.2.each)
+failures_told command most_reads reads writes (Err Write) ran =
+    (in_text (longest_for command) reads ran.2.text ran.2.read, rw ran.3.last (after_pieces ran.3.pieces Failed ran.3.each))
+failures_told command most_reads reads writes (Err Memory) ran =
+    (in_memory (longest_for command) most_reads reads ran.0, in_nothing writes ran.1)
+failures_told command most_reads reads writes (Err other) ran = in_fault command most_reads reads writes other ran.0 ran.1

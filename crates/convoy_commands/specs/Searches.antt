@@ -1,0 +1,149 @@
+-- What a search gives for a text, and what the commands `analyse` and `latency` write.
+use Rattle.std.specs.Prelude.{◌≡◌, ◌≢◌, ◌⊎◌, ℕ, ◌≤◌, false, List, ◌++◌, length, Result, Ok, Err}
+use Rattle.std.specs.List.{list_any}
+use Rattle.convoy_lines.specs.Texts.{ended}
+use Rattle.convoy_scenario.specs.Scenario.{Scenario}
+use Rattle.convoy_toml.specs.Reading.{scenario_of_text}
+use Rattle.convoy_scenario.specs.WellFormed.{IsScenario}
+use Rattle.convoy_scenario.specs.declared.fault.ScenarioFault.{ScenarioFault}
+use Rattle.convoy_packets.specs.Assignment.{IsAssignment}
+use Rattle.convoy_sim.specs.Delivery.{latency_of}
+use Rattle.convoy_sim.specs.Greatest.{IsGreatest, IsReached, IsUpper}
+use Rattle.convoy_certificate.specs.Certificate.{Certificate, IsCertificate}
+use Rattle.convoy_certificate.specs.Text.{certificate_text, is_lead, is_stamp, schedule_line}
+use Rattle.convoy_checker.specs.Validity.{IsValid}
+use Rattle.convoy_branch.specs.declared.bounds.Bounds.{Bounds}
+use Rattle.convoy_branch.specs.declared.bounds.Bounds.TheVariants.{Plain, Lead}
+use Rattle.convoy_branch.specs.BothWays.{IsFrontBothWays, IsOutcomeBothWays}
+use Rattle.convoy_branch.specs.Fronts.{IsFront}
+use Rattle.convoy_branch.specs.Outcomes.{IsOutcome}
+use Rattle.convoy_branch.specs.declared.outcome.Outcome.{Outcome}
+use Rattle.convoy_branch.specs.declared.outcome.Outcome.TheVariants as outcomes
+use Rattle.convoy_branch.specs.Options.{Settings}
+use Rattle.convoy_branch.specs.declared.options.Ways.{Ways}
+use Rattle.convoy_branch.specs.declared.options.Ways.TheVariants.{One, Both}
+use Rattle.convoy_commands.specs.declared.done.Done.TheVariants.{Fine, Open, Refused}
+use Rattle.convoy_commands.specs.declared.fault.Fault.{Fault}
+use Rattle.convoy_commands.specs.declared.fault.Fault.TheVariants.{Memory, PlaceTooLarge}
+use Rattle.convoy_commands.specs.declared.limits.TheConstants.{LONGEST_CERTIFICATE}
+use Rattle.convoy_commands.specs.Checks.{check_reply}
+use Rattle.convoy_commands.specs.Faults.{told_of}
+use Rattle.convoy_commands.specs.Lines.{accepted_line, greatest_line, open_line}
+use Rattle.convoy_commands.specs.Replies.{Rule}
+
+-- The text has this fault.
+pub record IsFaulty (text : List ℕ) (fault : Fault) : Type 0 where
+  pub cause : ScenarioFault
+  pub found : scenario_of_text text ≡ Err cause
+  pub told : fault ≡ told_of cause
+
+-- what a search by one kind of bounds, or both ways, answers
+abbrev pub IsOutcomeBy : Ways → Scenario → ℕ → ℕ → Outcome → Type 0
+IsOutcomeBy (One bounds) scenario workers limit outcome = IsOutcome bounds scenario workers limit outcome
+IsOutcomeBy Both scenario workers limit outcome = IsOutcomeBothWays scenario workers limit outcome
+
+-- how far one has come that has spent all its tickets
+abbrev pub IsFrontBy : Ways → Scenario → ℕ → ℕ → ℕ → Type 0
+IsFrontBy (One bounds) scenario least most limit = IsFront bounds scenario least most limit
+IsFrontBy Both scenario least most limit = IsFrontBothWays scenario least most limit
+
+-- how many tickets an outcome took
+abbrev pub tickets_of : Outcome → ℕ
+tickets_of (outcomes.Proved certificate tickets by_worker) = tickets
+tickets_of (outcomes.Open best upper tickets by_worker) = tickets
+
+-- A search with these settings for the scenario ended so. It had just as many workers as they say, or one where its first ticket was enough.
+pub record IsEnd (settings : Settings) (scenario : Scenario) (outcome : Outcome) : Type 0 where
+  pub workers : ℕ
+  pub as_said : (workers ≡ settings.workers) ⊎ ((workers ≡ 1) × (tickets_of outcome ≤ 1))
+  pub found : IsOutcomeBy settings.ways scenario workers settings.limit outcome
+
+-- A search of several workers found more records than their board can name.
+pub record IsBoardFull (settings : Settings) (fault : Fault) : Type 0 where
+  pub several : 2 ≤ settings.workers
+  pub told : fault ≡ PlaceTooLarge
+
+-- a search gave no answer: memory ran out, or the board of its workers was full
+abbrev pub IsUnanswered : Settings → Fault → Type 0
+IsUnanswered settings fault = (fault ≡ Memory) ⊎ IsBoardFull settings fault
+
+-- A search with these settings for the scenario of the text ended so.
+pub record IsSearchOf (settings : Settings) (text : List ℕ) (outcome : Outcome) : Type 0 where
+  pub scenario : Scenario
+  pub read : scenario_of_text text ≡ Ok scenario
+  pub lawful : IsScenario scenario
+  pub ended : IsEnd settings scenario outcome
+
+-- what is told where a search has no answer, but for want of memory: the text's fault, or that the board was full
+abbrev pub IsSearchFault : Settings → List ℕ → Fault → Type 0
+IsSearchFault settings text fault = IsFaulty text fault ⊎ IsBoardFull settings fault
+
+-- what a search for the scenario of a text gives; or why there is no answer
+abbrev pub SearchGives : Settings → List ℕ → Result Outcome Fault → Type 0
+SearchGives settings text (Ok outcome) = IsSearchOf settings text outcome
+SearchGives settings text (Err fault) = IsSearchFault settings text fault ⊎ (fault ≡ Memory)
+
+-- THE HEADLINE. What is written is a certificate of the scenario that was read, with no more nodes than there are tickets; its schedule has the stated latency; no assignment has a greater one; and the checker accepts what is written.
+pub record IsProof (settings : Settings) (text out : List ℕ) : Type 0 where
+  pub certificate : Certificate
+  pub lawful : IsCertificate certificate
+  pub read : scenario_of_text text ≡ Ok certificate.scenario
+  pub written : out ≡ certificate_text certificate
+  pub latency : latency_of certificate.scenario certificate.delays ≡ certificate.latency
+  pub greatest : IsGreatest certificate.scenario certificate.latency
+  pub valid : IsValid certificate
+  pub few : length certificate.nodes ≤ settings.limit
+  -- by plain bounds alone it has no stamp leaf; by one kind of bounds it has lead leaves only where that is leads
+  pub plain : settings.ways ≡ One Plain → list_any is_stamp certificate.nodes ≡ false
+  pub no_leads : (bounds : Bounds) → settings.ways ≡ One bounds → bounds ≢ Lead → list_any is_lead certificate.nodes ≡ false
+  -- the checker reads it whole: it is within the limit of bytes
+  pub fits : length out ≤ LONGEST_CERTIFICATE
+  pub accepted : check_reply out ≡ Ok (Fine, accepted_line certificate.latency)
+
+-- The greatest latency of the scenario that was read is from `least` to `most`: so say the front, or both fronts, of a search that spent all its tickets.
+pub record IsOpenBetween (settings : Settings) (text : List ℕ) (scenario : Scenario) (least most : ℕ) : Type 0 where
+  pub read : scenario_of_text text ≡ Ok scenario
+  pub lawful : IsScenario scenario
+  pub reached : IsReached scenario least
+  pub upper : IsUpper scenario most
+  pub front : IsFrontBy settings.ways scenario least most settings.limit
+
+-- What is written is the least and the most that the greatest latency may be, and a schedule that has the least.
+pub record IsOpenProof (settings : Settings) (text out : List ℕ) : Type 0 where
+  pub scenario : Scenario
+  pub delays : List ℕ
+  pub most : ℕ
+  pub assigned : IsAssignment scenario delays
+  pub between : IsOpenBetween settings text scenario (latency_of scenario delays) most
+  pub written : out ≡ open_line (latency_of scenario delays) most ++ ended (schedule_line delays)
+
+-- what `analyse` may answer
+abbrev pub AnalyseSays : Settings → Rule
+AnalyseSays settings text (Ok (Fine, out)) = IsProof settings text out
+AnalyseSays settings text (Ok (Open, out)) = IsOpenProof settings text out
+AnalyseSays settings text (Ok (Refused refusal, out)) = ⊥
+AnalyseSays settings text (Err fault) = IsSearchFault settings text fault
+
+-- The greatest latency of the scenario that was read is written.
+pub record IsGreatestTold (text out : List ℕ) : Type 0 where
+  pub scenario : Scenario
+  pub latency : ℕ
+  pub read : scenario_of_text text ≡ Ok scenario
+  pub lawful : IsScenario scenario
+  pub greatest : IsGreatest scenario latency
+  pub written : out ≡ greatest_line latency
+
+-- What is written is the least and the most that the greatest latency may be.
+pub record IsFrontTold (settings : Settings) (text out : List ℕ) : Type 0 where
+  pub scenario : Scenario
+  pub least : ℕ
+  pub most : ℕ
+  pub between : IsOpenBetween settings text scenario least most
+  pub written : out ≡ open_line least most
+
+-- what `latency` may answer
+abbrev pub LatencySays : Settings → Rule
+LatencySays settings text (Ok (Fine, out)) = IsGreatestTold text out
+LatencySays settings text (Ok (Open, out)) = IsFrontTold settings text out
+LatencySays settings text (Ok (Refused refusal, out)) = ⊥
+LatencySays settings text (Err fault) = IsSearchFault settings text fault

@@ -1,7 +1,0 @@
-use Rattle.convoy_engine.proofs.Starts.{one_ticket}
-use Rattle.convoy_engine.proofs.search.search.Goals as goal
-
-pub returns-clause-value : goal.returns-clause-value
-returns-clause-value g c =
-    one_ticket _ _ _ c.ways.ensures.lawful (rw (c.first_bounds.ensures, c.ways.ensures.value) at c.in_ok-proved.ensures)
-    c.in_default.not-Open
