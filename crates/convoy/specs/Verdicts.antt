@@ -3,6 +3,7 @@ use Rattle.std.specs.Prelude.{◌≡◌, ◌⊎◌, ℕ, MatchResult, Result, Er
 use Rattle.std.specs.Result.{result_map_both}
 use Rattle.convoy_commands.specs.declared.done.Done.{Done}
 use Rattle.convoy_commands.specs.declared.done.Done.TheVariants.{Fine, Open, Refused}
+use Rattle.convoy_commands.specs.declared.command.Command.TheVariants.{Direct, Search}
 use Rattle.convoy_commands.specs.declared.fault.Fault.{Fault}
 use Rattle.convoy_commands.specs.declared.fault.Fault.TheVariants as faults
 use Rattle.convoy_commands.specs.Batches.{IsBatchRun}
@@ -25,9 +26,10 @@ EndsAtOnce (Batch options) = ⊥
 EndsAtOnce (Text text status) = (status ≡ 0) ⊎ (status ≡ 2)
 EndsAtOnce Memory = Unit {0}
 
--- a command, a batch with as many reads as a command has, or an end at once
+-- a command, where it searches with as many reads as all commands have, a batch with as many, or an end at once
 abbrev pub IsVerdict : Verdict → Type 0
-IsVerdict (Run command) = Unit {0}
+IsVerdict (Run (Direct command)) = Unit {0}
+IsVerdict (Run (Search goal options)) = options.most_reads ≡ MOST_READS
 IsVerdict (Batch options) = options.most_reads ≡ MOST_READS
 IsVerdict (Text text status) = EndsAtOnce (Text text status)
 IsVerdict Memory = Unit {0}

@@ -6,7 +6,7 @@ use super::ending::End;
 use super::judge::Verdict;
 use super::kept::{KeptReader, KeptWriter};
 use convoy_commands::{
-    Bounds, Command, Done, Fault, LONGEST_JOB, MOST_JOBS, Ways, lead_share, plain_share,
+    Bounds, Command, Direct, Done, Fault, LONGEST_JOB, MOST_JOBS, Ways, lead_share, plain_share,
 };
 use convoy_hints::{
     hint_for_batch, hint_for_both, hint_for_certificate, hint_for_jobs, hint_for_leads,
@@ -35,9 +35,9 @@ pub fn is_quiet<S: AsStr>(words: &[S]) -> bool {
 /// The line that is written before a terminal is read.
 pub fn greeting(alloc: Global, verdict: &Verdict) -> Result<Option<String>, AllocError> {
     let wanted = match verdict {
-        Verdict::Run(Command::First | Command::Analyse(_) | Command::Latency(_)) => "a scenario",
-        Verdict::Run(Command::Check | Command::Explain | Command::Draw) => "a certificate",
-        Verdict::Run(_) => "a scenario or a certificate",
+        Verdict::Run(Command::Direct(Direct::First) | Command::Search(..)) => "a scenario",
+        Verdict::Run(Command::Direct(Direct::Ask(_))) => "a certificate",
+        Verdict::Run(Command::Direct(Direct::Tell(_))) => "a scenario or a certificate",
         Verdict::Batch(_) => "scenarios",
         Verdict::Text { .. } | Verdict::Memory => return Ok(None),
     };
@@ -85,7 +85,7 @@ fn hint_for_open<S: AsStr>(
     verdict: &Verdict,
     words: &[S],
 ) -> Result<Option<String>, AllocError> {
-    let Verdict::Run(Command::Analyse(options) | Command::Latency(options)) = verdict else {
+    let Verdict::Run(Command::Search(_, options)) = verdict else {
         return Ok(None);
     };
     let tickets = options.limit();

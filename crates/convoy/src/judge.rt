@@ -7,8 +7,8 @@ use super::{MOST_READS, REJECTED};
 use clap::error::ErrorKind;
 use clap::{Arg, ArgAction, ArgMatches, Error, value_parser};
 use convoy_commands::{
-    Bounds, Command, DEFAULT_LIMIT, DEFAULT_SIMULATIONS, MOST_SIMULATIONS, MOST_TICKETS,
-    MOST_WORKERS, Options, Ways,
+    Asking, Bounds, Command, DEFAULT_LIMIT, DEFAULT_SIMULATIONS, Direct, Goal, MOST_SIMULATIONS,
+    MOST_TICKETS, MOST_WORKERS, Options, Telling, Ways,
 };
 use std::alloc::{AllocError, Global};
 use std::convert::AsStr;
@@ -261,20 +261,33 @@ fn command_of<S: AsStr>(alloc: Global, words: &[S]) -> Result<Verdict, Error>
     ensures { IfOk result IsVerdict }
 {
     let matches = parser(alloc)?.try_get_matches_from(words)?;
-    let command = match matches.subcommand() {
-        Some(("batch", given)) => return Ok(Verdict::Batch(options_of(given))),
-        Some(("simulate", _)) => Command::Simulate,
-        Some(("timeline", _)) => Command::Timeline,
-        Some(("packets", _)) => Command::Packets,
-        Some(("explain", _)) => Command::Explain,
-        Some(("draw", _)) => Command::Draw,
-        Some(("check", _)) => Command::Check,
-        Some(("analyse", given)) => Command::Analyse(options_of(given)),
-        Some(("latency", given)) => Command::Latency(options_of(given)),
+    Ok(match matches.subcommand() {
+        Some(("batch", given)) => Verdict::Batch(options_of(given)),
+        Some(("analyse", given)) => search_for(Goal::Certificate, given),
+        Some(("latency", given)) => search_for(Goal::Latency, given),
+        Some(("simulate", _)) => without_search(Direct::Tell(Telling::Simulate)),
+        Some(("timeline", _)) => without_search(Direct::Tell(Telling::Timeline)),
+        Some(("packets", _)) => without_search(Direct::Tell(Telling::Packets)),
+        Some(("check", _)) => without_search(Direct::Ask(Asking::Check)),
+        Some(("explain", _)) => without_search(Direct::Ask(Asking::Explain)),
+        Some(("draw", _)) => without_search(Direct::Ask(Asking::Draw)),
         // `first` is the command that is meant without a command word.
-        _ => Command::First,
-    };
-    Ok(Verdict::Run(command))
+        _ => without_search(Direct::First),
+    })
+}
+
+/// What is answered without a search.
+fn without_search(command: Direct) -> Verdict
+    ensures { IsVerdict result }
+{
+    Verdict::Run(Command::Direct(command))
+}
+
+/// What a search finds by the options that are given.
+fn search_for(goal: Goal, given: &ArgMatches<'_>) -> Verdict
+    ensures { IsVerdict result }
+{
+    Verdict::Run(Command::Search(goal, options_of(given)))
 }
 
 /// The options of a search: those that are given, or else the usual ones. `clap` rejects a word that

@@ -11,8 +11,8 @@ mod kept;
 mod progress;
 
 use convoy_commands::{
-    DeviceFailed, Fault, Sink, Source, StreamSink, StreamSource, Watch, fault_line, run_batch,
-    run_command, write_all,
+    Command, DeviceFailed, Fault, Sink, Source, StreamSink, StreamSource, Watch, fault_line, run,
+    run_batch, run_search, write_all,
 };
 use ending::End;
 use hinting::{Ended, greeting, hint_for, is_quiet, write_line};
@@ -114,8 +114,12 @@ fn obey<R: Threads + Wait + Sync, S: Source, K: Sink, W: Watch + Sync>(
     ensures { Obeys S.reads K.writes verdict.now source.old source.new sink.old sink.new result }
 {
     match verdict {
-        Verdict::Run(command) => {
-            let done = run_command(rt, alloc, *command, source, sink, MOST_READS, watch)?;
+        Verdict::Run(Command::Direct(command)) => {
+            let done = run(alloc, *command, source, sink, MOST_READS)?;
+            Ok(End::Answered(done))
+        }
+        Verdict::Run(Command::Search(goal, options)) => {
+            let done = run_search(rt, alloc, *goal, options, source, sink, watch)?;
             Ok(End::Answered(done))
         }
         Verdict::Batch(options) => {

@@ -5,7 +5,8 @@ use super::texts::{
     TIMELINE_OF_BASE, WHY_BASE,
 };
 use convoy_commands::{
-    Command, DEFAULT_LIMIT, Done, Fault, MOST_TICKETS, NoGate, Options, Sink, Source, run_command,
+    Asking, Command, DEFAULT_LIMIT, Direct, Done, Fault, Goal, MOST_TICKETS, NoGate, Options, Sink,
+    Source, Telling, run_search,
 };
 use std::alloc::Global;
 use std::sync::Wait;
@@ -91,17 +92,20 @@ pub(crate) fn options(limit: u64, reads: u64) -> Options {
     }
 }
 
-fn command_of(asked: Asked) -> Command {
+/// The command, where a search makes so many reads at most.
+fn command_of(asked: Asked, reads: u64) -> Command {
     match asked {
-        Asked::First => Command::First,
-        Asked::Simulate => Command::Simulate,
-        Asked::Timeline => Command::Timeline,
-        Asked::Packets => Command::Packets,
-        Asked::Check => Command::Check,
-        Asked::Explain => Command::Explain,
-        Asked::Draw => Command::Draw,
-        Asked::Analyse => Command::Analyse(options(DEFAULT_LIMIT, READS)),
-        Asked::Latency => Command::Latency(options(DEFAULT_LIMIT, READS).seeking(100)),
+        Asked::First => Command::Direct(Direct::First),
+        Asked::Simulate => Command::Direct(Direct::Tell(Telling::Simulate)),
+        Asked::Timeline => Command::Direct(Direct::Tell(Telling::Timeline)),
+        Asked::Packets => Command::Direct(Direct::Tell(Telling::Packets)),
+        Asked::Check => Command::Direct(Direct::Ask(Asking::Check)),
+        Asked::Explain => Command::Direct(Direct::Ask(Asking::Explain)),
+        Asked::Draw => Command::Direct(Direct::Ask(Asking::Draw)),
+        Asked::Analyse => Command::Search(Goal::Certificate, options(DEFAULT_LIMIT, reads)),
+        Asked::Latency => {
+            Command::Search(Goal::Latency, options(DEFAULT_LIMIT, reads).seeking(100))
+        }
     }
 }
 
@@ -114,5 +118,10 @@ pub(crate) fn run<R: Threads + Wait + Sync, S: Source, K: Sink>(
     sink: &mut K,
     reads: u64,
 ) -> Result<Done, Fault> {
-    run_command(rt, alloc, command_of(asked), source, sink, reads, &NoGate)
+    match command_of(asked, reads) {
+        Command::Direct(command) => convoy_commands::run(alloc, command, source, sink, reads),
+        Command::Search(goal, options) => {
+            run_search(rt, alloc, goal, &options, source, sink, &NoGate)
+        }
+    }
 }

@@ -2,7 +2,7 @@
 
 use super::texts::{BASE, SWAPPED};
 use convoy_commands::{
-    Bounds, Command, DEFAULT_LIMIT, Done, Gate, Options, SliceSource, VecSink, Watch, run_command,
+    Bounds, DEFAULT_LIMIT, Done, Gate, Goal, Options, SliceSource, VecSink, Watch, run_search,
 };
 use std::alloc::Global;
 use std::sync::Wait;
@@ -63,13 +63,13 @@ fn watched<R: Threads + Wait + Sync>(
     seen: &Seen,
 ) -> Option<Done> {
     let mut sink = VecSink::new(alloc, 100);
-    run_command(
+    run_search(
         rt,
         alloc,
-        Command::Latency(options),
+        Goal::Latency,
+        &options,
         &mut SliceSource::new(text, 4_096),
         &mut sink,
-        100,
         seen,
     )
     .ok()

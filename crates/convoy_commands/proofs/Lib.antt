@@ -1,13 +1,13 @@
 pub mod Acceptance
+pub mod AskTexts
 pub mod BatchRuns
 pub mod Blocks
-pub mod CaseTexts
 pub mod CheckTexts
 pub mod CommandTexts
 pub mod DrawTexts
 pub mod ExplainTexts
 pub mod Failures
 pub mod FirstTexts
-pub mod PacketsTexts
 pub mod Refusals
 pub mod Starts
+pub mod TellTexts

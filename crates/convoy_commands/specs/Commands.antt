@@ -1,39 +1,42 @@
 -- The commands: what each may answer for a text, and how long the text may be.
 use Rattle.std.specs.Prelude.{ℕ}
+use Rattle.convoy_branch.specs.Options.{Settings}
 use Rattle.convoy_commands.specs.declared.command.Command.{Command}
-use Rattle.convoy_commands.specs.declared.command.Command.TheVariants.{First, Simulate, Timeline, Packets, Check, Explain, Draw, Analyse, Latency}
+use Rattle.convoy_commands.specs.declared.command.Command.TheVariants as commands
+use Rattle.convoy_commands.specs.declared.command.Direct.{Direct}
+use Rattle.convoy_commands.specs.declared.command.Direct.TheVariants.{First, Tell, Ask}
+use Rattle.convoy_commands.specs.declared.command.Goal.{Goal}
+use Rattle.convoy_commands.specs.declared.command.Goal.TheVariants.{Certificate, Latency}
 use Rattle.convoy_commands.specs.declared.limits.TheConstants.{LONGEST_CERTIFICATE, LONGEST_JOB}
-use Rattle.convoy_commands.specs.Checks.{CheckSays}
-use Rattle.convoy_commands.specs.Draws.{DrawSays}
-use Rattle.convoy_commands.specs.Explains.{ExplainSays}
+use Rattle.convoy_commands.specs.Asks.{AskSays}
 use Rattle.convoy_commands.specs.First.{FirstSays}
-use Rattle.convoy_commands.specs.PacketsTold.{PacketsSays}
 use Rattle.convoy_commands.specs.Replies.{Rule}
 use Rattle.convoy_commands.specs.Searches.{AnalyseSays, LatencySays}
-use Rattle.convoy_commands.specs.Simulate.{SimulateSays}
-use Rattle.convoy_commands.specs.Timelines.{TimelineSays}
+use Rattle.convoy_commands.specs.Tells.{TellSays}
+
+-- the rule of a command that does not search
+abbrev pub direct_says : Direct → Rule
+direct_says First = FirstSays
+direct_says (Tell telling) = TellSays telling
+direct_says (Ask asking) = AskSays asking
+
+-- the rule of a search
+abbrev pub search_says : Goal → Settings → Rule
+search_says Certificate settings = AnalyseSays settings
+search_says Latency settings = LatencySays settings
 
 -- the rule of a command
 abbrev pub says_for : Command → Rule
-says_for First = FirstSays
-says_for Simulate = SimulateSays
-says_for Timeline = TimelineSays
-says_for Packets = PacketsSays
-says_for Check = CheckSays
-says_for Explain = ExplainSays
-says_for Draw = DrawSays
-says_for (Analyse options) = AnalyseSays options
-says_for (Latency options) = LatencySays options
+says_for (commands.Direct direct) = direct_says direct
+says_for (commands.Search goal options) = search_says goal options
 
--- how many bytes its text has at most: where it may be a certificate, as many as those have
+-- how many bytes the text of a command that does not search has at most: where it may be a certificate, as many as those have
+abbrev pub direct_longest : Direct → ℕ
+direct_longest First = LONGEST_JOB
+direct_longest (Tell telling) = LONGEST_CERTIFICATE
+direct_longest (Ask asking) = LONGEST_CERTIFICATE
+
+-- how many bytes the text of a command has at most
 abbrev pub longest_for : Command → ℕ
-longest_for First = LONGEST_JOB
-longest_for (Analyse options) = LONGEST_JOB
-longest_for (Latency options) = LONGEST_JOB
-longest_for other = LONGEST_CERTIFICATE
-
--- the command searches for nothing
-abbrev pub IsWithoutSearch : Command → Type 0
-IsWithoutSearch (Analyse options) = ⊥
-IsWithoutSearch (Latency options) = ⊥
-IsWithoutSearch other = Unit {0}
+longest_for (commands.Direct direct) = direct_longest direct
+longest_for (commands.Search goal options) = LONGEST_JOB

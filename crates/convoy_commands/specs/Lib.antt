@@ -17,6 +17,7 @@ pub use Rattle.convoy_packets.specs.Assignment
 pub use Rattle.convoy_packets.specs.Given
 pub use Rattle.convoy_packets.specs.Table
 pub use Rattle.convoy_sim.specs.Delivery
+pub use Rattle.convoy_sim.specs.Scheduled
 pub use Rattle.convoy_sim.specs.Greatest
 pub use Rattle.convoy_timeline.specs.Timeline
 pub use Rattle.convoy_explain.specs.Causes
@@ -28,6 +29,7 @@ pub use Rattle.convoy_draw.specs.Drawings
 pub use Rattle.convoy_certificate.specs.Certificate
 pub use Rattle.convoy_certificate.specs.Reading as CertificateReading
 pub use Rattle.convoy_certificate.specs.Text as CertificateText
+pub use Rattle.convoy_certificate.specs.TextForms
 pub use Rattle.convoy_checker.specs.Checks as CertificateChecks
 pub use Rattle.convoy_checker.specs.Validity
 pub use Rattle.convoy_branch.specs.SearchBounds
@@ -39,15 +41,14 @@ pub mod Lines
 pub mod Faults
 pub mod Refusals
 pub mod Replies
-pub mod Cases
+pub mod Schedules
 pub mod First
 pub mod Checks
 pub mod Inputs
-pub mod Simulate
-pub mod Timelines
-pub mod PacketsTold
+pub mod Tells
 pub mod Explains
 pub mod Draws
+pub mod Asks
 pub mod Searches
 pub mod Commands
 pub mod Runs

@@ -1,62 +1,23 @@
 ghost use Rattle.std.specs.Prelude.{◌≡◌, ◌++◌, IfOk};
 ghost use Rattle.convoy_lines.specs.Texts.{ended};
 ghost use Rattle.convoy_certificate.specs.Text.{certificate_text, schedule_line};
-ghost use Rattle.convoy_commands.specs.declared.limits.TheConstants.{LONGEST_JOB};
 ghost use Rattle.convoy_commands.specs.Lines.{open_line};
 ghost use Rattle.convoy_commands.specs.Replies.{SaysUnlessMemory, reply_of};
-ghost use Rattle.convoy_commands.specs.Runs.{IsRun};
 ghost use Rattle.convoy_commands.specs.Searches.{AnalyseSays};
 
-use super::command::{Command, run_command};
 use super::done::Done;
 use super::fault::Fault;
 use super::lines::push_open;
 use super::search::search_text;
 use super::watch::Watch;
-use convoy_branch::{NoGate, Options, Outcome};
+use convoy_branch::{Options, Outcome};
 use convoy_certificate::laws::{texts_are_read, texts_are_short};
 use convoy_certificate::{Certificate, push_schedule, write};
 use convoy_checker::laws::{checked_is_valid, valid_is_greatest};
 use convoy_sim::Record;
-use convoy_streams::{Sink, Source};
 use std::alloc::{AllocError, Global};
 use std::sync::Wait;
 use std::thread::Threads;
-
-/// The command `analyse`: reads a scenario to the end of the source, and writes the certificate of its
-/// greatest latency (docs/FORMATS.md, "What `analyse` writes").
-///
-/// At `Done::Fine` what was written is the text of a certificate of the scenario that was read. Its
-/// schedule has the stated latency, and no assignment of delays to the packets has a greater one. The
-/// command `check` accepts the text. At `Done::Open` the search spent as many tickets as the options
-/// allow and boxes are left: what was written is the line `open LEAST MOST`, where the greatest
-/// latency is at least LEAST ticks and at most MOST, and then the line of a schedule that has the
-/// latency LEAST.
-///
-/// At most `options.most_reads()` reads are made. Nothing is written before the answer is known. The
-/// faults are those of [`run_first`](super::run_first), and with several workers
-/// `Fault::PlaceTooLarge`, where they found more records than can be told apart.
-pub fn run_analyse<R: Threads + Wait + Sync, S: Source, K: Sink>(
-    rt: &R,
-    alloc: Global,
-    source: &mut S,
-    sink: &mut K,
-    options: &Options,
-) -> Result<Done, Fault>
-    ensures { IsRun LONGEST_JOB (AnalyseSays options.now) options.now.most_reads
-        S.reads K.writes source.old source.new sink.old sink.new result }
-{
-    let most_reads = options.most_reads();
-    run_command(
-        rt,
-        alloc,
-        Command::Analyse(*options),
-        source,
-        sink,
-        most_reads,
-        &NoGate,
-    )
-}
 
 /// What is written for a text, and how the command ends.
 pub(crate) fn analyse_answer<R: Threads + Wait + Sync, W: Watch + Sync>(

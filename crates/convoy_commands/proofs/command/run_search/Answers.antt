@@ -1,9 +1,9 @@
 use Rattle.std.proofs.Common.{[], refl}
 use Rattle.std.proofs.lemmas.Result.{err_from_is_err_and}
 use Rattle.convoy_commands.specs.declared.fault.Fault.TheVariants.{Write}
-use Rattle.convoy_commands.proofs.CommandTexts.{says_number}
+use Rattle.convoy_commands.proofs.CommandTexts.{goal_number}
 use Rattle.convoy_commands.proofs.Refusals.{replied_run, unread_run}
-use Rattle.convoy_commands.proofs.command.run_without_search.Goals as goal
+use Rattle.convoy_commands.proofs.command.run_search.Goals as goal
 
 pub returns-in_err-text : goal.returns-in_err-text
 returns-in_err-text g c =
@@ -14,9 +14,9 @@ returns-in_err-text g c =
       reads = read.answers;
       writes = [];
       read = read.calls;
-      few = read.says.0;
+      few = rw c.most_reads.ensures at read.says.0;
       wrote = refl;
-      outcome = unread_run _ _ _ _ _ (rw c.longest_of.ensures at read.says.1);
+      outcome = unread_run _ _ _ _ _ (rw c.most_reads.ensures at read.says.1);
     })
 
 pub returns : goal.returns
@@ -27,8 +27,8 @@ returns g c =
       reads = read.answers;
       writes = wrote.answers;
       read = read.calls;
-      few = read.says.0;
+      few = rw c.most_reads.ensures at read.says.0;
       wrote = wrote.calls;
-      outcome = replied_run _ _ _ _ _ _ _ _ (λ allowed. (says_number _ _ Write allowed).no_write refl)
-          (rw c.longest_of.ensures at read.says.1) (rw c.deref.ensures.value at c.answer_without_search.ensures) wrote.says;
+      outcome = replied_run _ _ _ _ _ _ _ _ (λ allowed. (goal_number _ _ _ Write allowed).no_write refl)
+          read.says.1 (rw c.deref.ensures.value at c.found_of.ensures) wrote.says;
     }

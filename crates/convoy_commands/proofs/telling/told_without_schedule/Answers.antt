@@ -1,7 +1,7 @@
 use Rattle.std.proofs.Common.{inl, refl}
 use Rattle.std.proofs.lemmas.Result.{err_from_is_err_and}
-use Rattle.convoy_commands.proofs.PacketsTexts.{packets_answered, packets_refused}
-use Rattle.convoy_commands.proofs.packets.packets_scenario.Goals as goal
+use Rattle.convoy_commands.proofs.TellTexts.{packets_answered, packets_refused}
+use Rattle.convoy_commands.proofs.telling.told_without_schedule.Goals as goal
 
 pub returns-in_err-input : goal.returns-in_err-input
 returns-in_err-input c =

@@ -1,0 +1,151 @@
+ghost use Rattle.std.specs.Prelude.{◌≡◌, ◌⊎◌, Ok, Err, IfOk};
+ghost use Rattle.convoy_commands.specs.declared.done.Done.TheVariants as ends;
+ghost use Rattle.convoy_commands.specs.declared.fault.Fault.TheVariants as faults;
+ghost use Rattle.convoy_commands.specs.Asks.{AskSays, IsTextAsked, RepliesTo};
+ghost use Rattle.convoy_commands.specs.Checks.{reply_of_check, reply_of_text};
+ghost use Rattle.convoy_commands.specs.Draws.{IsImageOf};
+ghost use Rattle.convoy_commands.specs.Explains.{certificate_explained};
+ghost use Rattle.convoy_commands.specs.Lines.{accepted_line};
+ghost use Rattle.convoy_commands.specs.Refusals.{refused_line, row_of_refusal};
+ghost use Rattle.convoy_commands.specs.Replies.{IsReply, SaysUnlessMemory, reply_of};
+
+use super::done::Done;
+use super::fault::Fault;
+use super::refusal::refusal_line;
+use convoy_certificate::laws::texts_are_read;
+use convoy_certificate::{Certificate, TextFault, read};
+use convoy_checker::laws::checked_is_valid;
+use convoy_checker::{Accepted, Refusal, Refused, check};
+use convoy_draw::write_drawing;
+use convoy_explain::{explain, write_explanation};
+use convoy_lines::push_number_line;
+use convoy_picture::Picture;
+use convoy_sim::simulate;
+use std::alloc::{AllocError, Global};
+
+/// What is asked of a certificate. It is checked first, and a refusal is the answer to each.
+#[derive(Clone, Copy, Debug)]
+pub enum Asking {
+    /// Whether it is valid.
+    Check,
+    /// Why the latency of its schedule is what it is.
+    Explain,
+    /// The run of its schedule, as an image.
+    Draw,
+}
+
+/// How a command that asks this ends for a text, and what is written for it.
+pub(crate) fn ask(alloc: Global, asking: Asking, text: &[u8]) -> Result<(Done, Vec<u8>), Fault>
+    ensures { SaysUnlessMemory (AskSays asking) text.now (reply_of result) }
+{
+    texts_are_read();
+    checked_is_valid();
+    match read(alloc, text) {
+        Ok(certificate) => {
+            answer_to_check(alloc, asking, &certificate, check(alloc, &certificate))
+        }
+        Err(fault) => answer_to_fault(alloc, fault),
+    }
+}
+
+/// The answer to a text that is that of no certificate.
+pub(crate) fn answer_to_fault(alloc: Global, fault: TextFault) -> Result<(Done, Vec<u8>), Fault>
+    ensures { IsReply (reply_of_text (Err fault)) (reply_of result) }
+{
+    match fault {
+        TextFault::Memory => Err(Fault::Memory),
+        other => refuse(alloc, Refusal::Text(other)),
+    }
+}
+
+/// The answer to a certificate, by what the checker said of it.
+fn answer_to_check(
+    alloc: Global,
+    asking: Asking,
+    certificate: &Certificate,
+    said: Result<Accepted, Refused>,
+) -> Result<(Done, Vec<u8>), Fault>
+    ensures { RepliesTo asking certificate.now said (reply_of result)
+        ⊎ (reply_of result ≡ Err faults.Memory) }
+{
+    match said {
+        Ok(accepted) => {
+            let text = text_asked(alloc, asking, certificate, accepted.latency())?;
+            Ok((Done::Fine, text))
+        }
+        Err(refused) => answer_to_refusal(alloc, refused),
+    }
+}
+
+/// The answer to a certificate that the checker refuses.
+fn answer_to_refusal(alloc: Global, refused: Refused) -> Result<(Done, Vec<u8>), Fault>
+    ensures { IsReply (reply_of_check (Err refused)) (reply_of result) }
+{
+    match refused {
+        Refused::Memory => Err(Fault::Memory),
+        other => refuse(alloc, Refusal::Check(other)),
+    }
+}
+
+/// A refusal.
+fn refuse(alloc: Global, refusal: Refusal) -> Result<(Done, Vec<u8>), Fault>
+    ensures { IsReply (Ok (ends.Refused refusal, refused_line (row_of_refusal refusal))) (reply_of result) }
+{
+    let mut line = Vec::new(alloc);
+    refusal_line(refusal, &mut line)?;
+    Ok((Done::Refused(refusal), line))
+}
+
+/// What is written for a certificate that the checker accepts.
+fn text_asked(
+    alloc: Global,
+    asking: Asking,
+    certificate: &Certificate,
+    latency: u32,
+) -> Result<Vec<u8>, AllocError>
+    ensures { IfOk result (λ text. IsTextAsked asking certificate.now latency text.items) }
+{
+    match asking {
+        Asking::Check => acceptance(alloc, latency),
+        Asking::Explain => explanation(alloc, certificate),
+        Asking::Draw => image(alloc, certificate),
+    }
+}
+
+/// The yes.
+fn acceptance(alloc: Global, latency: u32) -> Result<Vec<u8>, AllocError>
+    ensures { IfOk result (λ text. text.items ≡ accepted_line latency) }
+{
+    let mut text = Vec::new(alloc);
+    push_number_line(&mut text, "accepted", latency)?;
+    Ok(text)
+}
+
+/// Why the certificate's schedule has its latency.
+fn explanation(alloc: Global, certificate: &Certificate) -> Result<Vec<u8>, AllocError>
+    ensures { IfOk result (λ text. text.items ≡ certificate_explained certificate.now) }
+{
+    let (instance, delays) = (certificate.instance(), certificate.delays());
+    let run = simulate(alloc, instance, delays)?;
+    let why = explain(instance, delays, &run);
+    let mut text = Vec::new(alloc);
+    write_explanation(
+        certificate.scenario(),
+        &why,
+        certificate.nodes().len(),
+        &mut text,
+    )?;
+    Ok(text)
+}
+
+/// The image of the run of the certificate's schedule.
+fn image(alloc: Global, certificate: &Certificate) -> Result<Vec<u8>, AllocError>
+    ensures { IfOk result (λ text. IsImageOf certificate.now text.items) }
+{
+    let (instance, delays) = (certificate.instance(), certificate.delays());
+    let run = simulate(alloc, instance, delays)?;
+    let picture = Picture::of(alloc, instance, delays, &run)?;
+    let mut text = Vec::new(alloc);
+    write_drawing(certificate.scenario(), &picture, &mut text)?;
+    Ok(text)
+}

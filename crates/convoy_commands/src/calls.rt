@@ -1,0 +1,163 @@
+//! Each command but `batch` as a call of its own.
+
+ghost use Rattle.convoy_commands.specs.declared.limits.TheConstants.{LONGEST_CERTIFICATE, LONGEST_JOB};
+ghost use Rattle.convoy_commands.specs.Checks.{CheckSays};
+ghost use Rattle.convoy_commands.specs.First.{FirstSays};
+ghost use Rattle.convoy_commands.specs.Runs.{IsRun};
+ghost use Rattle.convoy_commands.specs.Searches.{AnalyseSays, LatencySays};
+ghost use Rattle.convoy_commands.specs.Tells.{SimulateSays, TimelineSays};
+
+use super::asking::Asking;
+use super::command::{Direct, Goal, run, run_search};
+use super::done::Done;
+use super::fault::Fault;
+use super::telling::Telling;
+use convoy_branch::{NoGate, Options};
+use convoy_streams::{Sink, Source};
+use std::alloc::Global;
+use std::sync::Wait;
+use std::thread::Threads;
+
+/// The command `first`: reads a scenario to the end of the source, and writes the latency in ticks
+/// that the schedule of least delays attains, and that schedule (docs/FORMATS.md, "What `first`
+/// writes").
+///
+/// At most `most_reads` reads are made. Nothing is written before the answer is known. The faults are
+/// those of [`read_toml`](convoy_toml::read_toml), and `Fault::Memory`; `Fault::Read` where the source fails;
+/// `Fault::TooLong` at the read that brings a byte past [`LONGEST_JOB`](super::LONGEST_JOB);
+/// `Fault::TooManyReads` where `most_reads` reads give bytes and none the end; `Fault::Write` where the sink
+/// fails, after a front of the answer has gone out.
+pub fn run_first<S: Source, K: Sink>(
+    alloc: Global,
+    source: &mut S,
+    sink: &mut K,
+    most_reads: u64,
+) -> Result<Done, Fault>
+    ensures { IsRun LONGEST_JOB FirstSays most_reads S.reads K.writes source.old source.new sink.old sink.new result }
+{
+    run(alloc, Direct::First, source, sink, most_reads)
+}
+
+/// The command `simulate`: reads a scenario to the end of the source, and writes the latency in ticks
+/// under the schedule that is given beside it, or where none is under the least delays, and that
+/// schedule; or reads a certificate, and writes the same of its schedule (docs/FORMATS.md, "What
+/// `simulate` writes").
+///
+/// At most `most_reads` reads are made. Nothing is written before the answer is known. The faults are
+/// those of [`run_first`](super::run_first), and `Fault::ScheduleLength` and
+/// `Fault::DelayOutOfRange` for a schedule that is not one of the scenario. A scenario that is too long
+/// is told once it is read. Where the text begins as a certificate does and is none, it ends as
+/// `Done::Refused`, with the refusal of [`run_check`](super::run_check); whether the certificate is
+/// valid is not looked at.
+pub fn run_simulate<S: Source, K: Sink>(
+    alloc: Global,
+    source: &mut S,
+    sink: &mut K,
+    most_reads: u64,
+) -> Result<Done, Fault>
+    ensures { IsRun LONGEST_CERTIFICATE SimulateSays most_reads S.reads K.writes source.old source.new sink.old sink.new result }
+{
+    run(
+        alloc,
+        Direct::Tell(Telling::Simulate),
+        source,
+        sink,
+        most_reads,
+    )
+}
+
+/// The command `timeline`: reads a scenario to the end of the source, and writes what happens at each
+/// group, tick by tick, under the schedule that is given beside it, or where none is under the least
+/// delays; or reads a certificate, and writes the same of its schedule (docs/FORMATS.md, "What
+/// `timeline` writes").
+///
+/// At most `most_reads` reads are made. Nothing is written before the answer is known. The faults are
+/// those of [`run_simulate`](super::run_simulate).
+pub fn run_timeline<S: Source, K: Sink>(
+    alloc: Global,
+    source: &mut S,
+    sink: &mut K,
+    most_reads: u64,
+) -> Result<Done, Fault>
+    ensures { IsRun LONGEST_CERTIFICATE TimelineSays most_reads S.reads K.writes source.old source.new sink.old sink.new result }
+{
+    run(
+        alloc,
+        Direct::Tell(Telling::Timeline),
+        source,
+        sink,
+        most_reads,
+    )
+}
+
+/// The command `check`: reads the text of a certificate to the end of the source, and writes the yes
+/// with the latency that is the greatest of its scenario, or the first fault for which the
+/// certificate is refused (docs/FORMATS.md, "What `check` writes").
+///
+/// At most `most_reads` reads are made. Nothing is written before the answer is known. It ends as
+/// `Done::Fine` or, with the refusal, as `Done::Refused`. The faults are `Fault::Memory`; `Fault::Read`
+/// where the source fails; `Fault::TooLong` at the read that brings a byte past
+/// [`LONGEST_CERTIFICATE`](super::LONGEST_CERTIFICATE); `Fault::TooManyReads` where `most_reads` reads give
+/// bytes and none the end; `Fault::Write` where the sink fails, after a front of the answer has gone
+/// out.
+pub fn run_check<S: Source, K: Sink>(
+    alloc: Global,
+    source: &mut S,
+    sink: &mut K,
+    most_reads: u64,
+) -> Result<Done, Fault>
+    ensures { IsRun LONGEST_CERTIFICATE CheckSays most_reads
+        S.reads K.writes source.old source.new sink.old sink.new result }
+{
+    run(alloc, Direct::Ask(Asking::Check), source, sink, most_reads)
+}
+
+/// The command `analyse`: reads a scenario to the end of the source, and writes the certificate of its
+/// greatest latency (docs/FORMATS.md, "What `analyse` writes").
+///
+/// At `Done::Fine` what was written is the text of a certificate of the scenario that was read. Its
+/// schedule has the stated latency, and no assignment of delays to the packets has a greater one. The
+/// command `check` accepts the text. At `Done::Open` the search spent as many tickets as the options
+/// allow and boxes are left: what was written is the line `open LEAST MOST`, where the greatest
+/// latency is at least LEAST ticks and at most MOST, and then the line of a schedule that has the
+/// latency LEAST.
+///
+/// At most `options.most_reads()` reads are made. Nothing is written before the answer is known. The
+/// faults are those of [`run_first`](super::run_first), and with several workers
+/// `Fault::PlaceTooLarge`, where they found more records than can be told apart.
+pub fn run_analyse<R: Threads + Wait + Sync, S: Source, K: Sink>(
+    rt: &R,
+    alloc: Global,
+    source: &mut S,
+    sink: &mut K,
+    options: &Options,
+) -> Result<Done, Fault>
+    ensures { IsRun LONGEST_JOB (AnalyseSays options.now) options.now.most_reads
+        S.reads K.writes source.old source.new sink.old sink.new result }
+{
+    run_search(rt, alloc, Goal::Certificate, options, source, sink, &NoGate)
+}
+
+/// The command `latency`: reads a scenario to the end of the source, and writes its greatest latency
+/// (docs/FORMATS.md, "What `latency` writes").
+///
+/// At `Done::Fine` what was written is the line `greatest N`: some assignment of delays to the packets
+/// has the latency of N ticks, and none has a greater one. At `Done::Open` the search spent as many
+/// tickets as the options allow and boxes are left: what was written is the line `open LEAST MOST`,
+/// where the greatest latency is at least LEAST ticks and at most MOST.
+///
+/// At most `options.most_reads()` reads are made. Nothing is written before the answer is known. The
+/// faults are those of [`run_first`](super::run_first), and with several workers
+/// `Fault::PlaceTooLarge`, where they found more records than can be told apart.
+pub fn run_latency<R: Threads + Wait + Sync, S: Source, K: Sink>(
+    rt: &R,
+    alloc: Global,
+    source: &mut S,
+    sink: &mut K,
+    options: &Options,
+) -> Result<Done, Fault>
+    ensures { IsRun LONGEST_JOB (LatencySays options.now) options.now.most_reads
+        S.reads K.writes source.old source.new sink.old sink.new result }
+{
+    run_search(rt, alloc, Goal::Latency, options, source, sink, &NoGate)
+}
