@@ -51,5 +51,6 @@ pub use Rattle.convoy_share.specs.declared.fault.SearchFault
 pub use Rattle.convoy_machine.specs.Machine
 pub use Rattle.convoy_machine.specs.Replays
 -- what threads share: ledgers of tickets, and boards of records
+pub use Rattle.convoy_shares.specs.Shares
 pub use Rattle.convoy_ledger.specs.Tickets
 pub use Rattle.convoy_incumbent.specs.Boards

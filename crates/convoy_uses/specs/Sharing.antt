@@ -1,7 +1,8 @@
 -- What a thread does with a clerk or a hand of its own.
 use Rattle.std.specs.Prelude.{◌≡◌, ℕ, ◌≤◌, true}
 use Rattle.convoy_library.specs.Tickets.{Account}
-use Rattle.convoy_library.specs.Boards.{BoardId, Holding, whole}
+use Rattle.convoy_library.specs.Shares.{whole}
+use Rattle.convoy_library.specs.Boards.{BoardId, Holding}
 
 -- the clerk has drawn until no ticket was left
 pub record DrawsAll (before after : Account) : Type 0 where
