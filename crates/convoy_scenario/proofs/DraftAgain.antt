@@ -6,12 +6,14 @@ use Rattle.std.proofs.lemmas.Bool.{and_parts, and_from, or_cases, cases_order, e
 use Rattle.std.proofs.lemmas.List.{length-map, get_or-map}
 use Rattle.std.proofs.lemmas.List.Elements.{All-head, All-tail, All-get_or}
 use Rattle.std.proofs.lemmas.Slice.Eq.{bytes_eq-Decides}
-use Rattle.convoy_scenario.specs.declared.limits.TheConstants.{GREATEST_AT, GREATEST_DELAY, MOST_GROUPS, MOST_MULTICASTS}
+use Rattle.convoy_scenario.specs.declared.limits.TheConstants.{GREATEST_AT, GREATEST_DELAY, GREATEST_WHOLE_DELAY, MOST_GROUPS, MOST_MULTICASTS}
 use Rattle.convoy_scenario.specs.declared.sender.Sender.{Sender}
 use Rattle.convoy_scenario.specs.declared.sender.Sender.TheVariants.{Client, Group}
+use Rattle.convoy_scenario.specs.declared.time.Time.{Time}
+use Rattle.convoy_scenario.specs.declared.time.Time.TheVariants.{Ticks, Real}
 use Rattle.convoy_scenario.specs.Draft.{DraftLink, DraftMessage}
 use Rattle.convoy_scenario.specs.Scenario.{Scenario, Link, Message, message_at, group_name_at, no_message, is_same_sender}
-use Rattle.convoy_scenario.specs.WellFormed.{is_name, is_group_name, sender_place, is_before, is_whole, follows, ascend_after, IsSender, IsLink, IsMulticast, IsScenario}
+use Rattle.convoy_scenario.specs.WellFormed.{greatest_delay, is_name, is_group_name, sender_place, is_before, is_whole, follows, ascend_after, IsSender, IsLink, IsMulticast, IsScenario}
 use Rattle.convoy_scenario.specs.Checks.{Check, checks, judge, is_within, is_count, is_among, all_differ, is_known_sender, knows, is_message, messages_differ, is_named_alike, is_same_pair, links_differ, has_range, knows_link, leads_elsewhere, is_target_addressed}
 use Rattle.convoy_scenario.specs.Naming.{sender_name, draft_link, draft_message, draft_for}
 use Rattle.convoy_scenario.specs.Numbering.{message_place, sender_of, link_of, message_of, scenario_of, scenario_of_draft}
@@ -200,12 +202,19 @@ addressed_again plan s =
     ap (λ (k : ℕ). (get_or (draft_for plan).messages k nothing).to) (target_again plan s) ∙ ap (λ (m : DraftMessage). m.to) (get_or-map (draft_message plan) plan.multicasts plan.target_message no_message nothing s.target) in
     rw found (ap (is_among (draft_for plan).target_group) to ∙ among_named plan.groups plan.target_group (message_at plan plan.target_message).destinations s.group_names_differ (group_known plan s) (target_is plan s).known ∙ s.addressed)
 
+delay_within : (time : Time) (delay : ℕ) → 1 ≤ delay → delay ≤ GREATEST_DELAY → (time ≡ Ticks → delay ≤ GREATEST_WHOLE_DELAY) → is_within 1 (greatest_delay time) (pos delay) ≡ true
+delay_within Real delay low high whole = within_again 1 GREATEST_DELAY delay low high
+delay_within Ticks delay low high whole = within_again 1 GREATEST_WHOLE_DELAY delay low (whole refl)
+
+delay_again : (plan : Scenario) → IsScenario plan → is_within 1 (greatest_delay plan.time) (pos plan.delay) ≡ true
+delay_again plan s = delay_within plan.time plan.delay s.delay_low s.delay_high s.delay_whole
+
 pub passes_again : (plan : Scenario) → IsScenario plan → judge (checks (draft_for plan)) ≡ Ok tt
 passes_again plan s =
     let each = all_drafts plan in
     let links = all_links plan in
     judged (checks (draft_for plan))
-    (within_again 1 GREATEST_DELAY plan.delay s.delay_low s.delay_high, (count_again MOST_GROUPS plan.groups s.groups_low s.groups_high, (rw (length-map plan.multicasts (draft_message plan)) (count_again MOST_MULTICASTS plan.multicasts s.multicasts_low s.multicasts_high), (each (λ m. is_within 0 GREATEST_AT m.at) plan.multicasts s.messages (λ m is. within_again 0 GREATEST_AT m.at (omega arith) is.at), (links (has_range (pos plan.delay)) plan.links s.links (λ l is. none_within l.least l.most plan.delay is.low is.ordered is.high), (all_true is_group_name plan.groups s.group_names, (each (λ m. is_name m.name) plan.multicasts s.messages (λ m is. is.name), (differ plan.groups s.group_names_differ, (messages_are plan plan.multicasts s.message_names_differ, (links_are plan plan.links s.group_names_differ s.links None s.ascending, (each (knows plan.groups) plan.multicasts s.messages (λ m is. and_from _ _ (sender_known plan m.sender is.sender) (names_known plan.groups m.destinations is.known)), (among_at plan.groups plan.target_group (group_known plan s), (links (knows_link plan.groups) plan.links s.links (λ l is. and_from _ _ (sender_known plan l.sender is.sender) (among_at plan.groups l.to is.to)), (each (λ m. leb 1 (length m.to)) plan.multicasts s.messages (λ m is. rw (length-map m.destinations (group_name_at plan)) (le-leb 1 (length m.destinations) is.destinations)), (each (λ m. all_differ m.to) plan.multicasts s.messages (λ m is. names_differ plan.groups m.destinations 0 s.group_names_differ is.known (rises 0 m.destinations is.ascending (λ some. omega arith))), (is_there plan s, (addressed_again plan s, (links leads_elsewhere plan.links s.links (λ l is. elsewhere plan l s.group_names_differ is), tt))))))))))))))))))
+    (delay_again plan s, (count_again MOST_GROUPS plan.groups s.groups_low s.groups_high, (rw (length-map plan.multicasts (draft_message plan)) (count_again MOST_MULTICASTS plan.multicasts s.multicasts_low s.multicasts_high), (each (λ m. is_within 0 GREATEST_AT m.at) plan.multicasts s.messages (λ m is. within_again 0 GREATEST_AT m.at (omega arith) is.at), (links (has_range (pos plan.delay)) plan.links s.links (λ l is. none_within l.least l.most plan.delay is.low is.ordered is.high), (s.tick, (all_true is_group_name plan.groups s.group_names, (each (λ m. is_name m.name) plan.multicasts s.messages (λ m is. is.name), (differ plan.groups s.group_names_differ, (messages_are plan plan.multicasts s.message_names_differ, (links_are plan plan.links s.group_names_differ s.links None s.ascending, (each (knows plan.groups) plan.multicasts s.messages (λ m is. and_from _ _ (sender_known plan m.sender is.sender) (names_known plan.groups m.destinations is.known)), (among_at plan.groups plan.target_group (group_known plan s), (links (knows_link plan.groups) plan.links s.links (λ l is. and_from _ _ (sender_known plan l.sender is.sender) (among_at plan.groups l.to is.to)), (each (λ m. leb 1 (length m.to)) plan.multicasts s.messages (λ m is. rw (length-map m.destinations (group_name_at plan)) (le-leb 1 (length m.destinations) is.destinations)), (each (λ m. all_differ m.to) plan.multicasts s.messages (λ m is. names_differ plan.groups m.destinations 0 s.group_names_differ is.known (rises 0 m.destinations is.ascending (λ some. omega arith))), (is_there plan s, (addressed_again plan s, (links leads_elsewhere plan.links s.links (λ l is. elsewhere plan l s.group_names_differ is), tt)))))))))))))))))))
 
 pub made_again : (plan : Scenario) → IsScenario plan → scenario_of_draft (draft_for plan) ≡ Ok plan
 made_again plan s = rw (passes_again plan s) (ap (λ (p : Scenario). Ok p) (draft_again plan s))

@@ -8,3 +8,4 @@ pub mod GivenScenarios
 pub mod PlaceLemmas
 pub mod NumberedAgain
 pub mod DraftAgain
+pub mod Judged

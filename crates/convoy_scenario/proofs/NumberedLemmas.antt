@@ -1,18 +1,20 @@
 -- A draft that passes all the checks gives a scenario that is well formed.
-use Rattle.std.proofs.Common.{◌≡◌, ℕ, ℤ, int_le, leb, ◌&&◌, ◌∙◌, ap, arith, subst, leb-true, ◌||◌, pos, negsuc, ◌<◌, ◌≤◌, Bool, true, false, not, cond, nat_le, List, [], ◌∷◌, length, get_or, map, Option, Some, None, Result, Ok, Err, refl, sym}
+use Rattle.std.proofs.Common.{◌≡◌, ℕ, ℤ, int_le, leb, le-leb, ◌&&◌, ◌∙◌, ap, arith, subst, leb-true, ◌||◌, pos, negsuc, ◌<◌, ◌≤◌, Bool, true, false, not, cond, nat_le, List, [], ◌∷◌, length, get_or, map, Option, Some, None, Result, Ok, Err, refl, sym}
 use Rattle.std.specs.List.{list_all, list_any, find, AllByRecursion, IsDistinct}
 use Rattle.std.specs.Str.{bytes_eq}
-use Rattle.std.proofs.lemmas.Bool.{and_parts, eqb-true, false≢true, false_from_ne_true}
+use Rattle.std.proofs.lemmas.Bool.{and_parts, and_from, eqb-true, false≢true, false_from_ne_true}
 use Rattle.std.proofs.lemmas.List.{length-map, get_or-map}
 use Rattle.std.proofs.Math.Dec.{leb-zero}
 use Rattle.std.proofs.lemmas.List.Elements.{All-map, All-from_recursion}
 use Rattle.std.proofs.lemmas.List.Sums.{AllPass-from_list_all}
 use Rattle.std.proofs.lemmas.Slice.Eq.{bytes_eq-Decides}
 use Rattle.convoy_scenario.specs.declared.fault.ScenarioFault.{ScenarioFault}
-use Rattle.convoy_scenario.specs.declared.limits.TheConstants.{GREATEST_AT, GREATEST_DELAY, MOST_GROUPS, MOST_MULTICASTS}
+use Rattle.convoy_scenario.specs.declared.limits.TheConstants.{GREATEST_AT, GREATEST_DELAY, GREATEST_WHOLE_DELAY, MOST_GROUPS, MOST_MULTICASTS}
 use Rattle.convoy_scenario.specs.Scenario.{Link, Message, message_at, no_message, is_same_sender}
-use Rattle.convoy_scenario.specs.WellFormed.{is_name, is_group_name, is_whole, IsSender, IsLink, IsMulticast, IsScenario}
+use Rattle.convoy_scenario.specs.WellFormed.{greatest_delay, is_name, is_group_name, is_tick, is_whole, IsSender, IsLink, IsMulticast, IsScenario}
 use Rattle.convoy_scenario.specs.declared.sender.Sender.TheVariants.{Group}
+use Rattle.convoy_scenario.specs.declared.time.Time.{Time}
+use Rattle.convoy_scenario.specs.declared.time.Time.TheVariants.{Ticks, Real}
 use Rattle.convoy_scenario.specs.Draft.{Draft, DraftLink, DraftMessage}
 use Rattle.convoy_scenario.specs.Checks.{is_within, is_count, is_among, all_differ, is_message, messages_differ, is_known_sender, knows, is_named_alike, has_range, knows_link, leads_elsewhere, is_target_addressed, checks, judge, Check}
 use Rattle.convoy_scenario.specs.Numbering.{place, message_place, ticks, sender_of, numbers_of, link_of, message_of, in_order, delay_of_draft, links_of_draft, scenario_of}
@@ -22,11 +24,12 @@ use Rattle.convoy_scenario.proofs.PlaceLemmas.{place_within, find_place, name_at
 
 -- all the checks hold
 record Passes (draft : Draft) : Type 0 where
-  delay : is_within 1 GREATEST_DELAY draft.delay ≡ true
+  delay : is_within 1 (greatest_delay draft.time) draft.delay ≡ true
   groups : is_count MOST_GROUPS draft.groups ≡ true
   messages : is_count MOST_MULTICASTS draft.messages ≡ true
   at : list_all (λ m. is_within 0 GREATEST_AT m.at) draft.messages ≡ true
   ranges : list_all (has_range draft.delay) draft.links ≡ true
+  tick : is_tick draft.time draft.tick ≡ true
   group_names : list_all is_group_name draft.groups ≡ true
   message_names : list_all (λ m. is_name m.name) draft.messages ≡ true
   groups_differ : all_differ draft.groups ≡ true
@@ -52,7 +55,7 @@ all_hold (c ∷ cs) h =
 passes : (draft : Draft) → judge (checks draft) ≡ Ok tt → Passes draft
 passes draft h =
     let a = all_hold (checks draft) h in
-    let b = a.1.1.1.1.1 in
+    let b = a.1.1.1.1.1.1 in
     let c = b.1.1.1.1.1 in
     record {
       delay = a.0;
@@ -60,6 +63,7 @@ passes draft h =
       messages = a.1.1.0;
       at = a.1.1.1.0;
       ranges = a.1.1.1.1.0;
+      tick = a.1.1.1.1.1.0;
       group_names = b.0;
       message_names = b.1.0;
       groups_differ = b.1.1.0;
@@ -192,11 +196,28 @@ target_is draft m e h = rw e at h
 abbrev pub nothing : DraftMessage
 nothing = record { name = []; sender = None; to = []; at = pos 0 }
 
+-- D is within the limit of its kind of time, and within that of both
+within_both : (time : Time) (delay : ℤ) → is_within 1 (greatest_delay time) delay ≡ true → is_within 1 GREATEST_DELAY delay ≡ true
+within_both Real delay h = h
+within_both Ticks (pos d) h =
+    let parts = and_parts (leb 1 d) (leb d GREATEST_WHOLE_DELAY) h in
+    and_from _ _ parts.0 (le-leb d GREATEST_DELAY (omega (arith, leb-true d GREATEST_WHOLE_DELAY parts.1)))
+within_both Ticks (negsuc d) h = absurd (false≢true h)
+
+whole_within : (time : Time) (delay : ℤ) → is_within 1 (greatest_delay time) delay ≡ true → time ≡ Ticks → ticks GREATEST_DELAY delay ≤ GREATEST_WHOLE_DELAY
+whole_within Real delay h is = cc
+whole_within Ticks (pos d) h is =
+    let parts = and_parts (leb 1 d) (leb d GREATEST_WHOLE_DELAY) h in
+    let high = leb-true d GREATEST_WHOLE_DELAY parts.1 in
+    rw (ticks_again GREATEST_DELAY d (omega (arith, high))) high
+whole_within Ticks (negsuc d) h is = absurd (false≢true h)
+
 -- a draft that passes the checks is a scenario
 pub scenario_formed : (draft : Draft) → judge (checks draft) ≡ Ok tt → IsScenario (scenario_of draft)
 scenario_formed draft h =
     let p = passes draft h in
-    let delay = ticks-within 1 GREATEST_DELAY draft.delay p.delay in
+    let within = within_both draft.time draft.delay p.delay in
+    let delay = ticks-within 1 GREATEST_DELAY draft.delay within in
     let groups = and_parts (nat_le 1 (length draft.groups)) _ p.groups in
     let messages = and_parts (nat_le 1 (length draft.messages)) _ p.messages in
     let named = AllPass-from_list_all is_group_name draft.groups p.group_names in
@@ -217,13 +238,15 @@ scenario_formed draft h =
     record {
       delay_low = delay.0;
       delay_high = delay.1;
+      delay_whole = whole_within draft.time draft.delay p.delay;
+      tick = p.tick;
       groups_low = leb-true _ _ groups.0;
       groups_high = leb-true _ _ groups.1;
       multicasts_low = rw numbered (leb-true _ _ messages.0);
       multicasts_high = rw numbered (leb-true _ _ messages.1);
       group_names = named;
       group_names_differ = groups_distinct draft.groups p.groups_differ;
-      links = All-from_recursion (IsLink (length draft.groups) (delay_of_draft draft)) (in_order (delay_of_draft draft) (links_of_draft draft)) (in_order_all (IsLink (length draft.groups) (delay_of_draft draft)) (delay_of_draft draft) (links_of_draft draft) (links_formed draft draft.links p.delay p.ranges p.ends p.elsewhere));
+      links = All-from_recursion (IsLink (length draft.groups) (delay_of_draft draft)) (in_order (delay_of_draft draft) (links_of_draft draft)) (in_order_all (IsLink (length draft.groups) (delay_of_draft draft)) (delay_of_draft draft) (links_of_draft draft) (links_formed draft draft.links within p.ranges p.ends p.elsewhere));
       ascending = in_order_ascends (delay_of_draft draft) (links_of_draft draft);
       message_names_differ = messages_distinct draft.groups draft.messages p.messages_differ;
       messages = All-map (IsMulticast (length draft.groups)) (message_of draft.groups) draft.messages (λ k d within. multicast_formed draft.groups (get_or draft.messages k d) (names k d within) (known k d within) (some k d within) (at k d within));
@@ -232,13 +255,13 @@ scenario_formed draft h =
     }
 
 -- the same of a scenario that is made part by part, each from a part of the draft or from an equal of it
-pub parts_formed : (draft : Draft) (delay : ℤ) (groups : List (List ℕ)) (links : List DraftLink) (messages : List DraftMessage) (message group : List ℕ)
-    → record { delay = delay; groups = groups; links = links; messages = messages; target_message = message; target_group = group } ≡ draft
+pub parts_formed : (draft : Draft) (time : Time) (tick : Option ℕ) (delay : ℤ) (groups : List (List ℕ)) (links : List DraftLink) (messages : List DraftMessage) (message group : List ℕ)
+    → record { time = time; tick = tick; delay = delay; groups = groups; links = links; messages = messages; target_message = message; target_group = group } ≡ draft
     → judge (checks draft) ≡ Ok tt
     → {lent lent' linking : List (List ℕ)} {lines : List DraftLink} {linked : List Link} {sent : List DraftMessage} {d t g : ℕ} {multicasts : List Message}
     → d ≡ ticks GREATEST_DELAY delay → linking ≡ groups → lines ≡ links → linked ≡ in_order d (map (link_of linking) lines)
     → lent ≡ groups → multicasts ≡ map (message_of lent) messages
     → sent ≡ messages → t ≡ message_place message sent → lent' ≡ groups → g ≡ place group lent'
-    → IsScenario (record { delay = d; groups = groups; links = linked; multicasts = multicasts; target_message = t; target_group = g })
-parts_formed draft delay groups links messages message group seen h b k l n c d e f i j =
-    rw (n, k, l, b, d, c, f, e, j, i) (scenario_formed (record { delay = delay; groups = groups; links = links; messages = messages; target_message = message; target_group = group }) (subst (λ (d : Draft). judge (checks d) ≡ Ok tt) (sym seen) h))
+    → IsScenario (record { time = time; tick = tick; delay = d; groups = groups; links = linked; multicasts = multicasts; target_message = t; target_group = g })
+parts_formed draft time tick delay groups links messages message group seen h b k l n c d e f i j =
+    rw (n, k, l, b, d, c, f, e, j, i) (scenario_formed (record { time = time; tick = tick; delay = delay; groups = groups; links = links; messages = messages; target_message = message; target_group = group }) (subst (λ (d : Draft). judge (checks d) ≡ Ok tt) (sym seen) h))

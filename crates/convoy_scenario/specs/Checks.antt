@@ -4,10 +4,10 @@ use Rattle.std.specs.List.{list_all, list_any}
 use Rattle.std.specs.Str.{bytes_eq}
 use Rattle.convoy_scenario.specs.declared.fault.ScenarioFault.{ScenarioFault}
 use Rattle.convoy_scenario.specs.declared.fault.ScenarioFault.TheVariants.{OverLimit, BadName, DoubleName, UnknownGroup, NoDestination, DoubleDestination, UnknownTarget, TargetNotAddressed, LinkToItself}
-use Rattle.convoy_scenario.specs.declared.fault.Limit.TheVariants.{Delay, Groups, Multicasts, At, Link}
-use Rattle.convoy_scenario.specs.declared.limits.TheConstants.{GREATEST_AT, GREATEST_DELAY, MOST_GROUPS, MOST_MULTICASTS}
+use Rattle.convoy_scenario.specs.declared.fault.Limit.TheVariants.{Delay, Groups, Multicasts, At, Link, Tick}
+use Rattle.convoy_scenario.specs.declared.limits.TheConstants.{GREATEST_AT, MOST_GROUPS, MOST_MULTICASTS}
 use Rattle.convoy_scenario.specs.Draft.{Draft, DraftLink, DraftMessage}
-use Rattle.convoy_scenario.specs.WellFormed.{is_name, is_group_name}
+use Rattle.convoy_scenario.specs.WellFormed.{greatest_delay, is_name, is_group_name, is_tick}
 
 -- a number from the least to the most
 abbrev pub is_within : ℕ → ℕ → ℤ → Bool
@@ -86,11 +86,12 @@ Check = Bool × ScenarioFault
 -- the rules on numbers
 abbrev pub limit_checks : Draft → List Check
 limit_checks draft =
-    (is_within 1 GREATEST_DELAY draft.delay, OverLimit Delay)
+    (is_within 1 (greatest_delay draft.time) draft.delay, OverLimit Delay)
     ∷ (is_count MOST_GROUPS draft.groups, OverLimit Groups)
     ∷ (is_count MOST_MULTICASTS draft.messages, OverLimit Multicasts)
     ∷ (list_all (λ message. is_within 0 GREATEST_AT message.at) draft.messages, OverLimit At)
     ∷ (list_all (has_range draft.delay) draft.links, OverLimit Link)
+    ∷ (is_tick draft.time draft.tick, OverLimit Tick)
     ∷ []
 
 -- the rules on names

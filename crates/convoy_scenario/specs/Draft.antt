@@ -1,5 +1,6 @@
 -- A scenario as it is written, with names in place of numbers: what stands in it before any rule is asked.
 use Rattle.std.specs.Prelude.{ℕ, ℤ, List, Option}
+use Rattle.convoy_scenario.specs.declared.time.Time.{Time}
 
 -- a message as it is written: its name, the group that sends it (none for a client), the groups that it goes to, and its tick
 pub record DraftMessage : Type 0 where
@@ -17,6 +18,8 @@ pub record DraftLink : Type 0 where
 
 -- a scenario as it is written
 pub record Draft : Type 0 where
+  pub time : Time
+  pub tick : Option ℕ
   pub delay : ℤ
   pub groups : List (List ℕ)
   pub links : List DraftLink

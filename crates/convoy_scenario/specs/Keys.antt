@@ -1,10 +1,15 @@
--- The keys of a scenario text.
-use Rattle.std.specs.Prelude.{ℕ, List, codes}
+-- The keys of a scenario text, and the words for how time goes.
+use Rattle.std.specs.Prelude.{ℕ, if◌then◌else◌, List, Option, Some, None, codes}
+use Rattle.std.specs.Str.{bytes_eq}
 use Rattle.convoy_scenario.specs.declared.fault.Key.{Key}
-use Rattle.convoy_scenario.specs.declared.fault.Key.TheVariants.{Delay, Groups, Multicast, Name, From, To, At, Target, Message, Group, Link, Least, Most, Schedule, Unknown}
+use Rattle.convoy_scenario.specs.declared.fault.Key.TheVariants.{Time, Tick, Delay, Groups, Multicast, Name, From, To, At, Target, Message, Group, Link, Least, Most, Schedule, Order, Unknown}
+use Rattle.convoy_scenario.specs.declared.time.Time.{Time as AnyTime}
+use Rattle.convoy_scenario.specs.declared.time.Time.TheVariants.{Ticks, Real}
 
 -- the word for a key
 abbrev pub key_word : Key → List ℕ
+key_word Time = codes "time"
+key_word Tick = codes "tick"
 key_word Delay = codes "delay"
 key_word Groups = codes "groups"
 key_word Multicast = codes "multicast"
@@ -19,4 +24,17 @@ key_word Link = codes "link"
 key_word Least = codes "least"
 key_word Most = codes "most"
 key_word Schedule = codes "schedule"
+key_word Order = codes "order"
 key_word Unknown = codes "unknown"
+
+-- the word for how time goes
+abbrev pub time_word : AnyTime → List ℕ
+time_word Ticks = codes "ticks"
+time_word Real = codes "real"
+
+-- how time goes by that word
+abbrev pub time_named : List ℕ → Option AnyTime
+time_named word =
+    if bytes_eq word (time_word Ticks) then Some Ticks
+    else if bytes_eq word (time_word Real) then Some Real
+    else None

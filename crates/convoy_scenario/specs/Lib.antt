@@ -1,5 +1,6 @@
 pub mod Checks
 pub mod Draft
+pub mod Durations
 pub mod Keys
 pub mod Laws
 pub mod Memory

@@ -37,6 +37,8 @@ draft_link scenario link = record {
 -- a scenario by names: what is written of it
 abbrev pub draft_for : Scenario → Draft
 draft_for scenario = record {
+  time = scenario.time;
+  tick = scenario.tick;
   delay = pos scenario.delay;
   groups = scenario.groups;
   links = map (draft_link scenario) scenario.links;

@@ -76,6 +76,8 @@ links_of_draft draft = map (link_of draft.groups) draft.links
 -- a scenario with numbers
 abbrev pub scenario_of : Draft → Scenario
 scenario_of draft = record {
+  time = draft.time;
+  tick = draft.tick;
   delay = delay_of_draft draft;
   groups = draft.groups;
   links = in_order (delay_of_draft draft) (links_of_draft draft);

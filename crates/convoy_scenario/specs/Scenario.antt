@@ -4,6 +4,7 @@ use Rattle.std.specs.List.{list_any, range_with_len}
 use Rattle.std.specs.Option.{option_map_or}
 use Rattle.convoy_scenario.specs.declared.sender.Sender.{Sender}
 use Rattle.convoy_scenario.specs.declared.sender.Sender.TheVariants.{Client, Group}
+use Rattle.convoy_scenario.specs.declared.time.Time.{Time}
 
 -- a message: its name, who sends it, the groups that it goes to, and the tick at which it is issued
 pub record Message : Type 0 where
@@ -19,8 +20,10 @@ pub record Link : Type 0 where
   pub least : ℕ
   pub most : ℕ
 
--- a scenario: D, the groups' names, the links whose range is not 1 to D, the messages, and the message and the group of which the latency is asked
+-- a scenario: how time goes in it, how many nanoseconds a tick lasts where that is known, D, the groups' names, the links whose range is not 1 to D, the messages, and the message and the group of which the latency is asked
 pub record Scenario : Type 0 where
+  pub time : Time
+  pub tick : Option ℕ
   pub delay : ℕ
   pub groups : List (List ℕ)
   pub links : List Link

@@ -1,12 +1,27 @@
 -- When a scenario is well formed: its limits, its names and its references.
-use Rattle.std.specs.Prelude.{ℕ, ◌+◌, ◌<◌, ◌≤◌, ◌==◌, Bool, true, false, ◌&&◌, ◌||◌, not, nat_le, nat_lt, List, [], ◌∷◌, length, codes, Option, Some, None, IsTrue, All}
+use Rattle.std.specs.Prelude.{◌≡◌, ℕ, ◌+◌, ◌<◌, ◌≤◌, ◌==◌, Bool, true, false, ◌&&◌, ◌||◌, not, nat_le, nat_lt, List, [], ◌∷◌, length, codes, Option, Some, None, IsTrue, All}
 use Rattle.std.specs.List.{list_all, IsDistinct}
 use Rattle.std.specs.List.Sorted.{IsStrictlyIncreasing}
 use Rattle.std.specs.Str.{bytes_eq}
 use Rattle.convoy_scenario.specs.declared.sender.Sender.{Sender}
 use Rattle.convoy_scenario.specs.declared.sender.Sender.TheVariants.{Client, Group}
-use Rattle.convoy_scenario.specs.declared.limits.TheConstants.{GREATEST_AT, GREATEST_DELAY, LONGEST_NAME, MOST_GROUPS, MOST_MULTICASTS}
+use Rattle.convoy_scenario.specs.declared.limits.TheConstants.{GREATEST_AT, GREATEST_DELAY, GREATEST_WHOLE_DELAY, LONGEST_NAME, MOST_GROUPS, MOST_MULTICASTS}
+use Rattle.convoy_scenario.specs.declared.duration.TheConstants.{LONGEST_DURATION, MOST_UNITS}
+use Rattle.convoy_scenario.specs.declared.time.Time.{Time}
+use Rattle.convoy_scenario.specs.declared.time.Time.TheVariants.{Ticks, Real}
+use Rattle.convoy_scenario.specs.Durations.{count_of}
 use Rattle.convoy_scenario.specs.Scenario.{Link, Message, Scenario, message_at, is_addressed, is_same_sender}
+
+-- the greatest value of D, by how time goes
+abbrev pub greatest_delay : Time → ℕ
+greatest_delay Ticks = GREATEST_WHOLE_DELAY
+greatest_delay Real = GREATEST_DELAY
+
+-- a tick may have this length, in nanoseconds, or none that is known: only where time is real it has one
+abbrev pub is_tick : Time → Option ℕ → Bool
+is_tick time None = true
+is_tick Ticks (Some tick) = false
+is_tick Real (Some tick) = nat_le 1 tick && nat_le tick LONGEST_DURATION && nat_le (count_of tick) MOST_UNITS
 
 -- a letter from a to z
 abbrev pub is_letter : ℕ → Bool
@@ -86,6 +101,8 @@ ascend_after before (link ∷ links) = follows before link && ascend_after (Some
 pub record IsScenario (scenario : Scenario) : Type 0 where
   pub delay_low : 1 ≤ scenario.delay
   pub delay_high : scenario.delay ≤ GREATEST_DELAY
+  pub delay_whole : scenario.time ≡ Ticks → scenario.delay ≤ GREATEST_WHOLE_DELAY
+  pub tick : IsTrue (is_tick scenario.time scenario.tick)
   pub groups_low : 1 ≤ length scenario.groups
   pub groups_high : length scenario.groups ≤ MOST_GROUPS
   pub multicasts_low : 1 ≤ length scenario.multicasts

@@ -1,13 +1,15 @@
 ghost use Rattle.std.specs.Prelude.{◌≡◌, ◌&&◌, length, nat_le, find, not, option_copied};
 ghost use Rattle.std.specs.List.{list_all, list_any};
 ghost use Rattle.std.specs.Str.{bytes_eq};
-ghost use Rattle.convoy_scenario.specs.WellFormed.{is_name, is_group_name};
+ghost use Rattle.convoy_scenario.specs.WellFormed.{is_name, is_group_name, is_tick};
 ghost use Rattle.convoy_scenario.specs.Checks.{is_within, is_count, is_among, all_differ, is_known_sender, is_message, messages_differ, knows, is_target_addressed, is_named_alike, is_same_pair, links_differ, has_range, knows_link, leads_elsewhere, limit_checks, name_checks, reference_checks, checks, judge};
 
 use super::draft::{DraftLink, DraftMulticast, DraftScenario};
+use super::duration::{Duration, LONGEST_DURATION, MOST_UNITS};
 use super::fault::{Limit, ScenarioFault};
-use super::limits::{GREATEST_AT, GREATEST_DELAY, MOST_GROUPS, MOST_MULTICASTS};
+use super::limits::{GREATEST_AT, MOST_GROUPS, MOST_MULTICASTS};
 use super::name::Name;
+use super::time::Time;
 
 /// Tells the first rule that a draft breaks (docs/FORMATS.md, "Scenario text").
 pub fn check(draft: &DraftScenario) -> Result<(), ScenarioFault>
@@ -21,7 +23,7 @@ pub fn check(draft: &DraftScenario) -> Result<(), ScenarioFault>
 fn check_limits(draft: &DraftScenario) -> Result<(), ScenarioFault>
     ensures { result ≡ judge (limit_checks draft.now) }
 {
-    if !is_within(draft.delay, 1, u32::from(GREATEST_DELAY)) {
+    if !is_within(draft.delay, 1, u32::from(draft.time.greatest_delay())) {
         return Err(ScenarioFault::OverLimit(Limit::Delay));
     }
     if !is_count(draft.groups.len(), MOST_GROUPS) {
@@ -35,6 +37,9 @@ fn check_limits(draft: &DraftScenario) -> Result<(), ScenarioFault>
     }
     if !all_have_ranges(draft.delay, &draft.links) {
         return Err(ScenarioFault::OverLimit(Limit::Link));
+    }
+    if !is_tick(draft.time, draft.tick) {
+        return Err(ScenarioFault::OverLimit(Limit::Tick));
     }
     Ok(())
 }
@@ -88,6 +93,21 @@ fn check_references(draft: &DraftScenario) -> Result<(), ScenarioFault>
         return Err(ScenarioFault::LinkToItself);
     }
     Ok(())
+}
+
+/// Whether a tick may have this length, or none where that is not known.
+fn is_tick(time: Time, tick: Option<Duration>) -> bool
+    ensures { result ≡ is_tick time tick }
+{
+    match (time, tick) {
+        (_, None) => true,
+        (Time::Ticks, Some(_)) => false,
+        (Time::Real, Some(tick)) => {
+            1 <= tick.nanoseconds()
+                && tick.nanoseconds() <= LONGEST_DURATION
+                && tick.count() <= MOST_UNITS
+        }
+    }
 }
 
 /// Whether the number is from `least` to `most`.

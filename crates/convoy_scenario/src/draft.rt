@@ -1,4 +1,6 @@
+use super::duration::Duration;
 use super::name::Name;
+use super::time::Time;
 use std::marker::Model;
 
 /// A message as it is written, with the names of groups in place of their numbers.
@@ -56,6 +58,10 @@ impl Model for DraftLink {
 /// (docs/FORMATS.md, "Scenario text"). `Scenario::from_draft` makes the scenario of it.
 #[derive(Debug, Drop)]
 pub struct DraftScenario {
+    /// Whether time goes in whole ticks, or is real.
+    pub time: Time,
+    /// How long a tick lasts, where that is known.
+    pub tick: Option<Duration>,
     /// D, the greatest delay of a packet, in ticks.
     pub delay: i64,
     /// The names of the groups, in the order of their numbers.
@@ -76,6 +82,8 @@ impl Model for DraftScenario {
     ghost Value = { Draft };
 
     ghost view = { λ d. record {
+      time = d.time;
+      tick = d.tick;
       delay = d.delay;
       groups = d.groups.items;
       links = d.links.items;

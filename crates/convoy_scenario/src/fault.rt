@@ -1,5 +1,7 @@
+use super::duration::{LONGEST_DURATION, MOST_UNITS};
 use super::limits::{
-    GREATEST_AT, GREATEST_DELAY, LONGEST_NAME, MOST_GROUPS, MOST_LINKS, MOST_MULTICASTS,
+    GREATEST_AT, GREATEST_DELAY, GREATEST_WHOLE_DELAY, LONGEST_NAME, MOST_GROUPS, MOST_LINKS,
+    MOST_MULTICASTS,
 };
 use std::alloc::{AllocError, AllocFailed};
 use std::fmt;
@@ -8,6 +10,8 @@ use thiserror::Error;
 /// What a fault of shape tells: a key of a scenario text, or that a key is unknown.
 #[derive(Clone, Copy, Debug, PartialEq, Eq)]
 pub enum Key {
+    Time,
+    Tick,
     Delay,
     Groups,
     Multicast,
@@ -22,6 +26,7 @@ pub enum Key {
     Least,
     Most,
     Schedule,
+    Order,
     /// A key that a scenario text may not have.
     Unknown,
 }
@@ -29,7 +34,8 @@ pub enum Key {
 /// A limit of a scenario.
 #[derive(Clone, Copy, Debug, PartialEq, Eq)]
 pub enum Limit {
-    /// The greatest delay of a packet is from 1 to `GREATEST_DELAY`.
+    /// The greatest delay of a packet is from 1 to `GREATEST_DELAY`, and in whole ticks at most
+    /// `GREATEST_WHOLE_DELAY`.
     Delay,
     /// There are 1 to `MOST_GROUPS` groups.
     Groups,
@@ -40,6 +46,9 @@ pub enum Limit {
     /// There are at most `MOST_LINKS` lines `link`; the least delay of a link is 1 or more, and its
     /// greatest not less and at most D.
     Link,
+    /// A tick has a length only where time is real. It is 1 nanosecond or more, at most
+    /// `LONGEST_DURATION`, and at most `MOST_UNITS` of its unit.
+    Tick,
 }
 
 /// Why a text is no scenario. Where it has several faults, the first in the order of these variants
@@ -49,9 +58,12 @@ pub enum ScenarioFault {
     /// The bytes are not UTF-8, or the text is not TOML 1.1.
     #[error("the text is not TOML")]
     NotToml,
-    /// A key is absent, its value is of another kind, or the key is unknown.
+    /// A key is absent, its value is of another kind or is none of its words, or the key is unknown.
     #[error("a key is absent, unknown, or its value is of another kind: {0}")]
     Shape(Key),
+    /// A duration is no whole number of ticks. It names the key of the first.
+    #[error("a duration is no whole number of ticks: {0}")]
+    NotWhole(Key),
     /// A number is outside its limits.
     #[error("over a limit: {0}")]
     OverLimit(Limit),
@@ -94,6 +106,8 @@ impl Key {
         ensures { result.now ≡ key_word self }
     {
         match self {
+            Key::Time => "time",
+            Key::Tick => "tick",
             Key::Delay => "delay",
             Key::Groups => "groups",
             Key::Multicast => "multicast",
@@ -108,6 +122,7 @@ impl Key {
             Key::Least => "least",
             Key::Most => "most",
             Key::Schedule => "schedule",
+            Key::Order => "order",
             Key::Unknown => "unknown",
         }
     }
@@ -122,13 +137,20 @@ impl fmt::Display for Key {
 impl fmt::Display for Limit {
     fn fmt<W: fmt::Write>(&self, f: &mut fmt::Formatter<W>) -> fmt::Result {
         match self {
-            Limit::Delay => write!(f, "the greatest delay is 1 to {GREATEST_DELAY}"),
+            Limit::Delay => write!(
+                f,
+                "the greatest delay is 1 to {GREATEST_DELAY}, and in whole ticks 1 to {GREATEST_WHOLE_DELAY}"
+            ),
             Limit::Groups => write!(f, "there are 1 to {MOST_GROUPS} groups"),
             Limit::Multicasts => write!(f, "there are 1 to {MOST_MULTICASTS} multicasts"),
             Limit::At => write!(f, "a message is issued at a tick from 0 to {GREATEST_AT}"),
             Limit::Link => write!(
                 f,
                 "there are at most {MOST_LINKS} links, each with 1 <= least <= most <= delay"
+            ),
+            Limit::Tick => write!(
+                f,
+                "where time is real a tick may have a length, above 0 and at most {LONGEST_DURATION} ns and {MOST_UNITS} of its unit"
             ),
         }
     }

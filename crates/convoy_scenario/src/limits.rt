@@ -1,5 +1,8 @@
 /// The greatest value of D, the greatest delay of a packet, in ticks.
-pub const GREATEST_DELAY: u16 = 16;
+pub const GREATEST_DELAY: u16 = 65_535;
+
+/// The greatest value of D, in ticks, where time goes in whole ticks.
+pub const GREATEST_WHOLE_DELAY: u16 = 16;
 
 /// How many groups a scenario has at most.
 pub const MOST_GROUPS: usize = 8;

@@ -1,7 +1,9 @@
 ghost use Rattle.std.specs.Prelude.{◌≡◌, map, option_map, IfOk};
 
 use super::draft::{DraftLink, DraftMulticast, DraftScenario};
+use super::duration::Duration;
 use super::name::Name;
+use super::time::Time;
 use std::alloc::{AllocError, Global};
 use std::marker::Model;
 
@@ -60,6 +62,10 @@ impl<'a> Model for LinkParts<'a> {
 /// A scenario in plain parts, well formed or not.
 #[derive(Debug, Drop)]
 pub struct ScenarioParts<'a> {
+    /// Whether time goes in whole ticks, or is real.
+    pub time: Time,
+    /// How long a tick lasts, where that is known and time is real.
+    pub tick: Option<Duration>,
     /// The greatest delay of a packet, in ticks.
     pub delay: u32,
     /// The names of the groups.
@@ -81,6 +87,8 @@ impl<'a> Model for ScenarioParts<'a> {
     ghost Value = { Draft };
 
     ghost view = { λ s. record {
+      time = s.time;
+      tick = s.tick;
       delay = pos s.delay;
       groups = map (λ name. name.now) s.groups.now;
       links = s.links.now;
@@ -96,6 +104,8 @@ impl<'a> ScenarioParts<'a> {
         ensures { IfOk result (λ draft. draft ≡ self.now) }
     {
         Ok(DraftScenario {
+            time: self.time,
+            tick: self.tick,
             delay: i64::from(self.delay),
             groups: names_of(alloc, self.groups)?,
             links: links_of(alloc, self.links)?,

@@ -4,12 +4,14 @@ ghost use Rattle.convoy_scenario.specs.WellFormed.{IsScenario};
 
 use super::checks::check;
 use super::draft::DraftScenario;
+use super::duration::Duration;
 use super::fault::ScenarioFault;
 use super::link::{Link, link_between};
 use super::name::Name;
 use super::numbering::{delay_ticks, links_of, message_place, multicasts_of, place};
 use super::parts::ScenarioParts;
 use super::sender::Sender;
+use super::time::Time;
 use std::alloc::{AllocError, Global};
 use std::marker::Model;
 
@@ -56,6 +58,8 @@ impl Multicast {
 /// by number, from 0, in the order of the text.
 #[derive(Debug, Drop)]
 pub struct Scenario {
+    time: Time,
+    tick: Option<Duration>,
     delay: u16,
     groups: Vec<Name>,
     links: Vec<Link>,
@@ -71,6 +75,8 @@ impl Model for Scenario {
     ghost Value = { Scenario };
 
     ghost view = { λ s. record {
+      time = s.time;
+      tick = s.tick;
       delay = s.delay;
       groups = s.groups.items;
       links = s.links.items;
@@ -80,6 +86,8 @@ impl Model for Scenario {
     } };
 
     ghost invariant = { λ s. IsScenario (record {
+      time = s.time;
+      tick = s.tick;
       delay = s.delay;
       groups = s.groups.items;
       links = s.links.items;
@@ -114,6 +122,8 @@ impl Scenario {
         ensures { IsUnlessMemory ScenarioFault.Memory (scenario_of_draft draft) result }
     {
         check(&draft)?;
+        let time = draft.time;
+        let tick = draft.tick;
         let delay = delay_ticks(draft.delay);
         let target_message = message_place(&draft.target_message, &draft.multicasts);
         let target_group = place(&draft.target_group, &draft.groups);
@@ -125,6 +135,8 @@ impl Scenario {
         } = draft;
         let multicasts = multicasts_of(alloc, &groups, multicasts)?;
         Ok(Scenario {
+            time,
+            tick,
             delay,
             groups,
             links,
@@ -142,6 +154,8 @@ impl Scenario {
         let links = Vec::from_slice(*self.links.allocator(), &self.links)?;
         let multicasts = copy_multicasts(*self.multicasts.allocator(), &self.multicasts)?;
         Ok(Scenario {
+            time: self.time,
+            tick: self.tick,
             delay: self.delay,
             groups,
             links,
@@ -149,6 +163,22 @@ impl Scenario {
             target_message: self.target_message,
             target_group: self.target_group,
         })
+    }
+
+    /// Whether time goes in whole ticks, or is real (docs/PROTOCOL.md).
+    pub fn time(&self) -> Time
+        ensures value { result ≡ self.now.time }
+        ensures lawful { IsScenario self.now }
+    {
+        self.time
+    }
+
+    /// How long a tick lasts, where that is known; in whole ticks it never is.
+    pub fn tick(&self) -> Option<Duration>
+        ensures value { result ≡ self.now.tick }
+        ensures lawful { IsScenario self.now }
+    {
+        self.tick
     }
 
     /// D, the greatest delay of a packet, in ticks.

@@ -13,11 +13,12 @@ use Rattle.convoy_lines.specs.Labels.{number_in}
 use Rattle.convoy_lines.specs.Places.{Place, line_at, past_line}
 use Rattle.convoy_lines.specs.Results.{◌>>=◌}
 use Rattle.convoy_scenario.specs.Checks.{Check, is_count, all_differ, is_message, messages_differ, knows, is_target_addressed, checks, judge}
+use Rattle.convoy_scenario.specs.declared.time.Time.{Time}
 use Rattle.convoy_scenario.specs.Draft.{Draft, DraftLink, DraftMessage}
 use Rattle.convoy_scenario.specs.Laws.{DifferentNamesAreDistinct, JudgedRulesHold}
 use Rattle.convoy_scenario_lines.specs.Keeping.{kept_groups, kept_message, kept_groups_in, kept_multicast_in, kept_messages_at, kept_scenario_at}
 use Rattle.convoy_scenario_lines.specs.LineForms.{groups_in, multicast_in, target_in}
-use Rattle.convoy_scenario_lines.specs.LineReading.{form_at, links_at, messages_at, draft_of, told, first_misplaced_link, first_unordered, where_ordered, scenario_at}
+use Rattle.convoy_scenario_lines.specs.LineReading.{form_at, time_at, tick_at, links_at, messages_at, draft_of, told, first_misplaced_link, first_unordered, where_ordered, scenario_at}
 use Rattle.convoy_scenario.specs.Numbering.{scenario_of_draft}
 use Rattle.convoy_scenario.specs.Scenario.{Scenario}
 use Rattle.convoy_scenario_lines.proofs.KeptNames.{knows_kept, differ_kept, kept_same, some_kept}
@@ -27,6 +28,8 @@ use Rattle.convoy_scenario_lines.proofs.KeptNames.{knows_kept, differ_kept, kept
 -- a draft with what is kept of its messages, where these are the groups that are kept
 abbrev kept_by : List (List ℕ) → Draft → Draft
 kept_by groups draft = record {
+  time = draft.time;
+  tick = draft.tick;
   delay = draft.delay;
   groups = groups;
   links = draft.links;
@@ -84,7 +87,7 @@ whole distinct groups (m ∷ ms) few known differ =
     ap (λ x. x ∷ map (kept_message groups) ms) first ∙ ap (λ xs. m ∷ xs) rest
 
 abbrev with_messages : Draft → List DraftMessage → Draft
-with_messages draft ms = record { delay = draft.delay; groups = draft.groups; links = draft.links; messages = ms; target_message = draft.target_message; target_group = draft.target_group }
+with_messages draft ms = record { time = draft.time; tick = draft.tick; delay = draft.delay; groups = draft.groups; links = draft.links; messages = ms; target_message = draft.target_message; target_group = draft.target_group }
 
 alike_few : (distinct : DifferentNamesAreDistinct) (draft : Draft) → length draft.groups ≤ 8 → Alike (checks (kept_by draft.groups draft)) (checks draft)
 alike_few distinct draft few =
@@ -106,47 +109,51 @@ alike_few distinct draft few =
               λ ranges. (
                 refl,
                 refl,
-                λ group_names. (
-                  all_same _ _ keep draft.messages (λ m. refl),
+                λ tick. (
                   refl,
-                  λ message_names. (
+                  refl,
+                  λ group_names. (
+                    all_same _ _ keep draft.messages (λ m. refl),
                     refl,
-                    refl,
-                    λ groups_differ. (
-                      differ_same draft.groups draft.messages,
+                    λ message_names. (
                       refl,
-                      λ messages_differ. (
+                      refl,
+                      λ groups_differ. (
+                        differ_same draft.groups draft.messages,
                         refl,
-                        refl,
-                        λ links_differ. (
-                          all_same _ _ keep draft.messages (knows_kept draft.groups),
+                        λ messages_differ. (
                           refl,
-                          λ known. (
+                          refl,
+                          λ links_differ. (
+                            all_same _ _ keep draft.messages (knows_kept draft.groups),
                             refl,
-                            refl,
-                            λ target_group. (
+                            λ known. (
                               refl,
                               refl,
-                              λ ends. (
-                                all_same _ _ keep draft.messages (λ m. some_kept draft.groups m.to),
+                              λ target_group. (
                                 refl,
-                                λ somewhere. (
-                                  all_same_where (knows draft.groups) _ _ keep draft.messages known (λ m. differ_kept distinct draft.groups m few),
+                                refl,
+                                λ ends. (
+                                  all_same _ _ keep draft.messages (λ m. some_kept draft.groups m.to),
                                   refl,
-                                  λ differ.
-                                      let same = whole distinct draft.groups draft.messages few known differ in (
-                                        ap (is_message draft.target_message) same,
-                                        refl,
-                                        λ target. (
-                                          ap (λ ms. is_target_addressed (with_messages draft ms)) same,
+                                  λ somewhere. (
+                                    all_same_where (knows draft.groups) _ _ keep draft.messages known (λ m. differ_kept distinct draft.groups m few),
+                                    refl,
+                                    λ differ.
+                                        let same = whole distinct draft.groups draft.messages few known differ in (
+                                          ap (is_message draft.target_message) same,
                                           refl,
-                                          λ addressed. (
+                                          λ target. (
+                                            ap (λ ms. is_target_addressed (with_messages draft ms)) same,
                                             refl,
-                                            refl,
-                                            λ elsewhere. tt,
+                                            λ addressed. (
+                                              refl,
+                                              refl,
+                                              λ elsewhere. tt,
+                                            ),
                                           ),
                                         ),
-                                      ),
+                                  ),
                                 ),
                               ),
                             ),
@@ -194,7 +201,7 @@ all_kept hold distinct draft holds =
     let a = hold (checks draft) holds in
     let few = leb-true (length draft.groups) 8 (and_parts (nat_le 1 (length draft.groups)) _ a.1.0).1 in
     let groups : kept_groups draft.groups ≡ draft.groups = take_all 9 draft.groups (omega arith) in
-    let c = a.1.1.1.1.1.1.1.1.1.1 in
+    let c = a.1.1.1.1.1.1.1.1.1.1.1 in
     let messages = whole distinct draft.groups draft.messages few c.0 c.1.1.1.1.0 in
     ap (λ gs. kept_by gs draft) groups ∙ ap (with_messages draft) messages
 
@@ -249,45 +256,51 @@ form_kept (Some l) wrong past form keep =
       | Some value ↦ refl
     ]
 
-abbrev from_messages : ℕ → List (List ℕ) → ℕ → List DraftLink → ℕ → List DraftMessage × Place → Result (Scenario × Place) LineFault
-from_messages delay groups first_link links first messages =
-    form_at Target target_in messages.1 >>= λ target. said first_link first target.1 (draft_of delay groups links messages.0 target.0)
+abbrev from_messages : Time → Option ℕ → ℕ → List (List ℕ) → ℕ → List DraftLink → ℕ → List DraftMessage × Place → Result (Scenario × Place) LineFault
+from_messages time tick delay groups first_link links first messages =
+    form_at Target target_in messages.1 >>= λ target. said first_link first target.1 (draft_of time tick delay groups links messages.0 target.0)
 
-messages_kept : (hold : JudgedRulesHold) (distinct : DifferentNamesAreDistinct) (delay : ℕ) (groups : List (List ℕ)) (first_link : ℕ) (links : List DraftLink) (first : ℕ) (read : Result (List DraftMessage × Place) LineFault)
-    → ((read >>= λ messages. Ok (map (kept_message (kept_groups groups)) messages.0, messages.1)) >>= from_messages delay (kept_groups groups) first_link links first) ≡ (read >>= from_messages delay groups first_link links first)
-messages_kept hold distinct delay groups first_link links first (Err fault) = refl
-messages_kept hold distinct delay groups first_link links first (Ok messages) =
+messages_kept : (hold : JudgedRulesHold) (distinct : DifferentNamesAreDistinct) (time : Time) (tick : Option ℕ) (delay : ℕ) (groups : List (List ℕ)) (first_link : ℕ) (links : List DraftLink) (first : ℕ) (read : Result (List DraftMessage × Place) LineFault)
+    → ((read >>= λ messages. Ok (map (kept_message (kept_groups groups)) messages.0, messages.1)) >>= from_messages time tick delay (kept_groups groups) first_link links first) ≡ (read >>= from_messages time tick delay groups first_link links first)
+messages_kept hold distinct time tick delay groups first_link links first (Err fault) = refl
+messages_kept hold distinct time tick delay groups first_link links first (Ok messages) =
     then_same (form_at Target target_in messages.1)
-    (λ target. said first_link first target.1 (draft_of delay (kept_groups groups) links (map (kept_message (kept_groups groups)) messages.0) target.0))
-    (λ target. said first_link first target.1 (draft_of delay groups links messages.0 target.0))
-    (λ target. said_same hold distinct first_link first target.1 (draft_of delay groups links messages.0 target.0))
+    (λ target. said first_link first target.1 (draft_of time tick delay (kept_groups groups) links (map (kept_message (kept_groups groups)) messages.0) target.0))
+    (λ target. said first_link first target.1 (draft_of time tick delay groups links messages.0 target.0))
+    (λ target. said_same hold distinct first_link first target.1 (draft_of time tick delay groups links messages.0 target.0))
 
-abbrev from_groups : Version → ℕ → List (List ℕ) × Place → Result (Scenario × Place) LineFault
-from_groups version delay groups =
-    links_at version 0 groups.1 >>= λ links. messages_at 0 links.1 >>= from_messages delay groups.0 groups.1.number links.0 links.1.number
+abbrev from_groups : Version → Time → Option ℕ → ℕ → List (List ℕ) × Place → Result (Scenario × Place) LineFault
+from_groups version time tick delay groups =
+    links_at version 0 groups.1 >>= λ links. messages_at 0 links.1 >>= from_messages time tick delay groups.0 groups.1.number links.0 links.1.number
 
-abbrev from_kept : Version → ℕ → List (List ℕ) × Place → Result (Scenario × Place) LineFault
-from_kept version delay groups =
-    links_at version 0 groups.1 >>= λ links. kept_messages_at groups.0 0 links.1 >>= from_messages delay groups.0 groups.1.number links.0 links.1.number
+abbrev from_kept : Version → Time → Option ℕ → ℕ → List (List ℕ) × Place → Result (Scenario × Place) LineFault
+from_kept version time tick delay groups =
+    links_at version 0 groups.1 >>= λ links. kept_messages_at groups.0 0 links.1 >>= from_messages time tick delay groups.0 groups.1.number links.0 links.1.number
 
-groups_kept : (hold : JudgedRulesHold) (distinct : DifferentNamesAreDistinct) (version : Version) (delay : ℕ) (place : Place) → (form_at Groups kept_groups_in place >>= from_kept version delay) ≡ (form_at Groups groups_in place >>= from_groups version delay)
-groups_kept hold distinct version delay place =
-    ap (λ r. r >>= from_kept version delay) (form_kept (line_at place) (faults.Line place.number Groups) (past_line place) groups_in kept_groups)
-    ∙ then_kept (form_at Groups groups_in place) (kept kept_groups) (from_kept version delay)
-    ∙ then_same (form_at Groups groups_in place) (λ groups. from_kept version delay (kept kept_groups groups)) (from_groups version delay)
+groups_kept : (hold : JudgedRulesHold) (distinct : DifferentNamesAreDistinct) (version : Version) (time : Time) (tick : Option ℕ) (delay : ℕ) (place : Place) → (form_at Groups kept_groups_in place >>= from_kept version time tick delay) ≡ (form_at Groups groups_in place >>= from_groups version time tick delay)
+groups_kept hold distinct version time tick delay place =
+    ap (λ r. r >>= from_kept version time tick delay) (form_kept (line_at place) (faults.Line place.number Groups) (past_line place) groups_in kept_groups)
+    ∙ then_kept (form_at Groups groups_in place) (kept kept_groups) (from_kept version time tick delay)
+    ∙ then_same (form_at Groups groups_in place) (λ groups. from_kept version time tick delay (kept kept_groups groups)) (from_groups version time tick delay)
     (λ groups. then_same (links_at version 0 groups.1)
-    (λ links. kept_messages_at (kept_groups groups.0) 0 links.1 >>= from_messages delay (kept_groups groups.0) groups.1.number links.0 links.1.number)
-    (λ links. messages_at 0 links.1 >>= from_messages delay groups.0 groups.1.number links.0 links.1.number)
-    (λ links. messages_kept hold distinct delay groups.0 groups.1.number links.0 links.1.number (messages_at 0 links.1)))
+    (λ links. kept_messages_at (kept_groups groups.0) 0 links.1 >>= from_messages time tick delay (kept_groups groups.0) groups.1.number links.0 links.1.number)
+    (λ links. messages_at 0 links.1 >>= from_messages time tick delay groups.0 groups.1.number links.0 links.1.number)
+    (λ links. messages_kept hold distinct time tick delay groups.0 groups.1.number links.0 links.1.number (messages_at 0 links.1)))
 
 -- what the lines give with what is kept of them is what they give whole
 pub kept_scenario : (hold : JudgedRulesHold) (distinct : DifferentNamesAreDistinct) (version : Version) (place : Place) → kept_scenario_at version place ≡ scenario_at version place
 unfolding kept_scenario_at scenario_at
 kept_scenario hold distinct version place =
-    then_same (form_at Delay (number_in (codes "delay")) place)
-    (λ delay. form_at Groups kept_groups_in delay.1 >>= from_kept version delay.0)
-    (λ delay. form_at Groups groups_in delay.1 >>= from_groups version delay.0)
-    (λ delay. groups_kept hold distinct version delay.0 delay.1)
+    then_same (time_at version place)
+    (λ time. tick_at version time.1 >>= λ tick. form_at Delay (number_in (codes "delay")) tick.1 >>= λ delay. form_at Groups kept_groups_in delay.1 >>= from_kept version time.0 tick.0 delay.0)
+    (λ time. tick_at version time.1 >>= λ tick. form_at Delay (number_in (codes "delay")) tick.1 >>= λ delay. form_at Groups groups_in delay.1 >>= from_groups version time.0 tick.0 delay.0)
+    (λ time. then_same (tick_at version time.1)
+    (λ tick. form_at Delay (number_in (codes "delay")) tick.1 >>= λ delay. form_at Groups kept_groups_in delay.1 >>= from_kept version time.0 tick.0 delay.0)
+    (λ tick. form_at Delay (number_in (codes "delay")) tick.1 >>= λ delay. form_at Groups groups_in delay.1 >>= from_groups version time.0 tick.0 delay.0)
+    (λ tick. then_same (form_at Delay (number_in (codes "delay")) tick.1)
+    (λ delay. form_at Groups kept_groups_in delay.1 >>= from_kept version time.0 tick.0 delay.0)
+    (λ delay. form_at Groups groups_in delay.1 >>= from_groups version time.0 tick.0 delay.0)
+    (λ delay. groups_kept hold distinct version time.0 tick.0 delay.0 delay.1)))
 
 pub multicast_kept : (groups : List (List ℕ)) (place : Place)
     → form_at Multicast (kept_multicast_in groups) place ≡ (form_at Multicast multicast_in place >>= λ next. Ok (kept_message groups next.0, next.1))

@@ -6,6 +6,7 @@ pub mod Messages
 pub mod Texts
 pub mod FormLaws
 pub mod LineLaws
+pub mod TickLines
 pub mod DraftLaws
 pub mod ScenarioTakes
 pub mod ScenarioAgain

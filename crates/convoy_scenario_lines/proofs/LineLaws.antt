@@ -32,6 +32,9 @@ AreWords words = AllByRecursion IsWord words
 abbrev pub AreLines : List (List ℕ) → Type 0
 AreLines lines = AllByRecursion IsLine lines
 
+pub tick_word : IsWord (codes "tick")
+tick_word = record { some = omega arith; spaceless = refl; endless = refl }
+
 pub delay_word : IsWord (codes "delay")
 delay_word = record { some = omega arith; spaceless = refl; endless = refl }
 

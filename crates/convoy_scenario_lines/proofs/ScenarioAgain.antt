@@ -1,5 +1,5 @@
 -- The lines of a scenario are read again.
-use Rattle.std.proofs.Common.{◌≡◌, ℕ, zero, suc, ◌+◌, ◌<◌, ◌≤◌, ◌==◌, ◌&&◌, ◌||◌, not, true, false, leb, le-leb, List, [], ◌∷◌, ◌++◌, length, get_or, map, filter, All, Option, Some, None, Result, Ok, refl, ap, sym, ◌∙◌, arith, inl, inr, codes, decimal}
+use Rattle.std.proofs.Common.{◌≡◌, ℕ, zero, suc, ◌+◌, ◌<◌, ◌≤◌, ◌==◌, ◌&&◌, ◌||◌, not, true, false, leb, le-leb, List, [], ◌∷◌, ◌++◌, length, get_or, map, filter, All, Option, Some, None, Result, Ok, append_assoc, refl, ap, sym, ◌∙◌, arith, inl, inr, codes, decimal}
 use Rattle.std.specs.List.{list_all}
 use Rattle.std.specs.Str.{bytes_eq}
 use Rattle.std.proofs.lemmas.Bool.{and_parts, and_from, or_cases, or_from, or_right, eqb-true, ne_eqb, leb-true, not-true, false≢true}
@@ -12,29 +12,34 @@ use Rattle.convoy_scenario_lines.specs.declared.line_fault.Expected.{Expected}
 use Rattle.convoy_scenario_lines.specs.declared.line_fault.Expected.TheVariants.{Delay, Groups, Link, Multicast, Target}
 use Rattle.convoy_scenario_lines.specs.declared.line_fault.LineFault.{LineFault}
 use Rattle.convoy_scenario_lines.specs.declared.version.Version.{Version}
-use Rattle.convoy_scenario_lines.specs.declared.version.Version.TheVariants.{One, Two}
+use Rattle.convoy_scenario_lines.specs.declared.version.Version.TheVariants.{One, Two, Three}
+use Rattle.convoy_scenario.specs.declared.time.Time.{Time}
+use Rattle.convoy_scenario.specs.declared.time.Time.TheVariants.{Ticks, Real}
 use Rattle.convoy_scenario.specs.declared.sender.Sender.{Sender}
 use Rattle.convoy_scenario.specs.declared.sender.Sender.TheVariants.{Client, Group}
 use Rattle.convoy_scenario.specs.Scenario as plans
 use Rattle.convoy_scenario.specs.Scenario.{Scenario, Message, message_at, group_name_at, no_message}
-use Rattle.convoy_scenario.specs.WellFormed.{is_letter, is_digit, is_name_byte, is_name, is_group_name, client_word, IsSender, IsLink, IsMulticast, IsScenario}
+use Rattle.convoy_scenario.specs.WellFormed.{is_tick, is_letter, is_digit, is_name_byte, is_name, is_group_name, client_word, IsSender, IsLink, IsMulticast, IsScenario}
 use Rattle.convoy_scenario.specs.Checks.{checks, is_among, judge}
 use Rattle.convoy_scenario.specs.Laws.{LinksAreFew}
-use Rattle.convoy_scenario_lines.specs.Laws.{CanSay}
+use Rattle.convoy_scenario_lines.specs.Laws.{time_of, CanSayLinks, CanSay}
+use Rattle.convoy_scenario.specs.Durations.{count_of, unit_of, unit_word}
+use Rattle.convoy_scenario.specs.declared.duration.TheConstants.{LONGEST_DURATION, MOST_UNITS}
 use Rattle.convoy_scenario.specs.Numbering.{delay_of_draft, message_of, numbers_of, scenario_of, scenario_of_draft}
-use Rattle.convoy_scenario_lines.specs.Lines.{delay_line, groups_line, link_line, multicast_line, target_line, scenario_lines}
+use Rattle.convoy_scenario_lines.specs.Lines.{time_lines, tick_line, tick_lines, lines_from_delay, delay_line, groups_line, link_line, multicast_line, target_line, scenario_lines}
 use Rattle.convoy_lines.specs.Labels.{greatest_number, begins_with, number_in}
 use Rattle.convoy_scenario_lines.specs.LineForms.{name_of, named_sender, greatest_delay_number, groups_in, link_in, multicast_in, target_in}
 use Rattle.convoy_lines.specs.Words.{Lacks, words_of}
 use Rattle.convoy_lines.specs.Results.{◌>>=◌}
 use Rattle.convoy_lines.specs.Places.{Place, upcoming}
-use Rattle.convoy_scenario_lines.specs.LineReading.{form_at, is_link_due, links_in, links_at, first_misplaced_link, is_multicast_due, messages_in, messages_at, told, is_ordered, first_unordered, where_ordered, scenario_at}
+use Rattle.convoy_scenario_lines.specs.LineReading.{form_at, time_at, is_tick_due, tick_at, is_link_due, links_in, links_at, first_misplaced_link, is_multicast_due, messages_in, messages_at, told, is_ordered, first_unordered, where_ordered, scenario_at}
 use Rattle.convoy_scenario.specs.Naming.{draft_for, draft_link, draft_message, sender_name, sender_word}
 use Rattle.convoy_scenario_lines.proofs.DraftLaws.{DraftLaws}
 use Rattle.convoy_scenario_lines.proofs.LinkOrder.{none_misplaced}
-use Rattle.convoy_scenario_lines.proofs.ScenarioTakes.{of_draft, named, count_lines, lines_before, after_delay, after_groups, after_links, after_messages, after_target}
+use Rattle.convoy_scenario_lines.proofs.TickLines.{tick_words, tick_again}
+use Rattle.convoy_scenario_lines.proofs.ScenarioTakes.{of_draft, named, count_lines, count_all, lines_before, after_time, after_tick, after_delay, after_groups, after_links, after_messages, after_target}
 use Rattle.convoy_lines.specs.Laws.{IsWord}
-use Rattle.convoy_scenario_lines.proofs.LineLaws.{LineLaws, AreWords, AreLines, delay_word, groups_word, link_word, multicast_word, target_word, number_again, decimal_word, words_again, line_made, label_again, number_line_again}
+use Rattle.convoy_scenario_lines.proofs.LineLaws.{LineLaws, AreWords, AreLines, tick_word, delay_word, groups_word, link_word, multicast_word, target_word, number_again, decimal_word, words_again, line_made, label_again, number_line_again}
 
 -- ---- names are words
 
@@ -102,6 +107,20 @@ at_numbers groups (g ∷ ds) all known =
 
 client_is : IsWord client_word
 client_is = record { some = omega arith; spaceless = refl; endless = refl }
+
+-- what is known of a tick that has a length
+record IsLong (time : Time) (tick : ℕ) : Type 0 where
+  real : time ≡ Real
+  some : 1 ≤ tick
+  short : tick ≤ LONGEST_DURATION
+  few : count_of tick ≤ MOST_UNITS
+
+long : (time : Time) (tick : ℕ) → is_tick time (Some tick) ≡ true → IsLong time tick
+long Ticks tick e = absurd (false≢true e)
+long Real tick e =
+    let p = and_parts (leb 1 tick && leb tick LONGEST_DURATION) (leb (count_of tick) MOST_UNITS) e in
+    let q = and_parts (leb 1 tick) (leb tick LONGEST_DURATION) p.0 in
+    record { real = refl; some = leb-true 1 tick q.0; short = leb-true tick LONGEST_DURATION q.1; few = leb-true (count_of tick) MOST_UNITS p.1 }
 
 module _ (laws : LineLaws) where
   delay_again : (plan : Scenario) → IsScenario plan → number_in (codes "delay") (delay_line plan) ≡ Some plan.delay
@@ -184,13 +203,17 @@ module _ (laws : LineLaws) where
       or_from (n == 0) (begins_with (codes "multicast") (words_of (target_line plan))) (ne_eqb n 0 (λ e. omega arith)) (ap (begins_with (codes "multicast")) words)
 
   -- a line `multicast` is no line `link`
-  no_link : (plan : Scenario) (m : Message) → IsScenario plan → IsMulticast (length plan.groups) m → (version : Version) → is_link_due version (multicast_line plan m) ≡ false
-  no_link plan m s is One = refl
-  no_link plan m s is Two =
+  begins_otherwise : (plan : Scenario) (m : Message) → IsScenario plan → IsMulticast (length plan.groups) m → begins_with (codes "link") (words_of (multicast_line plan m)) ≡ false
+  begins_otherwise plan m s is =
       let sender = sender_is plan m.sender s.group_names is.sender in
       let to = names_words (map (group_name_at plan) m.destinations) (at_numbers plan.groups m.destinations s.group_names is.known) in
       ap (begins_with (codes "link")) (words_again laws (codes "multicast") (m.name ∷ sender_word plan m.sender ∷ decimal m.at ∷ map (group_name_at plan) m.destinations) multicast_word
       (name_word m.name is.name, (sender.0, (decimal_word laws m.at (omega (arith, is.at)), to.0))))
+
+  no_link : (plan : Scenario) (m : Message) → IsScenario plan → IsMulticast (length plan.groups) m → (version : Version) → is_link_due version (multicast_line plan m) ≡ false
+  no_link plan m s is One = refl
+  no_link plan m s is Two = begins_otherwise plan m s is
+  no_link plan m s is Three = begins_otherwise plan m s is
 
   -- the first line after those of the links
   none_due : (plan : Scenario) (ms : List Message) (t : List ℕ) (more : List (List ℕ)) (rest : List ℕ) (number : ℕ) (version : Version) → IsScenario plan → All (IsMulticast (length plan.groups)) ms → 1 ≤ length ms
@@ -204,24 +227,24 @@ module _ (laws : LineLaws) where
   over version count number rest [] other = rw other refl
   over version count number rest (line ∷ lines) other = rw other refl
 
-  link_begins : (plan : Scenario) (l : plans.Link) → IsScenario plan → IsLink (length plan.groups) plan.delay l → is_link_due Two (link_line plan l) ≡ true
+  link_begins : (plan : Scenario) (l : plans.Link) → IsScenario plan → IsLink (length plan.groups) plan.delay l → begins_with (codes "link") (words_of (link_line plan l)) ≡ true
   link_begins plan l s is =
       ap (begins_with (codes "link")) (words_again laws (codes "link") (sender_word plan l.sender ∷ group_name_at plan l.to ∷ decimal l.least ∷ decimal l.most ∷ []) link_word (link_words plan l s is))
 
-  lines_of_links : (plan : Scenario) (ls : List plans.Link) (lines : List (List ℕ)) (rest : List ℕ) (count number : ℕ) → IsScenario plan → All (IsLink (length plan.groups) plan.delay) ls
-      → ((n : ℕ) → is_link_due Two (upcoming (record { ended = lines; rest = rest; number = n })) ≡ false) → count + length ls ≤ MOST_LINKS
-      → links_in Two count number rest (map (link_line plan) ls ++ lines) ≡ Ok (map (draft_link plan) ls, record { ended = lines; rest = rest; number = number + length ls })
+  lines_of_links : (version : Version) → ((line : List ℕ) → is_link_due version line ≡ begins_with (codes "link") (words_of line)) → (plan : Scenario) (ls : List plans.Link) (lines : List (List ℕ)) (rest : List ℕ) (count number : ℕ) → IsScenario plan → All (IsLink (length plan.groups) plan.delay) ls
+      → ((n : ℕ) → is_link_due version (upcoming (record { ended = lines; rest = rest; number = n })) ≡ false) → count + length ls ≤ MOST_LINKS
+      → links_in version count number rest (map (link_line plan) ls ++ lines) ≡ Ok (map (draft_link plan) ls, record { ended = lines; rest = rest; number = number + length ls })
   unfolding links_in
-  lines_of_links plan [] lines rest count number s are other few =
+  lines_of_links version has plan [] lines rest count number s are other few =
       let e : number + 0 ≡ number = omega arith in
-      rw e (over Two count number rest lines (other number))
-  lines_of_links plan (l ∷ ls) lines rest count number s are other few =
+      rw e (over version count number rest lines (other number))
+  lines_of_links version has plan (l ∷ ls) lines rest count number s are other few =
       let is = All-head (IsLink (length plan.groups) plan.delay) l ls are in
       let e : number + suc (length ls) ≡ (number + 1) + length ls = omega arith in
       let below : (count == MOST_LINKS) ≡ false = ne_eqb count MOST_LINKS (λ e. omega arith) in
-      rw (link_begins plan l s is, link_line_again plan l s is, below, lines_of_links plan ls lines rest (count + 1) (number + 1) s (All-tail (IsLink (length plan.groups) plan.delay) l ls are) other (omega arith), e) refl
+      rw (has (link_line plan l) ∙ link_begins plan l s is, link_line_again plan l s is, below, lines_of_links version has plan ls lines rest (count + 1) (number + 1) s (All-tail (IsLink (length plan.groups) plan.delay) l ls are) other (omega arith), e) refl
 
-  pub links_read : (few : LinksAreFew) (version : Version) (plan : Scenario) (t : List ℕ) (more : List (List ℕ)) (rest : List ℕ) (number : ℕ) → IsScenario plan → CanSay version plan
+  pub links_read : (few : LinksAreFew) (version : Version) (plan : Scenario) (t : List ℕ) (more : List (List ℕ)) (rest : List ℕ) (number : ℕ) → IsScenario plan → CanSayLinks version plan.links
       → links_in version 0 number rest (map (link_line plan) plan.links ++ (map (multicast_line plan) plan.multicasts ++ t ∷ more))
       ≡ Ok (map (draft_link plan) plan.links, record { ended = map (multicast_line plan) plan.multicasts ++ t ∷ more; rest = rest; number = number + length plan.links })
   links_read few One plan t more rest number s none =
@@ -229,7 +252,10 @@ module _ (laws : LineLaws) where
       let e : number + 0 ≡ number = omega arith in
       rw (none, e) (over One 0 number rest lines refl)
   links_read few Two plan t more rest number s any =
-      lines_of_links plan plan.links (map (multicast_line plan) plan.multicasts ++ t ∷ more) rest 0 number s s.links (λ n. none_due plan plan.multicasts t more rest n Two s s.messages s.multicasts_low)
+      lines_of_links Two (λ line. refl) plan plan.links (map (multicast_line plan) plan.multicasts ++ t ∷ more) rest 0 number s s.links (λ n. none_due plan plan.multicasts t more rest n Two s s.messages s.multicasts_low)
+      (omega (arith, few plan s))
+  links_read few Three plan t more rest number s any =
+      lines_of_links Three (λ line. refl) plan plan.links (map (multicast_line plan) plan.multicasts ++ t ∷ more) rest 0 number s s.links (λ n. none_due plan plan.multicasts t more rest n Three s s.messages s.multicasts_low)
       (omega (arith, few plan s))
 
   -- no link is out of order
@@ -259,6 +285,36 @@ module _ (laws : LineLaws) where
       → form_at expected form (record { ended = line ∷ lines; rest = rest; number = number }) ≡ Ok (x, record { ended = lines; rest = rest; number = number + 1 })
   form_again expected form number rest line lines x e = rw e refl
 
+  -- the line of time, if there is one
+  time_again : (version : Version) (time : Time) (number : ℕ) (rest : List ℕ) (ls more : List (List ℕ)) → time ≡ time_of version
+      → time_at version (record { ended = (time_lines time ++ ls) ++ more; rest = rest; number = number }) ≡ Ok (time, record { ended = ls ++ more; rest = rest; number = number + length (time_lines time) })
+  time_again One time number rest ls more is = let e : number + 0 ≡ number = omega arith in rw (is, e) refl
+  time_again Two time number rest ls more is = let e : number + 0 ≡ number = omega arith in rw (is, e) refl
+  time_again Three time number rest ls more is = rw is refl
+
+  -- the line `delay` is no line `tick`
+  no_tick : (version : Version) (plan : Scenario) → IsScenario plan → is_tick_due version (delay_line plan) ≡ false
+  no_tick One plan s = refl
+  no_tick Two plan s = refl
+  no_tick Three plan s =
+      ap (begins_with (codes "tick")) (words_again laws (codes "delay") (decimal plan.delay ∷ []) delay_word (decimal_word laws plan.delay (omega (arith, s.delay_high)), tt))
+
+  tick_due : (version : Version) (time : Time) (tick : ℕ) → time ≡ time_of version → IsLong time tick → is_tick_due version (tick_line tick) ≡ true
+  tick_due One time tick said is = let no : Ticks ≡ Real = sym said ∙ is.real in absurd cc
+  tick_due Two time tick said is = let no : Ticks ≡ Real = sym said ∙ is.real in absurd cc
+  tick_due Three time tick said is =
+      ap (begins_with (codes "tick")) (words_again laws (codes "tick") (decimal (count_of tick) ∷ unit_word (unit_of tick) ∷ []) tick_word (tick_words laws tick is.few))
+
+  -- the line of a tick's length, if there is one
+  length_again : (version : Version) (plan : Scenario) (tick : Option ℕ) (number : ℕ) (rest : List ℕ) (more : List (List ℕ)) → IsScenario plan → plan.time ≡ time_of version → is_tick plan.time tick ≡ true
+      → tick_at version (record { ended = tick_lines tick ++ delay_line plan ∷ more; rest = rest; number = number }) ≡ Ok (tick, record { ended = delay_line plan ∷ more; rest = rest; number = number + length (tick_lines tick) })
+  length_again version plan None number rest more s said e =
+      let z : number + 0 ≡ number = omega arith in
+      rw (no_tick version plan s, z) refl
+  length_again version plan (Some tick) number rest more s said e =
+      let is = long plan.time tick e in
+      rw (tick_due version plan.time tick said is, tick_again laws tick is.some is.short is.few) refl
+
   pub scenario_again : (drafts : DraftLaws) (version : Version) (plan : Scenario) (number : ℕ) (rest : List ℕ) (more : List (List ℕ)) → IsScenario plan → CanSay version plan → plan.target_group < length plan.groups
       → scenario_at version (record { ended = scenario_lines plan ++ more; rest = rest; number = number }) ≡ Ok (plan, record { ended = more; rest = rest; number = number + length (scenario_lines plan) })
   unfolding scenario_at
@@ -270,31 +326,41 @@ module _ (laws : LineLaws) where
       let many = length plan.links in
       let lines : List (List ℕ) = map (multicast_line plan) plan.multicasts ++ target_line plan ∷ more in
       let linked : List (List ℕ) = map (link_line plan) plan.links ++ lines in
-      let p0 : Place = record { ended = delay_line plan ∷ groups_line plan ∷ linked; rest = rest; number = number } in
-      let p1 : Place = record { ended = groups_line plan ∷ linked; rest = rest; number = number + 1 } in
-      let p2 : Place = record { ended = linked; rest = rest; number = number + 1 + 1 } in
-      let p3 : Place = record { ended = lines; rest = rest; number = number + 1 + 1 + many } in
-      let p4 : Place = record { ended = target_line plan ∷ more; rest = rest; number = number + 1 + 1 + many + count } in
-      let p5 : Place = record { ended = more; rest = rest; number = number + 1 + 1 + many + count + 1 } in
-      let start : record { ended = scenario_lines plan ++ more; rest = rest; number = number } ≡ p0 =
-      ap (λ (ls : List (List ℕ)). record { ended = ls; rest = rest; number = number }) (lines_before plan more) in
-      let read : scenario_at version p0 ≡ Ok (plan, p5) =
-      then_ok (form_at Delay (number_in (codes "delay")) p0) (after_delay version)
-      (plan.delay, p1) (Ok (plan, p5)) (form_again Delay (number_in (codes "delay")) number rest (delay_line plan) (groups_line plan ∷ linked) plan.delay (delay_again plan s))
-      (then_ok (form_at Groups groups_in p1) (after_groups version plan.delay)
-      (plan.groups, p2) (Ok (plan, p5)) (form_again Groups groups_in (number + 1) rest (groups_line plan) linked plan.groups (groups_again plan s))
-      (then_ok (links_at version 0 p2) (after_links plan.delay p2.number plan.groups)
-      (ls, p3) (Ok (plan, p5)) (links_read drafts.few version plan (target_line plan) more rest (number + 1 + 1) s said)
-      (then_ok (messages_at 0 p3) (after_messages plan.delay p2.number plan.groups ls p3.number)
+      let second = number + length (time_lines plan.time) in
+      let first = second + length (tick_lines plan.tick) in
+      let start : Place = record { ended = scenario_lines plan ++ more; rest = rest; number = number } in
+      let q0 : Place = record { ended = tick_lines plan.tick ++ delay_line plan ∷ groups_line plan ∷ linked; rest = rest; number = second } in
+      let p0 : Place = record { ended = delay_line plan ∷ groups_line plan ∷ linked; rest = rest; number = first } in
+      let p1 : Place = record { ended = groups_line plan ∷ linked; rest = rest; number = first + 1 } in
+      let p2 : Place = record { ended = linked; rest = rest; number = first + 1 + 1 } in
+      let p3 : Place = record { ended = lines; rest = rest; number = first + 1 + 1 + many } in
+      let p4 : Place = record { ended = target_line plan ∷ more; rest = rest; number = first + 1 + 1 + many + count } in
+      let p5 : Place = record { ended = more; rest = rest; number = first + 1 + 1 + many + count + 1 } in
+      let timed : time_at version start ≡ Ok (plan.time, q0) =
+      time_again version plan.time number rest (tick_lines plan.tick ++ lines_from_delay plan) more said.time
+      ∙ ap (λ (ls : List (List ℕ)). Ok (plan.time, record { ended = ls; rest = rest; number = second }))
+      (append_assoc (tick_lines plan.tick) (lines_from_delay plan) more ∙ ap (λ ls. tick_lines plan.tick ++ ls) (lines_before plan more)) in
+      let read : scenario_at version start ≡ Ok (plan, p5) =
+      then_ok (time_at version start) (after_time version)
+      (plan.time, q0) (Ok (plan, p5)) timed
+      (then_ok (tick_at version q0) (after_tick version plan.time)
+      (plan.tick, p0) (Ok (plan, p5)) (length_again version plan plan.tick second rest (groups_line plan ∷ linked) s said.time s.tick)
+      (then_ok (form_at Delay (number_in (codes "delay")) p0) (after_delay version plan.time plan.tick)
+      (plan.delay, p1) (Ok (plan, p5)) (form_again Delay (number_in (codes "delay")) first rest (delay_line plan) (groups_line plan ∷ linked) plan.delay (delay_again plan s))
+      (then_ok (form_at Groups groups_in p1) (after_groups version plan.time plan.tick plan.delay)
+      (plan.groups, p2) (Ok (plan, p5)) (form_again Groups groups_in (first + 1) rest (groups_line plan) linked plan.groups (groups_again plan s))
+      (then_ok (links_at version 0 p2) (after_links plan.time plan.tick plan.delay p2.number plan.groups)
+      (ls, p3) (Ok (plan, p5)) (links_read drafts.few version plan (target_line plan) more rest (first + 1 + 1) s said.links)
+      (then_ok (messages_at 0 p3) (after_messages plan.time plan.tick plan.delay p2.number plan.groups ls p3.number)
       (ms, p4) (Ok (plan, p5)) (messages_again plan plan.multicasts (target_line plan) more rest 0 p3.number s s.messages (not_due plan s within) (omega (arith, s.multicasts_high)) (omega (arith, s.multicasts_low)))
-      (then_ok (form_at Target target_in p4) (after_target plan.delay p2.number plan.groups ls p3.number ms)
+      (then_ok (form_at Target target_in p4) (after_target plan.time plan.tick plan.delay p2.number plan.groups ls p3.number ms)
       (target, p5) (Ok (plan, p5)) (form_again Target target_in p4.number rest (target_line plan) more target (target_line_again plan s within))
       (then_ok (told (scenario_of_draft (draft_for plan))) (λ plan'. where_ordered Link (first_misplaced_link p2.number (draft_for plan)) plan' >>= λ linked. where_ordered Multicast (first_unordered plan.groups p3.number ms) linked >>= λ ordered. Ok (ordered, p5))
       plan (Ok (plan, p5)) (ap told (drafts.drafted plan s))
       (ap (λ o. where_ordered Link o plan >>= λ linked. where_ordered Multicast (first_unordered plan.groups p3.number ms) linked >>= λ ordered. Ok (ordered, p5)) (none_astray drafts plan p2.number s)
-      ∙ ap (λ o. where_ordered Multicast o plan >>= λ ordered. Ok (ordered, p5)) (none_unordered plan p3.number plan.multicasts (ap (λ (p : Scenario). p.multicasts) (numbered_again drafts plan s))))))))) in
-      let past : p5.number ≡ number + length (scenario_lines plan) = omega (arith, count_lines plan) in
-      ap (scenario_at version) start ∙ read ∙ ap (λ n. Ok (plan, record { ended = more; rest = rest; number = n })) past
+      ∙ ap (λ o. where_ordered Multicast o plan >>= λ ordered. Ok (ordered, p5)) (none_unordered plan p3.number plan.multicasts (ap (λ (p : Scenario). p.multicasts) (numbered_again drafts plan s))))))))))) in
+      let past : p5.number ≡ number + length (scenario_lines plan) = omega (arith, count_lines plan, count_all plan) in
+      read ∙ ap (λ n. Ok (plan, record { ended = more; rest = rest; number = n })) past
 
   -- ---- no line has a byte 10 in it
 
@@ -319,8 +385,16 @@ module _ (laws : LineLaws) where
       let is = All-head (IsLink (length plan.groups) plan.delay) l ls are in
       (line_made laws (codes "link") (sender_word plan l.sender ∷ group_name_at plan l.to ∷ decimal l.least ∷ decimal l.most ∷ []) link_word (link_words plan l s is), link_lines plan ls s (All-tail (IsLink (length plan.groups) plan.delay) l ls are))
 
-  pub scenario_lines_are : (plan : Scenario) → IsScenario plan → plan.target_group < length plan.groups → AreLines (scenario_lines plan)
-  scenario_lines_are plan s within =
+  time_lines_are : (time : Time) → AreLines (time_lines time)
+  time_lines_are Ticks = tt
+  time_lines_are Real = (refl, tt)
+
+  tick_lines_are : (time : Time) (tick : Option ℕ) → is_tick time tick ≡ true → AreLines (tick_lines tick)
+  tick_lines_are time None e = tt
+  tick_lines_are time (Some tick) e = (line_made laws (codes "tick") (decimal (count_of tick) ∷ unit_word (unit_of tick) ∷ []) tick_word (tick_words laws tick (long time tick e).few), tt)
+
+  lines_from_delay_are : (plan : Scenario) → IsScenario plan → plan.target_group < length plan.groups → AreLines (lines_from_delay plan)
+  lines_from_delay_are plan s within =
       let m = target_name_is plan s in
       let g = group_name (group_name_at plan plan.target_group) (All-get_or (λ name. is_group_name name ≡ true) plan.groups plan.target_group [] within s.group_names) in
       let target : Lacks 10 (target_line plan) = line_made laws (codes "target") ((message_at plan plan.target_message).name ∷ group_name_at plan plan.target_group ∷ []) target_word (name_word _ m, (name_word _ g.0, tt)) in (
@@ -331,3 +405,8 @@ module _ (laws : LineLaws) where
               (lines_append (map (multicast_line plan) plan.multicasts) (target_line plan ∷ []) (message_lines plan plan.multicasts s s.messages) (target, tt)),
         ),
       )
+
+  pub scenario_lines_are : (plan : Scenario) → IsScenario plan → plan.target_group < length plan.groups → AreLines (scenario_lines plan)
+  scenario_lines_are plan s within =
+      lines_append (time_lines plan.time) (tick_lines plan.tick ++ lines_from_delay plan) (time_lines_are plan.time)
+      (lines_append (tick_lines plan.tick) (lines_from_delay plan) (tick_lines_are plan.time plan.tick s.tick) (lines_from_delay_are plan s within))

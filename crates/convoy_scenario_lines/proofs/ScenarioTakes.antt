@@ -5,37 +5,42 @@ use Rattle.std.specs.Result.{result_and}
 use Rattle.std.specs.Str.{bytes_eq}
 use Rattle.std.proofs.lemmas.Bool.{and_parts, and_from, cases_Bool, false≢true, le-leb, leb-true}
 use Rattle.std.proofs.lemmas.List.{length-append, length-map}
+use Rattle.std.proofs.lemmas.Option.{cond_some}
 use Rattle.std.proofs.lemmas.Slice.Eq.{slice_eq-Decides, bytes_eq-Decides}
 use Rattle.convoy_scenario.specs.declared.fault.ScenarioFault.{ScenarioFault}
-use Rattle.convoy_scenario.specs.declared.limits.TheConstants.{GREATEST_AT, GREATEST_DELAY, MOST_LINKS, MOST_MULTICASTS}
+use Rattle.convoy_scenario.specs.declared.limits.TheConstants.{GREATEST_AT, GREATEST_DELAY, GREATEST_WHOLE_DELAY, MOST_LINKS, MOST_MULTICASTS}
 use Rattle.convoy_scenario_lines.specs.declared.line_fault.Expected.{Expected}
-use Rattle.convoy_scenario_lines.specs.declared.line_fault.Expected.TheVariants.{Delay, Groups, Link, Multicast, Target}
+use Rattle.convoy_scenario_lines.specs.declared.line_fault.Expected.TheVariants as expected
+use Rattle.convoy_scenario_lines.specs.declared.line_fault.Expected.TheVariants.{Tick, Delay, Groups, Link, Multicast, Target}
 use Rattle.convoy_scenario_lines.specs.declared.line_fault.LineFault.{LineFault}
 use Rattle.convoy_scenario_lines.specs.declared.line_fault.LineFault.TheVariants as faults
 use Rattle.convoy_scenario_lines.specs.declared.version.Version.{Version}
-use Rattle.convoy_scenario_lines.specs.declared.version.Version.TheVariants.{One, Two}
+use Rattle.convoy_scenario_lines.specs.declared.version.Version.TheVariants.{One, Two, Three}
+use Rattle.convoy_scenario.specs.declared.time.Time.{Time}
+use Rattle.convoy_scenario.specs.declared.time.Time.TheVariants.{Ticks, Real}
 use Rattle.convoy_scenario.specs.declared.fault.ScenarioFault.TheVariants.{OverLimit}
 use Rattle.convoy_scenario.specs.declared.fault.Limit.TheVariants as limit
 use Rattle.convoy_scenario.specs.Draft.{Draft, DraftLink, DraftMessage}
 use Rattle.convoy_scenario.specs.Laws.{NamesHavePlaces}
 use Rattle.convoy_scenario.specs.Naming.{sender_word}
 use Rattle.convoy_scenario.specs.Scenario.{Scenario, message_at}
-use Rattle.convoy_scenario.specs.WellFormed.{is_name, is_group_name, client_word, IsScenario}
-use Rattle.convoy_scenario_lines.specs.Laws.{CanSay, IsBetween}
+use Rattle.convoy_scenario.specs.WellFormed.{greatest_delay, is_name, is_group_name, client_word, IsScenario}
+use Rattle.convoy_scenario_lines.specs.Laws.{time_of, CanSayLinks, CanSay, IsBetween}
 use Rattle.convoy_scenario.specs.Checks.{checks, judge, is_within, is_among, is_known_sender, knows, has_range, knows_link, is_message}
 use Rattle.convoy_scenario.specs.Numbering as numbering
 use Rattle.convoy_scenario.specs.Numbering.{place, ticks, numbers_of, link_of, message_of, in_order, delay_of_draft, links_of_draft, scenario_of, scenario_of_draft}
 use Rattle.convoy_lines.specs.Texts.{line_of}
-use Rattle.convoy_scenario_lines.specs.Lines.{delay_line, groups_line, link_line, multicast_line, target_line, scenario_lines}
+use Rattle.convoy_scenario_lines.specs.Lines.{time_line, time_lines, tick_lines, lines_from_delay, delay_line, groups_line, link_line, multicast_line, target_line, scenario_lines}
 use Rattle.convoy_lines.specs.Labels.{number_in}
-use Rattle.convoy_scenario_lines.specs.LineForms.{name_of, named_sender, groups_in, link_in, multicast_in, target_in}
+use Rattle.convoy_scenario_lines.specs.LineForms.{name_of, named_sender, time_in, tick_in, groups_in, link_in, multicast_in, target_in}
 use Rattle.convoy_lines.specs.Results.{◌>>=◌}
-use Rattle.convoy_lines.specs.Places.{Place}
-use Rattle.convoy_scenario_lines.specs.LineReading.{form_at, is_link_due, links_in, links_at, first_misplaced_link, messages_in, messages_at, is_multicast_due, draft_of, told, is_ordered, first_unordered, where_ordered, scenario_at}
+use Rattle.convoy_lines.specs.Places.{Place, upcoming}
+use Rattle.convoy_scenario_lines.specs.LineReading.{form_at, time_at, is_tick_due, tick_at, is_link_due, links_in, links_at, first_misplaced_link, messages_in, messages_at, is_multicast_due, draft_of, told, is_ordered, first_unordered, where_ordered, scenario_at}
 use Rattle.convoy_scenario_lines.proofs.FormLaws.{Says, SaysLink, link_takes, message_takes, name_takes, names_take, groups_take, target_takes}
 use Rattle.convoy_scenario_lines.proofs.DraftLaws.{DraftLaws}
 use Rattle.convoy_scenario_lines.proofs.LineLaws.{LineLaws, delay_word, number_line_takes}
 use Rattle.convoy_scenario_lines.proofs.LinkOrder.{placed}
+use Rattle.convoy_scenario_lines.proofs.TickLines.{tick_takes}
 
 -- ---- the destinations
 
@@ -215,6 +220,52 @@ took_at {A} expected form number rest (line ∷ lines) x e =
 pub took : {A : Type 0} (expected : Expected) (form : List ℕ → Option A) (p : Place) (x : A × Place) → form_at expected form p ≡ Ok x → Took form p x
 took expected form p x e = took_at expected form p.number p.rest p.ended x e
 
+-- what a version had to say of time
+record TookTime (version : Version) (p : Place) (x : Time × Place) : Type 0 where
+  ended : p.ended ≡ time_lines x.0 ++ x.1.ended
+  rest : p.rest ≡ x.1.rest
+  number : p.number + length (time_lines x.0) ≡ x.1.number
+  said : x.0 ≡ time_of version
+
+no_time : (version : Version) (p : Place) (x : Time × Place) → Ticks ≡ time_of version → ◌≡◌ {A = Result (Time × Place) LineFault} (Ok (Ticks, p)) (Ok x) → TookTime version p x
+no_time version p x ticks e = subst (TookTime version p) (same_ok (Ticks, p) x e) (record { ended = refl; rest = refl; number = omega arith; said = ticks })
+
+real_takes : (line : List ℕ) (time : Time) → time_in line ≡ Some time → (line ≡ time_line) × (time ≡ Real)
+real_takes line time e =
+    let taken = cond_some (bytes_eq line time_line) Real time e in
+    ((bytes_eq-Decides line time_line).0 taken.0, sym taken.1)
+
+time_takes : (version : Version) (p : Place) (x : Time × Place) → time_at version p ≡ Ok x → TookTime version p x
+time_takes One p x e = no_time One p x refl e
+time_takes Two p x e = no_time Two p x refl e
+time_takes Three p x e =
+    let t = took expected.Time time_in p x e in
+    let says = real_takes t.line x.0 t.has in
+    let line : t.line ∷ x.1.ended ≡ time_lines x.0 ++ x.1.ended = rw (says.0, says.1) refl in
+    let one : length (time_lines x.0) ≡ 1 = rw says.1 refl in
+    record { ended = t.ended ∙ line; rest = t.rest; number = omega (arith, one, t.number); said = says.1 }
+
+-- what was said of a tick's length
+record TookTick (p : Place) (x : Option ℕ × Place) : Type 0 where
+  ended : p.ended ≡ tick_lines x.0 ++ x.1.ended
+  rest : p.rest ≡ x.1.rest
+  number : p.number + length (tick_lines x.0) ≡ x.1.number
+
+tick_takes_line : (laws : LineLaws) (version : Version) (p : Place) (x : Option ℕ × Place) → tick_at version p ≡ Ok x → TookTick p x
+tick_takes_line laws version p x e =
+    elim (cases_Bool (is_tick_due version (upcoming p))) [
+      | inl due ↦
+          let read : (form_at Tick tick_in p >>= λ tick. Ok (Some tick.0, tick.1)) ≡ Ok x = rw due at e in
+          let a = bind_ok (form_at Tick tick_in p) (λ tick. Ok (Some tick.0, tick.1)) x read in
+          let t = took Tick tick_in p a.0 a.1 in
+          let line = tick_takes laws t.line a.0.0 t.has in
+          let same : (Some a.0.0, a.0.1) ≡ x = same_ok (Some a.0.0, a.0.1) x a.2 in
+          subst (TookTick p) same (record { ended = t.ended ∙ ap (λ l. l ∷ a.0.1.ended) line; rest = t.rest; number = t.number })
+      | inr other ↦
+          let read : Ok (None, p) ≡ Ok x = rw other at e in
+          subst (TookTick p) (same_ok (None, p) x read) (record { ended = refl; rest = refl; number = omega arith })
+    ]
+
 -- the lines that say some messages, or links
 pub record TookLines {A : Type 0} (says : List ℕ → A → Type 0) (number : ℕ) (rest : List ℕ) (ended : List (List ℕ)) (x : List A × Place) : Type 0 where
   pub lines : List (List ℕ)
@@ -257,9 +308,10 @@ unfolding links_in
 no_links count number rest [] x e = ap (λ (y : List DraftLink × Place). y.0) (sym (same_ok ([], record { ended = []; rest = rest; number = number }) x e))
 no_links count number rest (line ∷ lines) x e = ap (λ (y : List DraftLink × Place). y.0) (sym (same_ok ([], record { ended = line ∷ lines; rest = rest; number = number }) x e))
 
-can_say : (version : Version) (draft : Draft) (count number : ℕ) (rest : List ℕ) (ended : List (List ℕ)) (x : List DraftLink × Place) → x.0 ≡ draft.links → links_in version count number rest ended ≡ Ok x → CanSay version (scenario_of draft)
-can_say One draft count number rest ended x are e = ap (λ (ls : List DraftLink). in_order (delay_of_draft draft) (map (link_of draft.groups) ls)) (sym are ∙ no_links count number rest ended x e)
-can_say Two draft count number rest ended x are e = tt
+can_say_links : (version : Version) (draft : Draft) (count number : ℕ) (rest : List ℕ) (ended : List (List ℕ)) (x : List DraftLink × Place) → x.0 ≡ draft.links → links_in version count number rest ended ≡ Ok x → CanSayLinks version (scenario_of draft).links
+can_say_links One draft count number rest ended x are e = ap (λ (ls : List DraftLink). in_order (delay_of_draft draft) (map (link_of draft.groups) ls)) (sym are ∙ no_links count number rest ended x e)
+can_say_links Two draft count number rest ended x are e = tt
+can_say_links Three draft count number rest ended x are e = tt
 
 pub messages_take : (laws : LineLaws) (count number : ℕ) (rest : List ℕ) (ended : List (List ℕ)) (x : List DraftMessage × Place) → messages_in count number rest ended ≡ Ok x → TookLines Says number rest ended x
 unfolding messages_in
@@ -325,6 +377,14 @@ of_order : (expected : Expected) (o : Option ℕ) (plan made : Scenario) → whe
 of_order expected None plan made e = (refl, same_ok plan made e)
 of_order expected (Some number) plan made e = absurd cc
 
+-- D is within the limit of real time, however time goes
+within_any : (time : Time) (delay : ℤ) → is_within 1 (greatest_delay time) delay ≡ true → is_within 1 GREATEST_DELAY delay ≡ true
+within_any Real delay e = e
+within_any Ticks (pos d) e =
+    let parts = and_parts (leb 1 d) (leb d GREATEST_WHOLE_DELAY) e in
+    and_from (leb 1 d) (leb d GREATEST_DELAY) parts.0 (le-leb d GREATEST_DELAY (omega (arith, leb-true d GREATEST_WHOLE_DELAY parts.1)))
+within_any Ticks (negsuc d) e = absurd (false≢true e)
+
 delay_is : (d : ℕ) → is_within 1 GREATEST_DELAY (pos d) ≡ true → decimal d ≡ decimal (ticks GREATEST_DELAY (pos d))
 delay_is d e =
     let parts = and_parts (leb 1 d) (leb d GREATEST_DELAY) e in
@@ -342,7 +402,7 @@ name_among name (m ∷ ms) e all =
 -- ---- the scenario
 
 -- as many lines as links and messages, and three
-pub count_lines : (plan : Scenario) → length (scenario_lines plan) ≡ length plan.links + length plan.multicasts + 3
+pub count_lines : (plan : Scenario) → length (lines_from_delay plan) ≡ length plan.links + length plan.multicasts + 3
 count_lines plan =
     let links = length-map plan.links (link_line plan) in
     let messages = length-map plan.multicasts (multicast_line plan) in
@@ -350,8 +410,14 @@ count_lines plan =
     let all = length-append (map (link_line plan) plan.links) (map (multicast_line plan) plan.multicasts ++ target_line plan ∷ []) in
     omega arith
 
+-- and those of time and of a tick's length
+pub count_all : (plan : Scenario) → length (scenario_lines plan) ≡ length (time_lines plan.time) + (length (tick_lines plan.tick) + length (lines_from_delay plan))
+count_all plan =
+    length-append (time_lines plan.time) (tick_lines plan.tick ++ lines_from_delay plan)
+    ∙ ap (λ n. length (time_lines plan.time) + n) (length-append (tick_lines plan.tick) (lines_from_delay plan))
+
 -- the lines of a scenario before others
-pub lines_before : (plan : Scenario) (rest : List (List ℕ)) → scenario_lines plan ++ rest ≡ delay_line plan ∷ groups_line plan ∷ (map (link_line plan) plan.links ++ (map (multicast_line plan) plan.multicasts ++ target_line plan ∷ rest))
+pub lines_before : (plan : Scenario) (rest : List (List ℕ)) → lines_from_delay plan ++ rest ≡ delay_line plan ∷ groups_line plan ∷ (map (link_line plan) plan.links ++ (map (multicast_line plan) plan.multicasts ++ target_line plan ∷ rest))
 lines_before plan rest =
     ap (λ ls. delay_line plan ∷ groups_line plan ∷ ls)
     (append_assoc (map (link_line plan) plan.links) (map (multicast_line plan) plan.multicasts ++ target_line plan ∷ []) rest
@@ -360,7 +426,7 @@ lines_before plan rest =
 made : (draft : Draft) (delay : ℕ) (d g t : List ℕ) (ls ms rest : List (List ℕ)) → draft.delay ≡ pos delay
     → d ≡ line_of (codes "delay") (decimal delay ∷ []) → decimal delay ≡ decimal (ticks GREATEST_DELAY (pos delay))
     → g ≡ groups_line (scenario_of draft) → ls ≡ map (link_line (scenario_of draft)) (scenario_of draft).links → ms ≡ map (multicast_line (scenario_of draft)) (scenario_of draft).multicasts → t ≡ target_line (scenario_of draft)
-    → d ∷ g ∷ (ls ++ (ms ++ t ∷ rest)) ≡ scenario_lines (scenario_of draft) ++ rest
+    → d ∷ g ∷ (ls ++ (ms ++ t ∷ rest)) ≡ lines_from_delay (scenario_of draft) ++ rest
 made draft delay d g t ls ms rest said de tick ge le me te =
     let plan = scenario_of draft in
     let delay-line : d ≡ delay_line plan = de ∙ ap (λ w. line_of (codes "delay") (w ∷ [])) (tick ∙ ap (λ z. decimal (ticks GREATEST_DELAY z)) (sym said)) in
@@ -371,71 +437,108 @@ made draft delay d g t ls ms rest said de tick ge le me te =
     ∙ ap (λ l. delay_line plan ∷ groups_line plan ∷ (map (link_line plan) plan.links ++ (map (multicast_line plan) plan.multicasts ++ l ∷ rest))) te
     ∙ sym (lines_before plan rest)
 
--- what is read after the target, the messages, the links, the groups and D
-abbrev pub after_target : ℕ → ℕ → List (List ℕ) → List DraftLink → ℕ → List DraftMessage → (List ℕ × List ℕ) × Place → Result (Scenario × Place) LineFault
-after_target delay first groups links number messages target =
-    told (scenario_of_draft (draft_of delay groups links messages target.0)) >>= λ plan. where_ordered Link (first_misplaced_link first (draft_of delay groups links messages target.0)) plan >>= λ linked.
+-- what is read after the target, the messages, the links, the groups, D, a tick's length and time
+abbrev pub after_target : Time → Option ℕ → ℕ → ℕ → List (List ℕ) → List DraftLink → ℕ → List DraftMessage → (List ℕ × List ℕ) × Place → Result (Scenario × Place) LineFault
+after_target time tick delay first groups links number messages target =
+    told (scenario_of_draft (draft_of time tick delay groups links messages target.0)) >>= λ plan. where_ordered Link (first_misplaced_link first (draft_of time tick delay groups links messages target.0)) plan >>= λ linked.
     where_ordered Multicast (first_unordered groups number messages) linked >>= λ ordered. Ok (ordered, target.1)
 
-abbrev pub after_messages : ℕ → ℕ → List (List ℕ) → List DraftLink → ℕ → List DraftMessage × Place → Result (Scenario × Place) LineFault
-after_messages delay first groups links number messages = form_at Target target_in messages.1 >>= after_target delay first groups links number messages.0
+abbrev pub after_messages : Time → Option ℕ → ℕ → ℕ → List (List ℕ) → List DraftLink → ℕ → List DraftMessage × Place → Result (Scenario × Place) LineFault
+after_messages time tick delay first groups links number messages = form_at Target target_in messages.1 >>= after_target time tick delay first groups links number messages.0
 
-abbrev pub after_links : ℕ → ℕ → List (List ℕ) → List DraftLink × Place → Result (Scenario × Place) LineFault
-after_links delay first groups links = messages_at 0 links.1 >>= after_messages delay first groups links.0 links.1.number
+abbrev pub after_links : Time → Option ℕ → ℕ → ℕ → List (List ℕ) → List DraftLink × Place → Result (Scenario × Place) LineFault
+after_links time tick delay first groups links = messages_at 0 links.1 >>= after_messages time tick delay first groups links.0 links.1.number
 
-abbrev pub after_groups : Version → ℕ → List (List ℕ) × Place → Result (Scenario × Place) LineFault
-after_groups version delay groups = links_at version 0 groups.1 >>= after_links delay groups.1.number groups.0
+abbrev pub after_groups : Version → Time → Option ℕ → ℕ → List (List ℕ) × Place → Result (Scenario × Place) LineFault
+after_groups version time tick delay groups = links_at version 0 groups.1 >>= after_links time tick delay groups.1.number groups.0
 
-abbrev pub after_delay : Version → ℕ × Place → Result (Scenario × Place) LineFault
-after_delay version delay = form_at Groups groups_in delay.1 >>= after_groups version delay.0
+abbrev pub after_delay : Version → Time → Option ℕ → ℕ × Place → Result (Scenario × Place) LineFault
+after_delay version time tick delay = form_at Groups groups_in delay.1 >>= after_groups version time tick delay.0
+
+abbrev pub after_tick : Version → Time → Option ℕ × Place → Result (Scenario × Place) LineFault
+after_tick version time tick = form_at Delay (number_in (codes "delay")) tick.1 >>= after_delay version time tick.0
+
+abbrev pub after_time : Version → Time × Place → Result (Scenario × Place) LineFault
+after_time version time = tick_at version time.1 >>= after_tick version time.0
+
+-- what the steps after the target ask, and what they give
+last_takes : (draft : Draft) (misplaced unordered : Option ℕ) (past : Place) (x : Scenario × Place)
+    → (told (scenario_of_draft draft) >>= λ plan. where_ordered Link misplaced plan >>= λ linked. where_ordered Multicast unordered linked >>= λ ordered. Ok (ordered, past)) ≡ Ok x
+    → (judge (checks draft) ≡ Ok tt) × (misplaced ≡ None) × (unordered ≡ None) × ((scenario_of draft, past) ≡ x)
+last_takes draft misplaced unordered past x e =
+    let f = bind_ok (told (scenario_of_draft draft)) (λ plan. where_ordered Link misplaced plan >>= λ linked. where_ordered Multicast unordered linked >>= λ ordered. Ok (ordered, past)) x e in
+    let h = bind_ok (where_ordered Link misplaced f.0) (λ linked. where_ordered Multicast unordered linked >>= λ ordered. Ok (ordered, past)) x f.2 in
+    let g = bind_ok (where_ordered Multicast unordered h.0) (λ ordered. Ok (ordered, past)) x h.2 in
+    let sure = of_draft (judge (checks draft)) (scenario_of draft) f.0 f.1 in
+    let link-order = of_order Link misplaced f.0 h.0 h.1 in
+    let order = of_order Multicast unordered h.0 g.0 g.1 in
+    (sure.0, link-order.0, order.0, ap (λ (plan : Scenario). (plan, past)) (sure.1 ∙ link-order.1 ∙ order.1) ∙ same_ok (g.0, past) x g.2)
+
+-- the lines that were taken are as many as the scenario has
+counted : (first all time tick from links messages ls ms z y a b k c last : ℕ) → all ≡ time + (tick + from) → from ≡ links + messages + 3 → messages ≡ ms → links ≡ ls
+    → first + time ≡ z → z + tick ≡ y → y + 1 ≡ a → a + 1 ≡ b → b + ls ≡ k → k + ms ≡ c → c + 1 ≡ last → first + all ≡ last
+counted first all time tick from links messages ls ms z y a b k c last e0 e1 e2 e3 e4 e5 e6 e7 e8 e9 e10 = omega arith
+
+-- what was read, step by step, is the scenario of the lines that were taken
+taken : (laws : LineLaws) (drafts : DraftLaws) (version : Version) (p : Place) (x : Scenario × Place)
+    (z : Time × Place) (y : Option ℕ × Place) (a : ℕ × Place) (b : List (List ℕ) × Place) (k : List DraftLink × Place) (c : List DraftMessage × Place) (d : (List ℕ × List ℕ) × Place)
+    → time_at version p ≡ Ok z → tick_at version z.1 ≡ Ok y → form_at Delay (number_in (codes "delay")) y.1 ≡ Ok a → form_at Groups groups_in a.1 ≡ Ok b
+    → links_at version 0 b.1 ≡ Ok k → messages_at 0 k.1 ≡ Ok c → form_at Target target_in c.1 ≡ Ok d
+    → after_target z.0 y.0 a.0 b.1.number b.0 k.0 k.1.number c.0 d ≡ Ok x → IsScenario x.0 × CanSay version x.0 × IsBetween x.0 p x.1
+taken laws drafts version p x z y a b k c d z-is y-is a-is b-is k-is c-is d-is after =
+    let draft = draft_of z.0 y.0 a.0 b.0 k.0 c.0 d.0 in
+    let misplaced = first_misplaced_link b.1.number draft in
+    let unordered = first_unordered b.0 k.1.number c.0 in
+    let last = last_takes draft misplaced unordered d.1 x after in
+    let made-is : scenario_of_draft draft ≡ Ok (scenario_of draft) = rw last.0 refl in
+    let all = drafts.hold (checks draft) last.0 in
+    let delay-within = within_any z.0 (pos a.0) all.0 in
+    let names = all.1.1.1.1.1.1 in
+    let references = names.1.1.1.1.1 in
+    let some = groups_some b.0 names.0 in
+    let fine = each draft c.0 names.1.0 references.0 all.1.1.1.0 (all_ordered b.0 k.1.number c.0 last.2) in
+    let t-time = time_takes version p z z-is in
+    let t-tick = tick_takes_line laws version z.1 y y-is in
+    let t-delay = took Delay (number_in (codes "delay")) y.1 a a-is in
+    let t-groups = took Groups groups_in a.1 b b-is in
+    let t-links = links_take laws version 0 b.1.number b.1.rest b.1.ended k k-is in
+    let t-messages = messages_take laws 0 k.1.number k.1.rest k.1.ended c c-is in
+    let t-target = took Target target_in c.1 d d-is in
+    let delay = number_line_takes laws (codes "delay") t-delay.line a.0 delay_word t-delay.has in
+    let groups = groups_take laws t-groups.line b.0 t-groups.has some in
+    let stand = placed (delay_of_draft draft) None b.1.number (links_of_draft draft) last.1 in
+    let kept : in_order (delay_of_draft draft) (links_of_draft draft) ≡ links_of_draft draft = drafts.stay (delay_of_draft draft) (links_of_draft draft) stand.0 stand.1 in
+    let links : t-links.lines ≡ map (link_line (scenario_of draft)) (scenario_of draft).links =
+    link_lines_are drafts.places draft t-links.lines k.0 some delay-within all.1.1.1.1.0 references.1.1.0 t-links.say ∙ ap (map (link_line (scenario_of draft))) (sym kept) in
+    let lines = lines_are drafts.places draft t-messages.lines c.0 some t-messages.say fine in
+    let target = target_takes laws t-target.line d.0 t-target.has (name_among d.0.0 c.0 references.1.1.1.1.1.0 names.1.0) (among_some d.0.1 b.0 references.1.0 some) in
+    let named = drafts.named draft (scenario_of draft) made-is in
+    let target-is : t-target.line ≡ target_line (scenario_of draft) =
+    target ∙ ap (λ w. line_of (codes "target") (w ∷ d.0.1 ∷ [])) (sym named.message)
+    ∙ ap (λ w. line_of (codes "target") ((message_at (scenario_of draft) (scenario_of draft).target_message).name ∷ w ∷ [])) (sym named.group) in
+    let stood : y.1.ended ≡ t-delay.line ∷ t-groups.line ∷ (t-links.lines ++ (t-messages.lines ++ t-target.line ∷ d.1.ended)) =
+    t-delay.ended ∙ ap (λ ls. t-delay.line ∷ ls) (t-groups.ended ∙ ap (λ ls. t-groups.line ∷ ls) (t-links.before ∙ ap (λ ls. t-links.lines ++ ls) (t-messages.before ∙ ap (λ ls. t-messages.lines ++ ls) t-target.ended))) in
+    let whole = made draft a.0 t-delay.line t-groups.line t-target.line t-links.lines t-messages.lines d.1.ended refl delay (delay_is a.0 delay-within) groups links lines target-is in
+    let timed : p.ended ≡ scenario_lines (scenario_of draft) ++ d.1.ended =
+    t-time.ended ∙ ap (λ ls. time_lines z.0 ++ ls) (t-tick.ended ∙ ap (λ ls. tick_lines y.0 ++ ls) (stood ∙ whole) ∙ sym (append_assoc (tick_lines y.0) (lines_from_delay (scenario_of draft)) d.1.ended))
+    ∙ sym (append_assoc (time_lines z.0) (tick_lines y.0 ++ lines_from_delay (scenario_of draft)) d.1.ended) in
+    let messages = length-map c.0 (message_of b.0) in
+    let linked : length (scenario_of draft).links ≡ length k.0 = ap length kept ∙ length-map k.0 (link_of b.0) in
+    let past : p.number + length (scenario_lines (scenario_of draft)) ≡ d.1.number =
+    counted p.number (length (scenario_lines (scenario_of draft))) (length (time_lines z.0)) (length (tick_lines y.0)) (length (lines_from_delay (scenario_of draft)))
+    (length (scenario_of draft).links) (length (scenario_of draft).multicasts) (length k.0) (length c.0) z.1.number y.1.number a.1.number b.1.number k.1.number c.1.number d.1.number (count_all (scenario_of draft)) (count_lines (scenario_of draft)) messages linked
+    t-time.number t-tick.number t-delay.number t-groups.number t-links.past t-messages.past t-target.number in
+    subst (λ (read : Scenario × Place). IsScenario read.0 × CanSay version read.0 × IsBetween read.0 p read.1) last.3
+    (drafts.formed draft (scenario_of draft) made-is, record { time = t-time.said; links = can_say_links version draft 0 b.1.number b.1.rest b.1.ended k refl k-is }, record { ended = timed; rest = t-time.rest ∙ t-tick.rest ∙ t-delay.rest ∙ t-groups.rest ∙ t-links.after ∙ t-messages.after ∙ t-target.rest; number = past })
 
 pub scenario_takes : (laws : LineLaws) (drafts : DraftLaws) (version : Version) (p : Place) (x : Scenario × Place) → scenario_at version p ≡ Ok x → IsScenario x.0 × CanSay version x.0 × IsBetween x.0 p x.1
 unfolding scenario_at
 scenario_takes laws drafts version p x e =
-    let a = bind_ok (form_at Delay (number_in (codes "delay")) p) (after_delay version) x e in
-    let b = bind_ok (form_at Groups groups_in a.0.1) (after_groups version a.0.0) x a.2 in
-    let k = bind_ok (links_at version 0 b.0.1) (after_links a.0.0 b.0.1.number b.0.0) x b.2 in
-    let c = bind_ok (messages_at 0 k.0.1) (after_messages a.0.0 b.0.1.number b.0.0 k.0.0 k.0.1.number) x k.2 in
-    let d = bind_ok (form_at Target target_in c.0.1) (after_target a.0.0 b.0.1.number b.0.0 k.0.0 k.0.1.number c.0.0) x c.2 in
-    let draft = draft_of a.0.0 b.0.0 k.0.0 c.0.0 d.0.0 in
-    let misplaced = first_misplaced_link b.0.1.number draft in
-    let unordered = first_unordered b.0.0 k.0.1.number c.0.0 in
-    let f = bind_ok (told (scenario_of_draft draft)) (λ plan. where_ordered Link misplaced plan >>= λ linked. where_ordered Multicast unordered linked >>= λ ordered. Ok (ordered, d.0.1)) x d.2 in
-    let h = bind_ok (where_ordered Link misplaced f.0) (λ linked. where_ordered Multicast unordered linked >>= λ ordered. Ok (ordered, d.0.1)) x f.2 in
-    let g = bind_ok (where_ordered Multicast unordered h.0) (λ ordered. Ok (ordered, d.0.1)) x h.2 in
-    let sure = of_draft (judge (checks draft)) (scenario_of draft) f.0 f.1 in
-    let link-order = of_order Link misplaced f.0 h.0 h.1 in
-    let order = of_order Multicast unordered h.0 g.0 g.1 in
-    let same : (scenario_of draft, d.0.1) ≡ x = ap (λ (plan : Scenario). (plan, d.0.1)) (sure.1 ∙ link-order.1 ∙ order.1) ∙ same_ok (g.0, d.0.1) x g.2 in
-    let made-is : scenario_of_draft draft ≡ Ok (scenario_of draft) = rw sure.0 refl in
-    let all = drafts.hold (checks draft) sure.0 in
-    let names = all.1.1.1.1.1 in
-    let references = names.1.1.1.1.1 in
-    let some = groups_some b.0.0 names.0 in
-    let fine = each draft c.0.0 names.1.0 references.0 all.1.1.1.0 (all_ordered b.0.0 k.0.1.number c.0.0 order.0) in
-    let t-delay = took Delay (number_in (codes "delay")) p a.0 a.1 in
-    let t-groups = took Groups groups_in a.0.1 b.0 b.1 in
-    let t-links = links_take laws version 0 b.0.1.number b.0.1.rest b.0.1.ended k.0 k.1 in
-    let t-messages = messages_take laws 0 k.0.1.number k.0.1.rest k.0.1.ended c.0 c.1 in
-    let t-target = took Target target_in c.0.1 d.0 d.1 in
-    let delay = number_line_takes laws (codes "delay") t-delay.line a.0.0 delay_word t-delay.has in
-    let groups = groups_take laws t-groups.line b.0.0 t-groups.has some in
-    let stand = placed (delay_of_draft draft) None b.0.1.number (links_of_draft draft) link-order.0 in
-    let kept : in_order (delay_of_draft draft) (links_of_draft draft) ≡ links_of_draft draft = drafts.stay (delay_of_draft draft) (links_of_draft draft) stand.0 stand.1 in
-    let links : t-links.lines ≡ map (link_line (scenario_of draft)) (scenario_of draft).links =
-    link_lines_are drafts.places draft t-links.lines k.0.0 some all.0 all.1.1.1.1.0 references.1.1.0 t-links.say ∙ ap (map (link_line (scenario_of draft))) (sym kept) in
-    let lines = lines_are drafts.places draft t-messages.lines c.0.0 some t-messages.say fine in
-    let target = target_takes laws t-target.line d.0.0 t-target.has (name_among d.0.0.0 c.0.0 references.1.1.1.1.1.0 names.1.0) (among_some d.0.0.1 b.0.0 references.1.0 some) in
-    let named = drafts.named draft (scenario_of draft) made-is in
-    let target-is : t-target.line ≡ target_line (scenario_of draft) =
-    target ∙ ap (λ w. line_of (codes "target") (w ∷ d.0.0.1 ∷ [])) (sym named.message)
-    ∙ ap (λ w. line_of (codes "target") ((message_at (scenario_of draft) (scenario_of draft).target_message).name ∷ w ∷ [])) (sym named.group) in
-    let stood : p.ended ≡ t-delay.line ∷ t-groups.line ∷ (t-links.lines ++ (t-messages.lines ++ t-target.line ∷ d.0.1.ended)) =
-    t-delay.ended ∙ ap (λ ls. t-delay.line ∷ ls) (t-groups.ended ∙ ap (λ ls. t-groups.line ∷ ls) (t-links.before ∙ ap (λ ls. t-links.lines ++ ls) (t-messages.before ∙ ap (λ ls. t-messages.lines ++ ls) t-target.ended))) in
-    let whole = made draft a.0.0 t-delay.line t-groups.line t-target.line t-links.lines t-messages.lines d.0.1.ended refl delay (delay_is a.0.0 all.0) groups links lines target-is in
-    let messages = length-map c.0.0 (message_of b.0.0) in
-    let linked : length (scenario_of draft).links ≡ length k.0.0 = ap length kept ∙ length-map k.0.0 (link_of b.0.0) in
-    let past : p.number + length (scenario_lines (scenario_of draft)) ≡ d.0.1.number =
-    omega (arith, count_lines (scenario_of draft), messages, linked, t-delay.number, t-groups.number, t-links.past, t-messages.past, t-target.number) in
-    subst (λ (y : Scenario × Place). IsScenario y.0 × CanSay version y.0 × IsBetween y.0 p y.1) same
-    (drafts.formed draft (scenario_of draft) made-is, can_say version draft 0 b.0.1.number b.0.1.rest b.0.1.ended k.0 refl k.1, record { ended = stood ∙ whole; rest = t-delay.rest ∙ t-groups.rest ∙ t-links.after ∙ t-messages.after ∙ t-target.rest; number = past })
+    let z = bind_ok (time_at version p) (after_time version) x e in
+    let y = bind_ok (tick_at version z.0.1) (after_tick version z.0.0) x z.2 in
+    let a = bind_ok (form_at Delay (number_in (codes "delay")) y.0.1) (after_delay version z.0.0 y.0.0) x y.2 in
+    let b = bind_ok (form_at Groups groups_in a.0.1) (after_groups version z.0.0 y.0.0 a.0.0) x a.2 in
+    let k = bind_ok (links_at version 0 b.0.1) (after_links z.0.0 y.0.0 a.0.0 b.0.1.number b.0.0) x b.2 in
+    let c = bind_ok (messages_at 0 k.0.1) (after_messages z.0.0 y.0.0 a.0.0 b.0.1.number b.0.0 k.0.0 k.0.1.number) x k.2 in
+    let d = bind_ok (form_at Target target_in c.0.1) (after_target z.0.0 y.0.0 a.0.0 b.0.1.number b.0.0 k.0.0 k.0.1.number c.0.0) x c.2 in
+    taken laws drafts version p x z.0 y.0 a.0 b.0 k.0 c.0 d.0 z.1 y.1 a.1 b.1 k.1 c.1 d.1 d.2

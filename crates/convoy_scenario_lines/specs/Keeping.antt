@@ -10,7 +10,7 @@ use Rattle.convoy_lines.specs.Results.{◌>>=◌}
 use Rattle.convoy_scenario.specs.Checks.{is_among}
 use Rattle.convoy_scenario.specs.Draft.{DraftMessage}
 use Rattle.convoy_scenario_lines.specs.LineForms.{groups_in, multicast_in, target_in}
-use Rattle.convoy_scenario_lines.specs.LineReading.{form_at, links_at, messages_at, draft_of, told, first_misplaced_link, first_unordered, where_ordered}
+use Rattle.convoy_scenario_lines.specs.LineReading.{form_at, time_at, tick_at, links_at, messages_at, draft_of, told, first_misplaced_link, first_unordered, where_ordered}
 use Rattle.convoy_scenario.specs.Numbering.{scenario_of_draft}
 use Rattle.convoy_scenario.specs.Scenario.{Scenario}
 
@@ -50,12 +50,14 @@ kept_messages_at groups count place = messages_at count place >>= λ messages. O
 -- What the next lines give with what is kept of them: it is what they give whole.
 unfoldable pub kept_scenario_at : Version → Place → Result (Scenario × Place) LineFault
 kept_scenario_at version place = do
-  delay ← form_at Delay (number_in (codes "delay")) place
+  time ← time_at version place
+  tick ← tick_at version time.1
+  delay ← form_at Delay (number_in (codes "delay")) tick.1
   groups ← form_at Groups kept_groups_in delay.1
   links ← links_at version 0 groups.1
   messages ← kept_messages_at groups.0 0 links.1
   target ← form_at Target target_in messages.1
-  scenario ← told (scenario_of_draft (draft_of delay.0 groups.0 links.0 messages.0 target.0))
-  linked ← where_ordered Link (first_misplaced_link groups.1.number (draft_of delay.0 groups.0 links.0 messages.0 target.0)) scenario
+  scenario ← told (scenario_of_draft (draft_of time.0 tick.0 delay.0 groups.0 links.0 messages.0 target.0))
+  linked ← where_ordered Link (first_misplaced_link groups.1.number (draft_of time.0 tick.0 delay.0 groups.0 links.0 messages.0 target.0)) scenario
   ordered ← where_ordered Multicast (first_unordered groups.0 links.1.number messages.0) linked
   Ok (ordered, target.1)

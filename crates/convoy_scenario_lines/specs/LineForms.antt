@@ -1,11 +1,15 @@
 -- The forms of a scenario's lines: what a line says, where it has its form.
-use Rattle.std.specs.Prelude.{ℕ, pos, ◌==◌, nat_le, if◌then◌else◌, List, [], map, length, codes, Option, Some, None}
+use Rattle.std.specs.Prelude.{ℕ, pos, ◌*◌, ◌==◌, ◌&&◌, nat_le, if◌then◌else◌, List, [], map, length, codes, Option, Some, None}
 use Rattle.std.specs.Str.{bytes_eq, is_utf8}
 use Rattle.convoy_lines.specs.Labels.{greatest_number, words_after}
 use Rattle.convoy_lines.specs.Chains.{◌>>=◌}
 use Rattle.convoy_lines.specs.Words.{next_word, number_of}
+use Rattle.convoy_scenario.specs.declared.time.Time.{Time}
+use Rattle.convoy_scenario.specs.declared.time.Time.TheVariants.{Real}
 use Rattle.convoy_scenario.specs.Draft.{DraftLink, DraftMessage}
+use Rattle.convoy_scenario.specs.Durations.{unit_length, unit_named, unit_of, unit_word, within_longest}
 use Rattle.convoy_scenario.specs.WellFormed.{client_word}
+use Rattle.convoy_scenario_lines.specs.Lines.{time_line}
 
 -- A word as a name. One that is not UTF-8 is no name; it stands as the name of no bytes, which is none, either.
 abbrev pub name_of : List ℕ → List ℕ
@@ -14,6 +18,21 @@ name_of word = if is_utf8 word then word else []
 -- the sender that a word names: none for a client
 abbrev pub named_sender : List ℕ → Option (List ℕ)
 named_sender word = if bytes_eq word client_word then None else Some (name_of word)
+
+-- how time goes by a line `time`, which has one form
+abbrev pub time_in : List ℕ → Option Time
+time_in line = if bytes_eq line time_line then Some Real else None
+
+-- the nanoseconds of a line `tick`: a count of 1 or more, and the greatest unit that divides what it counts
+abbrev pub tick_in : List ℕ → Option ℕ
+tick_in line = do
+  words ← words_after (codes "tick") line
+  count ← next_word words
+  unit ← next_word count.1
+  number ← number_of greatest_number count.0
+  named ← unit_named unit.0
+  tick ← within_longest (number * unit_length named)
+  if nat_le 1 number && bytes_eq unit.0 (unit_word (unit_of tick)) && length unit.1 == 0 then Some tick else None
 
 -- the names of a line `groups`, one at least
 abbrev pub groups_in : List ℕ → Option (List (List ℕ))

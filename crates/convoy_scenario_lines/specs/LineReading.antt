@@ -2,22 +2,24 @@
 use Rattle.std.specs.Prelude.{ℕ, pos, ◌+◌, ◌==◌, Bool, false, ◌&&◌, ◌||◌, not, if◌then◌else◌, List, [], ◌∷◌, filter, codes, Option, Some, None, ok_or, Result, Ok, Err}
 use Rattle.std.specs.Cmp.Lexicographic.{pointwise}
 use Rattle.std.specs.Str.{bytes_eq}
-use Rattle.convoy_lines.specs.Places.{Place, line_at, past_line}
+use Rattle.convoy_lines.specs.Places.{Place, line_at, past_line, upcoming}
 use Rattle.convoy_lines.specs.Results.{◌>>=◌}
 use Rattle.convoy_scenario.specs.declared.fault.ScenarioFault.{ScenarioFault}
 use Rattle.convoy_scenario.specs.declared.fault.ScenarioFault.TheVariants.{OverLimit}
 use Rattle.convoy_scenario.specs.declared.fault.Limit.TheVariants as limit
 use Rattle.convoy_scenario.specs.declared.limits.TheConstants.{MOST_LINKS, MOST_MULTICASTS}
 use Rattle.convoy_scenario_lines.specs.declared.line_fault.Expected.{Expected}
-use Rattle.convoy_scenario_lines.specs.declared.line_fault.Expected.TheVariants.{Delay, Groups, Link, Multicast, Target}
+use Rattle.convoy_scenario_lines.specs.declared.line_fault.Expected.TheVariants.{Time, Tick, Delay, Groups, Link, Multicast, Target}
 use Rattle.convoy_scenario_lines.specs.declared.line_fault.LineFault.{LineFault}
 use Rattle.convoy_scenario_lines.specs.declared.line_fault.LineFault.TheVariants as faults
 use Rattle.convoy_scenario_lines.specs.declared.version.Version.{Version}
-use Rattle.convoy_scenario_lines.specs.declared.version.Version.TheVariants.{One, Two}
+use Rattle.convoy_scenario_lines.specs.declared.version.Version.TheVariants.{One, Two, Three}
+use Rattle.convoy_scenario.specs.declared.time.Time.{Time as AnyTime}
+use Rattle.convoy_scenario.specs.declared.time.Time.TheVariants.{Ticks}
 use Rattle.convoy_scenario.specs.Checks.{is_among}
 use Rattle.convoy_scenario.specs.Draft.{Draft, DraftLink, DraftMessage}
 use Rattle.convoy_lines.specs.Labels.{begins_with, number_in}
-use Rattle.convoy_scenario_lines.specs.LineForms.{groups_in, link_in, multicast_in, target_in}
+use Rattle.convoy_scenario_lines.specs.LineForms.{time_in, tick_in, groups_in, link_in, multicast_in, target_in}
 use Rattle.convoy_lines.specs.Words.{words_of}
 use Rattle.convoy_scenario.specs.Numbering.{delay_of_draft, links_of_draft, scenario_of_draft}
 use Rattle.convoy_scenario.specs.Scenario.{Link as AnyLink, Scenario}
@@ -30,10 +32,31 @@ form_at expected form place = do
   value ← ok_or (form line) (faults.Line place.number expected)
   Ok (value, past_line place)
 
+-- how time goes: by the next line in version 3, and in whole ticks in the others
+abbrev pub time_at : Version → Place → Result (AnyTime × Place) LineFault
+time_at One place = Ok (Ticks, place)
+time_at Two place = Ok (Ticks, place)
+time_at Three place = form_at Time time_in place
+
+-- a line `tick` is due: the version has such lines, and what comes next begins with that word
+abbrev pub is_tick_due : Version → List ℕ → Bool
+is_tick_due One line = false
+is_tick_due Two line = false
+is_tick_due Three line = begins_with (codes "tick") (words_of line)
+
+-- how long a tick lasts: by the next line, where it begins with `tick`
+abbrev pub tick_at : Version → Place → Result (Option ℕ × Place) LineFault
+tick_at version place =
+    if is_tick_due version (upcoming place) then (do
+      tick ← form_at Tick tick_in place
+      Ok (Some tick.0, tick.1))
+    else Ok (None, place)
+
 -- a line `link` is due: the version has such lines, and what comes next begins with that word
 abbrev pub is_link_due : Version → List ℕ → Bool
 is_link_due One line = false
 is_link_due Two line = begins_with (codes "link") (words_of line)
+is_link_due Three line = begins_with (codes "link") (words_of line)
 
 -- The links of the lines `link` that come next, after so many: each line that begins with that word has to be one.
 unfoldable pub links_in : Version → ℕ → ℕ → List ℕ → List (List ℕ) → Result (List DraftLink × Place) LineFault
@@ -70,9 +93,9 @@ abbrev pub messages_at : ℕ → Place → Result (List DraftMessage × Place) L
 messages_at count place = messages_in count place.number place.rest place.ended
 
 -- the draft of what the lines say
-abbrev pub draft_of : ℕ → List (List ℕ) → List DraftLink → List DraftMessage → List ℕ × List ℕ → Draft
-draft_of delay groups links messages target =
-    record { delay = pos delay; groups = groups; links = links; messages = messages; target_message = target.0; target_group = target.1 }
+abbrev pub draft_of : AnyTime → Option ℕ → ℕ → List (List ℕ) → List DraftLink → List DraftMessage → List ℕ × List ℕ → Draft
+draft_of time tick delay groups links messages target =
+    record { time = time; tick = tick; delay = pos delay; groups = groups; links = links; messages = messages; target_message = target.0; target_group = target.1 }
 
 -- the fault of a scenario, told of lines
 abbrev pub told : Result Scenario ScenarioFault → Result Scenario LineFault
@@ -104,15 +127,17 @@ abbrev pub where_ordered : Expected → Option ℕ → Scenario → Result Scena
 where_ordered expected None scenario = Ok scenario
 where_ordered expected (Some number) scenario = Err (faults.Line number expected)
 
--- The scenario of the next lines, from `delay` to `target`, as that version has them, and the place after them; else the first fault.
+-- The scenario of the next lines, up to `target`, as that version has them, and the place after them; else the first fault.
 unfoldable pub scenario_at : Version → Place → Result (Scenario × Place) LineFault
 scenario_at version place = do
-  delay ← form_at Delay (number_in (codes "delay")) place
+  time ← time_at version place
+  tick ← tick_at version time.1
+  delay ← form_at Delay (number_in (codes "delay")) tick.1
   groups ← form_at Groups groups_in delay.1
   links ← links_at version 0 groups.1
   messages ← messages_at 0 links.1
   target ← form_at Target target_in messages.1
-  scenario ← told (scenario_of_draft (draft_of delay.0 groups.0 links.0 messages.0 target.0))
-  linked ← where_ordered Link (first_misplaced_link groups.1.number (draft_of delay.0 groups.0 links.0 messages.0 target.0)) scenario
+  scenario ← told (scenario_of_draft (draft_of time.0 tick.0 delay.0 groups.0 links.0 messages.0 target.0))
+  linked ← where_ordered Link (first_misplaced_link groups.1.number (draft_of time.0 tick.0 delay.0 groups.0 links.0 messages.0 target.0)) scenario
   ordered ← where_ordered Multicast (first_unordered groups.0 links.1.number messages.0) linked
   Ok (ordered, target.1)

@@ -1,8 +1,30 @@
--- The canonical lines of a scenario, from `delay` to `target`: the one text of each.
-use Rattle.std.specs.Prelude.{ℕ, List, [], ◌∷◌, ◌++◌, map, codes, decimal}
+-- The canonical lines of a scenario: the one text of each.
+use Rattle.std.specs.Prelude.{ℕ, List, [], ◌∷◌, ◌++◌, map, Option, Some, None, codes, decimal}
 use Rattle.convoy_lines.specs.Texts.{line_of, number_line, text_of}
+use Rattle.convoy_scenario.specs.declared.time.Time.{Time}
+use Rattle.convoy_scenario.specs.declared.time.Time.TheVariants.{Ticks, Real}
+use Rattle.convoy_scenario.specs.Durations.{count_of, unit_of, unit_word}
+use Rattle.convoy_scenario.specs.Keys.{time_word}
 use Rattle.convoy_scenario.specs.Naming.{sender_word}
 use Rattle.convoy_scenario.specs.Scenario.{Link, Message, Scenario, message_at, group_name_at}
+
+-- the line of real time
+abbrev pub time_line : List ℕ
+time_line = line_of (codes "time") (time_word Real ∷ [])
+
+-- the line that says how time goes: whole ticks have none
+abbrev pub time_lines : Time → List (List ℕ)
+time_lines Ticks = []
+time_lines Real = time_line ∷ []
+
+-- the line that says how long a tick lasts, in its unit
+abbrev pub tick_line : ℕ → List ℕ
+tick_line tick = line_of (codes "tick") (decimal (count_of tick) ∷ unit_word (unit_of tick) ∷ [])
+
+-- that line, where the length is known
+abbrev pub tick_lines : Option ℕ → List (List ℕ)
+tick_lines None = []
+tick_lines (Some tick) = tick_line tick ∷ []
 
 abbrev pub delay_line : Scenario → List ℕ
 delay_line scenario = number_line (codes "delay") scenario.delay
@@ -24,11 +46,15 @@ abbrev pub target_line : Scenario → List ℕ
 target_line scenario = line_of (codes "target")
     ((message_at scenario scenario.target_message).name ∷ group_name_at scenario scenario.target_group ∷ [])
 
--- the lines of a scenario
-abbrev pub scenario_lines : Scenario → List (List ℕ)
-scenario_lines scenario =
+-- the lines of a scenario from `delay` on
+abbrev pub lines_from_delay : Scenario → List (List ℕ)
+lines_from_delay scenario =
     delay_line scenario ∷ groups_line scenario
     ∷ (map (link_line scenario) scenario.links ++ (map (multicast_line scenario) scenario.multicasts ++ target_line scenario ∷ []))
+
+-- the lines of a scenario
+abbrev pub scenario_lines : Scenario → List (List ℕ)
+scenario_lines scenario = time_lines scenario.time ++ (tick_lines scenario.tick ++ lines_from_delay scenario)
 
 -- the text of a scenario
 abbrev pub scenario_text : Scenario → List ℕ

@@ -7,6 +7,8 @@ use thiserror::Error;
 #[derive(Clone, Copy, Debug, PartialEq, Eq)]
 pub enum Expected {
     Convoy,
+    Time,
+    Tick,
     Delay,
     Groups,
     Link,
@@ -14,6 +16,7 @@ pub enum Expected {
     Target,
     Latency,
     Schedule,
+    Order,
     Node,
 }
 
@@ -37,6 +40,8 @@ impl fmt::Display for Expected {
     fn fmt<W: fmt::Write>(&self, f: &mut fmt::Formatter<W>) -> fmt::Result {
         f.pad(match self {
             Expected::Convoy => "convoy",
+            Expected::Time => "time",
+            Expected::Tick => "tick",
             Expected::Delay => "delay",
             Expected::Groups => "groups",
             Expected::Link => "link",
@@ -44,6 +49,7 @@ impl fmt::Display for Expected {
             Expected::Target => "target",
             Expected::Latency => "latency",
             Expected::Schedule => "schedule",
+            Expected::Order => "order",
             Expected::Node => "node",
         })
     }

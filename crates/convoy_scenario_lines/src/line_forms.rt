@@ -3,11 +3,11 @@ ghost use Rattle.std.specs.Result.{result_map_both};
 ghost use Rattle.convoy_scenario.specs.Checks.{is_among};
 ghost use Rattle.convoy_scenario_lines.specs.Keeping.{kept_groups, kept_destinations, kept_groups_in, kept_multicast_in};
 ghost use Rattle.convoy_scenario.specs.Memory.{IsUnlessMemory};
-ghost use Rattle.convoy_scenario_lines.specs.LineForms.{name_of, named_sender, link_in, target_in};
+ghost use Rattle.convoy_scenario_lines.specs.LineForms.{name_of, named_sender, time_in, tick_in, link_in, target_in};
 
 use super::line_fault::LineFault;
 use convoy_lines::{Words, number_of, words_after};
-use convoy_scenario::{DraftLink, DraftMulticast, MOST_GROUPS, Name};
+use convoy_scenario::{DraftLink, DraftMulticast, Duration, MOST_GROUPS, Name, Time, TimeUnit};
 use std::alloc::{AllocError, Global};
 
 /// How many names of one line are kept at most: one more than there are groups at most, so that a line
@@ -88,6 +88,34 @@ fn destinations_of(alloc: Global, groups: &[Name], words: Words) -> Result<Vec<N
         }
     }
     Ok(names)
+}
+
+/// How time goes by a line `time`, which has one form.
+pub fn time_in(line: &[u8]) -> Option<Time>
+    ensures { result ≡ time_in line.now }
+{
+    if line == b"time real".as_slice() {
+        Some(Time::Real)
+    } else {
+        None
+    }
+}
+
+/// The length of a tick by a line `tick`, which has one form for each.
+pub fn tick_in(line: &[u8]) -> Option<Duration>
+    ensures { result ≡ tick_in line.now }
+{
+    let mut words = words_after(line, b"tick")?;
+    let count = words.next()?;
+    let word = words.next()?;
+    let count = number_of(count, u32::MAX)?;
+    let unit = TimeUnit::named(word)?;
+    let tick = Duration::from_nanoseconds(u64::from(count) * unit.nanoseconds())?;
+    if 1 <= count && word == tick.unit().word().as_bytes() && words.are_over() {
+        Some(tick)
+    } else {
+        None
+    }
 }
 
 /// The names that are kept of a line `groups`; `wrong` where the line has not its form.

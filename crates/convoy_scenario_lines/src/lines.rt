@@ -1,18 +1,19 @@
-ghost use Rattle.std.specs.Prelude.{◌≡◌, ◌<◌, ◌++◌, length, map, IfOk, OnOk, OnErr};
+ghost use Rattle.std.specs.Prelude.{◌≡◌, ◌<◌, ◌≤◌, ◌++◌, length, map, IfOk, IfSome, OnOk, OnErr};
 ghost use Rattle.std.specs.List.{flat_map};
 ghost use Rattle.convoy_scenario.specs.Scenario.{message_at, group_name_at};
+ghost use Rattle.convoy_scenario.specs.Durations.{count_of};
 ghost use Rattle.convoy_lines.specs.Texts.{ended, spaced, text_of};
 ghost use Rattle.convoy_scenario.specs.Naming.{sender_word};
 ghost use Rattle.convoy_scenario.specs.WellFormed.{IsLink, IsSender};
-ghost use Rattle.convoy_scenario_lines.specs.Lines.{delay_line, groups_line, link_line, multicast_line, target_line, scenario_text};
+ghost use Rattle.convoy_scenario_lines.specs.Lines.{time_lines, tick_line, tick_lines, delay_line, groups_line, link_line, multicast_line, target_line, scenario_text};
 
 use convoy_lines::{push_further_word, push_number, push_number_line};
 use convoy_scenario::laws::targets_are_groups;
-use convoy_scenario::{Link, Scenario, Sender};
+use convoy_scenario::{Duration, Link, MOST_UNITS, Scenario, Sender, Time};
 use std::alloc::{AllocError, Global};
 
-/// Appends the canonical lines of a scenario, from the line `delay` to the line `target`
-/// (docs/FORMATS.md, "Certificate text"). Where memory runs out, `out` stays as it was.
+/// Appends the canonical lines of a scenario, from the line `time`, where it is in real time, or else
+/// the line `delay`, to the line `target` (docs/FORMATS.md, "Certificate text"). Where memory runs out, `out` stays as it was.
 pub fn write_lines(alloc: Global, scenario: &Scenario, out: &mut Vec<u8>) -> Result<(), AllocError>
     ensures ok { OnOk result (out.new.items ≡ out.old.items ++ scenario_text scenario.now) }
     ensures err { OnErr result (out.new.items ≡ out.old.items) }
@@ -25,12 +26,43 @@ fn lines_of(alloc: Global, scenario: &Scenario) -> Result<Vec<u8>, AllocError>
     ensures { IfOk result (λ text. text.items ≡ scenario_text scenario.now) }
 {
     let mut text = Vec::new(alloc);
+    push_time(&mut text, scenario.time())?;
+    push_tick(&mut text, scenario.tick())?;
     push_number_line(&mut text, "delay", u32::from(scenario.delay()))?;
     push_groups(&mut text, scenario)?;
     push_links(&mut text, scenario)?;
     push_multicasts(&mut text, scenario)?;
     push_target(&mut text, scenario)?;
     Ok(text)
+}
+
+fn push_time(text: &mut Vec<u8>, time: Time) -> Result<(), AllocError>
+    ensures { OnOk result (text.new.items ≡ text.old.items ++ text_of (time_lines time)) }
+{
+    match time {
+        Time::Ticks => Ok(()),
+        Time::Real => text.extend_from_slice(b"time real\n"),
+    }
+}
+
+fn push_tick(text: &mut Vec<u8>, tick: Option<Duration>) -> Result<(), AllocError>
+    requires { IfSome tick (λ length. count_of length ≤ MOST_UNITS) }
+    ensures { OnOk result (text.new.items ≡ text.old.items ++ text_of (tick_lines tick)) }
+{
+    match tick {
+        None => Ok(()),
+        Some(tick) => push_tick_line(text, tick),
+    }
+}
+
+fn push_tick_line(text: &mut Vec<u8>, tick: Duration) -> Result<(), AllocError>
+    requires { count_of tick ≤ MOST_UNITS }
+    ensures { OnOk result (text.new.items ≡ text.old.items ++ ended (tick_line tick)) }
+{
+    text.extend_from_slice(b"tick ")?;
+    push_number(text, tick.count() as u32)?;
+    push_further_word(text, tick.unit().word())?;
+    Ok(text.push(b'\n')?)
 }
 
 fn push_groups(text: &mut Vec<u8>, scenario: &Scenario) -> Result<(), AllocError>

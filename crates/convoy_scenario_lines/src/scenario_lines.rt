@@ -4,23 +4,23 @@ ghost use Rattle.std.specs.Result.{result_map_both};
 ghost use Rattle.convoy_scenario.specs.Memory.{IsUnlessMemory};
 ghost use Rattle.convoy_lines.specs.Labels.{number_in};
 ghost use Rattle.convoy_scenario_lines.specs.Keeping.{kept_groups_in, kept_multicast_in, kept_messages_at, kept_scenario_at};
-ghost use Rattle.convoy_scenario_lines.specs.LineForms.{link_in, target_in};
-ghost use Rattle.convoy_scenario_lines.specs.LineReading.{form_at, is_link_due, links_at, first_misplaced, first_misplaced_link, is_multicast_due, is_ordered, first_unordered, told, scenario_at};
+ghost use Rattle.convoy_scenario_lines.specs.LineForms.{time_in, tick_in, link_in, target_in};
+ghost use Rattle.convoy_scenario_lines.specs.LineReading.{form_at, time_at, is_tick_due, tick_at, is_link_due, links_at, first_misplaced, first_misplaced_link, is_multicast_due, is_ordered, first_unordered, told, scenario_at};
 ghost use Rattle.convoy_lines.specs.Places.{upcoming};
 ghost use Rattle.convoy_scenario.specs.Numbering.{link_of, scenario_of_draft};
 
 use super::line_fault::{Expected, LineFault};
-use super::line_forms::{groups_in, link_in, multicast_in, target_in};
+use super::line_forms::{groups_in, link_in, multicast_in, target_in, tick_in, time_in};
 use super::version::Version;
 use convoy_lines::{LineReader, number_in};
 use convoy_scenario::laws::{different_names_are_distinct, judged_rules_hold};
 use convoy_scenario::{
-    DraftLink, DraftMulticast, DraftScenario, Limit, MOST_LINKS, MOST_MULTICASTS, Name, Scenario,
-    ScenarioFault,
+    DraftLink, DraftMulticast, DraftScenario, Duration, Limit, MOST_LINKS, MOST_MULTICASTS, Name,
+    Scenario, ScenarioFault, Time,
 };
 use std::alloc::Global;
 
-/// Reads the lines of a scenario, from `delay` to `target`, as a version has them (docs/FORMATS.md,
+/// Reads the lines of a scenario, up to the line `target`, as a version has them (docs/FORMATS.md,
 /// "Certificate text").
 ///
 /// A fault is the first in the order of the lines: a line that is absent, not ended or not of its
@@ -68,6 +68,8 @@ fn read_kept(
     ensures { IsUnlessMemory LineFault.Memory (kept_scenario_at version reader.old)
         (result_map_both (λ scenario. (scenario, reader.new)) (λ fault. fault) result) }
 {
+    let time = read_time(version, reader)?;
+    let tick = read_tick(version, reader)?;
     let delay = read_delay(reader)?;
     let groups = read_groups(alloc, reader)?;
     let first_link = reader.number();
@@ -77,6 +79,8 @@ fn read_kept(
     let (target_message, target_group) = read_target(alloc, reader)?;
     let unordered = first_unordered(&groups, first, &multicasts);
     let draft = DraftScenario {
+        time,
+        tick,
         delay: i64::from(delay),
         groups,
         links,
@@ -102,6 +106,57 @@ fn scenario_of(alloc: Global, draft: DraftScenario) -> Result<Scenario, LineFaul
         Ok(scenario) => Ok(scenario),
         Err(ScenarioFault::Memory) => Err(LineFault::Memory),
         Err(fault) => Err(LineFault::Scenario(fault)),
+    }
+}
+
+/// How time goes: by the next line in version 3, and in whole ticks in the others.
+fn read_time(version: Version, reader: &mut LineReader) -> Result<Time, LineFault>
+    ensures { result_map_both (λ time. (time, reader.new)) (λ fault. fault) result
+        ≡ time_at version reader.old }
+{
+    match version {
+        Version::One | Version::Two => Ok(Time::Ticks),
+        Version::Three => read_time_line(reader),
+    }
+}
+
+fn read_time_line(reader: &mut LineReader) -> Result<Time, LineFault>
+    ensures { result_map_both (λ time. (time, reader.new)) (λ fault. fault) result
+        ≡ form_at Expected.Time time_in reader.old }
+{
+    let wrong = LineFault::Line(reader.number(), Expected::Time);
+    let line = reader.line().ok_or(wrong)?;
+    time_in(line).ok_or(wrong)
+}
+
+/// How long a tick lasts, by the next line, where it begins with `tick`.
+fn read_tick(version: Version, reader: &mut LineReader) -> Result<Option<Duration>, LineFault>
+    ensures { result_map_both (λ tick. (tick, reader.new)) (λ fault. fault) result
+        ≡ tick_at version reader.old }
+{
+    if !is_tick_due(version, reader) {
+        return Ok(None);
+    }
+    let tick = read_tick_line(reader)?;
+    Ok(Some(tick))
+}
+
+fn read_tick_line(reader: &mut LineReader) -> Result<Duration, LineFault>
+    ensures { result_map_both (λ tick. (tick, reader.new)) (λ fault. fault) result
+        ≡ form_at Expected.Tick tick_in reader.old }
+{
+    let wrong = LineFault::Line(reader.number(), Expected::Tick);
+    let line = reader.line().ok_or(wrong)?;
+    tick_in(line).ok_or(wrong)
+}
+
+/// Whether a line `tick` is due: the version has such lines, and what comes next begins with that word.
+fn is_tick_due(version: Version, reader: &LineReader) -> bool
+    ensures { result ≡ is_tick_due version (upcoming reader.now) }
+{
+    match version {
+        Version::One | Version::Two => false,
+        Version::Three => reader.begins_with(b"tick"),
     }
 }
 
@@ -157,7 +212,7 @@ fn is_link_due(version: Version, reader: &LineReader) -> bool
 {
     match version {
         Version::One => false,
-        Version::Two => reader.begins_with(b"link"),
+        Version::Two | Version::Three => reader.begins_with(b"link"),
     }
 }
 

@@ -2,12 +2,14 @@
 use Rattle.std.proofs.Common.{◌≡◌, ℕ, List, Result, Ok, Err, refl, subst}
 use Rattle.convoy_lines.specs.Results.{◌>>=◌}
 use Rattle.convoy_scenario.specs.declared.fault.ScenarioFault.{ScenarioFault}
+use Rattle.convoy_scenario.specs.Draft.{Draft}
 use Rattle.convoy_scenario.specs.Laws.{DraftsGiveScenarios}
 use Rattle.convoy_scenario.specs.Numbering.{scenario_of_draft}
 use Rattle.convoy_scenario.specs.Scenario.{Scenario}
 use Rattle.convoy_scenario.specs.WellFormed.{IsScenario}
 use Rattle.convoy_toml.specs.Reading.{InputView, table_of_text, input_of_written, input_of_table, input_of_text, scenario_of_input, scenario_of_text}
-use Rattle.convoy_toml.specs.Shape.{written_of_table}
+use Rattle.convoy_toml.specs.Shape.{Written, written_of_table}
+use Rattle.convoy_toml.specs.Times.{draft_of_written}
 
 after_ok : {A B : Type 0} (r : Result A ScenarioFault) (f : A → Result B ScenarioFault) (y : B) → (r >>= f) ≡ Ok y → (x : A) × (r ≡ Ok x) × (f x ≡ Ok y)
 after_ok (Ok x) f y e = (x, refl, e)
@@ -19,14 +21,19 @@ input_has (Ok input) scenario e =
     (input, refl, cc)
 input_has (Err fault) scenario e = absurd cc
 
+-- what is given where this is written and its times in ticks are these
+abbrev input_of_draft : Written → Draft → Result InputView ScenarioFault
+input_of_draft written draft = scenario_of_draft draft >>= λ scenario. Ok (record { scenario = scenario; schedule = written.schedule; order = written.order })
+
 of_input : (drafts : DraftsGiveScenarios) (text : List ℕ) (input : InputView) → input_of_text text ≡ Ok input → IsScenario input.scenario
 of_input drafts text input e =
     let table = after_ok (table_of_text text) input_of_table input e in
     let written = after_ok (written_of_table table.0) input_of_written input table.2 in
-    let given = after_ok (scenario_of_draft written.0.draft) (λ scenario. Ok (record { scenario = scenario; schedule = written.0.schedule })) input written.2 in
-    let is : ◌≡◌ {A = Result InputView ScenarioFault} (Ok (record { scenario = given.0; schedule = written.0.schedule })) (Ok input) = given.2 in
-    let same : record { scenario = given.0; schedule = written.0.schedule } ≡ input = cc in
-    subst (λ (i : InputView). IsScenario i.scenario) same (drafts written.0.draft given.0 given.1)
+    let draft = after_ok (draft_of_written written.0.scenario) (input_of_draft written.0) input written.2 in
+    let given = after_ok (scenario_of_draft draft.0) (λ scenario. Ok (record { scenario = scenario; schedule = written.0.schedule; order = written.0.order })) input draft.2 in
+    let is : ◌≡◌ {A = Result InputView ScenarioFault} (Ok (record { scenario = given.0; schedule = written.0.schedule; order = written.0.order })) (Ok input) = given.2 in
+    let same : record { scenario = given.0; schedule = written.0.schedule; order = written.0.order } ≡ input = cc in
+    subst (λ (i : InputView). IsScenario i.scenario) same (drafts draft.0 given.0 given.1)
 
 pub of_text : (drafts : DraftsGiveScenarios) (text : List ℕ) (scenario : Scenario) → scenario_of_text text ≡ Ok scenario → IsScenario scenario
 of_text drafts text scenario e =

@@ -1,3 +1,4 @@
 mod Rows
 pub mod KeyLemmas
 pub mod GivenTexts
+pub mod Divisors

@@ -1,13 +1,18 @@
 -- Worked rows: what the definitions of the reader give for some tables.
-use Rattle.std.proofs.Common.{◌≡◌, refl, true, pos, negsuc, [], ◌∷◌, Some, Result, Ok, Err, codes}
-use Rattle.toml.specs.Data.{Items, no_items, item, Members, no_members, member, string, integer, boolean, array, table}
+use Rattle.std.proofs.Common.{◌≡◌, refl, true, pos, negsuc, [], ◌∷◌, Option, Some, None, ℕ, ℤ, List, Result, Ok, Err, codes}
+use Rattle.toml.specs.Data.{Data, Items, no_items, item, Members, no_members, member, string, integer, boolean, array, table}
 use Rattle.convoy_scenario.specs.declared.fault.ScenarioFault.{ScenarioFault}
-use Rattle.convoy_scenario.specs.declared.fault.ScenarioFault.TheVariants.{Shape, OverLimit}
+use Rattle.convoy_scenario.specs.declared.fault.ScenarioFault.TheVariants.{Shape, NotWhole, OverLimit}
 use Rattle.convoy_scenario.specs.declared.fault.Key.TheVariants as key
 use Rattle.convoy_scenario.specs.declared.fault.Limit.TheVariants as limit
 use Rattle.convoy_scenario.specs.declared.sender.Sender.TheVariants.{Client}
-use Rattle.convoy_scenario.specs.Scenario.{Scenario}
+use Rattle.convoy_scenario.specs.declared.time.Time.{Time}
+use Rattle.convoy_scenario.specs.declared.time.Time.TheVariants.{Ticks, Real}
+use Rattle.convoy_scenario.specs.Durations.{duration_of}
+use Rattle.convoy_scenario.specs.Scenario.{Scenario, message_at}
+use Rattle.convoy_lines.specs.Results.{◌>>=◌}
 use Rattle.convoy_toml.specs.Reading.{input_of_table, scenario_of_input}
+use Rattle.convoy_toml.specs.Times.{divisor_within}
 
 -- a table of one message, with further members at the top, in the message and in the target
 abbrev message_table : Members → Members
@@ -31,6 +36,8 @@ abbrev scenario_of_table : Members → Result Scenario ScenarioFault
 scenario_of_table members = scenario_of_input (input_of_table members)
 
 table_read : scenario_of_table (top (one (message_table no_members)) (target_table no_members) no_members) ≡ Ok (record {
+  time = Ticks;
+  tick = None;
   delay = 3;
   groups = codes "a" ∷ [];
   links = [];
@@ -67,6 +74,8 @@ given delays more = member (codes "schedule") (array delays) more
 
 schedule_given : input_of_table (top (one (message_table no_members)) (target_table no_members) (given (item (integer (pos 3)) (item (integer (negsuc 4)) no_items)) no_members)) ≡ Ok (record {
   scenario = record {
+    time = Ticks;
+    tick = None;
     delay = 3;
     groups = codes "a" ∷ [];
     links = [];
@@ -75,6 +84,7 @@ schedule_given : input_of_table (top (one (message_table no_members)) (target_ta
     target_group = 0;
   };
   schedule = Some (pos 3 ∷ negsuc 4 ∷ []);
+  order = None;
 })
 schedule_given = refl
 
@@ -111,3 +121,116 @@ link_after_target = refl
 
 link_before_schedule : scenario_of_table (top no_items (target_table no_members) (member (codes "link") (array (one odd)) (member (codes "schedule") (boolean true) odd))) ≡ Err (Shape key.To)
 link_before_schedule = refl
+
+-- ---- how time goes
+
+-- how time goes by a text that has this value at the key, before all that a scenario has besides
+abbrev timed : Data → Members
+timed value = member (codes "time") value (top (one (message_table no_members)) (target_table no_members) no_members)
+
+abbrev time_read : Members → Result Time ScenarioFault
+time_read members = scenario_of_table members >>= λ scenario. Ok scenario.time
+
+time_real : time_read (timed (string (codes "real"))) ≡ Ok Real
+time_real = refl
+
+time_ticks : time_read (timed (string (codes "ticks"))) ≡ Ok Ticks
+time_ticks = refl
+
+time_of_no_kind : time_read (timed (string (codes "reals"))) ≡ Err (Shape key.Time)
+time_of_no_kind = refl
+
+time_in_capitals : time_read (timed (string (codes "Real"))) ≡ Err (Shape key.Time)
+time_in_capitals = refl
+
+time_no_text : time_read (timed (boolean true)) ≡ Err (Shape key.Time)
+time_no_text = refl
+
+time_before_delay : time_read (member (codes "time") (integer (pos 0)) no_members) ≡ Err (Shape key.Time)
+time_before_delay = refl
+
+time_in_message : scenario_of_table (top (one (message_table (member (codes "time") (string (codes "real")) no_members))) (target_table no_members) no_members) ≡ Err (Shape key.Unknown)
+time_in_message = refl
+
+-- ---- the order of ties
+
+-- the order that a text gives beside the scenario
+abbrev order_read : Members → Result (Option (List ℤ)) ScenarioFault
+order_read more = input_of_table (top (one (message_table no_members)) (target_table no_members) more) >>= λ input. Ok input.order
+
+order_given : order_read (member (codes "order") (array (item (integer (pos 1)) (item (integer (negsuc 4)) no_items))) no_members) ≡ Ok (Some (pos 1 ∷ negsuc 4 ∷ []))
+order_given = refl
+
+order_empty : order_read (member (codes "order") (array no_items) no_members) ≡ Ok (Some [])
+order_empty = refl
+
+order_absent : order_read no_members ≡ Ok None
+order_absent = refl
+
+order_no_array : order_read (member (codes "order") (integer (pos 1)) odd) ≡ Err (Shape key.Order)
+order_no_array = refl
+
+order_of_texts : order_read (member (codes "order") (array (item (string (codes "a")) no_items)) odd) ≡ Err (Shape key.Order)
+order_of_texts = refl
+
+order_after_schedule : order_read (member (codes "order") (boolean true) (member (codes "schedule") (boolean true) odd)) ≡ Err (Shape key.Schedule)
+order_after_schedule = refl
+
+-- ---- durations
+
+-- a scenario of one message in real time, with this D, this tick of issue and further members at the top
+abbrev lasting : Data → Data → Members → Members
+lasting delay at more =
+    member (codes "time") (string (codes "real")) (member (codes "delay") delay (member (codes "groups") (array (item (string (codes "a")) no_items))
+    (member (codes "multicast") (array (one (member (codes "at") at (member (codes "name") (string (codes "t")) (member (codes "to") (array (item (string (codes "a")) no_items)) no_members)))))
+    (member (codes "target") (table (target_table no_members)) more))))
+
+-- the nanoseconds of a tick, D and the tick of issue
+abbrev ticks_read : Members → Result (Option ℕ × ℕ × ℕ) ScenarioFault
+ticks_read members = scenario_of_table members >>= λ scenario. Ok (scenario.tick, scenario.delay, (message_at scenario 0).at)
+
+-- a member that tells the length of a tick
+abbrev tick_of : List ℕ → Members
+tick_of text = member (codes "tick") (string text) no_members
+
+greatest_divisor : ticks_read (lasting (string (codes "0.08 us")) (string (codes "35ns")) no_members) ≡ Ok (Some 5, 16, 7)
+unfolding duration_of divisor_within
+greatest_divisor = refl
+
+tick_given : ticks_read (lasting (string (codes "80 ms")) (string (codes "0 s")) (tick_of (codes "10 us"))) ≡ Ok (Some 10_000, 8_000, 0)
+unfolding duration_of divisor_within
+tick_given = refl
+
+numbers_with_tick : ticks_read (lasting (integer (pos 3)) (string (codes "1 ms")) (tick_of (codes "500 us"))) ≡ Ok (Some 500_000, 3, 2)
+unfolding duration_of divisor_within
+numbers_with_tick = refl
+
+numbers_alone : ticks_read (lasting (integer (pos 65_535)) (integer (pos 9)) no_members) ≡ Ok (None, 65_535, 9)
+unfolding duration_of divisor_within
+numbers_alone = refl
+
+no_whole_number : ticks_read (lasting (string (codes "80 ms")) (string (codes "0.35 ms")) (tick_of (codes "100 us"))) ≡ Err (NotWhole key.At)
+unfolding duration_of divisor_within
+no_whole_number = refl
+
+mixed : ticks_read (lasting (integer (pos 3)) (string (codes "1 ms")) no_members) ≡ Err (Shape key.Tick)
+unfolding duration_of divisor_within
+mixed = refl
+
+tick_of_nothing : ticks_read (lasting (string (codes "80")) (boolean true) (tick_of (codes "0 ms"))) ≡ Err (Shape key.Tick)
+unfolding duration_of divisor_within
+tick_of_nothing = refl
+
+without_unit : ticks_read (lasting (string (codes "80")) (boolean true) no_members) ≡ Err (Shape key.Delay)
+unfolding duration_of divisor_within
+without_unit = refl
+
+too_many_ticks : ticks_read (lasting (string (codes "80 ms")) (string (codes "1 us")) (tick_of (codes "1 us"))) ≡ Err (OverLimit limit.Delay)
+unfolding duration_of divisor_within
+too_many_ticks = refl
+
+tick_in_whole_ticks : scenario_of_table (member (codes "tick") (string (codes "1 ms")) no_members) ≡ Err (Shape key.Tick)
+tick_in_whole_ticks = refl
+
+duration_in_whole_ticks : scenario_of_table (member (codes "delay") (string (codes "1 ms")) no_members) ≡ Err (Shape key.Delay)
+duration_in_whole_ticks = refl

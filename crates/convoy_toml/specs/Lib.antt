@@ -1,12 +1,14 @@
 -- what a reader has to know of the crates below
 pub use Rattle.convoy_lines.specs.Results
 pub use Rattle.convoy_scenario.specs.Draft
+pub use Rattle.convoy_scenario.specs.Durations
 pub use Rattle.convoy_scenario.specs.Keys
 pub use Rattle.convoy_scenario.specs.Memory
 pub use Rattle.convoy_scenario.specs.Numbering
 pub use Rattle.convoy_scenario.specs.Scenario
 pub use Rattle.convoy_scenario.specs.WellFormed
--- what a reader has to believe: what stands in a table, which text gives which scenario, and what is proved of texts
+-- what a reader has to believe: what stands in a table, what its times are in ticks, which text gives which scenario, and what is proved of texts
 pub mod Shape
+pub mod Times
 pub mod Reading
 pub mod Laws

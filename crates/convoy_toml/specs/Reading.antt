@@ -1,4 +1,4 @@
--- The scenario of a TOML table, and of a text, with the schedule that is given beside it.
+-- The scenario of a TOML table, and of a text, with the schedule and the order of its ties that are given beside it.
 use Rattle.std.specs.Prelude.{ℕ, ℤ, if◌then◌else◌, List, Option, option_map, ok_or, Result, Ok, Err}
 use Rattle.std.specs.Result.{result_map_both}
 use Rattle.std.specs.Str.{is_utf8}
@@ -11,22 +11,26 @@ use Rattle.convoy_scenario.specs.Scenario.{Scenario}
 use Rattle.convoy_scenario.specs.Numbering.{scenario_of_draft}
 use Rattle.convoy_lines.specs.Results.{◌>>=◌}
 use Rattle.convoy_toml.specs.Shape.{Written, written_of_table}
+use Rattle.convoy_toml.specs.Times.{draft_of_written}
 
--- what a text gives: a scenario, and the delays of one run where they stand beside it
+-- what a text gives: a scenario, and the delays of one run and the ranks of its moments where they stand beside it
 pub record InputView : Type 0 where
   pub scenario : Scenario
   pub schedule : Option (List ℤ)
+  pub order : Option (List ℤ)
 
 -- the table of a text in UTF-8 that is TOML
 abbrev pub table_of_text : List ℕ → Result Members ScenarioFault
 table_of_text text = if is_utf8 text then ok_or (parse_document text) NotToml else Err NotToml
 
--- what is given where this is written: the checks are those of the scenario, and the schedule stays as it is written
+-- what is given where this is written: its times in ticks first, then the checks of the scenario; schedule and order stay as they are written
 abbrev pub input_of_written : Written → Result InputView ScenarioFault
-input_of_written written =
-    scenario_of_draft written.draft >>= λ scenario. Ok (record { scenario = scenario; schedule = written.schedule })
+input_of_written written = do
+  draft ← draft_of_written written.scenario
+  scenario ← scenario_of_draft draft
+  Ok (record { scenario = scenario; schedule = written.schedule; order = written.order })
 
--- what a table gives: its shape first, then the checks
+-- what a table gives: its shape first, then what is said of that
 abbrev pub input_of_table : Members → Result InputView ScenarioFault
 input_of_table table = written_of_table table >>= input_of_written
 
@@ -42,9 +46,9 @@ scenario_of_input given = result_map_both (λ g. g.scenario) (λ fault. fault) g
 abbrev pub scenario_of_text : List ℕ → Result Scenario ScenarioFault
 scenario_of_text text = scenario_of_input (input_of_text text)
 
--- what was read, with the schedule as a list
+-- what was read, with schedule and order as lists
 abbrev pub input_read : Result Input ScenarioFault → Result InputView ScenarioFault
-input_read (Ok input) = Ok (record { scenario = input.scenario; schedule = option_map (λ delays. delays.items) input.schedule })
+input_read (Ok input) = Ok (record { scenario = input.scenario; schedule = option_map (λ delays. delays.items) input.schedule; order = option_map (λ ranks. ranks.items) input.order })
 input_read (Err fault) = Err fault
 
 -- what was read, without what stands beside the scenario

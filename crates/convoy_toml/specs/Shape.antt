@@ -4,17 +4,47 @@ use Rattle.std.specs.BTreeMap.{BTreeMap}
 use Rattle.std.specs.declared.alloc.Global.{Global}
 use Rattle.toml.specs.View.{table_view}
 use Rattle.toml.specs.declared.value.Value.{Value}
-use Rattle.std.specs.Prelude.{Vec, String, map, Bool, true, ◌&&◌, if◌then◌else◌, ℤ, List, [], ◌∷◌, Option, Some, None, option_map, option_and_then, ok_or, unwrap_or, Result, Ok, Err}
+use Rattle.std.specs.Prelude.{Vec, String, map, ℕ, nat_le, Bool, true, ◌&&◌, if◌then◌else◌, ℤ, List, [], ◌∷◌, Option, Some, None, option_map, option_and_then, ok_or, unwrap_or, Result, Ok, Err}
 use Rattle.std.specs.List.{list_any}
+use Rattle.std.specs.Option.{option_or}
 use Rattle.std.specs.Str.{bytes_eq}
 use Rattle.toml.specs.Data.{Data, Items, no_items, item, Members, no_members, member, get_member, as_str, as_integer, as_array, as_table}
 use Rattle.convoy_lines.specs.Results.{◌>>=◌}
 use Rattle.convoy_scenario.specs.declared.fault.Key.{Key}
-use Rattle.convoy_scenario.specs.declared.fault.Key.TheVariants.{Delay, Groups, Multicast, Name, From, To, At, Target, Message, Group, Link, Least, Most, Schedule, Unknown}
+use Rattle.convoy_scenario.specs.declared.fault.Key.TheVariants.{Time, Tick, Delay, Groups, Multicast, Name, From, To, At, Target, Message, Group, Link, Least, Most, Schedule, Order, Unknown}
 use Rattle.convoy_scenario.specs.declared.fault.ScenarioFault.{ScenarioFault}
 use Rattle.convoy_scenario.specs.declared.fault.ScenarioFault.TheVariants.{Shape}
-use Rattle.convoy_scenario.specs.Draft.{Draft, DraftLink, DraftMessage}
-use Rattle.convoy_scenario.specs.Keys.{key_word}
+use Rattle.convoy_scenario.specs.declared.time.Time.{Time as AnyTime}
+use Rattle.convoy_scenario.specs.declared.time.Time.TheVariants.{Ticks, Real}
+use Rattle.convoy_scenario.specs.Durations.{duration_of}
+use Rattle.convoy_scenario.specs.Keys.{key_word, time_named}
+use Rattle.convoy_toml.specs.declared.written.WrittenTime.{WrittenTime}
+use Rattle.convoy_toml.specs.declared.written.WrittenTime.TheVariants.{Count, Lasting}
+
+-- a message as it is written: its name, the group that sends it (none for a client), the groups that it goes to, and when it is issued
+pub record WrittenMessage : Type 0 where
+  pub name : List ℕ
+  pub sender : Option (List ℕ)
+  pub to : List (List ℕ)
+  pub at : WrittenTime
+
+-- a link as it is written: the group that sends (none for a client), the group that it leads to, and the least and the greatest delay
+pub record WrittenLink : Type 0 where
+  pub sender : Option (List ℕ)
+  pub to : List ℕ
+  pub least : WrittenTime
+  pub most : WrittenTime
+
+-- a scenario as it is written, with the length of a tick in nanoseconds where the key is there
+pub record WrittenScenario : Type 0 where
+  pub time : AnyTime
+  pub tick : Option ℕ
+  pub delay : WrittenTime
+  pub groups : List (List ℕ)
+  pub links : List WrittenLink
+  pub messages : List WrittenMessage
+  pub target_message : List ℕ
+  pub target_group : List ℕ
 
 -- what `kind` gives of each item, where it gives something of all
 abbrev pub all_of : {A : Type 0} → (Data → Option A) → Items → Option (List A)
@@ -49,72 +79,97 @@ has_only keys (member word d rest) = list_any (λ key. bytes_eq (key_word key) w
 abbrev pub need_only : List Key → Members → Result (Unit {0}) ScenarioFault
 need_only keys table = if has_only keys table then Ok tt else Err (Shape Unknown)
 
+-- how time goes, where a value names it
+abbrev pub as_time : Data → Option AnyTime
+as_time value = option_and_then time_named (as_str value)
+
+-- how time goes by a scenario's table: in whole ticks where the key is absent
+abbrev pub time_of_table : Members → Result AnyTime ScenarioFault
+time_of_table table = wish Time as_time table >>= λ time. Ok (unwrap_or time Ticks)
+
+-- the nanoseconds of the duration that a text tells, where time is real
+abbrev pub as_duration : AnyTime → Data → Option ℕ
+as_duration Ticks value = None
+as_duration Real value = option_and_then duration_of (as_str value)
+
+-- a time as it is written: an integer counts ticks, and where time is real a text may tell a duration
+abbrev pub as_when : AnyTime → Data → Option WrittenTime
+as_when time value = option_or (option_map Count (as_integer value)) (option_map Lasting (as_duration time value))
+
+-- the length of a tick: a duration above 0, where time is real
+abbrev pub as_tick : AnyTime → Data → Option ℕ
+as_tick time value = option_and_then (λ length. if nat_le 1 length then Some length else None) (as_duration time value)
+
 -- a message as it is written
-abbrev pub message_of_table : Members → Result DraftMessage ScenarioFault
-message_of_table table = do
+abbrev pub message_of_table : AnyTime → Members → Result WrittenMessage ScenarioFault
+message_of_table time table = do
   name ← need Name as_str table
   sender ← wish From as_str table
   to ← need_all To as_str table
-  at ← need At as_integer table
+  at ← need At (as_when time) table
   _ ← need_only (Name ∷ From ∷ To ∷ At ∷ []) table
   Ok (record { name = name; sender = sender; to = to; at = at })
 
 -- the messages, unless one is at fault
-abbrev pub messages_of : List Members → Result (List DraftMessage) ScenarioFault
-messages_of [] = Ok []
-messages_of (table ∷ tables) = do
-  message ← message_of_table table
-  messages ← messages_of tables
+abbrev pub messages_of : AnyTime → List Members → Result (List WrittenMessage) ScenarioFault
+messages_of time [] = Ok []
+messages_of time (table ∷ tables) = do
+  message ← message_of_table time table
+  messages ← messages_of time tables
   Ok (message ∷ messages)
 
 -- a link as it is written
-abbrev pub link_of_table : Members → Result DraftLink ScenarioFault
-link_of_table table = do
+abbrev pub link_of_table : AnyTime → Members → Result WrittenLink ScenarioFault
+link_of_table time table = do
   sender ← wish From as_str table
   to ← need To as_str table
-  least ← need Least as_integer table
-  most ← need Most as_integer table
+  least ← need Least (as_when time) table
+  most ← need Most (as_when time) table
   _ ← need_only (From ∷ To ∷ Least ∷ Most ∷ []) table
   Ok (record { sender = sender; to = to; least = least; most = most })
 
 -- the links, unless one is at fault
-abbrev pub links_of : List Members → Result (List DraftLink) ScenarioFault
-links_of [] = Ok []
-links_of (table ∷ tables) = do
-  link ← link_of_table table
-  links ← links_of tables
+abbrev pub links_of : AnyTime → List Members → Result (List WrittenLink) ScenarioFault
+links_of time [] = Ok []
+links_of time (table ∷ tables) = do
+  link ← link_of_table time table
+  links ← links_of time tables
   Ok (link ∷ links)
 
 -- the links of a scenario's table; none where the key is absent
-abbrev pub links_of_table : Members → Result (List DraftLink) ScenarioFault
-links_of_table table = wish_all Link as_table table >>= λ tables. links_of (unwrap_or tables [])
+abbrev pub links_of_table : AnyTime → Members → Result (List WrittenLink) ScenarioFault
+links_of_table time table = wish_all Link as_table table >>= λ tables. links_of time (unwrap_or tables [])
 
 -- the scenario as it is written, whatever else stands in the table
-abbrev pub draft_of_table : Members → Result Draft ScenarioFault
-draft_of_table table = do
-  delay ← need Delay as_integer table
+abbrev pub scenario_of_table : Members → Result WrittenScenario ScenarioFault
+scenario_of_table table = do
+  time ← time_of_table table
+  tick ← wish Tick (as_tick time) table
+  delay ← need Delay (as_when time) table
   groups ← need_all Groups as_str table
   tables ← need_all Multicast as_table table
-  messages ← messages_of tables
+  messages ← messages_of time tables
   target ← need Target as_table table
   target_message ← need Message as_str target
   target_group ← need Group as_str target
   _ ← need_only (Message ∷ Group ∷ []) target
-  links ← links_of_table table
-  Ok (record { delay = delay; groups = groups; links = links; messages = messages; target_message = target_message; target_group = target_group })
+  links ← links_of_table time table
+  Ok (record { time = time; tick = tick; delay = delay; groups = groups; links = links; messages = messages; target_message = target_message; target_group = target_group })
 
--- what is written in a scenario's table: the scenario, and the delays of a schedule where they are given
+-- what is written in a scenario's table: the scenario, and the delays of a schedule and the ranks of its moments where they are given
 pub record Written : Type 0 where
-  pub draft : Draft
+  pub scenario : WrittenScenario
   pub schedule : Option (List ℤ)
+  pub order : Option (List ℤ)
 
 -- what is written in the table, which has no other key
 abbrev pub written_of_table : Members → Result Written ScenarioFault
 written_of_table table = do
-  draft ← draft_of_table table
+  scenario ← scenario_of_table table
   schedule ← wish_all Schedule as_integer table
-  _ ← need_only (Delay ∷ Groups ∷ Multicast ∷ Target ∷ Link ∷ Schedule ∷ []) table
-  Ok (record { draft = draft; schedule = schedule })
+  order ← wish_all Order as_integer table
+  _ ← need_only (Time ∷ Tick ∷ Delay ∷ Groups ∷ Multicast ∷ Target ∷ Link ∷ Schedule ∷ Order ∷ []) table
+  Ok (record { scenario = scenario; schedule = schedule; order = order })
 
 -- how a call's answer is seen: a vector as the list that it holds
 abbrev pub listed : {A : Type 0} → Result (Vec A Global) ScenarioFault → Result (List A) ScenarioFault

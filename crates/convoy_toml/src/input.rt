@@ -1,5 +1,4 @@
-use convoy_scenario::{DraftScenario, Scenario};
-use std::marker::Model;
+use convoy_scenario::Scenario;
 
 /// What a scenario text holds.
 #[derive(Debug, Drop)]
@@ -7,24 +6,6 @@ pub struct Input {
     pub scenario: Scenario,
     /// The delays of one run in the order of the packets, where the text gives them.
     pub schedule: Option<Vec<i64>>,
-}
-
-/// What is written in a scenario text: the scenario, and the schedule where it is given.
-#[derive(Debug, Drop)]
-pub struct DraftInput {
-    pub scenario: DraftScenario,
-    /// The members of the array, whatever they are.
-    pub schedule: Option<Vec<i64>>,
-}
-
-impl Model for DraftInput {
-    ghost use Rattle.std.specs.Prelude.{option_map};
-    ghost use Rattle.convoy_toml.specs.Shape.{Written};
-
-    ghost Value = { Written };
-
-    ghost view = { λ i. record {
-      draft = i.scenario;
-      schedule = option_map (λ delays. delays.items) i.schedule;
-    } };
+    /// The ranks of the moments of that run, where the text gives them.
+    pub order: Option<Vec<i64>>,
 }

@@ -1,7 +1,7 @@
-//! The law of scenario texts. It is the one clause of a function that does nothing; a caller that needs the
-//! law calls the function.
+//! The laws of scenario texts. Each is the one clause of a function that does nothing; a caller that needs a
+//! law calls its function.
 
-ghost use Rattle.convoy_toml.specs.Laws.{TextsGiveScenarios};
+ghost use Rattle.convoy_toml.specs.Laws.{CommonDivisorsAreGreatest, TextsGiveScenarios};
 
 use convoy_scenario::laws::drafts_give_scenarios;
 
@@ -11,3 +11,8 @@ pub fn texts_give_scenarios()
 {
     drafts_give_scenarios();
 }
+
+/// The common divisor of two lengths divides both, and each number that divides both divides it.
+pub fn common_divisors_are_greatest()
+    ensures { CommonDivisorsAreGreatest }
+{}

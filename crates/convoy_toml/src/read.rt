@@ -4,8 +4,10 @@ ghost use Rattle.toml.specs.View.{table_view};
 ghost use Rattle.convoy_scenario.specs.Memory.{IsUnlessMemory};
 ghost use Rattle.convoy_toml.specs.Reading.{table_of_text, input_of_text, input_read, scenario_of_text, scenario_read};
 
-use super::input::{DraftInput, Input};
+use super::input::Input;
 use super::shape::written_of_table;
+use super::times::draft_of_written;
+use super::written::WrittenInput;
 use convoy_scenario::{Scenario, ScenarioFault};
 use std::alloc::Global;
 use toml::Table;
@@ -13,9 +15,10 @@ use toml::Table;
 /// Reads a scenario text, which is TOML (docs/FORMATS.md, "Scenario text").
 ///
 /// Of a faulty text the first fault is told, in the order of `ScenarioFault`; where memory runs out,
-/// `ScenarioFault::Memory` is the answer, and says nothing of the text. The members of
-/// `schedule` are given as they are written: whether they are delays of the scenario's packets is
-/// not asked here.
+/// `ScenarioFault::Memory` is the answer, and says nothing of the text. Times that are written as
+/// durations are given in ticks of the scenario's length, and none is rounded. The members of
+/// `schedule` and of `order` are given as they are written: whether they are delays of the scenario's
+/// packets, and ranks of its moments, is not asked here.
 pub fn read_toml(alloc: Global, text: &[u8]) -> Result<Input, ScenarioFault>
     ensures scenario { IsUnlessMemory ScenarioFault.Memory
         (scenario_of_text text.now) (scenario_read result) }
@@ -23,13 +26,22 @@ pub fn read_toml(alloc: Global, text: &[u8]) -> Result<Input, ScenarioFault>
         (input_of_text text.now) (input_read result) }
     ensures read { IfOk result (λ input. scenario_of_text text.now ≡ Ok input.scenario) }
     ensures given { IfOk result (λ input. input_of_text text.now
-        ≡ Ok (record { scenario = input.scenario; schedule = option_map (λ delays. delays.items) input.schedule })) }
+        ≡ Ok (record { scenario = input.scenario; schedule = option_map (λ delays. delays.items) input.schedule; order = option_map (λ ranks. ranks.items) input.order })) }
 {
     let table = read_table(alloc, text)?;
     let written = written_of_table(alloc, &table)?;
-    let DraftInput { scenario, schedule } = written;
-    let scenario = Scenario::from_draft(alloc, scenario)?;
-    Ok(Input { scenario, schedule })
+    let WrittenInput {
+        scenario,
+        schedule,
+        order,
+    } = written;
+    let draft = draft_of_written(alloc, scenario)?;
+    let scenario = Scenario::from_draft(alloc, draft)?;
+    Ok(Input {
+        scenario,
+        schedule,
+        order,
+    })
 }
 
 fn read_table(alloc: Global, text: &[u8]) -> Result<Table, ScenarioFault>

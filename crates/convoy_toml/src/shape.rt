@@ -6,10 +6,10 @@ ghost use Rattle.toml.specs.Data.{as_integer, as_str, as_array, as_table, get_me
 ghost use Rattle.toml.specs.View.{view, array_view, table_view};
 ghost use Rattle.convoy_scenario.specs.Keys.{key_word};
 ghost use Rattle.convoy_scenario.specs.Memory.{IsUnlessMemory};
-ghost use Rattle.convoy_toml.specs.Shape.{all_of, need, need_all, wish, wish_all, has_only, need_only, message_of_table, messages_of, link_of_table, links_of, links_of_table, draft_of_table, written_of_table, listed, listed_if_there, tables_listed};
+ghost use Rattle.convoy_toml.specs.Shape.{all_of, as_duration, as_when, as_tick, need, need_all, wish, wish_all, has_only, need_only, time_of_table, message_of_table, messages_of, link_of_table, links_of, links_of_table, scenario_of_table, written_of_table, listed, listed_if_there, tables_listed};
 
-use super::input::DraftInput;
-use convoy_scenario::{DraftLink, DraftMulticast, DraftScenario, Key, Name, ScenarioFault};
+use super::written::{WrittenInput, WrittenLink, WrittenMulticast, WrittenScenario, WrittenTime};
+use convoy_scenario::{Duration, Key, Name, ScenarioFault, Time};
 use std::alloc::Global;
 use toml::value::Array;
 use toml::{Table, Value};
@@ -20,13 +20,6 @@ fn value_at(table: &Table, key: Key) -> Option<&Value>
         ≡ get_member (key_word key) (table_view table.now) }
 {
     table.get(key.word())
-}
-
-fn integer(table: &Table, key: Key) -> Result<i64, ScenarioFault>
-    ensures { result ≡ need key as_integer (table_view table.now) }
-{
-    let value = value_at(table, key).ok_or(ScenarioFault::Shape(key))?;
-    value.as_integer().ok_or(ScenarioFault::Shape(key))
 }
 
 fn text(table: &Table, key: Key) -> Result<&str, ScenarioFault>
@@ -126,15 +119,78 @@ fn integers_of(alloc: Global, items: &Array, key: Key) -> Result<Vec<i64>, Scena
     Ok(integers)
 }
 
-fn schedule(alloc: Global, table: &Table) -> Result<Option<Vec<i64>>, ScenarioFault>
+/// The members of an array of integers, where the key is there.
+fn integers(alloc: Global, table: &Table, key: Key) -> Result<Option<Vec<i64>>, ScenarioFault>
     ensures { IsUnlessMemory ScenarioFault.Memory
-        (wish_all Key.Schedule as_integer (table_view table.now)) (listed_if_there result) }
+        (wish_all key as_integer (table_view table.now)) (listed_if_there result) }
 {
-    let Some(value) = value_at(table, Key::Schedule) else {
+    let Some(value) = value_at(table, key) else {
         return Ok(None);
     };
-    let items = value.as_array().ok_or(ScenarioFault::Shape(Key::Schedule))?;
-    Ok(Some(integers_of(alloc, items, Key::Schedule)?))
+    let items = value.as_array().ok_or(ScenarioFault::Shape(key))?;
+    Ok(Some(integers_of(alloc, items, key)?))
+}
+
+/// How time goes by a scenario's table: in whole ticks where the key is absent.
+fn time_of_table(table: &Table) -> Result<Time, ScenarioFault>
+    ensures { result ≡ time_of_table (table_view table.now) }
+{
+    let Some(value) = value_at(table, Key::Time) else {
+        return Ok(Time::Ticks);
+    };
+    let word = value.as_str().ok_or(ScenarioFault::Shape(Key::Time))?;
+    Time::named(word).ok_or(ScenarioFault::Shape(Key::Time))
+}
+
+/// The duration that a text tells, where time is real.
+fn duration(value: &Value, time: Time) -> Option<Duration>
+    ensures { result ≡ as_duration time (view value.now) }
+{
+    match time {
+        Time::Ticks => None,
+        Time::Real => Duration::read(value.as_str()?.as_bytes()),
+    }
+}
+
+/// A number of ticks, or where time is real a duration.
+fn time_written(value: &Value, time: Time) -> Option<WrittenTime>
+    ensures { result ≡ as_when time (view value.now) }
+{
+    match value.as_integer() {
+        Some(ticks) => Some(WrittenTime::Count(ticks)),
+        None => Some(WrittenTime::Lasting(duration(value, time)?)),
+    }
+}
+
+/// The time at a key.
+fn when(table: &Table, key: Key, time: Time) -> Result<WrittenTime, ScenarioFault>
+    ensures { result ≡ need key (as_when time) (table_view table.now) }
+{
+    let value = value_at(table, key).ok_or(ScenarioFault::Shape(key))?;
+    time_written(value, time).ok_or(ScenarioFault::Shape(key))
+}
+
+/// The length of a tick: a duration above 0, where time is real.
+fn tick_written(value: &Value, time: Time) -> Option<Duration>
+    ensures { result ≡ as_tick time (view value.now) }
+{
+    let length = duration(value, time)?;
+    if length.nanoseconds() >= 1 {
+        Some(length)
+    } else {
+        None
+    }
+}
+
+/// The length of a tick, where the key is there.
+fn tick_of_table(table: &Table, time: Time) -> Result<Option<Duration>, ScenarioFault>
+    ensures { result ≡ wish Key.Tick (as_tick time) (table_view table.now) }
+{
+    let Some(value) = value_at(table, Key::Tick) else {
+        return Ok(None);
+    };
+    let length = tick_written(value, time).ok_or(ScenarioFault::Shape(Key::Tick))?;
+    Ok(Some(length))
 }
 
 fn is_one_of(word: &str, keys: &[Key]) -> bool
@@ -160,15 +216,20 @@ fn need_only(table: &Table, keys: &[Key]) -> Result<(), ScenarioFault>
     }
 }
 
-fn multicast_of_table(alloc: Global, table: &Table) -> Result<DraftMulticast, ScenarioFault>
-    ensures { IsUnlessMemory ScenarioFault.Memory (message_of_table (table_view table.now)) result }
+fn multicast_of_table(
+    alloc: Global,
+    table: &Table,
+    time: Time,
+) -> Result<WrittenMulticast, ScenarioFault>
+    ensures { IsUnlessMemory ScenarioFault.Memory
+        (message_of_table time (table_view table.now)) result }
 {
     let name = name(alloc, table, Key::Name)?;
     let sender = sender(alloc, table)?;
     let to = names(alloc, table, Key::To)?;
-    let at = integer(table, Key::At)?;
+    let at = when(table, Key::At, time)?;
     need_only(table, &[Key::Name, Key::From, Key::To, Key::At])?;
-    Ok(DraftMulticast {
+    Ok(WrittenMulticast {
         name,
         sender,
         to,
@@ -176,26 +237,30 @@ fn multicast_of_table(alloc: Global, table: &Table) -> Result<DraftMulticast, Sc
     })
 }
 
-fn multicasts_of(alloc: Global, tables: &[&Table]) -> Result<Vec<DraftMulticast>, ScenarioFault>
+fn multicasts_of(
+    alloc: Global,
+    tables: &[&Table],
+    time: Time,
+) -> Result<Vec<WrittenMulticast>, ScenarioFault>
     ensures { IsUnlessMemory ScenarioFault.Memory
-        (messages_of (map (λ t. table_view t.now) tables.now)) (listed result) }
+        (messages_of time (map (λ t. table_view t.now) tables.now)) (listed result) }
 {
     let mut multicasts = Vec::new(alloc);
     for table in tables {
-        multicasts.push(multicast_of_table(alloc, table)?)?;
+        multicasts.push(multicast_of_table(alloc, table, time)?)?;
     }
     Ok(multicasts)
 }
 
-fn link_of_table(alloc: Global, table: &Table) -> Result<DraftLink, ScenarioFault>
-    ensures { IsUnlessMemory ScenarioFault.Memory (link_of_table (table_view table.now)) result }
+fn link_of_table(alloc: Global, table: &Table, time: Time) -> Result<WrittenLink, ScenarioFault>
+    ensures { IsUnlessMemory ScenarioFault.Memory (link_of_table time (table_view table.now)) result }
 {
     let sender = sender(alloc, table)?;
     let to = name(alloc, table, Key::To)?;
-    let least = integer(table, Key::Least)?;
-    let most = integer(table, Key::Most)?;
+    let least = when(table, Key::Least, time)?;
+    let most = when(table, Key::Most, time)?;
     need_only(table, &[Key::From, Key::To, Key::Least, Key::Most])?;
-    Ok(DraftLink {
+    Ok(WrittenLink {
         sender,
         to,
         least,
@@ -203,64 +268,80 @@ fn link_of_table(alloc: Global, table: &Table) -> Result<DraftLink, ScenarioFaul
     })
 }
 
-fn links_of(alloc: Global, tables: &[&Table]) -> Result<Vec<DraftLink>, ScenarioFault>
+fn links_of(alloc: Global, tables: &[&Table], time: Time) -> Result<Vec<WrittenLink>, ScenarioFault>
     ensures { IsUnlessMemory ScenarioFault.Memory
-        (links_of (map (λ t. table_view t.now) tables.now)) (listed result) }
+        (links_of time (map (λ t. table_view t.now) tables.now)) (listed result) }
 {
     let mut links = Vec::new(alloc);
     for table in tables {
-        links.push(link_of_table(alloc, table)?)?;
+        links.push(link_of_table(alloc, table, time)?)?;
     }
     Ok(links)
 }
 
 /// The links of a scenario's table; none where the key is absent.
-fn links_of_table(alloc: Global, table: &Table) -> Result<Vec<DraftLink>, ScenarioFault>
+fn links_of_table(
+    alloc: Global,
+    table: &Table,
+    time: Time,
+) -> Result<Vec<WrittenLink>, ScenarioFault>
     ensures { IsUnlessMemory ScenarioFault.Memory
-        (links_of_table (table_view table.now)) (listed result) }
+        (links_of_table time (table_view table.now)) (listed result) }
 {
     let Some(value) = value_at(table, Key::Link) else {
         return Ok(Vec::new(alloc));
     };
     let items = value.as_array().ok_or(ScenarioFault::Shape(Key::Link))?;
     let tables = tables_of(alloc, items, Key::Link)?;
-    links_of(alloc, &tables)
+    links_of(alloc, &tables, time)
 }
 
 /// What is written in a table, or the first key that is at fault (docs/FORMATS.md, "Scenario text").
-pub fn written_of_table(alloc: Global, table: &Table) -> Result<DraftInput, ScenarioFault>
+pub fn written_of_table(alloc: Global, table: &Table) -> Result<WrittenInput, ScenarioFault>
     ensures { IsUnlessMemory ScenarioFault.Memory (written_of_table (table_view table.now)) result }
 {
-    let scenario = draft_of_table(alloc, table)?;
-    let schedule = schedule(alloc, table)?;
+    let scenario = scenario_of_table(alloc, table)?;
+    let schedule = integers(alloc, table, Key::Schedule)?;
+    let order = integers(alloc, table, Key::Order)?;
     need_only(
         table,
         &[
+            Key::Time,
+            Key::Tick,
             Key::Delay,
             Key::Groups,
             Key::Multicast,
             Key::Target,
             Key::Link,
             Key::Schedule,
+            Key::Order,
         ],
     )?;
-    Ok(DraftInput { scenario, schedule })
+    Ok(WrittenInput {
+        scenario,
+        schedule,
+        order,
+    })
 }
 
 /// The scenario as it is written in a table, whatever else stands there.
-fn draft_of_table(alloc: Global, table: &Table) -> Result<DraftScenario, ScenarioFault>
-    ensures { IsUnlessMemory ScenarioFault.Memory (draft_of_table (table_view table.now)) result }
+fn scenario_of_table(alloc: Global, table: &Table) -> Result<WrittenScenario, ScenarioFault>
+    ensures { IsUnlessMemory ScenarioFault.Memory (scenario_of_table (table_view table.now)) result }
 {
-    let delay = integer(table, Key::Delay)?;
+    let time = time_of_table(table)?;
+    let tick = tick_of_table(table, time)?;
+    let delay = when(table, Key::Delay, time)?;
     let groups = names(alloc, table, Key::Groups)?;
     let tables = tables(alloc, table, Key::Multicast)?;
-    let multicasts = multicasts_of(alloc, &tables)?;
+    let multicasts = multicasts_of(alloc, &tables, time)?;
     let target = inner_table(table, Key::Target)?;
     let target_message = name(alloc, target, Key::Message)?;
     let target_group = name(alloc, target, Key::Group)?;
     need_only(target, &[Key::Message, Key::Group])?;
-    let links = links_of_table(alloc, table)?;
-    Ok(DraftScenario {
+    let links = links_of_table(alloc, table, time)?;
+    Ok(WrittenScenario {
+        time,
+        tick,
         delay,
         groups,
         links,

@@ -6,5 +6,5 @@ use Rattle.convoy_toml.proofs.shape.links_of.Given as goal
 
 abbrev pub invariant-loop-table : goal.invariant-loop-table
 invariant-loop-table l =
-    links_of (map (λ t. table_view t.now) l.tables)
-    ≡ (links_of (map (λ t. table_view t.now) (drop l.table-index l.tables)) >>= λ rest. Ok (l.links.items ++ rest))
+    links_of l.time (map (λ t. table_view t.now) l.tables)
+    ≡ (links_of l.time (map (λ t. table_view t.now) (drop l.table-index l.tables)) >>= λ rest. Ok (l.links.items ++ rest))

@@ -1,0 +1,115 @@
+-- What the times of a scenario are in ticks, where they are written as durations. Nothing is rounded.
+use Rattle.std.specs.Prelude.{ℕ, suc, zero, ◌+◌, ℤ, pos, ◌%◌, ◌/◌, ◌==◌, max, Bool, true, false, if◌then◌else◌, List, [], ◌∷◌, ◌++◌, map, Option, Some, None, option_and_then, ok_or, Result, Ok, Err}
+use Rattle.std.specs.List.{list_all}
+use Rattle.convoy_lines.specs.Results.{◌>>=◌}
+use Rattle.convoy_scenario.specs.declared.fault.Key.{Key}
+use Rattle.convoy_scenario.specs.declared.fault.Key.TheVariants.{Tick, Delay, At, Least, Most}
+use Rattle.convoy_scenario.specs.declared.fault.ScenarioFault.{ScenarioFault}
+use Rattle.convoy_scenario.specs.declared.fault.ScenarioFault.TheVariants.{Shape, NotWhole}
+use Rattle.convoy_scenario.specs.Draft.{Draft, DraftLink, DraftMessage}
+use Rattle.convoy_toml.specs.declared.written.WrittenTime.{WrittenTime}
+use Rattle.convoy_toml.specs.declared.written.WrittenTime.TheVariants.{Count, Lasting}
+use Rattle.convoy_toml.specs.Shape.{WrittenScenario, WrittenLink, WrittenMessage}
+
+-- the time is a number of ticks
+abbrev pub is_count : WrittenTime → Bool
+is_count (Count ticks) = true
+is_count (Lasting length) = false
+
+-- the time is a duration
+abbrev pub is_lasting : WrittenTime → Bool
+is_lasting (Count ticks) = false
+is_lasting (Lasting length) = true
+
+-- the nanoseconds of a time that is a duration
+abbrev pub length_of : WrittenTime → ℕ
+length_of (Count ticks) = 0
+length_of (Lasting length) = length
+
+-- the least and the greatest delay of each link
+abbrev pub times_of_links : List WrittenLink → List WrittenTime
+times_of_links [] = []
+times_of_links (link ∷ links) = link.least ∷ link.most ∷ times_of_links links
+
+-- all times of a scenario
+abbrev pub times_of : WrittenScenario → List WrittenTime
+times_of scenario = scenario.delay ∷ map (λ message. message.at) scenario.messages ++ times_of_links scenario.links
+
+-- the greatest common divisor, in at most so many steps of Euclid's rule
+unfoldable pub divisor_within : ℕ → ℕ → ℕ → ℕ
+divisor_within zero a b = a
+divisor_within (suc steps) a b = if b == 0 then a else divisor_within steps b (a % b)
+
+-- the greatest common divisor
+abbrev pub common_divisor : ℕ → ℕ → ℕ
+common_divisor a b = divisor_within (b + 1) a b
+
+-- the greatest common divisor of a number and all of a list
+abbrev pub divisor_of_all : ℕ → List ℕ → ℕ
+divisor_of_all divisor [] = divisor
+divisor_of_all divisor (length ∷ lengths) = divisor_of_all (common_divisor divisor length) lengths
+
+-- the length of a tick that is not written: none where all times are numbers of ticks, and where all are durations the greatest that each of them is a whole number of
+abbrev pub tick_between : List WrittenTime → Result (Option ℕ) ScenarioFault
+tick_between times =
+    if list_all is_count times then Ok None
+    else if list_all is_lasting times then Ok (Some (max 1 (divisor_of_all 0 (map length_of times))))
+    else Err (Shape Tick)
+
+-- the length of a scenario's tick, if it has one
+abbrev pub tick_of : WrittenScenario → Result (Option ℕ) ScenarioFault
+tick_of scenario = if_written scenario.tick where
+  if_written : Option ℕ → Result (Option ℕ) ScenarioFault
+  if_written (Some tick) = Ok (Some tick)
+  if_written None = tick_between (times_of scenario)
+
+-- how many ticks of this length a duration takes, if that is a whole number
+abbrev pub ticks_in : ℕ → ℕ → Option ℤ
+ticks_in tick length = if length % tick == 0 then Some (pos (length / tick)) else None
+
+-- the ticks of a time
+abbrev pub ticks_of : Option ℕ → WrittenTime → Option ℤ
+ticks_of tick (Count ticks) = Some ticks
+ticks_of tick (Lasting length) = option_and_then (λ t. ticks_in t length) tick
+
+-- the ticks of a time, which has to be a whole number of them
+abbrev pub whole : Option ℕ → Key → WrittenTime → Result ℤ ScenarioFault
+whole tick key time = ok_or (ticks_of tick time) (NotWhole key)
+
+-- a message in ticks
+abbrev pub draft_message_of : Option ℕ → WrittenMessage → Result DraftMessage ScenarioFault
+draft_message_of tick message = do
+  at ← whole tick At message.at
+  Ok (record { name = message.name; sender = message.sender; to = message.to; at = at })
+
+-- the messages in ticks
+abbrev pub draft_messages_of : Option ℕ → List WrittenMessage → Result (List DraftMessage) ScenarioFault
+draft_messages_of tick [] = Ok []
+draft_messages_of tick (message ∷ messages) = do
+  first ← draft_message_of tick message
+  others ← draft_messages_of tick messages
+  Ok (first ∷ others)
+
+-- a link in ticks
+abbrev pub draft_link_of : Option ℕ → WrittenLink → Result DraftLink ScenarioFault
+draft_link_of tick link = do
+  least ← whole tick Least link.least
+  most ← whole tick Most link.most
+  Ok (record { sender = link.sender; to = link.to; least = least; most = most })
+
+-- the links in ticks
+abbrev pub draft_links_of : Option ℕ → List WrittenLink → Result (List DraftLink) ScenarioFault
+draft_links_of tick [] = Ok []
+draft_links_of tick (link ∷ links) = do
+  first ← draft_link_of tick link
+  others ← draft_links_of tick links
+  Ok (first ∷ others)
+
+-- the scenario in ticks, or the first time that is no whole number of them
+abbrev pub draft_of_written : WrittenScenario → Result Draft ScenarioFault
+draft_of_written scenario = do
+  tick ← tick_of scenario
+  delay ← whole tick Delay scenario.delay
+  messages ← draft_messages_of tick scenario.messages
+  links ← draft_links_of tick scenario.links
+  Ok (record { time = scenario.time; tick = tick; delay = delay; groups = scenario.groups; links = links; messages = messages; target_message = scenario.target_message; target_group = scenario.target_group })

@@ -1,0 +1,268 @@
+ghost use Rattle.std.specs.Prelude.{◌≡◌, ◌≤◌, ◌++◌, map, IfOk, OnOk};
+ghost use Rattle.convoy_scenario.specs.declared.duration.TheConstants.{LONGEST_DURATION};
+ghost use Rattle.std.specs.List.{list_all};
+ghost use Rattle.convoy_scenario.specs.Memory.{IsUnlessMemory};
+ghost use Rattle.convoy_toml.specs.Shape.{listed};
+ghost use Rattle.convoy_toml.specs.Times.{times_of_links, is_count, is_lasting, length_of, divisor_of_all, times_of, tick_between, tick_of, ticks_in, ticks_of, whole, draft_message_of, draft_messages_of, draft_link_of, draft_links_of, draft_of_written};
+
+use super::divisor::common_divisor;
+use super::written::{WrittenLink, WrittenMulticast, WrittenScenario, WrittenTime};
+use convoy_scenario::{
+    DraftLink, DraftMulticast, DraftScenario, Duration, Key, Name, ScenarioFault,
+};
+use std::alloc::{AllocError, Global};
+
+impl WrittenTime {
+    fn is_count(&self) -> bool
+        ensures { result ≡ is_count self.now }
+    {
+        matches!(self, WrittenTime::Count(_))
+    }
+
+    fn is_lasting(&self) -> bool
+        ensures { result ≡ is_lasting self.now }
+    {
+        matches!(self, WrittenTime::Lasting(_))
+    }
+
+    /// The nanoseconds of a duration; 0 for a number of ticks.
+    fn length(&self) -> u64
+        ensures length { result ≡ length_of self.now }
+        ensures bounded { result ≤ LONGEST_DURATION }
+    {
+        match self {
+            WrittenTime::Count(_) => 0,
+            WrittenTime::Lasting(duration) => duration.nanoseconds(),
+        }
+    }
+}
+
+/// All times of a scenario.
+fn times_of(alloc: Global, scenario: &WrittenScenario) -> Result<Vec<WrittenTime>, AllocError>
+    ensures { IfOk result (λ times. times.items ≡ times_of scenario.now) }
+{
+    let mut times = Vec::new(alloc);
+    times.push(scenario.delay)?;
+    push_issues(&mut times, &scenario.multicasts)?;
+    push_ranges(&mut times, &scenario.links)?;
+    Ok(times)
+}
+
+/// Appends when each message is issued.
+fn push_issues(
+    times: &mut Vec<WrittenTime>,
+    multicasts: &[WrittenMulticast],
+) -> Result<(), AllocError>
+    ensures { OnOk result (times.new.items ≡ times.old.items ++ map (λ m. m.at) multicasts.now) }
+{
+    for multicast in multicasts {
+        times.push(multicast.at)?;
+    }
+    Ok(())
+}
+
+/// Appends the least and the greatest delay of each link.
+fn push_ranges(times: &mut Vec<WrittenTime>, links: &[WrittenLink]) -> Result<(), AllocError>
+    ensures { OnOk result (times.new.items ≡ times.old.items ++ times_of_links links.now) }
+{
+    for link in links {
+        times.push(link.least)?;
+        times.push(link.most)?;
+    }
+    Ok(())
+}
+
+/// The greatest common divisor of the durations.
+fn divisor_of_all(times: &[WrittenTime]) -> u64
+    ensures divisor { result ≡ divisor_of_all 0 (map length_of times.now) }
+    ensures bounded { result ≤ LONGEST_DURATION }
+{
+    let mut divisor = 0;
+    for time in times {
+        divisor = common_divisor(divisor, time.length());
+    }
+    divisor
+}
+
+fn are_counts(times: &[WrittenTime]) -> bool
+    ensures { result ≡ list_all is_count times.now }
+{
+    times.iter().all(|time| time.is_count())
+}
+
+fn are_lasting(times: &[WrittenTime]) -> bool
+    ensures { result ≡ list_all is_lasting times.now }
+{
+    times.iter().all(|time| time.is_lasting())
+}
+
+/// The length of a tick that is not written: none where all times are numbers of ticks, and where all are
+/// durations the greatest that each of them is a whole number of.
+fn tick_between(times: &[WrittenTime]) -> Result<Option<Duration>, ScenarioFault>
+    ensures { result ≡ tick_between times.now }
+{
+    if are_counts(times) {
+        Ok(None)
+    } else if are_lasting(times) {
+        let length = divisor_of_all(times).max(1);
+        Ok(Duration::from_nanoseconds(length))
+    } else {
+        Err(ScenarioFault::Shape(Key::Tick))
+    }
+}
+
+/// The length of a scenario's tick, if it has one.
+fn tick_of(alloc: Global, scenario: &WrittenScenario) -> Result<Option<Duration>, ScenarioFault>
+    ensures { IsUnlessMemory ScenarioFault.Memory (tick_of scenario.now) result }
+{
+    if scenario.tick.is_some() {
+        return Ok(scenario.tick);
+    }
+    let times = times_of(alloc, scenario)?;
+    tick_between(&times)
+}
+
+/// The nanoseconds of a tick, if there is one.
+fn length_of(tick: &Option<Duration>) -> Option<u64>
+    ensures { result ≡ tick.now }
+{
+    match tick {
+        Some(tick) => Some(tick.nanoseconds()),
+        None => None,
+    }
+}
+
+/// How many ticks of so many nanoseconds a duration takes, if that is a whole number.
+fn ticks_in(tick: u64, duration: Duration) -> Option<i64>
+    ensures { result ≡ ticks_in tick duration }
+{
+    let length = duration.nanoseconds();
+    if length.is_multiple_of(tick) {
+        Some(length.checked_div(tick).unwrap_or(0) as i64)
+    } else {
+        None
+    }
+}
+
+/// The ticks of a time, where a tick is so many nanoseconds.
+fn ticks_of(tick: Option<u64>, time: WrittenTime) -> Option<i64>
+    ensures { result ≡ ticks_of tick time }
+{
+    match time {
+        WrittenTime::Count(ticks) => Some(ticks),
+        WrittenTime::Lasting(duration) => ticks_in(tick?, duration),
+    }
+}
+
+/// The ticks of the time at a key, which has to be a whole number of them.
+fn whole(tick: Option<u64>, key: Key, time: WrittenTime) -> Result<i64, ScenarioFault>
+    ensures { result ≡ whole tick key time }
+{
+    ticks_of(tick, time).ok_or(ScenarioFault::NotWhole(key))
+}
+
+/// A message in ticks, in memory of its own.
+fn draft_multicast_of(
+    alloc: Global,
+    tick: Option<u64>,
+    multicast: &WrittenMulticast,
+) -> Result<DraftMulticast, ScenarioFault>
+    ensures { IsUnlessMemory ScenarioFault.Memory (draft_message_of tick multicast.now) result }
+{
+    let at = whole(tick, Key::At, multicast.at)?;
+    Ok(DraftMulticast {
+        name: multicast.name.copy()?,
+        sender: copy_sender(&multicast.sender)?,
+        to: copy_names(alloc, &multicast.to)?,
+        at,
+    })
+}
+
+fn draft_multicasts_of(
+    alloc: Global,
+    tick: Option<u64>,
+    multicasts: &[WrittenMulticast],
+) -> Result<Vec<DraftMulticast>, ScenarioFault>
+    ensures { IsUnlessMemory ScenarioFault.Memory
+        (draft_messages_of tick multicasts.now) (listed result) }
+{
+    let mut drafts = Vec::new(alloc);
+    for multicast in multicasts {
+        drafts.push(draft_multicast_of(alloc, tick, multicast)?)?;
+    }
+    Ok(drafts)
+}
+
+/// A link in ticks, in memory of its own.
+fn draft_link_of(tick: Option<u64>, link: &WrittenLink) -> Result<DraftLink, ScenarioFault>
+    ensures { IsUnlessMemory ScenarioFault.Memory (draft_link_of tick link.now) result }
+{
+    let least = whole(tick, Key::Least, link.least)?;
+    let most = whole(tick, Key::Most, link.most)?;
+    Ok(DraftLink {
+        sender: copy_sender(&link.sender)?,
+        to: link.to.copy()?,
+        least,
+        most,
+    })
+}
+
+fn draft_links_of(
+    alloc: Global,
+    tick: Option<u64>,
+    links: &[WrittenLink],
+) -> Result<Vec<DraftLink>, ScenarioFault>
+    ensures { IsUnlessMemory ScenarioFault.Memory (draft_links_of tick links.now) (listed result) }
+{
+    let mut drafts = Vec::new(alloc);
+    for link in links {
+        drafts.push(draft_link_of(tick, link)?)?;
+    }
+    Ok(drafts)
+}
+
+/// The scenario in ticks, or the first time that is no whole number of them (docs/FORMATS.md, "How faults
+/// are found").
+pub fn draft_of_written(
+    alloc: Global,
+    scenario: WrittenScenario,
+) -> Result<DraftScenario, ScenarioFault>
+    ensures { IsUnlessMemory ScenarioFault.Memory (draft_of_written scenario) result }
+{
+    let tick = tick_of(alloc, &scenario)?;
+    let length = length_of(&tick);
+    let delay = whole(length, Key::Delay, scenario.delay)?;
+    let multicasts = draft_multicasts_of(alloc, length, &scenario.multicasts)?;
+    let links = draft_links_of(alloc, length, &scenario.links)?;
+    Ok(DraftScenario {
+        time: scenario.time,
+        tick,
+        delay,
+        groups: scenario.groups,
+        links,
+        multicasts,
+        target_message: scenario.target_message,
+        target_group: scenario.target_group,
+    })
+}
+
+/// The same name, in memory of its own, if there is one.
+fn copy_sender(sender: &Option<Name>) -> Result<Option<Name>, AllocError>
+    ensures { IfOk result (λ copy. copy ≡ sender.now) }
+{
+    match sender {
+        Some(name) => Ok(Some(name.copy()?)),
+        None => Ok(None),
+    }
+}
+
+/// The same names, in memory of their own.
+fn copy_names(alloc: Global, names: &[Name]) -> Result<Vec<Name>, AllocError>
+    ensures { IfOk result (λ copies. copies.items ≡ names.now) }
+{
+    let mut copies = Vec::new(alloc);
+    for name in names {
+        copies.push(name.copy()?)?;
+    }
+    Ok(copies)
+}

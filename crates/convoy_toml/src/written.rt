@@ -1,0 +1,122 @@
+use convoy_scenario::{Duration, Name, Time};
+use std::marker::Model;
+
+/// A time as it is written: a number of ticks, within the limits or not, or a duration.
+#[derive(Clone, Copy, Debug)]
+pub enum WrittenTime {
+    Count(i64),
+    Lasting(Duration),
+}
+
+/// A message as it is written, with the names of groups in place of their numbers.
+#[derive(Debug, Drop)]
+pub struct WrittenMulticast {
+    pub name: Name,
+    /// The group that sends it, or none where a client does.
+    pub sender: Option<Name>,
+    /// The groups that it goes to, in the order in which they are written.
+    pub to: Vec<Name>,
+    /// When it is issued.
+    pub at: WrittenTime,
+}
+
+impl Model for WrittenMulticast {
+    ghost use Rattle.convoy_toml.specs.Shape.{WrittenMessage};
+
+    ghost Value = { WrittenMessage };
+
+    ghost view = { λ m. record {
+      name = m.name;
+      sender = m.sender;
+      to = m.to.items;
+      at = m.at;
+    } };
+}
+
+/// A link as it is written: what goes from the sender to the group `to` takes `least` to `most`, be
+/// these a range or not.
+#[derive(Debug, Drop)]
+pub struct WrittenLink {
+    /// The group that sends, or none where a client does.
+    pub sender: Option<Name>,
+    pub to: Name,
+    /// The least delay.
+    pub least: WrittenTime,
+    /// The greatest delay.
+    pub most: WrittenTime,
+}
+
+impl Model for WrittenLink {
+    ghost use Rattle.convoy_toml.specs.Shape.{WrittenLink};
+
+    ghost Value = { WrittenLink };
+
+    ghost view = { λ l. record {
+      sender = l.sender;
+      to = l.to;
+      least = l.least;
+      most = l.most;
+    } };
+}
+
+/// A scenario as it is written, before its times are put into ticks.
+#[derive(Debug, Drop)]
+pub struct WrittenScenario {
+    /// Whether time goes in whole ticks, or is real.
+    pub time: Time,
+    /// The length of a tick, where it is written: above 0.
+    pub tick: Option<Duration>,
+    /// D, the greatest delay of a packet.
+    pub delay: WrittenTime,
+    /// The names of the groups, in the order of their numbers.
+    pub groups: Vec<Name>,
+    /// The links, in any order.
+    pub links: Vec<WrittenLink>,
+    /// The messages, in the order of their numbers.
+    pub multicasts: Vec<WrittenMulticast>,
+    /// The name of the message of which the latency is asked.
+    pub target_message: Name,
+    /// The name of the group at which it is asked.
+    pub target_group: Name,
+}
+
+impl Model for WrittenScenario {
+    ghost use Rattle.convoy_toml.specs.Shape.{WrittenScenario};
+
+    ghost Value = { WrittenScenario };
+
+    ghost view = { λ s. record {
+      time = s.time;
+      tick = s.tick;
+      delay = s.delay;
+      groups = s.groups.items;
+      links = s.links.items;
+      messages = s.multicasts.items;
+      target_message = s.target_message;
+      target_group = s.target_group;
+    } };
+}
+
+/// What is written in a scenario text: the scenario, and the schedule and the order of its ties where
+/// they are given.
+#[derive(Debug, Drop)]
+pub struct WrittenInput {
+    pub scenario: WrittenScenario,
+    /// The members of the array `schedule`, whatever they are.
+    pub schedule: Option<Vec<i64>>,
+    /// The members of the array `order`, whatever they are.
+    pub order: Option<Vec<i64>>,
+}
+
+impl Model for WrittenInput {
+    ghost use Rattle.std.specs.Prelude.{option_map};
+    ghost use Rattle.convoy_toml.specs.Shape.{Written};
+
+    ghost Value = { Written };
+
+    ghost view = { λ i. record {
+      scenario = i.scenario;
+      schedule = option_map (λ delays. delays.items) i.schedule;
+      order = option_map (λ ranks. ranks.items) i.order;
+    } };
+}
