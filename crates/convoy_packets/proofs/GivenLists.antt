@@ -1,11 +1,13 @@
 -- Lists of numbers that are given as schedules.
-use Rattle.std.proofs.Common.{◌≡◌, ◌↔◌, ◌∙◌, ℕ, ℤ, pos, negsuc, ◌+◌, ◌≤◌, ◌==◌, Bool, true, false, ◌&&◌, nat_le, if◌then◌else◌, List, [], ◌∷◌, length, map, Option, Some, None, Result, Ok, Err, inl, inr, arith, refl, sym}
+use Rattle.std.proofs.Common.{◌≡◌, ◌↔◌, ◌∙◌, ℕ, ℤ, pos, negsuc, ◌+◌, ◌≤◌, ◌==◌, Bool, true, false, ◌&&◌, nat_le, if◌then◌else◌, List, [], ◌∷◌, length, map, Option, Some, None, Result, Ok, Err, inl, inr, arith, refl, sym, ap}
 use Rattle.std.proofs.lemmas.Bool.Decides.{nat_tests}
 use Rattle.std.proofs.lemmas.List.{length-map}
 use Rattle.convoy_scenario.specs.Memory.{IsUnlessMemory}
 use Rattle.convoy_packets.specs.declared.fault.ListFault.{ListFault}
 use Rattle.convoy_packets.specs.declared.fault.ListFault.TheVariants.{Length, Memory, Range}
-use Rattle.convoy_packets.specs.Assignment.{AreWithin, IsWithin}
+use Rattle.convoy_packets.specs.Assignment.{AreWithin, IsWithin, Schedule, in_fixed_order}
+use Rattle.convoy_packets.specs.Order.{Order, no_order}
+use Rattle.std.specs.Result.{result_map_both}
 use Rattle.convoy_packets.specs.Given.{delay_given, delays_given, put_first, schedule_of}
 use Rattle.convoy_packets.proofs.Ranges.{length-within}
 
@@ -79,24 +81,35 @@ delays_if_within i (range ∷ ranges) [] h = absurd h
 delays_if_within i (range ∷ ranges) (d ∷ delays) h = rw (given_if_within range d h.0, delays_if_within (i + 1) ranges delays h.1) refl
 
 module _ (ranges : List (ℕ × ℕ)) where
-  schedule_if_within : (delays : List ℕ) → AreWithin ranges delays → schedule_of ranges (map pos delays) ≡ Ok delays
+  schedule_if_within : (delays : List ℕ) → AreWithin ranges delays → schedule_of ranges (map pos delays) ≡ Ok (in_fixed_order delays)
   schedule_if_within delays h =
       let long : length (map pos delays) ≡ length ranges = length-map delays pos ∙ sym (length-within ranges delays h) in
       let same : (length (map pos delays) == length ranges) ≡ true = grind (arith, nat_tests) in
       rw (same, delays_if_within 0 ranges delays h) refl
 
-  pub given_just_if_delays : (numbers : List ℤ) (delays : List ℕ) →
-      (schedule_of ranges numbers ≡ Ok delays) ↔ ((numbers ≡ map pos delays) × AreWithin ranges delays)
-  given_just_if_delays numbers delays = (there, back) where
-    long_enough : (b : Bool) → (length numbers == length ranges) ≡ b → schedule_of ranges numbers ≡ Ok delays → (numbers ≡ map pos delays) × AreWithin ranges delays
-    long_enough false is e = let no : Err Length ≡ Ok delays = rw is at e in cc
+  in_order : (r : Result (List ℕ) ListFault) (schedule : Schedule) → result_map_both in_fixed_order (λ f. f) r ≡ Ok schedule
+      → (r ≡ Ok schedule.delays) × (schedule.order ≡ no_order)
+  in_order (Err f) schedule e = cc
+  in_order (Ok delays) schedule e =
+      let same : in_fixed_order delays ≡ schedule = cc in
+      (ap (λ (s : Schedule). Ok s.delays) same, ap (λ (s : Schedule). s.order) (sym same))
+
+  pub given_just_if_delays : (numbers : List ℤ) (schedule : Schedule) →
+      (schedule_of ranges numbers ≡ Ok schedule)
+      ↔ ((numbers ≡ map pos schedule.delays) × AreWithin ranges schedule.delays × (schedule.order ≡ no_order))
+  given_just_if_delays numbers schedule = (there, back) where
+    long_enough : (b : Bool) → (length numbers == length ranges) ≡ b → schedule_of ranges numbers ≡ Ok schedule
+        → (numbers ≡ map pos schedule.delays) × AreWithin ranges schedule.delays × (schedule.order ≡ no_order)
+    long_enough false is e = let no : Err Length ≡ Ok schedule = rw is at e in cc
     long_enough true is e =
         let long : length numbers ≡ length ranges = grind (arith, nat_tests) in
-        let given : delays_given 0 ranges numbers ≡ Ok delays = rw is at e in
-        (numbers_if_given 0 ranges numbers delays long given, within_if_given 0 ranges numbers delays long given)
+        let given = in_order (delays_given 0 ranges numbers) schedule (rw is at e) in
+        (numbers_if_given 0 ranges numbers schedule.delays long given.0, within_if_given 0 ranges numbers schedule.delays long given.0, given.1)
 
-    there : schedule_of ranges numbers ≡ Ok delays → (numbers ≡ map pos delays) × AreWithin ranges delays
+    there : schedule_of ranges numbers ≡ Ok schedule → (numbers ≡ map pos schedule.delays) × AreWithin ranges schedule.delays × (schedule.order ≡ no_order)
     there e = long_enough (length numbers == length ranges) refl e
 
-    back : (numbers ≡ map pos delays) × AreWithin ranges delays → schedule_of ranges numbers ≡ Ok delays
-    back h = rw h.0 (schedule_if_within delays h.1)
+    back : (numbers ≡ map pos schedule.delays) × AreWithin ranges schedule.delays × (schedule.order ≡ no_order) → schedule_of ranges numbers ≡ Ok schedule
+    back h =
+        rw h.0
+        (schedule_if_within schedule.delays h.1 ∙ ap (λ (o : Order). Ok (record { delays = schedule.delays; order = o })) (sym h.2))

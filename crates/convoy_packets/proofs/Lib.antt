@@ -1,7 +1,9 @@
 pub mod Lists
 pub mod Places
 pub mod Listed
+pub mod Orders
 pub mod Ranges
 pub mod Pairs
 pub mod Sent
 pub mod GivenLists
+pub mod OrderLists

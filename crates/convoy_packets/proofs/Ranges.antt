@@ -7,14 +7,17 @@ use Rattle.std.proofs.lemmas.List.{length-map, get_or-map}
 use Rattle.std.proofs.lemmas.List.Elements.{All-head, All-tail, All-map, recursion_from_All}
 use Rattle.std.proofs.lemmas.Option.{same_Some, slice_get-get_or, slice_get_within}
 use Rattle.convoy_scenario.specs.Scenario.{Link, Scenario, is_same_sender}
-use Rattle.convoy_scenario.specs.WellFormed.{IsLink, IsScenario}
+use Rattle.convoy_scenario.specs.declared.time.Time.{Time}
+use Rattle.convoy_scenario.specs.declared.time.Time.TheVariants.{Ticks, Real}
+use Rattle.convoy_scenario.specs.WellFormed.{IsLink, IsScenario, greatest_delay}
 use Rattle.convoy_packets.specs.declared.packet.Packet.{Packet}
 use Rattle.convoy_packets.specs.Packets.{packets_of, place_of}
-use Rattle.convoy_packets.specs.Assignment.{AreWithin, IsAssignment, IsWithin, delay_of, sender_of, receiver_of, range_of, ranges_of}
+use Rattle.convoy_packets.specs.Assignment.{AreWithin, IsAssignment, IsWithin, Schedule, delay_of, sender_of, receiver_of, range_of, ranges_of}
 use Rattle.convoy_packets.specs.Laws.{is_sent}
-use Rattle.convoy_packets.specs.Table.{IsRange, least_of, greatest_of}
+use Rattle.convoy_packets.specs.Table.{IsRange, least_of, least_delays, greatest_delays}
 use Rattle.convoy_packets.proofs.Places.{stands_where_found}
 use Rattle.convoy_packets.proofs.Sent.{found_if_sent}
+use Rattle.convoy_packets.proofs.Orders.{fixed_is_order}
 
 -- a range of one tick or more, within D
 pub record IsWithinDelay (delay : ℕ) (range : ℕ × ℕ) : Type 0 where
@@ -39,13 +42,27 @@ range_within plan packet is =
     found_within (length plan.groups) plan.delay (λ link. is_same_sender (sender_of plan packet) link.sender && (receiver_of packet == link.to)) plan.links is.delay_low
     (recursion_from_All (IsLink (length plan.groups) plan.delay) plan.links is.links)
 
-pub AreWithin-least : (ranges : List (ℕ × ℕ)) → All IsRange ranges → AreWithin ranges (least_of ranges)
+-- D is within the limit for how time goes
+delay_fits : (plan : Scenario) → IsScenario plan → plan.delay ≤ greatest_delay plan.time
+delay_fits plan is = by_time plan.time refl where
+  by_time : (time : Time) → plan.time ≡ time → plan.delay ≤ greatest_delay time
+  by_time Ticks e = is.delay_whole e
+  by_time Real e = is.delay_high
+
+-- and so is the range of each packet
+pub range_fits : (plan : Scenario) (packet : Packet) → IsScenario plan → (range_of plan packet).1 ≤ greatest_delay plan.time
+range_fits plan packet is =
+    let range = range_within plan packet is in
+    let most = delay_fits plan is in
+    omega (arith, range.high, most)
+
+pub AreWithin-least : (ranges : List (ℕ × ℕ)) → All IsRange ranges → AreWithin ranges (least_delays ranges)
 AreWithin-least [] h = tt
 AreWithin-least (range ∷ ranges) h =
     let first = All-head IsRange range ranges h in
     ((omega arith, first.ordered), AreWithin-least ranges (All-tail IsRange range ranges h))
 
-pub AreWithin-greatest : (ranges : List (ℕ × ℕ)) → All IsRange ranges → AreWithin ranges (greatest_of ranges)
+pub AreWithin-greatest : (ranges : List (ℕ × ℕ)) → All IsRange ranges → AreWithin ranges (greatest_delays ranges)
 AreWithin-greatest [] h = tt
 AreWithin-greatest (range ∷ ranges) h =
     let first = All-head IsRange range ranges h in
@@ -74,49 +91,52 @@ pub length-ranges_of : (plan : Scenario) → length (ranges_of plan) ≡ length 
 unfolding ranges_of
 length-ranges_of plan = length-map (packets_of plan) (range_of plan)
 
-pub length-assignment : (plan : Scenario) (delays : List ℕ) → IsAssignment plan delays → length delays ≡ length (packets_of plan)
-length-assignment plan delays is = sym (length-within (ranges_of plan) delays is) ∙ length-ranges_of plan
+pub length-assignment : (plan : Scenario) (schedule : Schedule) → IsAssignment plan schedule → length schedule.delays ≡ length (packets_of plan)
+length-assignment plan schedule is = sym (length-within (ranges_of plan) schedule.delays is.delays) ∙ length-ranges_of plan
 
-pub delay_at_place : (plan : Scenario) (delays : List ℕ) (p : Packet) (i : ℕ) → place_of p (packets_of plan) ≡ Some i → delay_of plan delays p ≡ get_or delays i 0
+pub delay_at_place : (plan : Scenario) (schedule : Schedule) (p : Packet) (i : ℕ) → place_of p (packets_of plan) ≡ Some i → delay_of plan schedule p ≡ get_or schedule.delays i 0
 unfolding delay_of
-delay_at_place plan delays p i found = rw found refl
+delay_at_place plan schedule p i found = rw found refl
 
-pub no_delay : (plan : Scenario) (delays : List ℕ) (p : Packet) → place_of p (packets_of plan) ≡ None → delay_of plan delays p ≡ 0
+pub no_delay : (plan : Scenario) (schedule : Schedule) (p : Packet) → place_of p (packets_of plan) ≡ None → delay_of plan schedule p ≡ 0
 unfolding delay_of
-no_delay plan delays p none = rw none refl
+no_delay plan schedule p none = rw none refl
 
-within_at_place : (plan : Scenario) (delays : List ℕ) (p : Packet) (i : ℕ) → IsAssignment plan delays → place_of p (packets_of plan) ≡ Some i → IsWithin (range_of plan p) (delay_of plan delays p)
+within_at_place : (plan : Scenario) (schedule : Schedule) (p : Packet) (i : ℕ) → IsAssignment plan schedule → place_of p (packets_of plan) ≡ Some i → IsWithin (range_of plan p) (delay_of plan schedule p)
 unfolding ranges_of
-within_at_place plan delays p i is found =
+within_at_place plan schedule p i is found =
     let stands = stands_where_found (packets_of plan) i p found in
     let here = slice_get_within (packets_of plan) i p stands in
     let same : get_or (packets_of plan) i p ≡ p = same_Some (get_or (packets_of plan) i p) p (sym (slice_get-get_or (packets_of plan) i p here) ∙ stands) in
     let long = length-ranges_of plan in
-    let within = within_at (ranges_of plan) delays i (range_of plan p) is (omega arith) in
-    rw (delay_at_place plan delays p i found) (rw (get_or-map (range_of plan) (packets_of plan) i p (range_of plan p) here, same) at within)
+    let within = within_at (ranges_of plan) schedule.delays i (range_of plan p) is.delays (omega arith) in
+    rw (delay_at_place plan schedule p i found) (rw (get_or-map (range_of plan) (packets_of plan) i p (range_of plan p) here, same) at within)
 
-module _ (plan : Scenario) (delays : List ℕ) (p : Packet) where
-  pub within_if_sent : IsAssignment plan delays → IsTrue (is_sent plan p) → IsWithin (range_of plan p) (delay_of plan delays p)
+module _ (plan : Scenario) (schedule : Schedule) (p : Packet) where
+  pub within_if_sent : IsAssignment plan schedule → IsTrue (is_sent plan p) → IsWithin (range_of plan p) (delay_of plan schedule p)
   within_if_sent is sent = by_place (place_of p (packets_of plan)) refl where
-    by_place : (o : Option ℕ) → place_of p (packets_of plan) ≡ o → IsWithin (range_of plan p) (delay_of plan delays p)
+    by_place : (o : Option ℕ) → place_of p (packets_of plan) ≡ o → IsWithin (range_of plan p) (delay_of plan schedule p)
     by_place None e = absurd (true≢false (sym sent ∙ sym (found_if_sent plan p) ∙ ap is_some e))
-    by_place (Some i) e = within_at_place plan delays p i is e
+    by_place (Some i) e = within_at_place plan schedule p i is e
 
-  pub no_time_if_unsent : IsTrue (not (is_sent plan p)) → delay_of plan delays p ≡ 0
+  pub no_time_if_unsent : IsTrue (not (is_sent plan p)) → delay_of plan schedule p ≡ 0
   no_time_if_unsent unsent = by_place (place_of p (packets_of plan)) refl where
-    by_place : (o : Option ℕ) → place_of p (packets_of plan) ≡ o → delay_of plan delays p ≡ 0
-    by_place None e = no_delay plan delays p e
+    by_place : (o : Option ℕ) → place_of p (packets_of plan) ≡ o → delay_of plan schedule p ≡ 0
+    by_place None e = no_delay plan schedule p e
     by_place (Some i) e = absurd (true≢false (sym (ap is_some e) ∙ found_if_sent plan p ∙ not-true (is_sent plan p) unsent))
 
-  pub at_most : IsScenario plan → IsAssignment plan delays → delay_of plan delays p ≤ plan.delay
+  pub at_most : IsScenario plan → IsAssignment plan schedule → delay_of plan schedule p ≤ plan.delay
   at_most formed is = by_place (place_of p (packets_of plan)) refl where
-    by_place : (o : Option ℕ) → place_of p (packets_of plan) ≡ o → delay_of plan delays p ≤ plan.delay
-    by_place None e = rw (no_delay plan delays p e) (omega arith)
-    by_place (Some i) e = let within = (within_at_place plan delays p i is e).1 in let most = (range_within plan p formed).high in omega arith
+    by_place : (o : Option ℕ) → place_of p (packets_of plan) ≡ o → delay_of plan schedule p ≤ plan.delay
+    by_place None e = rw (no_delay plan schedule p e) (omega arith)
+    by_place (Some i) e = let within = (within_at_place plan schedule p i is e).1 in let most = (range_within plan p formed).high in omega arith
 
-pub least_assignment : (plan : Scenario) → IsScenario plan → IsAssignment plan (least_of (ranges_of plan))
+least_within : (plan : Scenario) → IsScenario plan → AreWithin (ranges_of plan) (least_delays (ranges_of plan))
 unfolding ranges_of
-least_assignment plan is =
+least_within plan is =
     AreWithin-least (ranges_of plan)
     (All-map IsRange (range_of plan) (packets_of plan)
     (λ k d l. let range = range_within plan (get_or (packets_of plan) k d) is in record { low = range.low; ordered = range.ordered; high = omega (arith, range.high, is.delay_high) }))
+
+pub least_assignment : (plan : Scenario) → IsScenario plan → IsAssignment plan (least_of (ranges_of plan))
+least_assignment plan is = record { delays = least_within plan is; order = fixed_is_order plan }

@@ -1,4 +1,4 @@
--- Delays: the range of each packet, and the assignments of a delay to each packet.
+-- Schedule: the range of each packet, and the assignments of a delay to each packet.
 use Rattle.std.specs.Prelude.{ℕ, ◌≤◌, List, map, slice_index}
 use Rattle.std.specs.List.{AllZip}
 use Rattle.std.specs.Option.{option_map_or}
@@ -8,6 +8,7 @@ use Rattle.convoy_scenario.specs.Scenario.{Scenario, message_at, range_between}
 use Rattle.convoy_packets.specs.declared.packet.Packet.{Packet}
 use Rattle.convoy_packets.specs.declared.packet.Packet.TheVariants.{Multicast, Propose}
 use Rattle.convoy_packets.specs.Packets.{packets_of, place_of}
+use Rattle.convoy_packets.specs.Order.{Order, IsOrder, no_order}
 
 -- who sends a packet: the sender of its message, or the group of which it is the stamp
 abbrev pub sender_of : Scenario → Packet → Sender
@@ -31,22 +32,28 @@ ranges_of scenario = map (range_of scenario) (packets_of scenario)
 abbrev pub IsWithin : ℕ × ℕ → ℕ → Type 0
 IsWithin range delay = (range.0 ≤ delay) × (delay ≤ range.1)
 
--- a schedule: the delay of each packet in ticks, in the order of the packet list
-abbrev pub Schedule : Type 0
-Schedule = List ℕ
-
 -- there is one delay for each range, in its range
-abbrev pub AreWithin : List (ℕ × ℕ) → Schedule → Type 0
+abbrev pub AreWithin : List (ℕ × ℕ) → List ℕ → Type 0
 AreWithin ranges delays = AllZip IsWithin ranges delays
 
--- an assignment gives each packet of the scenario a delay in its range
-abbrev pub IsAssignment : Scenario → Schedule → Type 0
-IsAssignment scenario delays = AreWithin (ranges_of scenario) delays
+-- a schedule: the delay of each packet in ticks, in the order of the packet list, and the order in which ties fall
+pub record Schedule : Type 0 where
+  pub delays : List ℕ
+  pub order : Order
 
--- the delay of a packet in a schedule, by its place in the list of packets; what is no packet, as what a group sends itself, takes no time
-abbrev pub delay_in : List Packet → Schedule → Packet → ℕ
+-- the schedule with these delays, in which ties fall in the fixed order
+abbrev pub in_fixed_order : List ℕ → Schedule
+in_fixed_order delays = record { delays = delays; order = no_order }
+
+-- an assignment gives each packet of the scenario a delay in its range, and has an order of the scenario's ties
+pub record IsAssignment (scenario : Scenario) (schedule : Schedule) : Type 0 where
+  pub delays : AreWithin (ranges_of scenario) schedule.delays
+  pub order : IsOrder scenario schedule.order
+
+-- the delay of a packet among some, by its place in the list of packets; what is no packet, as what a group sends itself, takes no time
+abbrev pub delay_in : List Packet → List ℕ → Packet → ℕ
 delay_in packets delays packet = option_map_or (λ i. slice_index delays i) (place_of packet packets) 0
 
 -- the delay of a packet in a schedule of the scenario
 unfoldable pub delay_of : Scenario → Schedule → Packet → ℕ
-delay_of scenario delays packet = delay_in (packets_of scenario) delays packet
+delay_of scenario schedule packet = delay_in (packets_of scenario) schedule.delays packet

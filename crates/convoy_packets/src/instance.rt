@@ -4,7 +4,7 @@ ghost use Rattle.convoy_scenario.specs.WellFormed.{IsScenario};
 ghost use Rattle.convoy_packets.specs.Table.{table_of, IsTable};
 
 use super::table::PacketTable;
-use convoy_scenario::{Scenario, Sender};
+use convoy_scenario::{Scenario, Sender, Time};
 use std::alloc::{AllocError, Global};
 use std::marker::Model;
 
@@ -61,6 +61,15 @@ impl Instance {
     {
         let _count = self.table.len();
         &self.table
+    }
+
+    /// Whether time goes in whole ticks, or is real (docs/PROTOCOL.md).
+    pub fn time(&self) -> Time
+        ensures value { result ≡ self.now.time }
+        ensures lawful { IsScenario self.now }
+    {
+        let _delay = self.scenario.delay();
+        self.scenario.time()
     }
 
     /// D, the greatest delay of a packet, in ticks.

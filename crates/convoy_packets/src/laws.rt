@@ -3,7 +3,10 @@ ghost use Rattle.convoy_packets.specs.Laws.{PacketsAreThoseSent, PacketsStandOnc
 ghost use Rattle.convoy_packets.specs.Laws.{PlacesLeadBack, PacketsAreFew};
 ghost use Rattle.convoy_packets.specs.Laws.{RangesAreOneEach, DelaysAreOneEach, DelaysAreByPlace};
 ghost use Rattle.convoy_packets.specs.Laws.{DelaysAreWithin, UnsentTakesNoTime, DelaysAreAtMost};
-ghost use Rattle.convoy_packets.specs.Laws.{LeastIsAssignment, ListsOfDelaysAreSchedules};
+ghost use Rattle.convoy_packets.specs.Laws.{FixedOrderIsOrder, LeastIsAssignment, ListsOfDelaysAreSchedules};
+ghost use Rattle.convoy_packets.specs.Laws.{OrdersAreTheirLists, ListsAreTheirOrders, RanksAreOneEach};
+ghost use Rattle.convoy_packets.specs.Laws.{RanksGiveOrders, RanksAreFew, NoRanksGiveFixedOrder};
+ghost use Rattle.convoy_packets.specs.Laws.{FixedOrderIsDecided};
 
 /// The list has just the packets that the scenario sends: each message to each of its destinations
 /// but its sender, and the stamp of each destination to each other one.
@@ -61,7 +64,47 @@ pub fn lists_of_delays_are_schedules()
     ensures { ListsOfDelaysAreSchedules }
 {}
 
-/// The least delays are an assignment.
+/// The fixed order of ties is one of every scenario.
+pub fn fixed_order_is_order()
+    ensures { FixedOrderIsOrder }
+{}
+
+/// The least delays, with ties in the fixed order, are an assignment.
 pub fn least_is_assignment()
     ensures { LeastIsAssignment }
+{}
+
+/// The list of an order's ranks gives the order.
+pub fn orders_are_their_lists()
+    ensures { OrdersAreTheirLists }
+{}
+
+/// A list with one number for each rank is the list of the order that it gives.
+pub fn lists_are_their_orders()
+    ensures { ListsAreTheirOrders }
+{}
+
+/// The list of an order has one number for each rank, and none is above `GREATEST_RANK`.
+pub fn ranks_are_one_each()
+    ensures { RanksAreOneEach }
+{}
+
+/// In real time ranks of which none is above `GREATEST_RANK` give an order of the scenario's ties.
+pub fn ranks_give_orders()
+    ensures { RanksGiveOrders }
+{}
+
+/// An order of a scenario's ties has at most 256 ranks as a list.
+pub fn ranks_are_few()
+    ensures { RanksAreFew }
+{}
+
+/// A list of no ranks gives the fixed order.
+pub fn no_ranks_give_fixed_order()
+    ensures { NoRanksGiveFixedOrder }
+{}
+
+/// All ranks are 0 just in the fixed order.
+pub fn fixed_order_is_decided()
+    ensures { FixedOrderIsDecided }
 {}

@@ -5,11 +5,11 @@ ghost use Rattle.convoy_packets.specs.Packets.{place_of};
 ghost use Rattle.convoy_packets.specs.Table.{table_of, IsRange, IsTable};
 ghost use Rattle.convoy_packets.specs.declared.packet.Packet.TheVariants.{Multicast, Propose};
 
-use super::delays::Delays;
 use super::listing::list_packets;
 use super::packet::Packet;
+use super::schedule::Schedule;
 use super::slots::{entry_of, slots_for};
-use convoy_scenario::{Scenario, Sender};
+use convoy_scenario::{Scenario, Sender, Time};
 use std::alloc::{AllocError, Global};
 use std::marker::Model;
 
@@ -17,6 +17,7 @@ use std::marker::Model;
 /// each, and where each packet stands. A look-up takes constant time.
 #[derive(Debug, Drop)]
 pub struct PacketTable {
+    time: Time,
     packets: Vec<Packet>,
     ranges: Vec<(u16, u16)>,
     slots: Vec<Option<u16>>,
@@ -27,10 +28,10 @@ impl Model for PacketTable {
 
     ghost Value = { PacketTable };
 
-    ghost view = { λ t. record { packets = t.packets.items; ranges = t.ranges.items } };
+    ghost view = { λ t. record { time = t.time; packets = t.packets.items; ranges = t.ranges.items } };
 
     ghost invariant = { λ t. IsIndexed
-        (record { packets = t.packets.items; ranges = t.ranges.items }) t.slots.items };
+        (record { time = t.time; packets = t.packets.items; ranges = t.ranges.items }) t.slots.items };
 }
 
 impl PacketTable {
@@ -39,10 +40,12 @@ impl PacketTable {
         ensures value { IfOk result (λ table. table ≡ table_of scenario.now) }
         ensures lawful { IfOk result (λ table. IsTable table) }
     {
+        let time = scenario.time();
         let packets = list_packets(alloc, scenario)?;
         let ranges = list_ranges(alloc, scenario, &packets)?;
         let slots = slots_for(alloc, &packets)?;
         Ok(PacketTable {
+            time,
             packets,
             ranges,
             slots,
@@ -114,18 +117,18 @@ impl PacketTable {
 
     /// The delay in a schedule of the message on its way from its sender to the group `to`, in
     /// ticks; 0 where there is no such packet.
-    pub fn multicast_delay(&self, delays: &Delays, message: usize, to: usize) -> u16
-        ensures { result ≡ delay_in self.now.packets delays.now (Multicast message to) }
+    pub fn multicast_delay(&self, schedule: &Schedule, message: usize, to: usize) -> u16
+        ensures { result ≡ delay_in self.now.packets schedule.now.delays (Multicast message to) }
     {
-        delays.delay_at(self.multicast_to(message, to))
+        schedule.delay_at(self.multicast_to(message, to))
     }
 
     /// The delay in a schedule of the local stamp of the group `from` for the message, on its way
     /// to the group `to`, in ticks; 0 where there is no such packet.
-    pub fn propose_delay(&self, delays: &Delays, message: usize, from: usize, to: usize) -> u16
-        ensures { result ≡ delay_in self.now.packets delays.now (Propose message from to) }
+    pub fn propose_delay(&self, schedule: &Schedule, message: usize, from: usize, to: usize) -> u16
+        ensures { result ≡ delay_in self.now.packets schedule.now.delays (Propose message from to) }
     {
-        delays.delay_at(self.propose(message, from, to))
+        schedule.delay_at(self.propose(message, from, to))
     }
 }
 

@@ -1,7 +1,7 @@
 use Rattle.std.proofs.Common.{◌≡◌, ◌++◌, drop}
 use Rattle.std.specs.Result.{result_map_both}
 use Rattle.convoy_packets.specs.Given.{delays_given}
-use Rattle.convoy_packets.proofs.delays.delays_given.Given as goal
+use Rattle.convoy_packets.proofs.schedule.delays_given.Given as goal
 
 abbrev pub invariant-loop-i : goal.invariant-loop-i
 invariant-loop-i l =

@@ -1,5 +1,5 @@
 use Rattle.convoy_packets.proofs.Ranges.{AreWithin-set}
-use Rattle.convoy_packets.proofs.delays.Delays.set.Goals as goal
+use Rattle.convoy_packets.proofs.schedule.Schedule.set.Goals as goal
 
 pub returns-clause-within : goal.returns-clause-within
 returns-clause-within c =
