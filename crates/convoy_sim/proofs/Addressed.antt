@@ -34,8 +34,8 @@ pub goes_of_addressed : (plan : Scenario) (m g : ℕ) → IsIn m (addressed_to p
 goes_of_addressed plan m g i = (in_of_filter (λ n. is_addressed (message_at plan n) g) m (message_numbers plan) i).1
 
 -- what is ahead of a message at a group goes there with a lesser stamp
-pub in_of_ahead : (plan : Scenario) (delays : Schedule) (n m g : ℕ) → IsIn n (ahead_of plan delays m g)
-    → GoesTo plan n g × (is_less (local_stamp plan delays n g) (final_stamp plan delays m) ≡ true)
-in_of_ahead plan delays n m g i =
-    let r = in_of_filter (λ k. is_less (local_stamp plan delays k g) (final_stamp plan delays m)) n (addressed_to plan g) i in
+pub in_of_ahead : (plan : Scenario) (schedule : Schedule) (n m g : ℕ) → IsIn n (ahead_of plan schedule m g)
+    → GoesTo plan n g × (is_less (local_stamp plan schedule n g) (final_stamp plan schedule m) ≡ true)
+in_of_ahead plan schedule n m g i =
+    let r = in_of_filter (λ k. is_less (local_stamp plan schedule k g) (final_stamp plan schedule m)) n (addressed_to plan g) i in
     (goes_of_addressed plan n g r.0, r.1)

@@ -6,6 +6,7 @@ use Rattle.std.proofs.lemmas.List.Elements.{filter-append}
 use Rattle.std.proofs.lemmas.List.Sums.{fold-append}
 use Rattle.convoy_scenario.specs.Scenario.{Scenario}
 use Rattle.convoy_scenario.specs.WellFormed.{IsScenario}
+use Rattle.convoy_packets.specs.Assignment.{Schedule}
 use Rattle.convoy_sim.specs.declared.moment.Moment.{Moment}
 use Rattle.convoy_sim.specs.declared.timestamp.Timestamp.{Timestamp}
 use Rattle.convoy_sim.specs.Moments.{moments_of}
@@ -14,7 +15,7 @@ use Rattle.convoy_sim.specs.Moments.{arrival_of}
 use Rattle.convoy_sim.proofs.Membership.{IsIn, in-append_right}
 use Rattle.convoy_sim.proofs.ClocksGrow.{read, given_at, given_stays}
 use Rattle.convoy_sim.proofs.Runs.{local_of_given}
-use Rattle.convoy_sim.proofs.ScenarioMoments.{moments_run, moments_once}
+use Rattle.convoy_sim.proofs.ScenarioMoments.{moments_run, moments_once, traffic_of}
 
 -- ---- one stamp more
 -- the greatest stamp of a message with one stamp more
@@ -35,7 +36,7 @@ greatest_more s m g n =
           ∙ sym (cond-false (m == n) (later (greatest_in s n) (given_at s m g).stamp) (greatest_in s n) e)
     ]
 
-module _ (plan : Scenario) (well : IsScenario plan) (delays : List ℕ) where
+module _ (plan : Scenario) (well : IsScenario plan) (schedule : Schedule) where
   -- the clocks and stamps when some moments have been read
   abbrev pub known : List Moment → Clocks
   known done = read (first_clocks plan) done
@@ -45,27 +46,27 @@ module _ (plan : Scenario) (well : IsScenario plan) (delays : List ℕ) where
 
   -- ---- the run, cut at a moment
   pub record IsCut (done : List Moment) (c : Moment) (rest : List Moment) : Type 0 where
-    pub whole : done ++ c ∷ rest ≡ moments_of plan delays
+    pub whole : done ++ c ∷ rest ≡ moments_of plan schedule
 
   pub cut_next : (done : List Moment) (c : Moment) (rest : List Moment) → IsCut done c rest
-      → (done ++ c ∷ []) ++ rest ≡ moments_of plan delays
+      → (done ++ c ∷ []) ++ rest ≡ moments_of plan schedule
   cut_next done c rest cut = append_assoc done (c ∷ []) rest ∙ cut.whole
 
   to_whole : (done : List Moment) (c : Moment) (rest : List Moment) → IsCut done c rest
-      → read (known done) (c ∷ rest) ≡ clocks_of plan delays
+      → read (known done) (c ∷ rest) ≡ clocks_of plan schedule
   unfolding clocks_of
   to_whole done c rest cut =
       sym (fold-append after_moment (first_clocks plan) done (c ∷ rest)) ∙ ap (read (first_clocks plan)) cut.whole
 
   -- the local stamp that an arrival gives
-  pub local_at_coming : (done : List Moment) (m g : ℕ) (rest : List Moment) → IsCut done (arrival_of plan delays m g) rest
-      → local_stamp plan delays m g ≡ (given_at (known done) m g).stamp
+  pub local_at_coming : (done : List Moment) (m g : ℕ) (rest : List Moment) → IsCut done (arrival_of plan schedule m g) rest
+      → local_stamp plan schedule m g ≡ (given_at (known done) m g).stamp
   unfolding local_stamp clocks_of
   local_at_coming done m g rest cut =
-      let c : Moment = arrival_of plan delays m g in
+      let c : Moment = arrival_of plan schedule m g in
       let there : IsIn (given_at (known done) m g) (after_moment (known done) c).given =
       in-append_right _ (known done).given _ (inl refl) in
       let stays = given_stays (after_moment (known done) c) rest _ there in
-      local_of_given (first_clocks plan) (moments_of plan delays) (moments_run plan well delays) (moments_once plan well delays)
+      local_of_given (first_clocks plan) (moments_of plan schedule) (moments_run plan (traffic_of plan well) schedule) (moments_once plan (traffic_of plan well) schedule)
       (given_at (known done) m g)
       (subst (λ s. IsIn (given_at (known done) m g) s.given) (to_whole done c rest cut) stays)

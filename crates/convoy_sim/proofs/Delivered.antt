@@ -4,6 +4,7 @@ use Rattle.std.specs.List.{range_with_len}
 use Rattle.std.proofs.lemmas.Bool.{cases_Bool}
 use Rattle.convoy_scenario.specs.Scenario.{Scenario, message_at, message_numbers, is_addressed}
 use Rattle.convoy_scenario.specs.WellFormed.{IsScenario}
+use Rattle.convoy_packets.specs.Assignment.{Schedule}
 use Rattle.convoy_sim.specs.Times.{settle}
 use Rattle.convoy_sim.specs.Stamps.{is_less, local_stamp, final_stamp}
 use Rattle.convoy_sim.specs.Delivery.{deliver}
@@ -58,19 +59,19 @@ filter_twice p q (x ∷ xs) =
       ]
     ]
 
-pub delivered_from : (plan : Scenario) (delays : List ℕ) → IsScenario plan → (m g : ℕ) → GoesTo plan m g → (table : StampTable)
-    → TellsAhead plan delays m g table
-    → fold max (settle plan delays m g) (map (λ n. settle plan delays n g)
-    (filter (is_ahead table g (final_stamp plan delays m)) (range_with_len 0 (length plan.multicasts))))
-    ≡ deliver plan delays m g
-delivered_from plan delays well m g goes table told =
+pub delivered_from : (plan : Scenario) (schedule : Schedule) → IsScenario plan → (m g : ℕ) → GoesTo plan m g → (table : StampTable)
+    → TellsAhead plan schedule m g table
+    → fold max (settle plan schedule m g) (map (λ n. settle plan schedule n g)
+    (filter (is_ahead table g (final_stamp plan schedule m)) (range_with_len 0 (length plan.multicasts))))
+    ≡ deliver plan schedule m g
+delivered_from plan schedule well m g goes table told =
     let addressed : ℕ → Bool = λ n. is_addressed (message_at plan n) g in
-    let less : ℕ → Bool = λ n. is_less (local_stamp plan delays n g) (final_stamp plan delays m) in
-    let settles : ℕ → ℕ = λ n. settle plan delays n g in
-    let first : max 0 (settle plan delays m g) ≡ settle plan delays m g = omega arith in
-    ap (λ ms. fold max (settle plan delays m g) (map settles ms))
-    (filter_same (is_ahead table g (final_stamp plan delays m)) (λ n. addressed n && less n) (message_numbers plan)
+    let less : ℕ → Bool = λ n. is_less (local_stamp plan schedule n g) (final_stamp plan schedule m) in
+    let settles : ℕ → ℕ = λ n. settle plan schedule n g in
+    let first : max 0 (settle plan schedule m g) ≡ settle plan schedule m g = omega arith in
+    ap (λ ms. fold max (settle plan schedule m g) (map settles ms))
+    (filter_same (is_ahead table g (final_stamp plan schedule m)) (λ n. addressed n && less n) (message_numbers plan)
     (λ n i. told.ahead n (let r = in_of_range n 0 (length plan.multicasts) i in omega arith))
     ∙ filter_twice addressed less (message_numbers plan))
     ∙ ap (λ t. fold max t (map settles (filter less (filter addressed (message_numbers plan))))) (sym first)
-    ∙ sym (delivery_law plan delays well m g goes)
+    ∙ sym (delivery_law plan schedule well m g goes)

@@ -1,13 +1,13 @@
 -- What is known of messages and their destinations, and how far ticks are.
 use Rattle.std.proofs.Common.{◌≡◌, ℕ, ◌<◌, ◌≤◌, List, length, get_or, sym, subst, arith}
-use Rattle.convoy_scenario.specs.Scenario.{Scenario, message_at}
+use Rattle.convoy_scenario.specs.Scenario.{Scenario, no_message, message_at}
 use Rattle.convoy_scenario.specs.WellFormed.{IsScenario}
-use Rattle.convoy_packets.specs.Assignment.{IsAssignment}
+use Rattle.convoy_packets.specs.Assignment.{Schedule, IsAssignment}
 use Rattle.convoy_sim.specs.Times.{arrive, settle}
 use Rattle.convoy_scenario.specs.Scenario.{GoesTo}
 use Rattle.convoy_sim.proofs.Membership.{all-in}
 use Rattle.convoy_sim.proofs.Addressed.{in_of_goes, number_of_goes}
-use Rattle.convoy_sim.proofs.ScenarioMoments.{multicast_at}
+use Rattle.convoy_sim.proofs.ScenarioMoments.{multicast_at, traffic_of}
 use Rattle.convoy_sim.proofs.PacketDelays.{arrives_within, committed_within}
 use Rattle.convoy_sim.proofs.Ranges.{length-rising-le}
 
@@ -15,7 +15,7 @@ module _ (plan : Scenario) (well : IsScenario plan) where
   -- each destination is a group of the scenario
   pub known_at : (m : ℕ) → m < length plan.multicasts → (k : ℕ) → k < length (message_at plan m).destinations
       → get_or (message_at plan m).destinations k 0 < length plan.groups
-  known_at m l k h = (multicast_at plan well m l).known k 0 h
+  known_at m l k h = (multicast_at plan (traffic_of plan well) m l).known k 0 h
 
   pub item_known : (m : ℕ) → m < length plan.multicasts → (items : List ℕ) → items ≡ (message_at plan m).destinations
       → (k : ℕ) → k < length items → get_or items k 0 < length plan.groups
@@ -32,7 +32,7 @@ module _ (plan : Scenario) (well : IsScenario plan) where
   pub group_known : (m g : ℕ) → GoesTo plan m g → g < length plan.groups
   group_known m g h =
       all-in (λ k. k < length plan.groups) g (message_at plan m).destinations
-      (multicast_at plan well m (number_of_goes plan m g h)).known (in_of_goes plan m g h)
+      (multicast_at plan (traffic_of plan well) m (number_of_goes plan m g h)).known (in_of_goes plan m g h)
 
   pub group_below : (m g : ℕ) → GoesTo plan m g → g < 8
   group_below m g h =
@@ -42,24 +42,24 @@ module _ (plan : Scenario) (well : IsScenario plan) where
 
   pub few_destinations : (m : ℕ) → m < length plan.multicasts → length (message_at plan m).destinations ≤ 8
   few_destinations m l =
-      let message = multicast_at plan well m l in
+      let message = multicast_at plan (traffic_of plan well) m l in
       let few = length-rising-le (message_at plan m).destinations (length plan.groups) message.ascending message.known in
       let most = well.groups_high in
       omega arith
 
   -- no message comes and none is committed past the limits
-  pub comes_soon : (delays : List ℕ) → IsAssignment plan delays → (m g : ℕ) → m < length plan.multicasts
-      → arrive plan delays m g ≤ 1000016
-  comes_soon delays within m g l =
-      let at = (multicast_at plan well m l).at in
-      let soon = arrives_within plan delays well within m g in
+  pub comes_soon : (schedule : Schedule) → IsAssignment plan schedule → (m g : ℕ) → m < length plan.multicasts
+      → arrive plan schedule m g ≤ 1065535
+  comes_soon schedule within m g l =
+      let at = (well.messages m no_message l).at in
+      let soon = arrives_within plan schedule well within m g in
       let most = well.delay_high in
       omega arith
 
-  pub settles_soon : (delays : List ℕ) → IsAssignment plan delays → (m g : ℕ) → m < length plan.multicasts
-      → settle plan delays m g ≤ 1000032
-  settles_soon delays within m g l =
-      let at = (multicast_at plan well m l).at in
-      let soon = committed_within plan delays well within m g in
+  pub settles_soon : (schedule : Schedule) → IsAssignment plan schedule → (m g : ℕ) → m < length plan.multicasts
+      → settle plan schedule m g ≤ 1131070
+  settles_soon schedule within m g l =
+      let at = (well.messages m no_message l).at in
+      let soon = committed_within plan schedule well within m g in
       let most = well.delay_high in
       omega arith

@@ -9,6 +9,7 @@ pub mod Runs
 pub mod ScenarioMoments
 pub mod StampLaws
 pub mod MomentTicks
+pub mod FixedRanks
 pub mod Raises
 pub mod RaiseLaws
 pub mod StampSteps

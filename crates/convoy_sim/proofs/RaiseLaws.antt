@@ -1,22 +1,24 @@
 -- The law of the last raise, in a scenario.
 use Rattle.std.proofs.Common.{◌≡◌, ℕ, ◌+◌, ◌<◌, ◌≤◌, zero, suc, true, false, inl, inr, List, [], ◌∷◌, ◌++◌, length, get_or, replicate, refl, sym, ap, subst, subst₂, ◌∙◌, arith, append_assoc}
-use Rattle.std.proofs.lemmas.Bool.{cases_Bool, cases_lt, both_ways}
+use Rattle.std.proofs.lemmas.Bool.{cases_Bool}
 use Rattle.std.proofs.lemmas.Grind.{fold-append}
 use Rattle.convoy_scenario.specs.Scenario.{Scenario, GoesTo}
 use Rattle.convoy_scenario.specs.WellFormed.{IsScenario}
+use Rattle.convoy_packets.specs.Assignment.{Schedule}
 use Rattle.convoy_sim.specs.declared.moment.Moment.{Moment}
 use Rattle.convoy_sim.specs.declared.moment.MomentKind.TheVariants.{Arrival}
-use Rattle.convoy_sim.specs.Times.{settle}
-use Rattle.convoy_sim.specs.Moments.{is_before, arrival_of, commit_of, moments_of}
+use Rattle.convoy_sim.specs.Times.{arrive, settle}
+use Rattle.convoy_sim.specs.Moments.{is_before, arrival_of, commit_of, next_arrival, moments_of}
 use Rattle.convoy_sim.specs.Stamps.{GivenStamp, Clocks, first_clocks, clocks_of, clock_of, greatest_in, local_stamp, final_stamp, after_moment}
 use Rattle.convoy_sim.specs.RaiseLaws.{LastRaise, IsLastRaise, IsCounted}
 use Rattle.convoy_sim.proofs.Membership.{IsIn, IsOnce, in-append_left, in-append_right, filter_keeps, filter_drops, in-filter}
-use Rattle.convoy_sim.proofs.MomentsOrder.{before_itself, before_total, coming_before_commit}
+use Rattle.convoy_sim.proofs.MomentsOrder.{before_itself, before_total}
+use Rattle.convoy_sim.proofs.MomentTicks.{tick_past_commit}
 use Rattle.convoy_sim.proofs.MomentsInOrder.{IsOrdered, before}
 use Rattle.convoy_sim.proofs.ClocksGrow.{read, given_at, given_stays, coming_gives, reached}
 use Rattle.convoy_sim.proofs.Runs.{IsRun, local_of_given, greatest_at_commit}
 use Rattle.convoy_sim.proofs.Addressed.{number_of_goes}
-use Rattle.convoy_sim.proofs.ScenarioMoments.{coming_in, coming_is, commit_is, moments_run, moments_once}
+use Rattle.convoy_sim.proofs.ScenarioMoments.{coming_in, coming_is, commit_is, moments_run, moments_once, traffic_of}
 use Rattle.convoy_sim.proofs.StampLaws.{comings_before_commit, final_is_local}
 use Rattle.convoy_sim.proofs.Raises.{last_raise_in, RaisedLast, AreCounted, Counts, stamped}
 
@@ -50,7 +52,7 @@ first_in s ms first rest c z run once e i = elim (cases_Bool (is_before z c)) [
       let parts = before_total z c f back in
       let z_is_in : IsIn z ms = subst (IsIn z) (sym e) (in-append_left z first (c ∷ rest) i) in
       let c_is_in : IsIn c ms = subst (IsIn c) (sym e) (in-append_right c first (c ∷ rest) (inl refl)) in
-      let same : z ≡ c = run.same z c z_is_in c_is_in parts.1 parts.2 parts.3 in
+      let same : z ≡ c = run.same z c z_is_in c_is_in parts.2 parts.3 parts.4 in
       once_in first rest c (subst IsOnce e once) (subst (λ w. IsIn w first) same i))
 ]
 
@@ -73,27 +75,27 @@ before_is s ms first rest c run once e =
       late z (inr i) = behind_in first rest c z (subst IsOrdered e run.ordered) i
 
 -- at the commit of a message its greatest stamp is the final one already
-final_at_commit : (plan : Scenario) (delays : List ℕ) → IsScenario plan → (m h : ℕ)
-    → greatest_in (read (first_clocks plan) (before (commit_of plan delays m h) (moments_of plan delays))) m ≡ final_stamp plan delays m
+final_at_commit : (plan : Scenario) (schedule : Schedule) → IsScenario plan → (m h : ℕ)
+    → greatest_in (read (first_clocks plan) (before (commit_of plan schedule m h) (moments_of plan schedule))) m ≡ final_stamp plan schedule m
 unfolding final_stamp clocks_of
-final_at_commit plan delays well m h =
-    greatest_at_commit (first_clocks plan) (moments_of plan delays) (moments_run plan well delays) (commit_of plan delays m h)
-    (comings_before_commit plan delays m h)
+final_at_commit plan schedule well m h =
+    greatest_at_commit (first_clocks plan) (moments_of plan schedule) (moments_run plan (traffic_of plan well) schedule) (commit_of plan schedule m h)
+    (comings_before_commit plan schedule m h)
 
-module _ (plan : Scenario) (delays : List ℕ) (well : IsScenario plan) where
+module _ (plan : Scenario) (schedule : Schedule) (well : IsScenario plan) where
   start : Clocks
   start = first_clocks plan
 
   all : List Moment
-  all = moments_of plan delays
+  all = moments_of plan schedule
 
   run : IsRun start all
   unfolding start all
-  run = moments_run plan well delays
+  run = moments_run plan (traffic_of plan well) schedule
 
   once : IsOnce all
   unfolding all
-  once = moments_once plan well delays
+  once = moments_once plan (traffic_of plan well) schedule
 
   -- a stamp given before some of the moments is given in the end
   given_in_end : (first rest : List Moment) (x : GivenStamp) → all ≡ first ++ rest → IsIn x (read start first).given → IsIn x (read start all).given
@@ -103,15 +105,15 @@ module _ (plan : Scenario) (delays : List ℕ) (well : IsScenario plan) where
 
   -- and is the local stamp of its message
   local_of : (first rest : List Moment) (x : GivenStamp) → all ≡ first ++ rest → IsIn x (read start first).given
-      → local_stamp plan delays x.message x.stamp.group ≡ x.stamp
+      → local_stamp plan schedule x.message x.stamp.group ≡ x.stamp
   unfolding start all local_stamp clocks_of
   local_of first rest x e i = local_of_given start all run once x (given_in_end first rest x e i)
 
-  module _ (q h : ℕ) (goes : GoesTo plan q h) (first rest : List Moment) (parts : all ≡ first ++ arrival_of plan delays q h ∷ rest) where
-    time_of_coming : (local_stamp plan delays q h).time ≡ clock_of (read start first) h + 1
+  module _ (q h : ℕ) (goes : GoesTo plan q h) (first rest : List Moment) (parts : all ≡ first ++ arrival_of plan schedule q h ∷ rest) where
+    time_of_coming : (local_stamp plan schedule q h).time ≡ clock_of (read start first) h + 1
     unfolding all
     time_of_coming =
-        let p : Moment = arrival_of plan delays q h in
+        let p : Moment = arrival_of plan schedule q h in
         let early : Clocks = read start first in
         let more : all ≡ (first ++ p ∷ []) ++ rest = parts ∙ sym (append_assoc first (p ∷ []) rest) in
         let there : IsIn (given_at early q h) (read start (first ++ p ∷ [])).given =
@@ -122,14 +124,14 @@ module _ (plan : Scenario) (delays : List ℕ) (well : IsScenario plan) where
     -- an arrival that was counted, as the law says it
     counted_as : (mid more : List Moment) (since u : ℕ) (z : Moment) → first ≡ mid ++ more
         → ((c : Moment) → IsIn c more → c.kind ≡ Arrival → since ≤ c.tick)
-        → Counts (read start first) more h u z → IsCounted plan delays q h since u z.message
+        → Counts (read start first) more h u z → IsCounted plan schedule q h since u z.message
     unfolding all
     counted_as mid more since u z e late i =
-        let p : Moment = arrival_of plan delays q h in
+        let p : Moment = arrival_of plan schedule q h in
         let in_first : IsIn z first = subst (IsIn z) (sym e) (in-append_right z mid more i.there) in
         let in_all : IsIn z all = subst (IsIn z) (sym parts) (in-append_left z first (p ∷ rest) in_first) in
-        let is = coming_is plan delays z in_all i.kind in
-        let same : z ≡ arrival_of plan delays z.message h = is.0 ∙ ap (arrival_of plan delays z.message) i.here in
+        let is = coming_is plan schedule z in_all i.kind in
+        let same : z ≡ arrival_of plan schedule z.message h = is.0 ∙ ap (arrival_of plan schedule z.message) i.here in
         record {
           goes = subst (GoesTo plan z.message) i.here is.1;
           late = subst (λ t. since ≤ t) (ap (λ c. c.tick) same) (late z i.there i.kind);
@@ -139,36 +141,36 @@ module _ (plan : Scenario) (delays : List ℕ) (well : IsScenario plan) where
 
     -- a commit that raised the clock, as the law says it
     raised_as : (mid : List Moment) (c : Moment) (more : List Moment) → RaisedLast start first h mid c more
-        → IsLastRaise plan delays q h (greatest_in (read start mid) c.message).time (settle plan delays c.message h + 1)
+        → IsLastRaise plan schedule q h (greatest_in (read start mid) c.message).time (next_arrival plan.time (settle plan schedule c.message h))
     unfolding all start
     raised_as mid c more r =
-        let p : Moment = arrival_of plan delays q h in
+        let p : Moment = arrival_of plan schedule q h in
         let m : ℕ = c.message in
         let time : ℕ = (greatest_in (read start mid) m).time in
         let in_first : IsIn c first = subst (IsIn c) (sym r.parts) (in-append_right c mid (c ∷ more) (inl refl)) in
         let in_all : IsIn c all = subst (IsIn c) (sym parts) (in-append_left c first (p ∷ rest) in_first) in
-        let is = commit_is plan delays c in_all r.kind in
-        let same : c ≡ commit_of plan delays m h = is.0 ∙ ap (commit_of plan delays m) r.here in
+        let is = commit_is plan schedule c in_all r.kind in
+        let same : c ≡ commit_of plan schedule m h = is.0 ∙ ap (commit_of plan schedule m) r.here in
         let to_h : GoesTo plan m h = subst (GoesTo plan m) r.here is.1 in
         let whole : all ≡ mid ++ c ∷ (more ++ p ∷ rest) =
         parts ∙ (ap (λ l. l ++ p ∷ rest) r.parts ∙ append_assoc mid (c ∷ more) (p ∷ rest)) in
-        let cut : before (commit_of plan delays m h) all ≡ mid =
+        let cut : before (commit_of plan schedule m h) all ≡ mid =
         subst (λ d. before d all ≡ mid) same (before_is start all mid (more ++ p ∷ rest) c run once whole) in
-        let final : greatest_in (read start mid) m ≡ final_stamp plan delays m =
-        subst (λ l. greatest_in (read start l) m ≡ final_stamp plan delays m) cut (final_at_commit plan delays well m h) in
-        let own : Moment = arrival_of plan delays m h in
-        let own_in : IsIn own all = coming_in plan delays m h to_h in
+        let final : greatest_in (read start mid) m ≡ final_stamp plan schedule m =
+        subst (λ l. greatest_in (read start l) m ≡ final_stamp plan schedule m) cut (final_at_commit plan schedule well m h) in
+        let own : Moment = arrival_of plan schedule m h in
+        let own_in : IsIn own all = coming_in plan schedule m h to_h in
         let own_first : IsIn own mid =
-        subst (IsIn own) cut (in-filter (λ x. is_before x (commit_of plan delays m h)) own all own_in
-        (comings_before_commit plan delays m h own own_in refl refl)) in
+        subst (IsIn own) cut (in-filter (λ x. is_before x (commit_of plan schedule m h)) own all own_in
+        (comings_before_commit plan schedule m h own own_in refl refl)) in
         let g = coming_gives start mid own own_first refl in
         let low = reached start mid (λ d i. run.within d (subst (IsIn d) (sym whole) (in-append_left d mid (c ∷ (more ++ p ∷ rest)) i)))
         (λ x i. absurd i) g.0 g.1 in
-        let mine : local_stamp plan delays m h ≡ g.0.stamp =
-        subst₂ (λ a b. local_stamp plan delays a b ≡ g.0.stamp) g.2 g.3 (local_of mid (c ∷ (more ++ p ∷ rest)) g.0 whole g.1) in
+        let mine : local_stamp plan schedule m h ≡ g.0.stamp =
+        subst₂ (λ a b. local_stamp plan schedule a b ≡ g.0.stamp) g.2 g.3 (local_of mid (c ∷ (more ++ p ∷ rest)) g.0 whole g.1) in
         let low_here : g.0.stamp.time ≤ clock_of (read start mid) h = subst (λ k. g.0.stamp.time ≤ clock_of (read start mid) k) g.3 low in
-        let f = final_is_local plan delays well m (number_of_goes plan m h to_h) in
-        let from : (local_stamp plan delays m f.0).time ≡ time = ap (λ t. t.time) (f.2 ∙ sym final) in
+        let f = final_is_local plan schedule well m (number_of_goes plan m h to_h) in
+        let from : (local_stamp plan schedule m f.0).time ≡ time = ap (λ t. t.time) (f.2 ∙ sym final) in
         let up : clock_of (read start mid) h < time = r.up in
         let counts : AreCounted (read start first) more h time = r.counted in
         let high : time ≤ clock_of (read start first) h = r.reached in
@@ -180,8 +182,8 @@ module _ (plan : Scenario) (delays : List ℕ) (well : IsScenario plan) where
               goes = to_h;
               from = f.1;
               elsewhere = λ e.
-                  let twice : (local_stamp plan delays m h).time ≡ time = subst (λ k. (local_stamp plan delays m k).time ≡ time) e from in
-                  let known : (local_stamp plan delays m h).time ≡ g.0.stamp.time = ap (λ t. t.time) mine in
+                  let twice : (local_stamp plan schedule m h).time ≡ time = subst (λ k. (local_stamp plan schedule m k).time ≡ time) e from in
+                  let known : (local_stamp plan schedule m h).time ≡ g.0.stamp.time = ap (λ t. t.time) mine in
                   absurd (omega arith);
               first = subst (λ d. is_before d p ≡ true) same (first_in start all first rest p c run once parts in_first);
               stamp = from;
@@ -193,21 +195,23 @@ module _ (plan : Scenario) (delays : List ℕ) (well : IsScenario plan) where
           counted = λ u l k.
               let z = counts u l (omega (arith, time_of_coming)) in (
                 z.0.message,
-                counted_as (mid ++ c ∷ []) more (settle plan delays m h + 1) u z.0
+                counted_as (mid ++ c ∷ []) more (next_arrival plan.time (settle plan schedule m h)) u z.0
                     (r.parts ∙ sym (append_assoc mid (c ∷ []) more))
-                    (λ d i k. after_commit d (ap (λ b. b.tick) same) (behind_in mid (more ++ p ∷ rest) c d
-                    (subst IsOrdered whole run.ordered) (in-append_left d more (p ∷ rest) i)) k) z.1,
+                    (λ d i k. after_commit d (ap (λ b. b.tick) same)
+                    (subst (IsIn d) (sym whole) (in-append_right d mid (c ∷ (more ++ p ∷ rest)) (inr (in-append_left d more (p ∷ rest) i))))
+                    (behind_in mid (more ++ p ∷ rest) c d (subst IsOrdered whole run.ordered) (in-append_left d more (p ∷ rest) i)) k) z.1,
               );
         } where
-          after_commit : (d : Moment) → c.tick ≡ settle plan delays c.message h → is_before d c ≡ false → d.kind ≡ Arrival
-              → settle plan delays c.message h + 1 ≤ d.tick
-          after_commit d t b k = elim (cases_lt c.tick d.tick) [
-            | inl l ↦ omega arith
-            | inr l ↦ absurd (both_ways (is_before d c) b (coming_before_commit d c l k r.kind))
-          ]
+          after_commit : (d : Moment) → c.tick ≡ settle plan schedule c.message h → IsIn d all → is_before d c ≡ false → d.kind ≡ Arrival
+              → next_arrival plan.time (settle plan schedule c.message h) ≤ d.tick
+          after_commit d t i b k =
+              let is = coming_is plan schedule d i k in
+              subst (λ (e : Moment). next_arrival plan.time (settle plan schedule c.message h) ≤ e.tick) (sym is.0)
+              (subst (λ s. next_arrival plan.time s ≤ arrive plan schedule d.message d.group) t
+              (tick_past_commit plan schedule d.message d.group c r.kind (subst (λ e. is_before e c ≡ false) is.0 b)))
 
     -- no commit raised the clock
-    never_as : AreCounted (read start first) first h (clock_of start h) → IsLastRaise plan delays q h 0 0
+    never_as : AreCounted (read start first) first h (clock_of start h) → IsLastRaise plan schedule q h 0 0
     unfolding start
     never_as counts =
         let none : clock_of start h ≡ 0 = zero_at (length plan.groups) h 0 in
@@ -225,12 +229,12 @@ module _ (plan : Scenario) (delays : List ℕ) (well : IsScenario plan) where
 
 pub last_raise : LastRaise
 unfolding all start
-last_raise plan delays well q h goes =
-    let p : Moment = arrival_of plan delays q h in
-    let cut = split_at p (all plan delays well) (coming_in plan delays q h goes) in
-    let within = (run plan delays well).within in
-    elim (last_raise_in (start plan delays well) cut.0 h
+last_raise plan schedule well q h goes =
+    let p : Moment = arrival_of plan schedule q h in
+    let cut = split_at p (all plan schedule well) (coming_in plan schedule q h goes) in
+    let within = (run plan schedule well).within in
+    elim (last_raise_in (start plan schedule well) cut.0 h
     (λ d i. within d (subst (IsIn d) (sym cut.2) (in-append_left d cut.0 (p ∷ cut.1) i)))) [
-      | inl never ↦ (0, 0, never_as plan delays well q h goes cut.0 cut.1 cut.2 never)
-      | inr r ↦ (_, _, raised_as plan delays well q h goes cut.0 cut.1 cut.2 r.0 r.1 r.2 r.3)
+      | inl never ↦ (0, 0, never_as plan schedule well q h goes cut.0 cut.1 cut.2 never)
+      | inr r ↦ (_, _, raised_as plan schedule well q h goes cut.0 cut.1 cut.2 r.0 r.1 r.2 r.3)
     ]

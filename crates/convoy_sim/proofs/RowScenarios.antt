@@ -1,7 +1,8 @@
 -- Scenarios of which the worked rows of this crate and of those above speak. This file is open to the crates above.
-use Rattle.std.proofs.Common.{ℕ, List, [], ◌∷◌, codes}
+use Rattle.std.proofs.Common.{ℕ, List, [], ◌∷◌, codes, None}
 use Rattle.convoy_scenario.specs.declared.sender.Sender.{Sender}
 use Rattle.convoy_scenario.specs.declared.sender.Sender.TheVariants.{Client, Group}
+use Rattle.convoy_scenario.specs.declared.time.Time.TheVariants.{Ticks}
 use Rattle.convoy_scenario.specs.Scenario.{Message, Scenario}
 
 unfoldable pub message : List ℕ → Sender → List ℕ → ℕ → Message
@@ -12,6 +13,8 @@ message name sender destinations at =
 -- which y is issued
 unfoldable pub base_with : ℕ → ℕ → Scenario
 base_with delay at = record {
+  time = Ticks;
+  tick = None;
   delay = delay;
   groups = codes "a" ∷ codes "b" ∷ [];
   links = [];
@@ -31,6 +34,8 @@ base = base_with_y_at 6
 -- the base with its groups in the order b, a, where nothing holds t back
 unfoldable pub swapped : Scenario
 swapped = record {
+  time = Ticks;
+  tick = None;
   delay = 3;
   groups = codes "b" ∷ codes "a" ∷ [];
   links = [];
@@ -44,6 +49,8 @@ swapped = record {
 -- the clock there twice, so that t gets the time 4 and waits for n
 unfoldable pub raised_twice : Scenario
 raised_twice = record {
+  time = Ticks;
+  tick = None;
   delay = 3;
   groups = codes "c" ∷ codes "a" ∷ codes "b" ∷ [];
   links = [];

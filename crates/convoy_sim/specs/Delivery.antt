@@ -12,14 +12,14 @@ addressed_to scenario g = filter (λ n. is_addressed (message_at scenario n) g) 
 
 -- at that tick message n holds message m back at group g: it has arrived there with a stamp less than the final one of m, and is not committed there
 unfoldable pub holds_back : Scenario → Schedule → ℕ → ℕ → Tick → ℕ → Bool
-holds_back scenario delays m g tick n =
-    nat_le (arrive scenario delays n g) tick
-    && is_less (local_stamp scenario delays n g) (final_stamp scenario delays m)
-    && nat_lt tick (settle scenario delays n g)
+holds_back scenario schedule m g tick n =
+    nat_le (arrive scenario schedule n g) tick
+    && is_less (local_stamp scenario schedule n g) (final_stamp scenario schedule m)
+    && nat_lt tick (settle scenario schedule n g)
 
 -- at that tick no message holds message m back at group g
 abbrev pub is_free : Scenario → Schedule → ℕ → ℕ → Tick → Bool
-is_free scenario delays m g tick = not (list_any (holds_back scenario delays m g tick) (addressed_to scenario g))
+is_free scenario schedule m g tick = not (list_any (holds_back scenario schedule m g tick) (addressed_to scenario g))
 
 -- the first of the ticks from `tick` on that passes the test, or else the one after so many that fail
 abbrev pub first_tick : (Tick → Bool) → ℕ → Tick → Tick
@@ -28,18 +28,18 @@ first_tick test (suc more) tick = if test tick then tick else first_tick test mo
 
 -- the tick of the last commit of some messages at group g
 abbrev pub last_commit : Scenario → Schedule → ℕ → List ℕ → Tick
-last_commit scenario delays g messages = greatest (map (λ n. settle scenario delays n g) messages)
+last_commit scenario schedule g messages = greatest (map (λ n. settle scenario schedule n g) messages)
 
 -- Delivery: the first tick from the commit of message m at group g on at which no message holds it back. At the last commit there none does, so the look-out ends there.
 unfoldable pub deliver : Scenario → Schedule → ℕ → ℕ → Tick
-deliver scenario delays m g =
-    let settled = settle scenario delays m g in
-    first_tick (is_free scenario delays m g) (last_commit scenario delays g (addressed_to scenario g) - settled) settled
+deliver scenario schedule m g =
+    let settled = settle scenario schedule m g in
+    first_tick (is_free scenario schedule m g) (last_commit scenario schedule g (addressed_to scenario g) - settled) settled
 
 -- the latency of a message at a group: from its issue to its delivery there
 unfoldable pub latency_at : Scenario → Schedule → ℕ → ℕ → ℕ
-latency_at scenario delays m g = deliver scenario delays m g - (message_at scenario m).at
+latency_at scenario schedule m g = deliver scenario schedule m g - (message_at scenario m).at
 
 -- the latency that the scenario asks for, that of its target
 unfoldable pub latency_of : Scenario → Schedule → ℕ
-latency_of scenario delays = latency_at scenario delays scenario.target_message scenario.target_group
+latency_of scenario schedule = latency_at scenario schedule scenario.target_message scenario.target_group

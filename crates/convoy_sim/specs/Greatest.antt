@@ -6,11 +6,11 @@ use Rattle.convoy_sim.specs.Delivery.{latency_of}
 
 -- some assignment has the latency
 abbrev pub IsReached : Scenario → ℕ → Type 0
-IsReached scenario latency = (delays : Schedule) × IsAssignment scenario delays × (latency_of scenario delays ≡ latency)
+IsReached scenario latency = (schedule : Schedule) × IsAssignment scenario schedule × (latency_of scenario schedule ≡ latency)
 
 -- no assignment has a greater latency
 abbrev pub IsUpper : Scenario → ℕ → Type 0
-IsUpper scenario latency = (delays : Schedule) → IsAssignment scenario delays → latency_of scenario delays ≤ latency
+IsUpper scenario latency = (schedule : Schedule) → IsAssignment scenario schedule → latency_of scenario schedule ≤ latency
 
 -- the greatest latency of a scenario: some assignment has it, and none has a greater one
 pub record IsGreatest (scenario : Scenario) (latency : ℕ) : Type 0 where

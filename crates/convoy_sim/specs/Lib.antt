@@ -15,6 +15,7 @@ pub mod Greatest
 pub mod Laws
 pub mod RaiseLaws
 pub mod RunLaws
+pub mod Traffic
 -- Words of the program's own parts: no promise above this crate rests on them.
 pub mod Places
 pub mod Timetable

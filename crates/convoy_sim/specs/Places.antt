@@ -1,10 +1,7 @@
 -- Tables with an entry for each message at each group.
-use Rattle.std.specs.Prelude.{◌≡◌, ◌≢◌, ℕ, ◌+◌, ◌*◌, ◌<◌, List, slice_index}
+use Rattle.std.specs.Prelude.{◌≡◌, ◌≢◌, ℕ, ◌<◌, List, slice_index}
 use Rattle.convoy_scenario.specs.declared.limits.TheConstants.{MOST_GROUPS}
-
--- the place of message m at group g
-abbrev pub place : ℕ → ℕ → ℕ
-place m g = m * MOST_GROUPS + g
+use Rattle.convoy_packets.specs.Order.{place}
 
 -- the entries of message m at the first groups are those numbers
 abbrev pub IsRow : (ℕ → ℕ) → ℕ → ℕ → List ℕ → Type 0

@@ -51,12 +51,12 @@ pub record IsSilent (run : Run) (m g : ℕ) : Type 0 where
   pub delivered : delivered_of run m g ≡ None
 
 -- all that the run tells is what the definitions say of the scenario under those delays
-pub record IsRunOf (scenario : Scenario) (delays : Schedule) (run : Run) : Type 0 where
+pub record IsRunOf (scenario : Scenario) (schedule : Schedule) (run : Run) : Type 0 where
   pub proposed : (m g : ℕ) → GoesTo scenario m g
-      → proposed_of run m g ≡ Some (record { tick = arrive scenario delays m g; stamp = local_stamp scenario delays m g })
-  pub committed : (m g : ℕ) → GoesTo scenario m g → committed_of run m g ≡ Some (settle scenario delays m g)
-  pub delivered : (m g : ℕ) → GoesTo scenario m g → delivered_of run m g ≡ Some (deliver scenario delays m g)
-  pub final_stamps : (m : ℕ) → m < length scenario.multicasts → final_stamp_of run m ≡ Some (final_stamp scenario delays m)
+      → proposed_of run m g ≡ Some (record { tick = arrive scenario schedule m g; stamp = local_stamp scenario schedule m g })
+  pub committed : (m g : ℕ) → GoesTo scenario m g → committed_of run m g ≡ Some (settle scenario schedule m g)
+  pub delivered : (m g : ℕ) → GoesTo scenario m g → delivered_of run m g ≡ Some (deliver scenario schedule m g)
+  pub final_stamps : (m : ℕ) → m < length scenario.multicasts → final_stamp_of run m ≡ Some (final_stamp scenario schedule m)
   pub elsewhere : (m g : ℕ) → IsFalse (is_addressed (message_at scenario m) g) → IsSilent run m g
   pub message_count : length run.finals ≡ length scenario.multicasts
-  pub latency : run.latency ≡ latency_of scenario delays
+  pub latency : run.latency ≡ latency_of scenario schedule

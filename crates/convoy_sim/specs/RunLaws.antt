@@ -45,5 +45,5 @@ pub record KeepsLaws (scenario : Scenario) (run : Run) : Type 0 where
 -- Every run of a scenario under an assignment keeps the laws.
 abbrev pub RunsKeepTheLaws : Type 0
 RunsKeepTheLaws =
-    (scenario : Scenario) (delays : Schedule) (run : Run) → IsScenario scenario → IsAssignment scenario delays → IsRunOf scenario delays run
+    (scenario : Scenario) (schedule : Schedule) (run : Run) → IsScenario scenario → IsAssignment scenario schedule → IsRunOf scenario schedule run
     → KeepsLaws scenario run

@@ -2,13 +2,13 @@
 use Rattle.std.specs.Prelude.{◌≡◌, ℕ, ◌+◌, ◌≤◌, max, Bool, ◌&&◌, nat_lt, List, length, slice_index, slice_index_or, slice_set, replicate}
 use Rattle.std.specs.List.{All, fold}
 use Rattle.convoy_scenario.specs.declared.limits.TheConstants.{MOST_GROUPS, MOST_MULTICASTS}
-use Rattle.convoy_sim.specs.declared.place.TheConstants.{PLACES}
+use Rattle.convoy_packets.specs.declared.table_places.TheConstants.{PLACES}
 use Rattle.convoy_sim.specs.declared.moment.Moment.{Moment}
 use Rattle.convoy_sim.specs.declared.moment.MomentKind.{MomentKind}
 use Rattle.convoy_sim.specs.declared.moment.MomentKind.TheVariants.{Arrival, Commit}
 use Rattle.convoy_sim.specs.declared.timestamp.Timestamp.{Timestamp}
 use Rattle.convoy_sim.specs.Stamps.{is_less, later, no_stamp}
-use Rattle.convoy_sim.specs.Places.{place}
+use Rattle.convoy_packets.specs.Order.{place}
 
 -- each group's clock, the greatest stamp given to each message, and the time of the stamp of each message at each group, 0 where it has none
 pub record StampTable : Type 0 where

@@ -73,12 +73,12 @@ after_moment clocks moment = after_kind moment.kind clocks moment.message moment
 
 -- what stands when all moments have been read
 unfoldable pub clocks_of : Scenario → Schedule → Clocks
-clocks_of scenario delays = fold after_moment (first_clocks scenario) (moments_of scenario delays)
+clocks_of scenario schedule = fold after_moment (first_clocks scenario) (moments_of scenario schedule)
 
 -- the local stamp of message m at group g
 unfoldable pub local_stamp : Scenario → Schedule → ℕ → ℕ → Timestamp
-local_stamp scenario delays m g = local_in (clocks_of scenario delays) m g
+local_stamp scenario schedule m g = local_in (clocks_of scenario schedule) m g
 
 -- the final stamp of message m, the greatest of its local ones: at each commit of m all of them are given
 unfoldable pub final_stamp : Scenario → Schedule → ℕ → Timestamp
-final_stamp scenario delays m = greatest_in (clocks_of scenario delays) m
+final_stamp scenario schedule m = greatest_in (clocks_of scenario schedule) m

@@ -15,12 +15,12 @@ greatest xs = fold max 0 xs
 
 -- Arrival, the tick at which message m arrives at group g: its issue and the delay of its packet to g. To the group that sends it there is no packet, so it arrives there as it is issued.
 unfoldable pub arrive : Scenario → Schedule → ℕ → ℕ → Tick
-arrive scenario delays m g = (message_at scenario m).at + delay_of scenario delays (Multicast m g)
+arrive scenario schedule m g = (message_at scenario m).at + delay_of scenario schedule (Multicast m g)
 
 -- the tick at which group g has the stamp that group h proposes for message m
 abbrev pub propose_arrive : Scenario → Schedule → ℕ → ℕ → ℕ → Tick
-propose_arrive scenario delays m g h = arrive scenario delays m h + delay_of scenario delays (Propose m h g)
+propose_arrive scenario schedule m g h = arrive scenario schedule m h + delay_of scenario schedule (Propose m h g)
 
 -- Settling, the tick at which message m is committed at group g: that of the last proposal to arrive, the group's own among them.
 unfoldable pub settle : Scenario → Schedule → ℕ → ℕ → Tick
-settle scenario delays m g = greatest (map (propose_arrive scenario delays m g) (message_at scenario m).destinations)
+settle scenario schedule m g = greatest (map (propose_arrive scenario schedule m g) (message_at scenario m).destinations)

@@ -15,8 +15,8 @@ pub(crate) fn delivery_tick<T: Ticks>(
     group: usize,
 ) -> u32
     requires goes { GoesTo (T.scheduled times.now).scenario message group }
-    requires told { TellsAhead (T.scheduled times.now).scenario (T.scheduled times.now).delays message group stamps.now }
-    ensures { result ≡ deliver (T.scheduled times.now).scenario (T.scheduled times.now).delays message group }
+    requires told { TellsAhead (T.scheduled times.now).scenario (T.scheduled times.now).schedule message group stamps.now }
+    ensures { result ≡ deliver (T.scheduled times.now).scenario (T.scheduled times.now).schedule message group }
 {
     let messages = times.scenario().message_count();
     let last = stamps.greatest(message);

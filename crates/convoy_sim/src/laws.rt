@@ -16,6 +16,7 @@ ghost use Rattle.convoy_sim.specs.Laws.{
   FinalStampIsLocal,
   FinalStampsAreOrdered,
   FinalStampsDiffer,
+  FixedRanksAreNone,
   LatencyIsNeverNegative,
   LatencyWithinFourDelays,
   LocalStampNamesGroup,
@@ -29,6 +30,7 @@ ghost use Rattle.convoy_sim.specs.Laws.{
 };
 ghost use Rattle.convoy_sim.specs.RaiseLaws.{LastRaise, StampsHaveSteps};
 ghost use Rattle.convoy_sim.specs.RunLaws.{RunsKeepTheLaws};
+ghost use Rattle.convoy_sim.specs.Traffic.{TrafficDeliveryBound};
 
 use convoy_packets::laws::unsent_takes_no_time;
 
@@ -57,6 +59,14 @@ pub fn earlier_arrives_before_commit()
 #[tactic(auto, using(crate::proofs::DeliveryTick::delivery_bound))]
 pub fn delivery_bound()
     ensures { DeliveryBound }
+{}
+
+/// The same of any number of messages, issued at any ticks, with any delays and any order of ties: a
+/// message is delivered at a group no later than the last commit there of itself and of all that arrive
+/// there by its commit.
+#[tactic(auto, using(crate::proofs::DeliveryTick::traffic_bound))]
+pub fn traffic_delivery_bound()
+    ensures { TrafficDeliveryBound }
 {}
 
 /// A message is delivered at a group no later than the last commit there.
@@ -131,6 +141,11 @@ pub fn target_latency_within_four_delays()
 #[tactic(auto, using(crate::proofs::LatencyBounds::lone_within_two))]
 pub fn lone_latency_within_two_delays()
     ensures { LoneLatencyWithinTwoDelays }
+{}
+
+/// With ties in the fixed order each rank is 0.
+pub fn fixed_ranks_are_none()
+    ensures { FixedRanksAreNone }
 {}
 
 /// Of two messages that arrive at one group, the one that arrives first has the stamp of lesser time.

@@ -1,7 +1,7 @@
 //! The protocol: arrival, settling, moments, stamps, delivery and latency, and a program that computes them.
 #![tactic(auto)]
 
-pub use moment::{Moment, MomentKind};
+pub use moment::{Moment, MomentKind, next_arrival};
 pub use record::Record;
 pub use run::{Proposal, Run};
 pub use simulation::simulate;
@@ -15,7 +15,6 @@ mod delivery;
 mod key;
 pub mod laws;
 mod moment;
-mod place;
 mod progress;
 mod record;
 mod run;

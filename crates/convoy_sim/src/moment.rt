@@ -1,4 +1,9 @@
-/// What a moment is: inside a tick, all comings are before all commits.
+ghost use Rattle.std.specs.Prelude.{◌≡◌, ◌<◌, ◌-◌, ◌^◌};
+ghost use Rattle.convoy_sim.specs.Moments.{next_arrival};
+
+use convoy_scenario::Time;
+
+/// What a moment is: of equal rank inside a tick, arrivals are before commits.
 #[derive(Clone, Copy, Debug, PartialEq, Eq)]
 pub enum MomentKind {
     /// The message arrives at the group, which proposes a local stamp for it.
@@ -11,7 +16,7 @@ impl MomentKind {
     ghost use Rattle.std.specs.Prelude.{◌≡◌};
     ghost use Rattle.convoy_sim.specs.Moments.{is_kind_before};
 
-    /// Comings are before commits.
+    /// Arrivals are before commits.
     pub fn is_before(self, other: MomentKind) -> bool
         ensures { result ≡ is_kind_before self other }
     {
@@ -27,6 +32,8 @@ impl MomentKind {
 pub struct Moment {
     /// In ticks.
     pub tick: u32,
+    /// Its rank among the moments of its tick, which come in the order of their ranks.
+    pub rank: u8,
     pub kind: MomentKind,
     /// The number of the message.
     pub message: usize,
@@ -38,16 +45,31 @@ impl Moment {
     ghost use Rattle.std.specs.Prelude.{◌≡◌};
     ghost use Rattle.convoy_sim.specs.Moments.{is_before};
 
-    /// This moment is before the other: by tick, inside a tick comings before commits, then by
-    /// message and by group (docs/PROTOCOL.md).
+    /// This moment is before the other: by tick, inside a tick by rank, then arrivals before commits,
+    /// then by message and by group (docs/PROTOCOL.md).
     pub fn is_before(&self, other: &Moment) -> bool
         ensures { result ≡ is_before self.now other.now }
     {
         self.tick < other.tick
             || (self.tick == other.tick
-                && (self.kind.is_before(other.kind)
-                    || (self.kind == other.kind
-                        && (self.message < other.message
-                            || (self.message == other.message && self.group < other.group)))))
+                && (self.rank < other.rank
+                    || (self.rank == other.rank
+                        && (self.kind.is_before(other.kind)
+                            || (self.kind == other.kind
+                                && (self.message < other.message
+                                    || (self.message == other.message
+                                        && self.group < other.group)))))))
+    }
+}
+
+/// The first tick at which a message may arrive at a group after a commit there at that tick: in whole
+/// ticks the next one, and in real time that tick itself (docs/PROTOCOL.md).
+pub fn next_arrival(time: Time, tick: u32) -> u32
+    requires { tick < 2 ^ 32 - 1 }
+    ensures { result ≡ next_arrival time tick }
+{
+    match time {
+        Time::Ticks => tick + 1,
+        Time::Real => tick,
     }
 }

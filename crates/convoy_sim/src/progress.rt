@@ -39,9 +39,9 @@ pub(crate) fn list_progress(
     times: &Timetable,
     stamps: &Stamps,
 ) -> Result<Vec<Progress>, AllocError>
-    requires { TellsAll times.now.scenario times.now.delays stamps.now }
+    requires { TellsAll times.now.scenario times.now.schedule stamps.now }
     ensures { IfOk result (λ progress. progress.items
-        ≡ map (λ at. progress_told times.now.scenario times.now.delays stamps.now (at / MOST_GROUPS) (at % MOST_GROUPS))
+        ≡ map (λ at. progress_told times.now.scenario times.now.schedule stamps.now (at / MOST_GROUPS) (at % MOST_GROUPS))
         (range_with_len 0 (length times.now.scenario.multicasts * MOST_GROUPS))) }
 {
     let places = times.scenario().message_count() * MOST_GROUPS;
@@ -56,8 +56,8 @@ pub(crate) fn list_progress(
 fn told_at(times: &Timetable, stamps: &Stamps, message: usize, group: usize) -> Progress
     requires message { message < length times.now.scenario.multicasts }
     requires group { group < MOST_GROUPS }
-    requires told { TellsAll times.now.scenario times.now.delays stamps.now }
-    ensures { result ≡ progress_told times.now.scenario times.now.delays stamps.now message group }
+    requires told { TellsAll times.now.scenario times.now.schedule stamps.now }
+    ensures { result ≡ progress_told times.now.scenario times.now.schedule stamps.now message group }
 {
     let _scenario = times.scenario();
     let stamp = stamps.time(message, group);

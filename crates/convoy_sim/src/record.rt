@@ -4,7 +4,7 @@ ghost use Rattle.convoy_scenario.specs.WellFormed.{IsScenario};
 
 use super::tag::Tag;
 use super::target::latency;
-use convoy_packets::{Delays, Instance};
+use convoy_packets::{Instance, Schedule};
 use convoy_scenario::Scenario;
 use std::alloc::{AllocError, Global};
 use std::marker::Model;
@@ -13,7 +13,7 @@ use std::marker::Model;
 /// take that long. A search keeps the record of the greatest latency that it has seen.
 #[derive(Drop)]
 pub struct Record {
-    delays: Delays,
+    schedule: Schedule,
     latency: u32,
     scenario: Tag<Scenario>,
 }
@@ -25,13 +25,13 @@ impl Model for Record {
 
     ghost view = { λ r. record {
       scenario = r.scenario.value;
-      delays = r.delays;
+      schedule = r.schedule;
       latency = r.latency;
     } };
 
     ghost invariant = { λ r. IsAttained (record {
       scenario = r.scenario.value;
-      delays = r.delays;
+      schedule = r.schedule;
       latency = r.latency;
     }) };
 }
@@ -40,13 +40,13 @@ impl Record {
     ghost use Rattle.convoy_sim.specs.Record.{IsAttained, attained_by};
 
     /// The record of a schedule of an instance. Takes no memory.
-    pub fn of(instance: &Instance, delays: Delays) -> Record
-        requires assignment { IsAssignment instance.now delays }
-        ensures { result ≡ attained_by instance.now delays }
+    pub fn of(instance: &Instance, schedule: Schedule) -> Record
+        requires assignment { IsAssignment instance.now schedule }
+        ensures { result ≡ attained_by instance.now schedule }
     {
-        let latency = latency(instance, &delays);
+        let latency = latency(instance, &schedule);
         Record {
-            delays,
+            schedule,
             latency,
             scenario: name_of(instance.scenario()),
         }
@@ -61,11 +61,11 @@ impl Record {
     }
 
     /// The schedule of the record.
-    pub fn delays(&self) -> &Delays
-        ensures value { result.now ≡ self.now.delays }
+    pub fn schedule(&self) -> &Schedule
+        ensures value { result.now ≡ self.now.schedule }
         ensures attained { IsAttained self.now }
     {
-        &self.delays
+        &self.schedule
     }
 
     /// The name of the record's scenario.
@@ -80,7 +80,7 @@ impl Record {
         ensures { IfOk result (λ r. r ≡ self.now) }
     {
         Ok(Record {
-            delays: self.delays.copy()?,
+            schedule: self.schedule.copy()?,
             latency: self.latency,
             scenario: self.scenario.copy(),
         })

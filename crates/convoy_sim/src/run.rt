@@ -1,6 +1,6 @@
-use crate::place::place;
 use crate::progress::Progress;
 use crate::timestamp::Timestamp;
+use convoy_packets::place;
 use convoy_scenario::MOST_GROUPS;
 use std::marker::Model;
 

@@ -14,12 +14,13 @@ use super::run::Run;
 use super::stamps::Stamps;
 use super::times::Times;
 use super::timetable::Timetable;
-use convoy_packets::{Delays, Instance};
+use convoy_packets::{Instance, Schedule};
 use std::alloc::{AllocError, Global};
 
 /// All moments of a run are before this one.
 const END: Moment = Moment {
     tick: u32::MAX,
+    rank: 0,
     kind: MomentKind::Commit,
     message: 0,
     group: 0,
@@ -27,18 +28,18 @@ const END: Moment = Moment {
 
 /// Runs an instance under a schedule: reads all moments in their order (docs/PROTOCOL.md). Fails where
 /// memory runs out, and else never.
-pub fn simulate(alloc: Global, instance: &Instance, delays: &Delays) -> Result<Run, AllocError>
-    requires assignment { IsAssignment instance.now delays.now }
-    ensures run { IfOk result (λ run. IsRunOf instance.now delays.now run) }
+pub fn simulate(alloc: Global, instance: &Instance, schedule: &Schedule) -> Result<Run, AllocError>
+    requires assignment { IsAssignment instance.now schedule.now }
+    ensures run { IfOk result (λ run. IsRunOf instance.now schedule.now run) }
     ensures laws { IfOk result (λ run. KeepsLaws instance.now run) }
-    ensures latency { IfOk result (λ run. run.latency ≡ latency_of instance.now delays.now) }
+    ensures latency { IfOk result (λ run. run.latency ≡ latency_of instance.now schedule.now) }
     ensures four_delays { IfOk result (λ run. run.latency ≤ 4 * instance.now.delay) }
     ensures two_delays { ((n : ℕ) → GoesTo instance.now n instance.now.target_group → n ≡ instance.now.target_message)
         → IfOk result (λ run. run.latency ≤ 2 * instance.now.delay) }
 {
     runs_keep_the_laws();
     let (message, group) = (instance.target_message(), instance.target_group());
-    let times = Timetable::of(Times::new(instance, delays));
+    let times = Timetable::of(Times::new(instance, schedule));
     let mut agenda = Agenda::new();
     agenda.fill(&times, &END);
     let stamps = Stamps::of(&agenda);

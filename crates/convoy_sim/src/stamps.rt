@@ -1,7 +1,7 @@
 use super::agenda::Agenda;
 use super::moment::{Moment, MomentKind};
-use super::place::{PLACES, place};
 use super::timestamp::Timestamp;
+use convoy_packets::{PLACES, place};
 use convoy_scenario::{MOST_GROUPS, MOST_MULTICASTS};
 use std::alloc::{AllocError, Global};
 use std::marker::Model;
@@ -26,7 +26,7 @@ impl Model for Stamps {
 impl Stamps {
     ghost use Rattle.std.specs.Prelude.{◌≡◌, ◌<◌, ◌+◌, ◌^◌, ◌≤◌, All, IfOk, take, slice_index, slice_index_or};
     ghost use Rattle.convoy_sim.specs.Stamps.{no_stamp};
-    ghost use Rattle.convoy_sim.specs.Places.{place};
+    ghost use Rattle.convoy_packets.specs.Order.{place};
     ghost use Rattle.convoy_sim.specs.StampTables.{no_stamps, with_arrival, with_commit, with_moment, with_moments, is_ahead, IsBelow};
 
     /// No clock has moved, and no stamp is given.

@@ -1,12 +1,12 @@
-use convoy_packets::{Delays, Instance};
-use convoy_scenario::{GREATEST_AT, Scenario};
+use convoy_packets::{Instance, Schedule};
+use convoy_scenario::{GREATEST_AT, MOST_GROUPS, MOST_MULTICASTS, Scenario, Time};
 use std::marker::Model;
 
 /// A scenario with a schedule, as packets see it: how long each is on its way.
 #[derive(Drop)]
 pub(crate) struct Times<'a> {
     instance: &'a Instance,
-    delays: &'a Delays,
+    schedule: &'a Schedule,
 }
 
 impl<'a> Model for Times<'a> {
@@ -14,20 +14,22 @@ impl<'a> Model for Times<'a> {
 
     ghost Value = { Scheduled };
 
-    ghost view = { λ t. record { scenario = t.instance.now; delays = t.delays.now } };
+    ghost view = { λ t. record { scenario = t.instance.now; schedule = t.schedule.now } };
 }
 
 impl<'a> Times<'a> {
     ghost use Rattle.std.specs.Prelude.{◌≡◌, ◌+◌, ◌<◌, ◌≤◌, length};
     ghost use Rattle.convoy_packets.specs.Assignment.{delay_of};
     ghost use Rattle.convoy_packets.specs.declared.packet.Packet.TheVariants.{Propose};
+    ghost use Rattle.convoy_packets.specs.Order.{rank_at};
     ghost use Rattle.convoy_sim.specs.Times.{arrive};
+    ghost use Rattle.convoy_sim.specs.Moments.{arrival_rank, rank_in};
 
     /// The times of an instance under a schedule.
-    pub(crate) fn new(instance: &'a Instance, delays: &'a Delays) -> Self
-        ensures { result ≡ record { scenario = instance.now; delays = delays.now } }
+    pub(crate) fn new(instance: &'a Instance, schedule: &'a Schedule) -> Self
+        ensures { result ≡ record { scenario = instance.now; schedule = schedule.now } }
     {
-        Times { instance, delays }
+        Times { instance, schedule }
     }
 
     /// The scenario of which the times are.
@@ -42,27 +44,54 @@ impl<'a> Times<'a> {
     #[tactic(auto, unfolding(crate::specs::Times::arrive, convoy_packets::specs::Assignment::delay_of))]
     pub(crate) fn arrival(&self, message: usize, group: usize) -> u32
         requires { message < length self.now.scenario.multicasts }
-        ensures tick { result ≡ arrive self.now.scenario self.now.delays message group }
+        ensures tick { result ≡ arrive self.now.scenario self.now.schedule message group }
         ensures soon { result ≤ GREATEST_AT + u16.MAX }
     {
         let delay = self
             .instance
             .table()
-            .multicast_delay(self.delays, message, group);
+            .multicast_delay(self.schedule, message, group);
         self.instance.issue_tick(message) + u32::from(delay)
+    }
+
+    /// The rank of the arrival of the message at the group: in whole ticks each counts as 0.
+    #[tactic(auto, unfolding(crate::specs::Moments::arrival_rank))]
+    pub(crate) fn arrival_rank(&self, message: usize, group: usize) -> u8
+        requires message { message < MOST_MULTICASTS }
+        requires group { group < MOST_GROUPS }
+        ensures { result ≡ arrival_rank self.now.scenario self.now.schedule message group }
+    {
+        match self.instance.time() {
+            Time::Ticks => 0,
+            Time::Real => self.schedule.order().arrival(message, group),
+        }
+    }
+
+    /// The rank that the schedule gives the commit of the message at the group: in whole ticks each
+    /// counts as 0.
+    pub(crate) fn given_rank(&self, message: usize, group: usize) -> u8
+        requires message { message < MOST_MULTICASTS }
+        requires group { group < MOST_GROUPS }
+        ensures { result ≡ rank_in self.now.scenario.time
+            (rank_at self.now.schedule.order.commits message group) }
+    {
+        match self.instance.time() {
+            Time::Ticks => 0,
+            Time::Real => self.schedule.order().commit(message, group),
+        }
     }
 
     /// How long the proposal of the group `from` for the message is on its way to the group.
     #[tactic(auto, unfolding(convoy_packets::specs::Assignment::delay_of))]
     pub(crate) fn proposal_delay(&self, message: usize, from: usize, group: usize) -> u32
         ensures value { result
-            ≡ delay_of self.now.scenario self.now.delays (Propose message from group) }
+            ≡ delay_of self.now.scenario self.now.schedule (Propose message from group) }
         ensures short { result ≤ u16.MAX }
     {
         u32::from(
             self.instance
                 .table()
-                .propose_delay(self.delays, message, from, group),
+                .propose_delay(self.schedule, message, from, group),
         )
     }
 }

@@ -1,11 +1,13 @@
 ghost use Rattle.std.specs.Prelude.{◌≡◌, ◌<◌, ℕ, length, slice_index};
 ghost use Rattle.convoy_packets.specs.Assignment.{IsAssignment};
 ghost use Rattle.convoy_sim.specs.Times.{arrive, settle};
-ghost use Rattle.convoy_sim.specs.Places.{place, IsRow, AreOthersKept};
+ghost use Rattle.convoy_sim.specs.Moments.{rank_then};
+ghost use Rattle.convoy_packets.specs.Order.{place};
+ghost use Rattle.convoy_sim.specs.Places.{IsRow, AreOthersKept};
 
-use super::place::{PLACES, place};
 use super::ticks::Ticks;
 use super::times::Times;
+use convoy_packets::{PLACES, place};
 use convoy_scenario::Scenario;
 use std::marker::Model;
 
@@ -27,13 +29,13 @@ impl<'a> Model for Timetable<'a> {
 
     ghost view = { λ t. t.times };
 
-    ghost invariant = { λ t. IsTimetable t.times.scenario t.times.delays t.arrivals t.settlings };
+    ghost invariant = { λ t. IsTimetable t.times.scenario t.times.schedule t.arrivals t.settlings };
 }
 
 impl<'a> Timetable<'a> {
     /// The timetable of a scenario under a schedule.
     pub(crate) fn of(times: Times<'a>) -> Self
-        requires { IsAssignment times.scenario times.delays }
+        requires { IsAssignment times.scenario times.schedule }
         ensures { result ≡ times.entry }
     {
         let mut arrivals = [0; PLACES];
@@ -46,6 +48,21 @@ impl<'a> Timetable<'a> {
             times,
             arrivals,
             settlings,
+        }
+    }
+}
+
+impl<'a> Timetable<'a> {
+    /// The rank of the arrival of the message at the group if it is in that tick, else 0.
+    fn rank_then(&self, message: usize, tick: u32, group: usize) -> u8
+        requires message { message < length self.now.scenario.multicasts }
+        requires group { group < length self.now.scenario.groups }
+        ensures { result ≡ rank_then self.now.scenario self.now.schedule message tick group }
+    {
+        if self.arrival(message, group) == tick {
+            self.times.arrival_rank(message, group)
+        } else {
+            0
         }
     }
 }
@@ -66,12 +83,25 @@ impl<'a> Ticks for Timetable<'a> {
         let settlings = &self.settlings;
         settlings[place(message, group)]
     }
+
+    fn arrival_rank(&self, message: usize, group: usize) -> u8 {
+        self.times.arrival_rank(message, group)
+    }
+
+    fn commit_rank(&self, message: usize, group: usize) -> u8 {
+        let tick = self.settling(message, group);
+        let mut rank = self.times.given_rank(message, group);
+        for from in self.scenario().destinations(message) {
+            rank = rank.max(self.rank_then(message, tick, *from));
+        }
+        rank
+    }
 }
 
 /// Writes the ticks at which the message arrives at the groups.
 fn write_arrivals(arrivals: &mut [u32; PLACES], times: &Times, message: usize)
     requires { message < length times.now.scenario.multicasts }
-    ensures row { IsRow (arrive times.now.scenario times.now.delays message)
+    ensures row { IsRow (arrive times.now.scenario times.now.schedule message)
         (length times.now.scenario.groups) message arrivals.new }
     ensures others { AreOthersKept message arrivals.old arrivals.new }
 {
@@ -88,10 +118,10 @@ fn write_settlings(
     message: usize,
 )
     requires message { message < length times.now.scenario.multicasts }
-    requires assignment { IsAssignment times.now.scenario times.now.delays }
-    requires arrivals { IsRow (arrive times.now.scenario times.now.delays message)
+    requires assignment { IsAssignment times.now.scenario times.now.schedule }
+    requires arrivals { IsRow (arrive times.now.scenario times.now.schedule message)
         (length times.now.scenario.groups) message arrivals.now }
-    ensures row { IsRow (settle times.now.scenario times.now.delays message)
+    ensures row { IsRow (settle times.now.scenario times.now.schedule message)
         (length times.now.scenario.groups) message settlings.new }
     ensures others { AreOthersKept message settlings.old settlings.new }
 {
@@ -104,10 +134,10 @@ fn write_settlings(
 /// group's own among them.
 fn settling(arrivals: &[u32; PLACES], times: &Times, message: usize, group: usize) -> u32
     requires message { message < length times.now.scenario.multicasts }
-    requires assignment { IsAssignment times.now.scenario times.now.delays }
-    requires arrivals { IsRow (arrive times.now.scenario times.now.delays message)
+    requires assignment { IsAssignment times.now.scenario times.now.schedule }
+    requires arrivals { IsRow (arrive times.now.scenario times.now.schedule message)
         (length times.now.scenario.groups) message arrivals.now }
-    ensures { result ≡ settle times.now.scenario times.now.delays message group }
+    ensures { result ≡ settle times.now.scenario times.now.schedule message group }
 {
     let mut last = 0u32;
     for from in times.scenario().destinations(message) {

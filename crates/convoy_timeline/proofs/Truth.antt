@@ -6,6 +6,7 @@ use Rattle.std.proofs.lemmas.List.FromFn.{length-range_with_len, get_or-range_wi
 use Rattle.std.specs.List.{All, fold, flat_map, list_any, range_with_len}
 use Rattle.std.specs.Option.{option_map, option_to_list}
 use Rattle.convoy_scenario.specs.Scenario.{Scenario, message_at, message_numbers}
+use Rattle.convoy_packets.specs.Assignment.{Schedule}
 use Rattle.convoy_sim.specs.declared.timestamp.Timestamp.{Timestamp}
 use Rattle.convoy_sim.specs.declared.run.Proposal.{Proposal}
 use Rattle.convoy_sim.specs.Run.{Run, IsRunOf, proposed_of, committed_of, delivered_of, final_stamp_of}
@@ -14,8 +15,8 @@ use Rattle.convoy_sim.specs.Times.{arrive, settle}
 use Rattle.convoy_sim.specs.Delivery.{deliver}
 use Rattle.convoy_scenario.specs.Scenario.{GoesTo}
 use Rattle.convoy_timeline.specs.declared.entry.EntryKind.TheVariants.{Propose, Commit, Deliver}
-use Rattle.convoy_timeline.specs.Timeline.{entry_of, insert_entry, line_of, entries_at, entries_of, timeline_of, timeline_text}
-use Rattle.convoy_timeline.specs.Told.{proposal_told, entries_told_at, entries_told, told_in_order, text_told}
+use Rattle.convoy_timeline.specs.Timeline.{entry_of, insert_entry, line_of, tick_line, entries_at, entries_of, timeline_of, timeline_text}
+use Rattle.convoy_timeline.specs.Told.{proposal_told, entries_told_at, entries_told, told_in_order, lines_told, text_told}
 
 -- two functions that agree on a list's elements make the same of it
 flat_map_same : {X A : Type 0} (f h : X → List A) (xs : List X) → All (λ x. f x ≡ h x) xs → flat_map f xs ≡ flat_map h xs
@@ -48,31 +49,31 @@ entries_by : (m g : ℕ) (own last : Timestamp) (a b c : ℕ)
     ≡ entry_of Propose m g own a ∷ entry_of Commit m g last b ∷ entry_of Deliver m g last c ∷ []
 entries_by m g own last a b c proposed committed delivered final p q r s = rw (p, q, r, s) refl
 
-entries_told_at-true : (plan : Scenario) (delays : List ℕ) (run : Run) (m g : ℕ) → IsRunOf plan delays run
-    → GoesTo plan m g → m < length plan.multicasts → entries_told_at run m g ≡ entries_at plan delays m g
-entries_told_at-true plan delays run m g told goes known =
-    entries_by m g (local_stamp plan delays m g) (final_stamp plan delays m)
-    (arrive plan delays m g) (settle plan delays m g) (deliver plan delays m g)
+entries_told_at-true : (plan : Scenario) (schedule : Schedule) (run : Run) (m g : ℕ) → IsRunOf plan schedule run
+    → GoesTo plan m g → m < length plan.multicasts → entries_told_at run m g ≡ entries_at plan schedule m g
+entries_told_at-true plan schedule run m g told goes known =
+    entries_by m g (local_stamp plan schedule m g) (final_stamp plan schedule m)
+    (arrive plan schedule m g) (settle plan schedule m g) (deliver plan schedule m g)
     (proposed_of run m g) (committed_of run m g) (delivered_of run m g) (final_stamp_of run m)
     (told.proposed m g goes) (told.committed m g goes) (told.delivered m g goes) (told.final_stamps m known)
 
-entries_told-true : (plan : Scenario) (delays : List ℕ) (run : Run) → IsRunOf plan delays run
-    → entries_told plan run ≡ entries_of plan delays
-entries_told-true plan delays run told =
+entries_told-true : (plan : Scenario) (schedule : Schedule) (run : Run) → IsRunOf plan schedule run
+    → entries_told plan run ≡ entries_of plan schedule
+entries_told-true plan schedule run told =
     flat_map_same (λ m. flat_map (entries_told_at run m) (message_at plan m).destinations)
-    (λ m. flat_map (entries_at plan delays m) (message_at plan m).destinations) (message_numbers plan)
+    (λ m. flat_map (entries_at plan schedule m) (message_at plan m).destinations) (message_numbers plan)
     (All-weaker (λ m. m < length plan.multicasts) _ (λ m known.
-    flat_map_same (entries_told_at run m) (entries_at plan delays m) (message_at plan m).destinations
-    (All-weaker (GoesTo plan m) _ (λ g goes. entries_told_at-true plan delays run m g told goes known)
+    flat_map_same (entries_told_at run m) (entries_at plan schedule m) (message_at plan m).destinations
+    (All-weaker (GoesTo plan m) _ (λ g goes. entries_told_at-true plan schedule run m g told goes known)
     (message_at plan m).destinations (found (message_at plan m).destinations)))
     (message_numbers plan) (below (length plan.multicasts)))
 
-pub told_in_order-true : (plan : Scenario) (delays : List ℕ) (run : Run) → IsRunOf plan delays run
-    → told_in_order plan run ≡ timeline_of plan delays
+pub told_in_order-true : (plan : Scenario) (schedule : Schedule) (run : Run) → IsRunOf plan schedule run
+    → told_in_order plan run ≡ timeline_of plan schedule
 unfolding told_in_order
-told_in_order-true plan delays run told = ap (λ entries. fold insert_entry [] entries) (entries_told-true plan delays run told)
+told_in_order-true plan schedule run told = ap (λ entries. fold insert_entry [] entries) (entries_told-true plan schedule run told)
 
-pub text_told-true : (plan : Scenario) (delays : List ℕ) (run : Run) → IsRunOf plan delays run
-    → text_told plan run ≡ timeline_text plan delays
-unfolding text_told timeline_text
-text_told-true plan delays run told = ap (λ entries. flat_map (line_of plan) entries) (told_in_order-true plan delays run told)
+pub text_told-true : (plan : Scenario) (schedule : Schedule) (run : Run) → IsRunOf plan schedule run
+    → text_told plan run ≡ timeline_text plan schedule
+unfolding lines_told text_told timeline_text
+text_told-true plan schedule run told = ap (λ entries. tick_line plan.tick ++ flat_map (line_of plan) entries) (told_in_order-true plan schedule run told)

@@ -1,7 +1,9 @@
 -- The timeline of a run: what happens at each group, tick by tick, as lines of text.
-use Rattle.std.specs.Prelude.{ℕ, ◌==◌, nat_lt, Bool, ◌&&◌, ◌||◌, List, [], ◌∷◌, ◌++◌, if◌then◌else◌, codes, decimal}
+use Rattle.std.specs.Prelude.{ℕ, ◌==◌, nat_lt, Bool, ◌&&◌, ◌||◌, List, [], ◌∷◌, ◌++◌, Option, Some, None, if◌then◌else◌, codes, decimal}
 use Rattle.std.specs.List.{fold, flat_map}
 use Rattle.convoy_scenario.specs.Scenario.{Scenario, message_at, message_numbers, group_name_at}
+use Rattle.convoy_scenario.specs.Durations.{count_of, unit_of, unit_word}
+use Rattle.convoy_packets.specs.Assignment.{Schedule}
 use Rattle.convoy_sim.specs.declared.timestamp.Timestamp.{Timestamp}
 use Rattle.convoy_sim.specs.Times.{arrive, settle}
 use Rattle.convoy_sim.specs.Stamps.{is_less, local_stamp, final_stamp}
@@ -53,17 +55,17 @@ abbrev pub entry_of : EntryKind → ℕ → ℕ → Timestamp → ℕ → Entry
 entry_of kind m g stamp tick = record { tick = tick; kind = kind; message = m; group = g; stamp = stamp }
 
 -- the entries of message m at group g: it is proposed with its local stamp, and committed and delivered with the final one
-abbrev pub entries_at : Scenario → List ℕ → ℕ → ℕ → List Entry
-entries_at scenario delays m g =
-    entry_of Propose m g (local_stamp scenario delays m g) (arrive scenario delays m g)
-    ∷ entry_of Commit m g (final_stamp scenario delays m) (settle scenario delays m g)
-    ∷ entry_of Deliver m g (final_stamp scenario delays m) (deliver scenario delays m g)
+abbrev pub entries_at : Scenario → Schedule → ℕ → ℕ → List Entry
+entries_at scenario schedule m g =
+    entry_of Propose m g (local_stamp scenario schedule m g) (arrive scenario schedule m g)
+    ∷ entry_of Commit m g (final_stamp scenario schedule m) (settle scenario schedule m g)
+    ∷ entry_of Deliver m g (final_stamp scenario schedule m) (deliver scenario schedule m g)
     ∷ []
 
 -- the entries of all messages at their destinations, in no order yet
-abbrev pub entries_of : Scenario → List ℕ → List Entry
-entries_of scenario delays =
-    flat_map (λ m. flat_map (entries_at scenario delays m) (message_at scenario m).destinations) (message_numbers scenario)
+abbrev pub entries_of : Scenario → Schedule → List Entry
+entries_of scenario schedule =
+    flat_map (λ m. flat_map (entries_at scenario schedule m) (message_at scenario m).destinations) (message_numbers scenario)
 
 -- the line of an entry: tick, group, kind, message and stamp, and byte 10
 unfoldable pub line_of : Scenario → Entry → List ℕ
@@ -76,10 +78,15 @@ line_of scenario entry =
     ++ 46 ∷ (group_name_at scenario entry.stamp.group
     ++ 10 ∷ [])))))
 
--- the entries of the run that follows from a schedule of delays, in their order
-abbrev pub timeline_of : Scenario → List ℕ → List Entry
-timeline_of scenario delays = fold insert_entry [] (entries_of scenario delays)
+-- the entries of the run that follows from a schedule, in their order
+abbrev pub timeline_of : Scenario → Schedule → List Entry
+timeline_of scenario schedule = fold insert_entry [] (entries_of scenario schedule)
 
--- the timeline of that run: the lines of its entries
-unfoldable pub timeline_text : Scenario → List ℕ → List ℕ
-timeline_text scenario delays = flat_map (line_of scenario) (timeline_of scenario delays)
+-- the line that tells the length of a tick, where it is known
+abbrev pub tick_line : Option ℕ → List ℕ
+tick_line None = []
+tick_line (Some length) = codes "tick " ++ (decimal (count_of length) ++ 32 ∷ (unit_word (unit_of length) ++ 10 ∷ []))
+
+-- the timeline of that run: the length of a tick, and the lines of its entries
+unfoldable pub timeline_text : Scenario → Schedule → List ℕ
+timeline_text scenario schedule = tick_line scenario.tick ++ flat_map (line_of scenario) (timeline_of scenario schedule)

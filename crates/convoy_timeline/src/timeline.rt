@@ -1,8 +1,9 @@
-ghost use Rattle.std.specs.Prelude.{◌≡◌, ◌++◌, ℕ, List, string_bytes, OnOk, OnErr, IfOk};
+ghost use Rattle.std.specs.Prelude.{◌≡◌, ◌++◌, string_bytes, OnOk, OnErr, IfOk};
+ghost use Rattle.convoy_packets.specs.Assignment.{Schedule};
 ghost use Rattle.convoy_scenario.specs.Scenario.{group_name_at, message_at};
 ghost use Rattle.convoy_sim.specs.Run.{IsRunOf};
-ghost use Rattle.convoy_timeline.specs.Timeline.{line_of, timeline_of, timeline_text};
-ghost use Rattle.convoy_timeline.specs.Told.{text_told};
+ghost use Rattle.convoy_timeline.specs.Timeline.{line_of, tick_line, timeline_of, timeline_text};
+ghost use Rattle.convoy_timeline.specs.Told.{lines_told, text_told};
 
 use super::entry::Entry;
 use super::listing::list_entries;
@@ -13,8 +14,8 @@ use std::alloc::{AllocError, Global};
 /// What happens at each group in a run of the scenario, in the order of the timeline
 /// ([`write_timeline`]). Fails where memory runs out, and else never.
 pub fn entries_of(alloc: Global, scenario: &Scenario, run: &Run) -> Result<Vec<Entry>, AllocError>
-    ensures { (delays : List ℕ) → IsRunOf scenario.now delays run.now
-        → IfOk result (λ entries. entries.items ≡ timeline_of scenario.now delays) }
+    ensures { (schedule : Schedule) → IsRunOf scenario.now schedule run.now
+        → IfOk result (λ entries. entries.items ≡ timeline_of scenario.now schedule) }
 {
     list_entries(alloc, scenario, run)
 }
@@ -28,6 +29,8 @@ pub fn entries_of(alloc: Global, scenario: &Scenario, run: &Run) -> Result<Vec<E
 /// TICK GROUP deliver MESSAGE TIME.GROUP
 /// ```
 ///
+/// Where the length of a tick is known, a line `tick COUNT UNIT` comes before these.
+///
 /// TICK is in ticks from the start of the run, GROUP and MESSAGE are names, and TIME.GROUP is a stamp
 /// with the name of the group that gave it: the local stamp of the proposal, else the final one
 /// (docs/PROTOCOL.md; docs/FORMATS.md, "Numbers and lines"). The lines go by tick. Inside a tick
@@ -36,23 +39,47 @@ pub fn entries_of(alloc: Global, scenario: &Scenario, run: &Run) -> Result<Vec<E
 ///
 /// Where memory runs out the vector is as it was.
 pub fn write_timeline(scenario: &Scenario, run: &Run, out: &mut Vec<u8>) -> Result<(), AllocError>
-    ensures ok { (delays : List ℕ) → IsRunOf scenario.now delays run.now
-        → OnOk result (out.new.items ≡ out.old.items ++ timeline_text scenario.now delays) }
+    ensures ok { (schedule : Schedule) → IsRunOf scenario.now schedule run.now
+        → OnOk result (out.new.items ≡ out.old.items ++ timeline_text scenario.now schedule) }
     ensures err { OnErr result (out.new.items ≡ out.old.items) }
 {
     let text = text_of(*out.allocator(), scenario, run)?;
     out.extend_from_slice(&text)
 }
 
-/// The lines of all entries.
+/// The length of a tick, where it is known, and the lines of all entries.
+#[tactic(auto, unfolding(crate::specs::Told::text_told))]
 fn text_of(alloc: Global, scenario: &Scenario, run: &Run) -> Result<Vec<u8>, AllocError>
     ensures { IfOk result (λ text. text.items ≡ text_told scenario.now run.now) }
+{
+    let mut text = Vec::new(alloc);
+    text.extend_from_slice(tick_line(alloc, scenario)?.as_bytes())?;
+    text.extend_from_slice(&lines_of(alloc, scenario, run)?)?;
+    Ok(text)
+}
+
+/// The lines of all entries.
+fn lines_of(alloc: Global, scenario: &Scenario, run: &Run) -> Result<Vec<u8>, AllocError>
+    ensures { IfOk result (λ text. text.items ≡ lines_told scenario.now run.now) }
 {
     let mut text = Vec::new(alloc);
     for entry in &list_entries(alloc, scenario, run)? {
         push_line(scenario, entry, &mut text)?;
     }
     Ok(text)
+}
+
+/// The line that tells the length of a tick, where it is known.
+fn tick_line(alloc: Global, scenario: &Scenario) -> Result<String, AllocError>
+    ensures { IfOk result (λ line. string_bytes line ≡ tick_line scenario.now.tick) }
+{
+    match scenario.tick() {
+        Some(tick) => {
+            let (count, unit) = (tick.count(), tick.unit().word());
+            format!(in alloc; "tick {count} {unit}\n")
+        }
+        None => Ok(String::new(alloc)),
+    }
 }
 
 /// Appends the line of an entry.

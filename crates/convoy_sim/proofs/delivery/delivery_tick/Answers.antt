@@ -1,6 +1,7 @@
 use Rattle.std.proofs.Common.{ℕ, ◌+◌, ◌-◌, ◌<◌, max, Bool, List, length, map, filter, fold, sym, ap, ◌∙◌, arith}
 use Rattle.std.specs.List.{range_with_len}
 use Rattle.convoy_scenario.specs.Scenario.{Scenario}
+use Rattle.convoy_packets.specs.Assignment.{Schedule}
 use Rattle.convoy_sim.specs.Times.{settle}
 use Rattle.convoy_sim.specs.StampTables.{is_ahead}
 use Rattle.convoy_sim.proofs.Addressed.{number_of_goes}
@@ -30,7 +31,7 @@ settling-requires-clause-group over c = group_known (over.T.Ticks.scheduled c.ar
 pub loop-other-preserved : goal.loop-other-preserved
 loop-other-preserved over c =
     let plan : Scenario = (over.T.Ticks.scheduled c.args.times.now).scenario in
-    let settles : ℕ → ℕ = λ n. settle plan (over.T.Ticks.scheduled c.args.times.now).delays n c.args.group in
+    let settles : ℕ → ℕ = λ n. settle plan (over.T.Ticks.scheduled c.args.times.now).schedule n c.args.group in
     let ahead : ℕ → Bool = is_ahead c.args.stamps.now c.args.group c.greatest-last.result in
     let i : ℕ = c.loop-other.other in
     let n : ℕ = length plan.multicasts in
@@ -51,13 +52,13 @@ loop-other-preserved over c =
 pub returns : goal.returns
 returns over c =
     let plan : Scenario = (over.T.Ticks.scheduled c.args.times.now).scenario in
-    let delays : List ℕ = (over.T.Ticks.scheduled c.args.times.now).delays in
+    let schedule : Schedule = (over.T.Ticks.scheduled c.args.times.now).schedule in
     let m : ℕ = c.args.message in
     let g : ℕ = c.args.group in
-    let settles : ℕ → ℕ = λ n. settle plan delays n g in
+    let settles : ℕ → ℕ = λ n. settle plan schedule n g in
     let count = c.message_count-messages.ensures.value ∙ ap (λ (p : Scenario). length p.multicasts) c.scenario.ensures.value in
     let final = c.greatest-last.ensures ∙ c.requires.told.final in
     ahead_end settles (is_ahead c.args.stamps.now g c.greatest-last.result) c.loop-other.tick c.loop-other.other (length plan.multicasts) (omega arith)
     ∙ c.loop-other.invariant
-    ∙ ap (λ last. fold max (settle plan delays m g) (map settles (filter (is_ahead c.args.stamps.now g last) (range_with_len 0 (length plan.multicasts))))) final
-    ∙ delivered_from plan delays c.scenario.ensures.lawful m g c.requires.goes c.args.stamps.now c.requires.told
+    ∙ ap (λ last. fold max (settle plan schedule m g) (map settles (filter (is_ahead c.args.stamps.now g last) (range_with_len 0 (length plan.multicasts))))) final
+    ∙ delivered_from plan schedule c.scenario.ensures.lawful m g c.requires.goes c.args.stamps.now c.requires.told

@@ -14,8 +14,8 @@ not_sent false false is = cc
 
 pub returns : goal.returns
 unfolding arrive
-returns c = λ plan delays m g sent.
-    let none : delay_of plan delays (Multicast m g) ≡ 0 =
-    c.unsent_takes_no_time.ensures plan delays (Multicast m g)
+returns c = λ plan schedule m g sent.
+    let none : delay_of plan schedule (Multicast m g) ≡ 0 =
+    c.unsent_takes_no_time.ensures plan schedule (Multicast m g)
     (not_sent (is_addressed (message_at plan m) g) (is_sent_by (message_at plan m) g) sent) in
     omega arith

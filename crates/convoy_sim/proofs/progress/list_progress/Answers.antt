@@ -7,7 +7,7 @@ use Rattle.convoy_sim.proofs.progress.list_progress.Goals as goal
 
 pub loop-at-preserved : goal.loop-at-preserved
 loop-at-preserved c =
-    let told : ℕ → Progress = λ at. progress_told c.args.times.now.scenario c.args.times.now.delays c.args.stamps.now (at / MOST_GROUPS) (at % MOST_GROUPS) in
+    let told : ℕ → Progress = λ at. progress_told c.args.times.now.scenario c.args.times.now.schedule c.args.stamps.now (at / MOST_GROUPS) (at % MOST_GROUPS) in
     let at : ℕ = c.loop-at.at in
     c.in_ok-push.ensures.items
     ∙ ap₂ (λ xs x. xs ++ x ∷ []) c.loop-at.invariant c.told_at.ensures

@@ -8,4 +8,4 @@ use Rattle.convoy_sim.proofs.progress.list_progress.Given as goal
 abbrev pub invariant-loop-at : goal.invariant-loop-at
 invariant-loop-at l =
     l.progress.items
-    ≡ map (λ at. progress_told l.times.scenario l.times.delays l.stamps (at / MOST_GROUPS) (at % MOST_GROUPS)) (range_with_len 0 l.at)
+    ≡ map (λ at. progress_told l.times.scenario l.times.schedule l.stamps (at / MOST_GROUPS) (at % MOST_GROUPS)) (range_with_len 0 l.at)

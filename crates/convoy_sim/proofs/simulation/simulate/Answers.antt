@@ -11,7 +11,7 @@ use Rattle.convoy_sim.proofs.simulation.simulate.Goals as goal
 use Rattle.convoy_sim.proofs.simulation.simulate.Goals.{After-of-times}
 
 is_target : (c : After-of-times)
-    → IsTarget c.args.instance.now c.args.delays.now c.of-times.result c.target_message-message.result c.target_group-group.result
+    → IsTarget c.args.instance.now c.args.schedule.now c.of-times.result c.target_message-message.result c.target_group-group.result
 is_target c = record {
   same = c.of-times.ensures ∙ c.new.ensures;
   well = c.target_message-message.ensures.lawful;
@@ -23,7 +23,7 @@ pub of-stamps-requires : goal.of-stamps-requires
 of-stamps-requires c =
     let is = is_target (goal.at.of-stamps-requires c).After-of-times in
     subst (λ ms. All (λ x. (x.message < 16) × (x.group < 8)) ms) (sym c.fill.ensures)
-    (all_within c.of-times.result.scenario (target_well _ _ _ _ _ is) c.of-times.result.delays end)
+    (all_within c.of-times.result.scenario (target_well _ _ _ _ _ is) c.of-times.result.schedule end)
 
 pub delivery_tick-delivered-requires-clause-told : goal.delivery_tick-delivered-requires-clause-told
 delivery_tick-delivered-requires-clause-told c =
@@ -65,15 +65,15 @@ returns-clause-latency c =
 pub returns-clause-four_delays : goal.returns-clause-four_delays
 returns-clause-four_delays c =
     subst (λ latency. latency ≤ 4 * c.args.instance.now.delay) (sym (returns-clause-latency c))
-    (target_within_four c.args.instance.now c.args.delays.now c.target_message-message.ensures.lawful c.requires.assignment)
+    (target_within_four c.args.instance.now c.args.schedule.now c.target_message-message.ensures.lawful c.requires.assignment)
 
 pub returns-clause-two_delays : goal.returns-clause-two_delays
 unfolding latency_of
 returns-clause-two_delays c alone =
     let well = c.target_message-message.ensures.lawful in
     subst (λ latency. latency ≤ 2 * c.args.instance.now.delay) (sym (returns-clause-latency c))
-    (lone_within_two c.args.instance.now c.args.delays.now well c.requires.assignment _ _ well.addressed alone)
+    (lone_within_two c.args.instance.now c.args.schedule.now well c.requires.assignment _ _ well.addressed alone)
 
 pub returns-clause-laws : goal.returns-clause-laws
 returns-clause-laws c =
-    c.runs_keep_the_laws.ensures c.args.instance.now c.args.delays.now _ c.target_message-message.ensures.lawful c.requires.assignment (returns-clause-run c)
+    c.runs_keep_the_laws.ensures c.args.instance.now c.args.schedule.now _ c.target_message-message.ensures.lawful c.requires.assignment (returns-clause-run c)

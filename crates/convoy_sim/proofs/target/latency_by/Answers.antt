@@ -1,4 +1,4 @@
-use Rattle.std.proofs.Common.{◌≡◌, ℕ, ◌<◌, refl, sym, ap, subst, ◌∙◌}
+use Rattle.std.proofs.Common.{◌≡◌, ℕ, ◌<◌, refl, sym, ap, ap₂, subst, ◌∙◌}
 use Rattle.std.specs.List.{All}
 use Rattle.convoy_scenario.specs.Scenario.{Scenario, message_at}
 use Rattle.convoy_sim.specs.Scheduled.{Scheduled}
@@ -18,7 +18,7 @@ use Rattle.convoy_sim.proofs.target.latency_by.Goals as goal
 use Rattle.convoy_sim.proofs.target.latency_by.Goals.{After-target_group-group, After-fill, After-issue_tick}
 
 is_target : (over : given.Over) (c : After-target_group-group over)
-    → IsTarget (over.T.Ticks.scheduled c.args.times.now).scenario (over.T.Ticks.scheduled c.args.times.now).delays (over.T.Ticks.scheduled c.args.times.now) c.target_message-message.result c.target_group-group.result
+    → IsTarget (over.T.Ticks.scheduled c.args.times.now).scenario (over.T.Ticks.scheduled c.args.times.now).schedule (over.T.Ticks.scheduled c.args.times.now) c.target_message-message.result c.target_group-group.result
 is_target over c = record {
   same = refl;
   well = c.scenario-scenario.ensures.lawful;
@@ -29,12 +29,12 @@ is_target over c = record {
 -- the moments that are read are those before the commit of the target
 agenda_is : (over : given.Over) (c : After-fill over)
     → c.fill.new.self
-    ≡ before (commit_of (over.T.Ticks.scheduled c.args.times.now).scenario (over.T.Ticks.scheduled c.args.times.now).delays c.target_message-message.result c.target_group-group.result)
-    (moments_of (over.T.Ticks.scheduled c.args.times.now).scenario (over.T.Ticks.scheduled c.args.times.now).delays)
+    ≡ before (commit_of (over.T.Ticks.scheduled c.args.times.now).scenario (over.T.Ticks.scheduled c.args.times.now).schedule c.target_message-message.result c.target_group-group.result)
+    (moments_of (over.T.Ticks.scheduled c.args.times.now).scenario (over.T.Ticks.scheduled c.args.times.now).schedule)
 agenda_is over c =
     let times : Scheduled = over.T.Ticks.scheduled c.args.times.now in
-    let last : ℕ → Moment = λ t. record { tick = t; kind = Commit; message = c.target_message-message.result; group = c.target_group-group.result } in
-    c.fill.ensures ∙ ap (λ t. before (last t) (moments_of times.scenario times.delays)) c.settling.ensures
+    let last : ℕ → ℕ → Moment = λ t r. record { tick = t; rank = r; kind = Commit; message = c.target_message-message.result; group = c.target_group-group.result } in
+    c.fill.ensures ∙ ap₂ (λ t r. before (last t r) (moments_of times.scenario times.schedule)) c.settling.ensures c.commit_rank.ensures
 
 issued : (over : given.Over) (c : After-issue_tick over) → c.issue_tick.result ≡ (message_at (over.T.Ticks.scheduled c.args.times.now).scenario c.target_message-message.result).at
 issued over c =
@@ -48,6 +48,16 @@ settling-requires-clause-message over c =
 pub settling-requires-clause-group : goal.settling-requires-clause-group
 settling-requires-clause-group over c =
     let is = is_target over (goal.at.settling-requires-clause-group over c).After-target_group-group in
+    group_known _ (target_well _ _ _ _ _ is) c.target_message-message.result c.target_group-group.result (target_goes _ _ _ _ _ is)
+
+pub commit_rank-requires-clause-message : goal.commit_rank-requires-clause-message
+commit_rank-requires-clause-message over c =
+    let is = is_target over (goal.at.commit_rank-requires-clause-message over c).After-target_group-group in
+    number_of_goes (over.T.Ticks.scheduled c.args.times.now).scenario c.target_message-message.result c.target_group-group.result (target_goes _ _ _ _ _ is)
+
+pub commit_rank-requires-clause-group : goal.commit_rank-requires-clause-group
+commit_rank-requires-clause-group over c =
+    let is = is_target over (goal.at.commit_rank-requires-clause-group over c).After-target_group-group in
     group_known _ (target_well _ _ _ _ _ is) c.target_message-message.result c.target_group-group.result (target_goes _ _ _ _ _ is)
 
 pub of-stamps-requires : goal.of-stamps-requires
@@ -65,8 +75,8 @@ delivery_tick-requires-clause-told over c =
     let times : Scheduled = over.T.Ticks.scheduled c.args.times.now in
     let m : ℕ = c.target_message-message.result in
     let g : ℕ = c.target_group-group.result in
-    subst (TellsAhead times.scenario times.delays m g) (sym (c.of-stamps.ensures ∙ ap (with_moments no_stamps) agenda))
-    (told_enough times.scenario well times.delays (commit_of times.scenario times.delays m g) m g goes (enough_by_commit times.scenario well times.delays m g goes))
+    subst (TellsAhead times.scenario times.schedule m g) (sym (c.of-stamps.ensures ∙ ap (with_moments no_stamps) agenda))
+    (told_enough times.scenario well times.schedule (commit_of times.scenario times.schedule m g) m g goes (enough_by_commit times.scenario well times.schedule m g goes))
 
 pub overflow_sub-result : goal.overflow_sub-result
 overflow_sub-result over c =

@@ -11,7 +11,7 @@ use Rattle.convoy_sim.proofs.timetable.settling.Goals.{After-scenario, In-loop-f
 pub loop-from-init : goal.loop-from-init
 unfolding settle
 loop-from-init c =
-    ap (λ xs. fold max 0 (map (propose_arrive c.args.times.now.scenario c.args.times.now.delays c.args.message c.args.group) xs))
+    ap (λ xs. fold max 0 (map (propose_arrive c.args.times.now.scenario c.args.times.now.schedule c.args.message c.args.group) xs))
     (c.destinations-from-items.ensures.value ∙ ap (λ (p : Scenario). (message_at p c.args.message).destinations) c.scenario.ensures)
 
 pub place-requires-clause-group : goal.place-requires-clause-group
@@ -23,7 +23,7 @@ place-requires-clause-group c =
 
 -- what stands for a destination is the tick at which the message comes there
 come_is : (c : After-proposal_delay)
-    → get_or c.args.arrivals.now c.place.result 0 ≡ arrive c.args.times.now.scenario c.args.times.now.delays c.args.message (get_or c.destinations-from-items.result.now c.loop-from.from-index 0)
+    → get_or c.args.arrivals.now c.place.result 0 ≡ arrive c.args.times.now.scenario c.args.times.now.schedule c.args.message (get_or c.destinations-from-items.result.now c.loop-from.from-index 0)
 come_is c =
     ap (λ k. get_or c.args.arrivals.now k 0) c.place.ensures.value
     ∙ c.requires.arrivals (get_or c.destinations-from-items.result.now c.loop-from.from-index 0)
@@ -35,7 +35,7 @@ come_is c =
 pub overflow_add-come : goal.overflow_add-come
 overflow_add-come c =
     let is = come_is c in
-    let soon = comes_soon c.args.times.now.scenario (subst IsScenario c.scenario.ensures c.destinations-from-items.ensures.lawful) c.args.times.now.delays
+    let soon = comes_soon c.args.times.now.scenario (subst IsScenario c.scenario.ensures c.destinations-from-items.ensures.lawful) c.args.times.now.schedule
     c.requires.assignment c.args.message (get_or c.destinations-from-items.result.now c.loop-from.from-index 0) c.requires.message in
     let short = c.proposal_delay.ensures.short in
     omega arith
@@ -46,7 +46,7 @@ loop-from-preserved c =
     let i : ℕ = c.loop-from.from-index in
     let last : ℕ = c.loop-from.last in
     let from : ℕ = get_or items i 0 in
-    let arrives = λ (h : ℕ). propose_arrive c.args.times.now.scenario c.args.times.now.delays c.args.message c.args.group h in
+    let arrives = λ (h : ℕ). propose_arrive c.args.times.now.scenario c.args.times.now.schedule c.args.message c.args.group h in
     let here : get_or c.args.arrivals.now c.place.result 0 + c.proposal_delay.result ≡ arrives from =
     ap₂ ◌+◌ (come_is (goal.at.loop-from-preserved c).After-proposal_delay) c.proposal_delay.ensures.value in
     let is : c.max-last.result ≡ max last (arrives from) = c.max-last.ensures ∙ ap (max last) here in

@@ -6,5 +6,5 @@ use Rattle.convoy_sim.proofs.timetable.settling.Given as goal
 -- the greatest of what has come and what is left is the greatest of all
 abbrev pub invariant-loop-from : goal.invariant-loop-from
 invariant-loop-from l =
-    fold max l.last (map (propose_arrive l.times.scenario l.times.delays l.message l.group) (drop l.from-index l.from-items))
-    ≡ settle l.times.scenario l.times.delays l.message l.group
+    fold max l.last (map (propose_arrive l.times.scenario l.times.schedule l.message l.group) (drop l.from-index l.from-items))
+    ≡ settle l.times.scenario l.times.schedule l.message l.group

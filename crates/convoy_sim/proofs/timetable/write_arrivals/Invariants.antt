@@ -4,6 +4,6 @@ use Rattle.convoy_sim.proofs.timetable.write_arrivals.Given as goal
 
 abbrev pub invariant-loop-group : goal.invariant-loop-group
 invariant-loop-group l = record {
-  row : IsRow (arrive l.times.scenario l.times.delays l.message) l.group l.message l.arrivals;
+  row : IsRow (arrive l.times.scenario l.times.schedule l.message) l.group l.message l.arrivals;
   others : AreOthersKept l.message l.initial.arrivals l.arrivals;
 }

@@ -5,6 +5,6 @@ use Rattle.convoy_sim.proofs.timetable.Timetable.of.Given as goal
 
 abbrev pub invariant-loop-message : goal.invariant-loop-message
 invariant-loop-message l = record {
-  arrivals : AreRows (arrive l.times.scenario l.times.delays) l.message (length l.times.scenario.groups) l.arrivals;
-  settlings : AreRows (settle l.times.scenario l.times.delays) l.message (length l.times.scenario.groups) l.settlings;
+  arrivals : AreRows (arrive l.times.scenario l.times.schedule) l.message (length l.times.scenario.groups) l.arrivals;
+  settlings : AreRows (settle l.times.scenario l.times.schedule) l.message (length l.times.scenario.groups) l.settlings;
 }

@@ -1,10 +1,10 @@
 use Rattle.std.proofs.Common.{arith}
 use Rattle.std.proofs.lemmas.Grind.{common_steps}
-use Rattle.convoy_timeline.specs.Told.{text_told}
-use Rattle.convoy_timeline.proofs.timeline.text_of.Goals as goal
+use Rattle.convoy_timeline.specs.Told.{lines_told}
+use Rattle.convoy_timeline.proofs.timeline.lines_of.Goals as goal
 
 pub returns : goal.returns
-unfolding text_told
+unfolding lines_told
 returns c =
     rw (← c.in_ok-list_entries.ensures, ← c.deref-entry-items.ensures.value)
     (grind (arith, common_steps, c.loop-entry.invariant))
