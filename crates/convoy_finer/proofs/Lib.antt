@@ -1,0 +1,15 @@
+pub mod Used
+pub mod Ceiling
+pub mod Scaled
+pub mod Lists
+pub mod SameParts
+pub mod PacketDelays
+pub mod Delays
+pub mod Ranks
+pub mod MomentOrder
+pub mod SameRun
+pub mod Rounded
+pub mod Delivered
+pub mod Matched
+pub mod Stretched
+pub mod Rows

@@ -1,0 +1,13 @@
+use Rattle.convoy_finer.proofs.Matched.{runs_matched}
+use Rattle.convoy_finer.proofs.laws.finer_runs_are_matched.Goals as goal
+
+pub returns : goal.returns
+returns c times scenario finer schedule well real is given =
+    runs_matched (record {
+      sent = c.packets_are_those_sent.ensures;
+      places = c.places_lead_back.ensures;
+      within = c.delays_are_within.ensures;
+      arrivals = c.arrives_before_commit.ensures;
+      delivery = c.delivery_is_least.ensures;
+      issue = c.latency_is_never_negative.ensures;
+    }) times scenario finer schedule well real is given

@@ -1,0 +1,53 @@
+//! Why whole ticks are enough in real time. Each law is the one clause of a function that does nothing;
+//! a caller that needs the law calls the function.
+
+ghost use Rattle.convoy_finer.specs.FinerTicks.{
+  FinerRunsAreMatched,
+  GreatestInFinerTicks,
+  GreatestIsWhole,
+  WholeTicksAreEnough,
+};
+
+use convoy_packets::laws::{delays_are_within, packets_are_those_sent, places_lead_back};
+use convoy_sim::laws::{arrives_before_commit, delivery_is_least, latency_is_never_negative};
+
+/// For each run of a scenario in finer ticks there is one in whole ticks that is at least as late.
+pub fn finer_runs_are_matched()
+    ensures { FinerRunsAreMatched }
+{
+    packets_are_those_sent();
+    places_lead_back();
+    delays_are_within();
+    arrives_before_commit();
+    delivery_is_least();
+    latency_is_never_negative();
+}
+
+/// A latency in ticks that no run of a scenario in real time exceeds, none exceeds in finer ticks either,
+/// whatever part of a tick they are: so a bound that is certified in ticks bounds every finer run. The
+/// ranges in finer ticks may be narrower, so a scenario whose ranges are rounded outwards to greater ticks
+/// gives a bound, too.
+pub fn whole_ticks_are_enough()
+    ensures { WholeTicksAreEnough }
+{
+    finer_runs_are_matched();
+}
+
+/// In real time the greatest latency does not depend on how fine the ticks are in which it is told: with
+/// the same ranges in ticks a number of times as fine it is as many times the number of ticks.
+pub fn greatest_in_finer_ticks()
+    ensures { GreatestInFinerTicks }
+{
+    whole_ticks_are_enough();
+    delivery_is_least();
+    latency_is_never_negative();
+}
+
+/// In real time the greatest latency is a whole number of ticks, even if it is looked for in finer ones.
+pub fn greatest_is_whole()
+    ensures { GreatestIsWhole }
+{
+    finer_runs_are_matched();
+    delivery_is_least();
+    latency_is_never_negative();
+}

@@ -1,0 +1,3 @@
+pub mod InnerBoxes
+pub mod NarrowTables
+pub mod NarrowReaches

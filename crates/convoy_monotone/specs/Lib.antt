@@ -1,0 +1,5 @@
+pub use Rattle.convoy_intervals.specs.Boxes
+pub use Rattle.convoy_intervals.specs.Bounds
+pub use Rattle.convoy_stamps.specs.StampBounds
+pub mod Narrower
+pub mod Laws

@@ -1,0 +1,45 @@
+//! The laws of boxes inside other boxes. Each is the one clause of a function that does nothing; a
+//! caller that needs the law calls the function.
+
+ghost use Rattle.convoy_monotone.specs.Laws.{InnerTablesAreNarrower};
+ghost use Rattle.convoy_monotone.specs.Laws.{PlainBoundFalls, PlainBoundFallsOverTables};
+ghost use Rattle.convoy_monotone.specs.Laws.{StampBoundFalls, StampBoundFallsOverTables};
+
+use convoy_intervals::laws::members_are_enclosed;
+use convoy_stamps::laws::{reach_is_closed, reach_is_least};
+
+/// The tables of a box inside another one are narrower than those of the other one.
+pub fn inner_tables_are_narrower()
+    ensures { InnerTablesAreNarrower }
+{
+    members_are_enclosed();
+}
+
+/// Over narrower tables the plain bound is no greater.
+pub fn plain_bound_falls_over_tables()
+    ensures { PlainBoundFallsOverTables }
+{}
+
+/// A box inside another one has no greater plain bound.
+pub fn plain_bound_falls()
+    ensures { PlainBoundFalls }
+{
+    inner_tables_are_narrower();
+    plain_bound_falls_over_tables();
+}
+
+/// Over narrower tables the stamp bound is no greater.
+pub fn stamp_bound_falls_over_tables()
+    ensures { StampBoundFallsOverTables }
+{
+    reach_is_closed();
+    reach_is_least();
+}
+
+/// A box inside another one has no greater stamp bound.
+pub fn stamp_bound_falls()
+    ensures { StampBoundFalls }
+{
+    inner_tables_are_narrower();
+    stamp_bound_falls_over_tables();
+}
