@@ -9,7 +9,7 @@ use Rattle.convoy_scenario.specs.Scenario.{Scenario, message_at}
 use Rattle.convoy_packets.specs.declared.packet.Packet.{Packet}
 use Rattle.convoy_packets.specs.declared.packet.Packet.TheVariants.{Multicast, Propose}
 use Rattle.convoy_packets.specs.Packets.{packets_of, place_of}
-use Rattle.convoy_packets.specs.Assignment.{delay_of}
+use Rattle.convoy_packets.specs.Assignment.{delay_of, in_fixed_order}
 use Rattle.convoy_packets.specs.Laws.{PlacesLeadBack}
 use Rattle.convoy_sim.specs.Times.{greatest, arrive, propose_arrive, settle}
 use Rattle.convoy_intervals.specs.Spans.{moves_arrival, moves_settling, arrival_span, settling_span}
@@ -56,7 +56,7 @@ settling_reads_proposal (Propose n i k) m g h still e =
 module _ (plan : Scenario) (ranges : List (ℕ × ℕ)) (i : ℕ) (range : ℕ × ℕ) (packet : Packet) (back : PlacesLeadBack) (stands : slice_get (packets_of plan) i ≡ Some packet) where
   module _ (end : ℕ × ℕ → ℕ) where
     -- another packet keeps its delay
-    delay_kept : (other : Packet) → Some other ≢ Some packet → delay_of plan (map end (set ranges i range)) other ≡ delay_of plan (map end ranges) other
+    delay_kept : (other : Packet) → Some other ≢ Some packet → delay_of plan (in_fixed_order (map end (set ranges i range))) other ≡ delay_of plan (in_fixed_order (map end ranges)) other
     unfolding delay_of
     delay_kept other differs = at_place (place_of other (packets_of plan)) refl where
       at_place : (place : Option ℕ) → place_of other (packets_of plan) ≡ place → option_map_or (λ j. get_or (map end (set ranges i range)) j 0) place 0 ≡ option_map_or (λ j. get_or (map end ranges) j 0) place 0
@@ -65,18 +65,18 @@ module _ (plan : Scenario) (ranges : List (ℕ × ℕ)) (i : ℕ) (range : ℕ �
           let elsewhere : j ≢ i = λ e. differs (sym (back plan j other found) ∙ ap (λ n. slice_get (packets_of plan) n) e ∙ stands) in
           ap (λ ds. get_or ds j 0) (map-set end ranges i range) ∙ get_or-set_other (map end ranges) i j (end range) 0 elsewhere
 
-    arrive_kept : (m g : ℕ) → Some (Multicast m g) ≢ Some packet → arrive plan (map end (set ranges i range)) m g ≡ arrive plan (map end ranges) m g
+    arrive_kept : (m g : ℕ) → Some (Multicast m g) ≢ Some packet → arrive plan (in_fixed_order (map end (set ranges i range))) m g ≡ arrive plan (in_fixed_order (map end ranges)) m g
     unfolding arrive
     arrive_kept m g differs = ap (λ d. (message_at plan m).at + d) (delay_kept (Multicast m g) differs)
 
-    propose_kept : (m g h : ℕ) → IsFalse (moves_settling packet m g) → propose_arrive plan (map end (set ranges i range)) m g h ≡ propose_arrive plan (map end ranges) m g h
+    propose_kept : (m g h : ℕ) → IsFalse (moves_settling packet m g) → propose_arrive plan (in_fixed_order (map end (set ranges i range))) m g h ≡ propose_arrive plan (in_fixed_order (map end ranges)) m g h
     propose_kept m g h still =
         ap₂ (λ a d. a + d) (arrive_kept m h (settling_reads_arrival packet m g h still)) (delay_kept (Propose m h g) (settling_reads_proposal packet m g h still))
 
-    settle_kept : (m g : ℕ) → IsFalse (moves_settling packet m g) → settle plan (map end (set ranges i range)) m g ≡ settle plan (map end ranges) m g
+    settle_kept : (m g : ℕ) → IsFalse (moves_settling packet m g) → settle plan (in_fixed_order (map end (set ranges i range))) m g ≡ settle plan (in_fixed_order (map end ranges)) m g
     unfolding settle
     settle_kept m g still =
-        ap greatest (map-same (propose_arrive plan (map end (set ranges i range)) m g) (propose_arrive plan (map end ranges) m g) (λ h. propose_kept m g h still) (message_at plan m).destinations)
+        ap greatest (map-same (propose_arrive plan (in_fixed_order (map end (set ranges i range))) m g) (propose_arrive plan (in_fixed_order (map end ranges)) m g) (λ h. propose_kept m g h still) (message_at plan m).destinations)
 
   -- so the spans keep all else
   pub carried : (m g : ℕ) → (IsFalse (moves_arrival packet m g) → arrival_span plan (set ranges i range) m g ≡ arrival_span plan ranges m g) × (IsFalse (moves_settling packet m g) → settling_span plan (set ranges i range) m g ≡ settling_span plan ranges m g)

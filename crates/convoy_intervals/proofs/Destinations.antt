@@ -9,7 +9,8 @@ use Rattle.std.proofs.lemmas.List.Elements.{All-head, All-tail}
 use Rattle.convoy_scenario.specs.Scenario.{Scenario, no_message, message_at, is_addressed, GoesTo}
 use Rattle.convoy_scenario.specs.WellFormed.{IsScenario}
 use Rattle.convoy_packets.specs.Assignment.{ranges_of}
-use Rattle.convoy_packets.specs.Table.{least_of}
+use Rattle.convoy_packets.specs.Table.{least_of, least_delays, greatest_delays}
+use Rattle.convoy_packets.proofs.Orders.{fixed_is_order}
 use Rattle.convoy_sim.specs.Laws.{ArrivesWithinOneDelay}
 use Rattle.convoy_intervals.specs.Boxes.{IsBox, greatest_of}
 use Rattle.convoy_intervals.specs.Spans.{arrival_span}
@@ -45,6 +46,12 @@ module _ (plan : Scenario) (well : IsScenario plan) where
   pub arrival_fits : ArrivesWithinOneDelay → (ranges : List (ℕ × ℕ)) → IsBox plan ranges → (m g : ℕ) → m < length plan.multicasts → ((arrival_span plan ranges m g).0 ≤ 1065535) × ((arrival_span plan ranges m g).1 ≤ 1065535)
   arrival_fits soon ranges box m g known =
       let all = AreRanges-box (ranges_of plan) ranges box in
-      let low = soon plan (least_of ranges) well (AreWithin-outer (ranges_of plan) ranges (least_of ranges) box (IsIn-least ranges all)) m g in
-      let high = soon plan (greatest_of ranges) well (AreWithin-outer (ranges_of plan) ranges (greatest_of ranges) box (IsIn-greatest ranges all)) m g in
+      let low = soon plan (least_of ranges) well (record {
+        delays = AreWithin-outer (ranges_of plan) ranges (least_delays ranges) box (IsIn-least ranges all);
+        order = fixed_is_order plan;
+      }) m g in
+      let high = soon plan (greatest_of ranges) well (record {
+        delays = AreWithin-outer (ranges_of plan) ranges (greatest_delays ranges) box (IsIn-greatest ranges all);
+        order = fixed_is_order plan;
+      }) m g in
       (omega (arith, low, issued_by m known, well.delay_high), omega (arith, high, issued_by m known, well.delay_high))

@@ -7,13 +7,13 @@ use Rattle.convoy_scenario.specs.Scenario.{Scenario, message_at}
 use Rattle.convoy_packets.specs.declared.packet.Packet.{Packet}
 use Rattle.convoy_packets.specs.declared.packet.Packet.TheVariants.{Multicast, Propose}
 use Rattle.convoy_packets.specs.Packets.{packets_of, place_of}
-use Rattle.convoy_packets.specs.Assignment.{delay_of}
-use Rattle.convoy_packets.specs.Table.{least_of}
+use Rattle.convoy_packets.specs.Assignment.{AreWithin, Schedule, delay_of}
+use Rattle.convoy_packets.specs.Table.{least_of, least_delays, greatest_delays}
 use Rattle.convoy_sim.specs.Times.{arrive, settle, propose_arrive}
 use Rattle.convoy_intervals.specs.Boxes.{IsIn, greatest_of}
 use Rattle.convoy_intervals.specs.Bounds.{Encloses, tables_of}
 
--- each delay of a schedule is at most that of another
+-- each of some delays is at most that of others
 pub record AreAtMost (low high : List ℕ) : Type 0 where
   pub at : (i : ℕ) → get_or low i 0 ≤ get_or high i 0
 
@@ -26,13 +26,13 @@ at_most_more x y xs ys here rest = record { at = places } where
   places zero = here
   places (suc i) = rest.at i
 
-pub AreAtMost-least : (ranges : List (ℕ × ℕ)) (delays : List ℕ) → IsIn ranges delays → AreAtMost (least_of ranges) delays
+pub AreAtMost-least : (ranges : List (ℕ × ℕ)) (delays : List ℕ) → AreWithin ranges delays → AreAtMost (least_delays ranges) delays
 AreAtMost-least [] [] member = at_most_none
 AreAtMost-least [] (d ∷ ds) member = absurd member
 AreAtMost-least (r ∷ rs) [] member = absurd member
 AreAtMost-least (r ∷ rs) (d ∷ ds) member = at_most_more _ _ _ _ member.0.0 (AreAtMost-least rs ds member.1)
 
-pub AreAtMost-greatest : (ranges : List (ℕ × ℕ)) (delays : List ℕ) → IsIn ranges delays → AreAtMost delays (greatest_of ranges)
+pub AreAtMost-greatest : (ranges : List (ℕ × ℕ)) (delays : List ℕ) → AreWithin ranges delays → AreAtMost delays (greatest_delays ranges)
 AreAtMost-greatest [] [] member = at_most_none
 AreAtMost-greatest [] (d ∷ ds) member = absurd member
 AreAtMost-greatest (r ∷ rs) [] member = absurd member
@@ -45,11 +45,11 @@ fold_max_le f g each (x ∷ xs) a b le =
     let here : f x ≤ g x = each x in
     fold_max_le f g each xs (max a (f x)) (max b (g x)) (omega arith)
 
-module _ (plan : Scenario) (low high : List ℕ) (below : AreAtMost low high) where
+module _ (plan : Scenario) (low high : Schedule) (below : AreAtMost low.delays high.delays) where
   delay_le : (packet : Packet) → delay_of plan low packet ≤ delay_of plan high packet
   unfolding delay_of
   delay_le packet = at_place (place_of packet (packets_of plan)) where
-    at_place : (place : Option ℕ) → option_map_or (λ i. get_or low i 0) place 0 ≤ option_map_or (λ i. get_or high i 0) place 0
+    at_place : (place : Option ℕ) → option_map_or (λ i. get_or low.delays i 0) place 0 ≤ option_map_or (λ i. get_or high.delays i 0) place 0
     at_place (Some i) = below.at i
     at_place None = omega arith
 
@@ -65,13 +65,13 @@ module _ (plan : Scenario) (low high : List ℕ) (below : AreAtMost low high) wh
   settle_le m g =
       fold_max_le (propose_arrive plan low m g) (propose_arrive plan high m g) (propose_le m g) (message_at plan m).destinations 0 0 (omega arith)
 
-pub Encloses-members : (plan : Scenario) (ranges : List (ℕ × ℕ)) (delays : List ℕ) → IsIn ranges delays → Encloses plan delays (tables_of plan ranges)
-Encloses-members plan ranges delays member =
-    let low = AreAtMost-least ranges delays member in
-    let high = AreAtMost-greatest ranges delays member in
+pub Encloses-members : (plan : Scenario) (ranges : List (ℕ × ℕ)) (schedule : Schedule) → IsIn ranges schedule → Encloses plan schedule (tables_of plan ranges)
+Encloses-members plan ranges schedule member =
+    let low = AreAtMost-least ranges schedule.delays member in
+    let high = AreAtMost-greatest ranges schedule.delays member in
     record {
-      arrival_low = λ m g goes. arrive_le plan _ _ low m g;
-      arrival_high = λ m g goes. arrive_le plan _ _ high m g;
-      settling_low = λ m g goes. settle_le plan _ _ low m g;
-      settling_high = λ m g goes. settle_le plan _ _ high m g;
+      arrival_low = λ m g goes. arrive_le plan (least_of ranges) schedule low m g;
+      arrival_high = λ m g goes. arrive_le plan schedule (greatest_of ranges) high m g;
+      settling_low = λ m g goes. settle_le plan (least_of ranges) schedule low m g;
+      settling_high = λ m g goes. settle_le plan schedule (greatest_of ranges) high m g;
     }

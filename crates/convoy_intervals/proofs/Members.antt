@@ -7,12 +7,13 @@ use Rattle.convoy_scenario.specs.Scenario.{Scenario}
 use Rattle.convoy_scenario.specs.WellFormed.{IsScenario}
 use Rattle.convoy_packets.specs.Packets.{packets_of}
 use Rattle.convoy_packets.proofs.Ranges.{range_within}
-use Rattle.convoy_packets.specs.Assignment.{range_of, ranges_of, AreWithin}
-use Rattle.convoy_packets.specs.Table.{IsTable, PacketTable, table_of, least_of}
+use Rattle.convoy_packets.specs.Assignment.{Schedule, range_of, ranges_of, AreWithin, IsAssignment}
+use Rattle.convoy_packets.proofs.Orders.{fixed_is_order}
+use Rattle.convoy_packets.specs.Table.{IsTable, PacketTable, table_of, least_of, greatest_delays}
 use Rattle.convoy_intervals.specs.Boxes.{AreRanges, IsBox, IsInside, IsIn, IsPoint, root_of, greatest_of}
 
 -- the delays that lie in the ranges of a box lie in the ranges around it
-pub AreWithin-outer : (outer ranges : List (ℕ × ℕ)) (delays : List ℕ) → AllZip IsInside outer ranges → IsIn ranges delays → AreWithin outer delays
+pub AreWithin-outer : (outer ranges : List (ℕ × ℕ)) (delays : List ℕ) → AllZip IsInside outer ranges → AreWithin ranges delays → AreWithin outer delays
 AreWithin-outer [] [] [] box member = tt
 AreWithin-outer [] [] (d ∷ ds) box member = absurd member
 AreWithin-outer [] (r ∷ rs) ds box member = absurd box
@@ -46,8 +47,8 @@ IsIn-greatest (r ∷ rs) all =
     let here : r.0 ≤ r.1 = All-head P r rs all in
     ((here, omega arith), IsIn-greatest rs (All-tail P r rs all))
 
-pub IsIn-from_greatest : (ranges : List (ℕ × ℕ)) (delays : List ℕ) → AreRanges ranges → delays ≡ greatest_of ranges → IsIn ranges delays
-IsIn-from_greatest ranges delays all is = rw is (IsIn-greatest ranges all)
+pub IsIn-from_greatest : (ranges : List (ℕ × ℕ)) (schedule : Schedule) → AreRanges ranges → schedule ≡ greatest_of ranges → IsIn ranges schedule
+IsIn-from_greatest ranges schedule all is = rw is (IsIn-greatest ranges all)
 
 pub IsIn-least : (ranges : List (ℕ × ℕ)) → AreRanges ranges → IsIn ranges (least_of ranges)
 IsIn-least [] all = tt
@@ -56,8 +57,15 @@ IsIn-least (r ∷ rs) all =
     let here : r.0 ≤ r.1 = All-head P r rs all in
     ((omega arith, here), IsIn-least rs (All-tail P r rs all))
 
--- two members of a point are one
-pub point_members : (ranges : List (ℕ × ℕ)) (a b : List ℕ) → IsPoint ranges → IsIn ranges a → IsIn ranges b → a ≡ b
+-- so the schedule of the greatest delays of a box is an assignment
+pub greatest_assigned : (plan : Scenario) (ranges : List (ℕ × ℕ)) → IsBox plan ranges → IsAssignment plan (greatest_of ranges)
+greatest_assigned plan ranges box = record {
+  delays = AreWithin-outer (ranges_of plan) ranges (greatest_delays ranges) box (IsIn-greatest ranges (AreRanges-box (ranges_of plan) ranges box));
+  order = fixed_is_order plan;
+}
+
+-- the delays of two members of a point are the same
+pub point_members : (ranges : List (ℕ × ℕ)) (a b : List ℕ) → IsPoint ranges → AreWithin ranges a → AreWithin ranges b → a ≡ b
 point_members [] [] [] point left right = refl
 point_members [] [] (y ∷ b) point left right = absurd right
 point_members [] (x ∷ a) b point left right = absurd left

@@ -9,7 +9,7 @@ use Rattle.convoy_scenario.specs.Scenario.{Scenario, message_at}
 use Rattle.convoy_packets.specs.declared.packet.Packet.{Packet}
 use Rattle.convoy_packets.specs.declared.packet.Packet.TheVariants.{Multicast, Propose}
 use Rattle.convoy_packets.specs.Packets.{packets_of, place_of, is_packet}
-use Rattle.convoy_packets.specs.Assignment.{range_of, ranges_of, delay_of}
+use Rattle.convoy_packets.specs.Assignment.{delay_of, in_fixed_order, range_of, ranges_of}
 use Rattle.convoy_packets.specs.Table.{PacketTable, table_of}
 use Rattle.convoy_sim.specs.Times.{arrive, propose_arrive}
 use Rattle.convoy_intervals.specs.Boxes.{IsBox, IsInside, range_at}
@@ -35,7 +35,7 @@ get_or-map_end end none (r ∷ rs) (suc i) = get_or-map_end end none rs i
 
 module _ (plan : Scenario) (table : PacketTable) (ranges : List (ℕ × ℕ)) (of_scenario : table ≡ table_of plan) (end : ℕ × ℕ → ℕ) (none : end (0, 0) ≡ 0) where
   -- the delay of a packet with that end of each range, from the packet's range
-  pub delay_at_end : (packet : Packet) → delay_of plan (map end ranges) packet ≡ end (option_map_or (range_at ranges) (place_of packet table.packets) (0, 0))
+  pub delay_at_end : (packet : Packet) → delay_of plan (in_fixed_order (map end ranges)) packet ≡ end (option_map_or (range_at ranges) (place_of packet table.packets) (0, 0))
   unfolding delay_of
   delay_at_end packet =
       at_place (place_of packet (packets_of plan)) ∙ ap (λ (t : PacketTable). end (option_map_or (range_at ranges) (place_of packet t.packets) (0, 0))) (sym of_scenario) where
@@ -44,10 +44,10 @@ module _ (plan : Scenario) (table : PacketTable) (ranges : List (ℕ × ℕ)) (o
         at_place None = sym none
 
   -- arrival with that end of each range, from the range of the message's packet
-  pub arrive_at_end : (m g : ℕ) → arrive plan (map end ranges) m g ≡ (message_at plan m).at + end (option_map_or (range_at ranges) (place_of (Multicast m g) table.packets) (0, 0))
+  pub arrive_at_end : (m g : ℕ) → arrive plan (in_fixed_order (map end ranges)) m g ≡ (message_at plan m).at + end (option_map_or (range_at ranges) (place_of (Multicast m g) table.packets) (0, 0))
   unfolding arrive
   arrive_at_end m g = ap (λ d. (message_at plan m).at + d) (delay_at_end (Multicast m g))
 
   -- and the arrival of a proposal, from the range of the proposal's packet
-  pub propose_at_end : (m g h : ℕ) → propose_arrive plan (map end ranges) m g h ≡ arrive plan (map end ranges) m h + end (option_map_or (range_at ranges) (place_of (Propose m h g) table.packets) (0, 0))
-  propose_at_end m g h = ap (λ d. arrive plan (map end ranges) m h + d) (delay_at_end (Propose m h g))
+  pub propose_at_end : (m g h : ℕ) → propose_arrive plan (in_fixed_order (map end ranges)) m g h ≡ arrive plan (in_fixed_order (map end ranges)) m h + end (option_map_or (range_at ranges) (place_of (Propose m h g) table.packets) (0, 0))
+  propose_at_end m g h = ap (λ d. arrive plan (in_fixed_order (map end ranges)) m h + d) (delay_at_end (Propose m h g))

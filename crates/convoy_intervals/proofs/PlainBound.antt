@@ -6,6 +6,7 @@ use Rattle.std.proofs.lemmas.Bool.{false≢true}
 use Rattle.std.proofs.lemmas.Bool.Decides.{nat_tests}
 use Rattle.std.proofs.lemmas.List.Elements.{All-head, All-tail, All-weaker, filter_passes}
 use Rattle.convoy_scenario.specs.Scenario.{Scenario, message_at, message_numbers, is_addressed, GoesTo}
+use Rattle.convoy_packets.specs.Assignment.{Schedule}
 use Rattle.convoy_sim.specs.Times.{greatest, arrive, settle}
 use Rattle.convoy_sim.specs.Delivery.{addressed_to, deliver, latency_at, latency_of}
 use Rattle.convoy_intervals.specs.Bounds.{Tables, Encloses, rivals, plain_bound_over}
@@ -27,22 +28,22 @@ fold_max_filter_le p q f g (x ∷ xs) each a b le =
       by_test false false same more rest = rest a b le
 
 -- the messages that arrive at the group no later than message m is committed there
-abbrev pub early : Scenario → List ℕ → ℕ → ℕ → List ℕ
-early plan delays m g = filter (λ n. nat_le (arrive plan delays n g) (settle plan delays m g)) (addressed_to plan g)
+abbrev pub early : Scenario → Schedule → ℕ → ℕ → List ℕ
+early plan schedule m g = filter (λ n. nat_le (arrive plan schedule n g) (settle plan schedule m g)) (addressed_to plan g)
 
 -- where nothing differs
 same_raised : (first other last end settled again : ℕ) → first ≡ other → last ≡ end → settled ≡ again → (nat_le first last ≡ true → nat_le other end ≡ true) × (settled ≤ again)
 same_raised first other last end settled again a b c = (λ early_test. grind (arith, nat_tests), omega arith)
 
-module _ (plan : Scenario) (delays : List ℕ) (tables : Tables) (enclosed : Encloses plan delays tables) (addressed : GoesTo plan plan.target_message plan.target_group) where
+module _ (plan : Scenario) (schedule : Schedule) (tables : Tables) (enclosed : Encloses plan schedule tables) (addressed : GoesTo plan plan.target_message plan.target_group) where
   abbrev arrives_early : ℕ → Bool
-  arrives_early n = nat_le (arrive plan delays n plan.target_group) (settle plan delays plan.target_message plan.target_group)
+  arrives_early n = nat_le (arrive plan schedule n plan.target_group) (settle plan schedule plan.target_message plan.target_group)
 
   abbrev is_rival : ℕ → Bool
   is_rival n = nat_le (tables.least_arrival n plan.target_group) (tables.greatest_settling plan.target_message plan.target_group)
 
   abbrev settled : ℕ → ℕ
-  settled n = settle plan delays n plan.target_group
+  settled n = settle plan schedule n plan.target_group
 
   abbrev settled_last : ℕ → ℕ
   settled_last n = tables.greatest_settling n plan.target_group
@@ -50,21 +51,21 @@ module _ (plan : Scenario) (delays : List ℕ) (tables : Tables) (enclosed : Enc
   raised : (n : ℕ) → is_addressed (message_at plan n) plan.target_group ≡ true → IsRaised arrives_early is_rival settled settled_last n
   raised n goes =
       let g = plan.target_group in
-      let last : settle plan delays plan.target_message g ≤ tables.greatest_settling plan.target_message g = enclosed.settling_high plan.target_message g addressed in
-      let first : tables.least_arrival n g ≤ arrive plan delays n g = enclosed.arrival_low n g goes in
+      let last : settle plan schedule plan.target_message g ≤ tables.greatest_settling plan.target_message g = enclosed.settling_high plan.target_message g addressed in
+      let first : tables.least_arrival n g ≤ arrive plan schedule n g = enclosed.arrival_low n g goes in
       (λ early_test. grind (arith, nat_tests), enclosed.settling_high n g goes)
 
-  pub early_settles_le : greatest (map settled (plan.target_message ∷ early plan delays plan.target_message plan.target_group)) ≤ greatest (map settled_last (plan.target_message ∷ rivals plan tables))
+  pub early_settles_le : greatest (map settled (plan.target_message ∷ early plan schedule plan.target_message plan.target_group)) ≤ greatest (map settled_last (plan.target_message ∷ rivals plan tables))
   early_settles_le =
       let m = plan.target_message in
       let g = plan.target_group in
-      let here : settle plan delays m g ≤ tables.greatest_settling m g = enclosed.settling_high m g addressed in
+      let here : settle plan schedule m g ≤ tables.greatest_settling m g = enclosed.settling_high m g addressed in
       let goes = λ (n : ℕ). is_addressed (message_at plan n) g in
       let each = All-weaker (λ n. goes n ≡ true) (IsRaised arrives_early is_rival settled settled_last) raised (addressed_to plan g) (filter_passes goes (message_numbers plan)) in
       fold_max_filter_le arrives_early is_rival settled settled_last (addressed_to plan g) each (max 0 (settled m)) (max 0 (settled_last m)) (omega arith)
 
   -- a delivery that waits for no message but these keeps the bound
-  pub latency_le : deliver plan delays plan.target_message plan.target_group ≤ greatest (map settled (plan.target_message ∷ early plan delays plan.target_message plan.target_group)) → latency_of plan delays ≤ plain_bound_over plan tables
+  pub latency_le : deliver plan schedule plan.target_message plan.target_group ≤ greatest (map settled (plan.target_message ∷ early plan schedule plan.target_message plan.target_group)) → latency_of plan schedule ≤ plain_bound_over plan tables
   unfolding latency_of latency_at
   latency_le delivered =
       let most = early_settles_le in

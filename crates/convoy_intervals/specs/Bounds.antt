@@ -16,11 +16,11 @@ pub record Tables : Type 0 where
   pub greatest_settling : ℕ → ℕ → ℕ
 
 -- the tables enclose arrival and settling under a schedule, of each message at each of its destinations
-pub record Encloses (scenario : Scenario) (delays : Schedule) (tables : Tables) : Type 0 where
-  pub arrival_low : (m g : ℕ) → GoesTo scenario m g → tables.least_arrival m g ≤ arrive scenario delays m g
-  pub arrival_high : (m g : ℕ) → GoesTo scenario m g → arrive scenario delays m g ≤ tables.greatest_arrival m g
-  pub settling_low : (m g : ℕ) → GoesTo scenario m g → tables.least_settling m g ≤ settle scenario delays m g
-  pub settling_high : (m g : ℕ) → GoesTo scenario m g → settle scenario delays m g ≤ tables.greatest_settling m g
+pub record Encloses (scenario : Scenario) (schedule : Schedule) (tables : Tables) : Type 0 where
+  pub arrival_low : (m g : ℕ) → GoesTo scenario m g → tables.least_arrival m g ≤ arrive scenario schedule m g
+  pub arrival_high : (m g : ℕ) → GoesTo scenario m g → arrive scenario schedule m g ≤ tables.greatest_arrival m g
+  pub settling_low : (m g : ℕ) → GoesTo scenario m g → tables.least_settling m g ≤ settle scenario schedule m g
+  pub settling_high : (m g : ℕ) → GoesTo scenario m g → settle scenario schedule m g ≤ tables.greatest_settling m g
 
 -- the tables of a box: arrival and settling with all its least, and with all its greatest, delays
 abbrev pub tables_of : Scenario → Box → Tables

@@ -21,9 +21,9 @@ AreRanges ranges = All (λ range. range.0 ≤ range.1) ranges
 abbrev pub IsBox : Scenario → Box → Type 0
 IsBox scenario ranges = AllZip IsInside (ranges_of scenario) ranges
 
--- the schedule is a member of the box: each of its delays lies in the packet's range there
+-- the schedule is a member of the box: each of its delays lies in the packet's range there, whatever the order of ties
 abbrev pub IsIn : Box → Schedule → Type 0
-IsIn ranges delays = AreWithin ranges delays
+IsIn ranges schedule = AreWithin ranges schedule.delays
 
 -- the root box leaves each packet its whole range: every assignment is a member
 abbrev pub root_of : Scenario → Box

@@ -6,6 +6,7 @@ use Rattle.convoy_scenario.specs.WellFormed.{IsScenario}
 use Rattle.convoy_packets.specs.Assignment.{Schedule, IsAssignment}
 use Rattle.convoy_packets.specs.declared.packet.Packet.{Packet}
 use Rattle.convoy_packets.specs.Packets.{packets_of}
+use Rattle.convoy_packets.specs.Order.{IsOrder}
 use Rattle.convoy_packets.specs.Table.{least_of}
 use Rattle.convoy_sim.specs.Delivery.{latency_of}
 use Rattle.convoy_intervals.specs.Boxes.{Box, CanSplit, IsBox, IsIn, IsPoint, root_of, can_split, lower_half, upper_half, is_point, greatest_of}
@@ -18,12 +19,18 @@ RootIsBox = (scenario : Scenario) → IsScenario scenario → IsBox scenario (ro
 
 -- the members of the root box are the assignments
 abbrev pub RootHoldsAll : Type 0
-RootHoldsAll = (scenario : Scenario) (delays : Schedule) → IsAssignment scenario delays ↔ IsIn (root_of scenario) delays
+RootHoldsAll =
+    (scenario : Scenario) (schedule : Schedule)
+    → IsAssignment scenario schedule ↔ IsIn (root_of scenario) schedule × IsOrder scenario schedule.order
 
--- a member of a box is an assignment
+-- a member of a box is an assignment, with an order of the scenario's ties
 abbrev pub MembersAreAssignments : Type 0
 MembersAreAssignments =
-    (scenario : Scenario) (ranges : Box) (delays : Schedule) → IsBox scenario ranges → IsIn ranges delays → IsAssignment scenario delays
+    (scenario : Scenario) (ranges : Box) (schedule : Schedule)
+    → IsBox scenario ranges
+    → IsIn ranges schedule
+    → IsOrder scenario schedule.order
+    → IsAssignment scenario schedule
 
 -- the halves of a box are boxes
 abbrev pub HalvesAreBoxes : Type 0
@@ -36,10 +43,10 @@ HalvesAreBoxes =
 -- the members of the lower half are those of the box whose delay of the packet is at most `at`, and the members of the upper half are those whose delay of it is more: so the halves have the members of the box, and each of them once
 abbrev pub HalvesPartition : Type 0
 HalvesPartition =
-    (ranges : Box) (packet at : ℕ) (delays : Schedule)
+    (ranges : Box) (packet at : ℕ) (schedule : Schedule)
     → CanSplit ranges packet at
-    → (IsIn (lower_half ranges packet at) delays ↔ IsIn ranges delays × (slice_index_or delays packet 0 ≤ at))
-    × (IsIn (upper_half ranges packet at) delays ↔ IsIn ranges delays × (at < slice_index_or delays packet 0))
+    → (IsIn (lower_half ranges packet at) schedule ↔ IsIn ranges schedule × (slice_index_or schedule.delays packet 0 ≤ at))
+    × (IsIn (upper_half ranges packet at) schedule ↔ IsIn ranges schedule × (at < slice_index_or schedule.delays packet 0))
 
 -- the tests of a box answer yes just where the statements of their names hold
 abbrev pub TestsDecide : Type 0
@@ -61,19 +68,19 @@ GreatestIsMember =
 abbrev pub LeastIsMember : Type 0
 LeastIsMember = (scenario : Scenario) (ranges : Box) → IsBox scenario ranges → IsIn ranges (least_of ranges)
 
--- two members of a point are one schedule
+-- two members of a point have the same delays
 abbrev pub PointHasOneMember : Type 0
 PointHasOneMember =
     (ranges : Box) (first second : Schedule)
     → IsPoint ranges
     → IsIn ranges first
     → IsIn ranges second
-    → first ≡ second
+    → first.delays ≡ second.delays
 
 -- the tables of a box enclose arrival and settling under each of its members
 abbrev pub MembersAreEnclosed : Type 0
 MembersAreEnclosed =
-    (scenario : Scenario) (ranges : Box) (delays : Schedule) → IsIn ranges delays → Encloses scenario delays (tables_of scenario ranges)
+    (scenario : Scenario) (ranges : Box) (schedule : Schedule) → IsIn ranges schedule → Encloses scenario schedule (tables_of scenario ranges)
 
 -- where a packet gets another range, the spans keep what its delay is no part of
 abbrev pub SpansAreCarried : Type 0
@@ -86,15 +93,15 @@ SpansAreCarried =
 -- the latency under a schedule is at most the plain bound over any tables that enclose arrival and settling under it
 abbrev pub PlainBoundOverTables : Type 0
 PlainBoundOverTables =
-    (scenario : Scenario) (delays : Schedule) (tables : Tables)
+    (scenario : Scenario) (schedule : Schedule) (tables : Tables)
     → IsScenario scenario
-    → Encloses scenario delays tables
-    → latency_of scenario delays ≤ plain_bound_over scenario tables
+    → Encloses scenario schedule tables
+    → latency_of scenario schedule ≤ plain_bound_over scenario tables
 
 -- the latency under a member of a box is at most the plain bound of the box
 abbrev pub PlainBoundHolds : Type 0
 PlainBoundHolds =
-    (scenario : Scenario) (ranges : Box) (delays : Schedule)
+    (scenario : Scenario) (ranges : Box) (schedule : Schedule)
     → IsScenario scenario
-    → IsIn ranges delays
-    → latency_of scenario delays ≤ plain_bound scenario ranges
+    → IsIn ranges schedule
+    → latency_of scenario schedule ≤ plain_bound scenario ranges

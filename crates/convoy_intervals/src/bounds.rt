@@ -1,5 +1,6 @@
 ghost use Rattle.std.specs.Prelude.{◌≡◌, ℕ, ◌≤◌, ◌<◌, ◌&&◌, nat_le, List, length};
 ghost use Rattle.convoy_scenario.specs.Scenario.{message_at, is_addressed};
+ghost use Rattle.convoy_packets.specs.Assignment.{Schedule};
 ghost use Rattle.convoy_packets.specs.Table.{least_of};
 ghost use Rattle.convoy_sim.specs.Times.{arrive};
 ghost use Rattle.convoy_sim.specs.Delivery.{latency_of};
@@ -20,8 +21,8 @@ use convoy_packets::Instance;
 pub fn bound(instance: &Instance, delay_box: &DelayBox) -> u32
     requires inside { IsBox instance.now delay_box.now }
     ensures value { result ≡ plain_bound instance.now delay_box.now }
-    ensures holds { (delays : List ℕ) → IsIn delay_box.now delays
-        → latency_of instance.now delays ≤ result }
+    ensures holds { (schedule : Schedule) → IsIn delay_box.now schedule
+        → latency_of instance.now schedule ≤ result }
 {
     plain_bound_holds();
     let target = instance.target_message();

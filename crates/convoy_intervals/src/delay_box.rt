@@ -3,10 +3,11 @@ ghost use Rattle.convoy_scenario.specs.Scenario.{Scenario};
 ghost use Rattle.convoy_intervals.specs.Boxes.{AreRanges, CanSplit, IsBox, IsIn, IsPoint};
 ghost use Rattle.convoy_intervals.specs.Boxes.{can_split, is_point, range_at, lower_half, upper_half};
 ghost use Rattle.convoy_intervals.specs.Boxes.{greatest_of, root_of};
+ghost use Rattle.convoy_packets.specs.Table.{greatest_delays};
 ghost use Rattle.convoy_sim.specs.Delivery.{latency_of};
 
 use super::greatest_ticks::BoxTicks;
-use convoy_packets::{Delays, Instance};
+use convoy_packets::{Instance, Schedule};
 use convoy_scenario::Scenario;
 use convoy_sim::latency_by;
 use std::alloc::{AllocError, Global};
@@ -102,12 +103,12 @@ impl DelayBox {
 
     /// The member of the box in which each packet takes the greatest time of its range. Fails where
     /// memory runs out, and else never.
-    pub fn greatest(&self, alloc: Global) -> Result<Delays, AllocError>
-        ensures value { IfOk result (λ delays. delays ≡ greatest_of self.now) }
-        ensures member { IfOk result (λ delays. IsIn self.now delays) }
+    pub fn greatest(&self, alloc: Global) -> Result<Schedule, AllocError>
+        ensures value { IfOk result (λ schedule. schedule ≡ greatest_of self.now) }
+        ensures member { IfOk result (λ schedule. IsIn self.now schedule) }
     {
         let delays = greatest_delays(alloc, &self.ranges)?;
-        Ok(Delays::from_vec(delays))
+        Ok(Schedule::of(delays))
     }
 
     /// A copy of the box. Fails where memory runs out, and else never.
@@ -162,7 +163,7 @@ impl DelayBox {
 
 /// The greatest delay of each range.
 fn greatest_delays(alloc: Global, ranges: &[(u16, u16)]) -> Result<Vec<u16>, AllocError>
-    ensures { IfOk result (λ delays. delays.items ≡ greatest_of ranges.now) }
+    ensures { IfOk result (λ delays. delays.items ≡ greatest_delays ranges.now) }
 {
     ranges.iter().map(|range| range.1).collect(alloc)
 }

@@ -1,12 +1,12 @@
 ghost use Rattle.std.specs.Prelude.{◌≡◌};
 
 use super::delay_box::DelayBox;
-use super::laws::{greatest_is_member, members_are_assignments};
 use super::times::{arrivals, settlings};
 use super::tracked::Tracked;
 use convoy_packets::Instance;
 use convoy_scenario::Scenario;
 use convoy_sim::Ticks;
+use convoy_sim::laws::fixed_ranks_are_none;
 use std::marker::Model;
 
 /// When messages arrive and are committed under the schedule of the greatest delays of a box, as the
@@ -23,12 +23,10 @@ impl<'a> Ticks for GreatestTicks<'a> {
 
     ghost scheduled = { λ t. record {
       scenario = t.tracked.now.scenario;
-      delays = greatest_of t.tracked.now.delay_box;
+      schedule = greatest_of t.tracked.now.delay_box;
     } };
 
     fn scenario(&self) -> &Scenario {
-        greatest_is_member();
-        members_are_assignments();
         let _delay_box = self.tracked.delay_box();
         self.instance.scenario()
     }
@@ -41,6 +39,16 @@ impl<'a> Ticks for GreatestTicks<'a> {
     fn settling(&self, message: usize, group: usize) -> u32 {
         let span = self.tracked.span(self.instance, message, group);
         span.settling.1
+    }
+
+    fn arrival_rank(&self, _message: usize, _group: usize) -> u8 {
+        fixed_ranks_are_none();
+        0
+    }
+
+    fn commit_rank(&self, _message: usize, _group: usize) -> u8 {
+        fixed_ranks_are_none();
+        0
     }
 }
 
@@ -60,7 +68,7 @@ impl<'a> Model for BoxTicks<'a> {
 
     ghost view = { λ t. record {
       scenario = t.instance.now;
-      delays = greatest_of t.delay_box.now;
+      schedule = greatest_of t.delay_box.now;
     } };
 
     ghost invariant = { λ t. IsBox t.instance.now t.delay_box.now };
@@ -70,8 +78,6 @@ impl<'a> Ticks for BoxTicks<'a> {
     ghost scheduled = { λ t. t };
 
     fn scenario(&self) -> &Scenario {
-        greatest_is_member();
-        members_are_assignments();
         self.instance.scenario()
     }
 
@@ -81,5 +87,17 @@ impl<'a> Ticks for BoxTicks<'a> {
 
     fn settling(&self, message: usize, group: usize) -> u32 {
         settlings(self.instance, self.delay_box, message, group).1
+    }
+
+    fn arrival_rank(&self, _message: usize, _group: usize) -> u8 {
+        fixed_ranks_are_none();
+        let _delay_box = self.delay_box;
+        0
+    }
+
+    fn commit_rank(&self, _message: usize, _group: usize) -> u8 {
+        fixed_ranks_are_none();
+        let _delay_box = self.delay_box;
+        0
     }
 }

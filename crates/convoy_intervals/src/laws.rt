@@ -15,12 +15,12 @@ pub fn root_is_box()
     ensures { RootIsBox }
 {}
 
-/// The members of the root box are the assignments.
+/// The members of the root box with an order of the scenario's ties are the assignments.
 pub fn root_holds_all()
     ensures { RootHoldsAll }
 {}
 
-/// A member of a box is an assignment.
+/// A member of a box with an order of the scenario's ties is an assignment.
 pub fn members_are_assignments()
     ensures { MembersAreAssignments }
 {}
@@ -57,7 +57,7 @@ pub fn least_is_member()
     ensures { LeastIsMember }
 {}
 
-/// A point has one member at most.
+/// All members of a point have the same delays.
 pub fn point_has_one_member()
     ensures { PointHasOneMember }
 {}

@@ -1,4 +1,5 @@
 ghost use Rattle.std.specs.Prelude.{◌≡◌, ℕ, List, ◌<◌, ◌≤◌, ◌↔◌, length, slice_set, IfOk, IsTrue, MatchResult};
+ghost use Rattle.convoy_packets.specs.Assignment.{Schedule};
 ghost use Rattle.convoy_sim.specs.Delivery.{latency_of};
 ghost use Rattle.convoy_intervals.specs.Boxes.{CanSplit, IsBox, IsIn, IsPoint};
 ghost use Rattle.convoy_intervals.specs.Boxes.{greatest_of, lower_half, range_at, root_of, upper_half};
@@ -98,8 +99,8 @@ impl Tracked {
     /// The plain bound of the box, in ticks: no schedule of the box has a greater latency.
     pub fn bound(&self) -> u32
         ensures value { result ≡ plain_bound self.now.scenario self.now.delay_box }
-        ensures holds { (delays : List ℕ) → IsIn self.now.delay_box delays
-            → latency_of self.now.scenario delays ≤ result }
+        ensures holds { (schedule : Schedule) → IsIn self.now.delay_box schedule
+            → latency_of self.now.scenario schedule ≤ result }
     {
         plain_bound_holds();
         self.bound

@@ -1,5 +1,5 @@
 -- What caps and windows say of the times of messages.
-use Rattle.std.proofs.Common.{◌≡◌, ℕ, ◌+◌, ◌-◌, ◌<◌, ◌≤◌, min, Bool, true, ◌==◌, nat_le, inl, inr, List, [], ◌∷◌, length, map, filter, fold, refl, subst, arith}
+use Rattle.std.proofs.Common.{◌≡◌, ℕ, ◌+◌, ◌-◌, ◌<◌, ◌≤◌, min, true, ◌==◌, nat_le, inl, inr, List, [], ◌∷◌, length, map, filter, fold, refl, subst, arith}
 use Rattle.std.specs.List.{range_with_len}
 use Rattle.std.proofs.lemmas.Bool.{cases_Bool, cases_lt, cond-true, cond-false, eq-eqb, le-leb, or_left, or_right, both_ways}
 use Rattle.convoy_sim.proofs.Membership.{IsIn, in-filter, in_of_map, in_of_range}

@@ -5,7 +5,7 @@ use Rattle.std.proofs.lemmas.Bool.{cases_lt, and_parts, and_from, or_left, lt-lt
 use Rattle.convoy_scenario.specs.Scenario.{Scenario, message_at, GoesTo}
 use Rattle.convoy_scenario.specs.WellFormed.{IsScenario}
 use Rattle.convoy_packets.specs.declared.packet.Packet.TheVariants.{Propose}
-use Rattle.convoy_packets.specs.Assignment.{Schedule, delay_of}
+use Rattle.convoy_packets.specs.Assignment.{Schedule, IsAssignment, delay_of}
 use Rattle.convoy_sim.specs.Times.{greatest, arrive, settle, propose_arrive}
 use Rattle.convoy_sim.specs.Stamps.{is_less, local_stamp, final_stamp}
 use Rattle.convoy_sim.specs.Delivery.{addressed_to, latency_at, latency_of}
@@ -33,69 +33,69 @@ reached f b x xs i l none =
     omega arith
 
 -- a message is committed at a group no earlier than a tick by way of one of its destinations
-settled_by : (scenario : Scenario) (delays : Schedule) (m g tick : ℕ) → GoesTo scenario m g → tick ≤ settle scenario delays m g
-    → ((k : ℕ) → GoesTo scenario m k → tick ≤ arrive scenario delays m k + delay_of scenario delays (Propose m k g) → ⊥) → ⊥
+settled_by : (scenario : Scenario) (schedule : Schedule) (m g tick : ℕ) → GoesTo scenario m g → tick ≤ settle scenario schedule m g
+    → ((k : ℕ) → GoesTo scenario m k → tick ≤ arrive scenario schedule m k + delay_of scenario schedule (Propose m k g) → ⊥) → ⊥
 unfolding settle
-settled_by scenario delays m g tick goes late none =
-    reached (propose_arrive scenario delays m g) tick g (message_at scenario m).destinations (in_of_goes scenario m g goes) late
+settled_by scenario schedule m g tick goes late none =
+    reached (propose_arrive scenario schedule m g) tick g (message_at scenario m).destinations (in_of_goes scenario m g goes) late
     (λ k i way. none k (goes_from_in scenario m k i) way)
 
-module _ (below : LawsBelow) (scenario : Scenario) (delays : Schedule) (well : IsScenario scenario) (n : ℕ) (to : GoesTo scenario n scenario.target_group)
-    (ahead : is_less (local_stamp scenario delays n scenario.target_group) (final_stamp scenario delays scenario.target_message) ≡ true) where
-  arrives_in_time : arrive scenario delays n scenario.target_group ≤ settle scenario delays scenario.target_message scenario.target_group
-  arrives_in_time = below.earlier scenario delays well n scenario.target_message scenario.target_group to well.addressed ahead
+module _ (below : LawsBelow) (scenario : Scenario) (schedule : Schedule) (well : IsScenario scenario) (assigned : IsAssignment scenario schedule) (n : ℕ) (to : GoesTo scenario n scenario.target_group)
+    (ahead : is_less (local_stamp scenario schedule n scenario.target_group) (final_stamp scenario schedule scenario.target_message) ≡ true) where
+  arrives_in_time : arrive scenario schedule n scenario.target_group ≤ settle scenario schedule scenario.target_message scenario.target_group
+  arrives_in_time = below.earlier scenario schedule well n scenario.target_message scenario.target_group to well.addressed ahead
 
-  not_behind : (tables : LeadTables) → EnclosesAll scenario delays tables → is_behind scenario tables n ≡ true → ⊥
+  not_behind : (tables : LeadTables) → EnclosesAll scenario schedule tables → is_behind scenario tables n ≡ true → ⊥
   not_behind tables enclosed out =
       let t : ℕ = scenario.target_message in
       let g : ℕ = scenario.target_group in
       elim (or_cases (nat_lt (tables.times.greatest_settling t g) (tables.times.least_arrival n g)) (is_led scenario tables false n || is_led scenario tables true n) out) [
         | inl e ↦
             let after : tables.times.greatest_settling t g < tables.times.least_arrival n g = ltb-true (tables.times.greatest_settling t g) (tables.times.least_arrival n g) e in
-            let low : tables.times.least_arrival n g ≤ arrive scenario delays n g = enclosed.times.arrival_low n g to in
+            let low : tables.times.least_arrival n g ≤ arrive scenario schedule n g = enclosed.times.arrival_low n g to in
             let come = arrives_in_time in
-            let last : settle scenario delays t g ≤ tables.times.greatest_settling t g = enclosed.times.settling_high t g well.addressed in
+            let last : settle scenario schedule t g ≤ tables.times.greatest_settling t g = enclosed.times.settling_high t g well.addressed in
             omega arith
         | inr o ↦ elim (or_cases (is_led scenario tables false n) (is_led scenario tables true n) o) [
-          | inl e ↦ led_is_behind below scenario delays tables well enclosed false n to ahead e
-          | inr e ↦ led_is_behind below scenario delays tables well enclosed true n to ahead e
+          | inl e ↦ led_is_behind below scenario schedule tables well assigned enclosed false n to ahead e
+          | inr e ↦ led_is_behind below scenario schedule tables well assigned enclosed true n to ahead e
         ]
       ]
 
-  not_behind_by : (windows : Windows) → EnclosesAll scenario delays (tables_by windows) → (m k tick : ℕ) → GoesTo scenario m k
-      → tick ≤ arrive scenario delays m k → is_behind_by scenario windows n m k tick ≡ true → ⊥
+  not_behind_by : (windows : Windows) → EnclosesAll scenario schedule (tables_by windows) → (m k tick : ℕ) → GoesTo scenario m k
+      → tick ≤ arrive scenario schedule m k → is_behind_by scenario windows n m k tick ≡ true → ⊥
   not_behind_by windows enclosed m k tick goes late out =
       let last : ℕ = (tables_by windows).times.greatest_arrival m k in
       let cut : LeadTables = tables_by (with_arrival scenario windows m k tick) in
       elim (or_cases (nat_lt last tick) (is_behind scenario cut n) out) [
         | inl e ↦
             let less : last < tick = ltb-true last tick e in
-            let high : arrive scenario delays m k ≤ last = enclosed.times.arrival_high m k goes in
+            let high : arrive scenario schedule m k ≤ last = enclosed.times.arrival_high m k goes in
             omega arith
-        | inr e ↦ not_behind cut (below.cuts scenario delays windows m k tick well enclosed goes late) e
+        | inr e ↦ not_behind cut (below.cuts scenario schedule windows m k tick well enclosed goes late) e
       ]
 
-  not_behind_after : (windows : Windows) → EnclosesAll scenario delays (tables_by windows) → (k tick : ℕ) → GoesTo scenario n k
-      → tick ≤ arrive scenario delays n k → is_behind_after scenario windows n k tick ≡ true → ⊥
+  not_behind_after : (windows : Windows) → EnclosesAll scenario schedule (tables_by windows) → (k tick : ℕ) → GoesTo scenario n k
+      → tick ≤ arrive scenario schedule n k → is_behind_after scenario windows n k tick ≡ true → ⊥
   not_behind_after windows enclosed k tick goes late out =
       let t : ℕ = scenario.target_message in
       let g : ℕ = scenario.target_group in
       let cut : Windows = with_arrival scenario windows n k tick in
-      let all : EnclosesAll scenario delays (tables_by cut) = below.cuts scenario delays windows n k tick well enclosed goes late in
+      let all : EnclosesAll scenario schedule (tables_by cut) = below.cuts scenario schedule windows n k tick well enclosed goes late in
       let low : ℕ = (tables_by cut).times.least_arrival n g in
       elim (or_cases (is_behind_by scenario windows n n k tick) (list_all (is_behind_target scenario cut n) (message_at scenario t).destinations) out) [
         | inl e ↦ not_behind_by windows enclosed n k tick goes late e
         | inr e ↦
-            let at : low ≤ arrive scenario delays n g = all.times.arrival_low n g to in
+            let at : low ≤ arrive scenario schedule n g = all.times.arrival_low n g to in
             let come = arrives_in_time in
-            settled_by scenario delays t g low well.addressed (omega arith) (λ f goes_f way.
+            settled_by scenario schedule t g low well.addressed (omega arith) (λ f goes_f way.
             let most = all.proposals_high t f g goes_f well.addressed in
             not_behind_by cut all t f (low - (tables_by cut).greatest_proposal t f g) goes_f (omega arith)
             (list_all_in (is_behind_target scenario cut n) f (message_at scenario t).destinations e (in_of_goes scenario t f goes_f)))
       ]
 
-  not_behind_late : (windows : Windows) → EnclosesAll scenario delays (tables_by windows) → (tick : ℕ)
-      → tick ≤ settle scenario delays n scenario.target_group → is_behind_late scenario windows tick n ≡ true → ⊥
+  not_behind_late : (windows : Windows) → EnclosesAll scenario schedule (tables_by windows) → (tick : ℕ)
+      → tick ≤ settle scenario schedule n scenario.target_group → is_behind_late scenario windows tick n ≡ true → ⊥
   not_behind_late windows enclosed tick late out =
       let g : ℕ = scenario.target_group in
       let last : ℕ = (tables_by windows).times.greatest_settling n g in
@@ -103,10 +103,10 @@ module _ (below : LawsBelow) (scenario : Scenario) (delays : Schedule) (well : I
       elim (or_cases (nat_lt last tick) (list_all test (message_at scenario n).destinations) out) [
         | inl e ↦
             let less : last < tick = ltb-true last tick e in
-            let high : settle scenario delays n g ≤ last = enclosed.times.settling_high n g to in
+            let high : settle scenario schedule n g ≤ last = enclosed.times.settling_high n g to in
             omega arith
         | inr e ↦
-            settled_by scenario delays n g tick to late (λ k goes way.
+            settled_by scenario schedule n g tick to late (λ k goes way.
             let most = enclosed.proposals_high n k g goes to in
             not_behind_after windows enclosed k (tick - (tables_by windows).greatest_proposal n k g) goes (omega arith)
             (list_all_in test k (message_at scenario n).destinations e (in_of_goes scenario n k goes)))
@@ -114,7 +114,7 @@ module _ (below : LawsBelow) (scenario : Scenario) (delays : Schedule) (well : I
 
 pub closed_holds : LawsBelow → ClosedHoldsOverWindows
 unfolding latency_of latency_at
-closed_holds below scenario delays windows latency well enclosed closed =
+closed_holds below scenario schedule windows latency well assigned enclosed closed =
     let t : ℕ = scenario.target_message in
     let g : ℕ = scenario.target_group in
     let at : ℕ = (message_at scenario t).at in
@@ -122,28 +122,28 @@ closed_holds below scenario delays windows latency well enclosed closed =
     let times : Tables = (tables_by windows).times in
     let parts = and_parts (nat_lt (times.greatest_settling t g) tick) (list_all (is_behind_late scenario windows tick) (rivals scenario times)) closed in
     let less : times.greatest_settling t g < tick = ltb-true (times.greatest_settling t g) tick parts.0 in
-    let last : settle scenario delays t g ≤ times.greatest_settling t g = enclosed.times.settling_high t g well.addressed in
-    let each : (n : ℕ) → IsIn n (t ∷ ahead_of scenario delays t g) → settle scenario delays n g ≤ at + latency = λ n i. elim i [
-      | inl e ↦ subst (λ k. settle scenario delays k g ≤ at + latency) e (omega arith)
+    let last : settle scenario schedule t g ≤ times.greatest_settling t g = enclosed.times.settling_high t g well.addressed in
+    let each : (n : ℕ) → IsIn n (t ∷ ahead_of scenario schedule t g) → settle scenario schedule n g ≤ at + latency = λ n i. elim i [
+      | inl e ↦ subst (λ k. settle scenario schedule k g ≤ at + latency) e (omega arith)
       | inr j ↦
-          let r = in_of_ahead scenario delays n t g j in
-          let low : times.least_arrival n g ≤ arrive scenario delays n g = enclosed.times.arrival_low n g r.0 in
-          let come : arrive scenario delays n g ≤ settle scenario delays t g = below.earlier scenario delays well n t g r.0 well.addressed r.1 in
+          let r = in_of_ahead scenario schedule n t g j in
+          let low : times.least_arrival n g ≤ arrive scenario schedule n g = enclosed.times.arrival_low n g r.0 in
+          let come : arrive scenario schedule n g ≤ settle scenario schedule t g = below.earlier scenario schedule well n t g r.0 well.addressed r.1 in
           let rival : IsIn n (rivals scenario times) = in-filter (λ k. nat_le (times.least_arrival k g) (times.greatest_settling t g)) n (addressed_to scenario g)
           (in-addressed scenario n g r.0) (le-leb (times.least_arrival n g) (times.greatest_settling t g) (omega arith)) in
-          elim (cases_lt (settle scenario delays n g) tick) [
+          elim (cases_lt (settle scenario schedule n g) tick) [
             | inl l ↦ omega arith
-            | inr l ↦ absurd (not_behind_late below scenario delays well n r.0 r.1 windows enclosed tick (omega arith)
+            | inr l ↦ absurd (not_behind_late below scenario schedule well assigned n r.0 r.1 windows enclosed tick (omega arith)
                 (list_all_in (is_behind_late scenario windows tick) n (rivals scenario times) parts.1 rival))
           ]
     ] in
-    let all = greatest_most (λ n. settle scenario delays n g) (at + latency) (t ∷ ahead_of scenario delays t g) each in
-    omega (arith, below.delivery scenario delays well t g well.addressed)
+    let all = greatest_most (λ n. settle scenario schedule n g) (at + latency) (t ∷ ahead_of scenario schedule t g) each in
+    omega (arith, below.delivery scenario schedule well t g well.addressed)
 
 pub leads_hold : ClosedHoldsOverWindows → WindowsEncloseMembers → LeadsHold
 unfolding closes_by_leads
-leads_hold holds enclosed scenario ranges delays latency well member closed =
-    holds scenario delays (windows_of scenario ranges) latency well (enclosed scenario ranges delays well member) closed
+leads_hold holds enclosed scenario ranges schedule latency well assigned member closed =
+    holds scenario schedule (windows_of scenario ranges) latency well assigned (enclosed scenario ranges schedule well member) closed
 
 -- ---- the plain bound
 all_from : {X : Type 0} (p : X → Bool) (xs : List X) → ((x : X) → IsIn x xs → p x ≡ true) → list_all p xs ≡ true

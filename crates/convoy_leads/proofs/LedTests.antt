@@ -9,7 +9,7 @@ use Rattle.convoy_leads.specs.Tests.{is_less_elsewhere}
 module _ (scenario : Scenario) (tables : LeadTables) (n : ℕ) where
   abbrev pub arrives_behind : Bool
   arrives_behind =
-      is_earlier (tables.times.greatest_arrival scenario.target_message scenario.target_group) scenario.target_message (tables.times.least_arrival n scenario.target_group) n
+      is_earlier scenario.time (tables.times.greatest_arrival scenario.target_message scenario.target_group) scenario.target_message (tables.times.least_arrival n scenario.target_group) n
 
   abbrev pub less : Bool → Bool
   less = is_less_elsewhere scenario tables (sure_of scenario tables.times n)

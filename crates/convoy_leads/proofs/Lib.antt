@@ -7,5 +7,6 @@ pub mod ClosingLaws
 pub mod LedTests
 pub mod Rivals
 pub mod Loops
-pub mod IdleTicks
+pub mod CoveredTicks
+pub mod SteadyStarts
 pub mod MostLaws

@@ -24,3 +24,9 @@ greatest_more f xs i l =
       one_more : (y b : ℕ) (ys : List ℕ) → fold max b (map f (ys ++ y ∷ [])) ≡ max (fold max b (map f ys)) (f y)
       one_more y b [] = refl
       one_more y b (z ∷ zs) = one_more y (max b (f z)) zs
+
+-- an entry of a list, whatever stands for those past its end
+pub there : {X : Type 0} (xs : List X) (k : ℕ) (d e : X) → k < length xs → get_or xs k d ≡ get_or xs k e
+there [] k d e l = absurd (omega arith)
+there (x ∷ xs) zero d e l = refl
+there (x ∷ xs) (suc k) d e l = there xs k d e (omega arith)

@@ -1,5 +1,5 @@
 -- Numbers that are told for some messages at once, each barred.
-use Rattle.std.proofs.Common.{◌≡◌, ◌≢◌, ℕ, ◌+◌, ◌-◌, ◌<◌, ◌≤◌, ◌==◌, suc, inl, inr, nat_lt, Bool, true, false, ◌&&◌, not, cond, List, [], ◌∷◌, ◌++◌, length, get_or, set, max, min, map, fold, All, refl, sym, ap, ap₂, ◌∙◌, arith}
+use Rattle.std.proofs.Common.{◌≡◌, ◌≢◌, ℕ, ◌+◌, ◌-◌, ◌<◌, ◌≤◌, ◌==◌, suc, inl, inr, nat_le, Bool, true, false, ◌&&◌, not, cond, List, [], ◌∷◌, ◌++◌, length, get_or, set, max, min, map, fold, All, refl, sym, ap, ap₂, ◌∙◌, arith}
 use Rattle.std.specs.List.{list_any}
 use Rattle.std.proofs.Math.Nat.{max-zero}
 use Rattle.std.proofs.lemmas.Bool.{cases_lt, cond_both}
@@ -7,14 +7,17 @@ use Rattle.std.proofs.lemmas.Bool.Decides.{nat_tests}
 use Rattle.std.proofs.lemmas.Grind.{get_or-set_at}
 use Rattle.std.proofs.lemmas.List.{get_or-set_other}
 use Rattle.std.proofs.lemmas.List.FromFn.{get_or-range_with_len, length-range_with_len}
+use Rattle.convoy_scenario.specs.declared.time.Time.{Time}
 use Rattle.convoy_scenario.specs.Scenario.{Scenario, message_at, message_numbers}
 use Rattle.convoy_scenario.specs.WellFormed.{IsScenario}
 use Rattle.convoy_sim.specs.Times.{Tick}
+use Rattle.convoy_sim.specs.Moments.{next_arrival}
 use Rattle.convoy_intervals.specs.Bounds.{Tables}
 use Rattle.convoy_stamps.specs.declared.pair.Pair.{Pair}
+use Rattle.convoy_stamps.proofs.Arrivals.{next_rises}
 use Rattle.convoy_sure.specs.Windows.{LeadTables}
 use Rattle.convoy_sure.specs.SureLeads.{Sure, pair_count}
-use Rattle.convoy_leads.specs.Leads.{Start, arrives_by, capped, clock_alone, clock_from, clock_high, clock_since, covers, lead_by, raise_high, stamp_for, stamp_high, start_of, with_start}
+use Rattle.convoy_leads.specs.Leads.{Start, arrives_by, capped, clock_alone, clock_from, clock_high, clock_since, covers, lead_by, may_have_come, raise_high, stamp_for, stamp_high, start_of, with_start}
 use Rattle.convoy_leads.specs.Mosts.{AreFor, AreTold, IsTold, Told, may_precede}
 
 -- ---- lists for the bars
@@ -38,22 +41,22 @@ module _ (scenario : Scenario) (tables : Tables) (sure : Sure) (q h : ℕ) (tick
   since x = clock_since scenario tables sure x q h tick start
 
   -- a start that may not come before gives no clock
-  pub clock_unless : (x : ℕ) → may_precede q h tick start ≡ false → clock_from scenario tables sure x q h tick start ≡ 0
+  pub clock_unless : (x : ℕ) → may_precede scenario.time q h tick start ≡ false → clock_from scenario tables sure x q h tick start ≡ 0
   clock_unless x none = ap (λ p. cond (p && not (start.message == x)) (since x) 0) none
 
   -- nor does one whose message is barred
-  pub clock_barred : (x : ℕ) → may_precede q h tick start ≡ true → (start.message == x) ≡ true → clock_from scenario tables sure x q h tick start ≡ 0
+  pub clock_barred : (x : ℕ) → may_precede scenario.time q h tick start ≡ true → (start.message == x) ≡ true → clock_from scenario tables sure x q h tick start ≡ 0
   clock_barred x may same = ap₂ (λ p m. cond (p && not m) (since x) 0) may same
 
-  pub clock_passing : (x : ℕ) → may_precede q h tick start ≡ true → (start.message == x) ≡ false
+  pub clock_passing : (x : ℕ) → may_precede scenario.time q h tick start ≡ true → (start.message == x) ≡ false
       → clock_from scenario tables sure x q h tick start ≡ clock_since scenario tables sure x q h tick start
   clock_passing x may other = ap₂ (λ p m. cond (p && not m) (since x) 0) may other
 
 -- ---- starts that are added later
--- a start of that tick or later is none that comes before
-late_start : (q h : ℕ) (by : Tick) (new : Start) → by ≤ new.at → may_precede q h by new ≡ false
-late_start q h by new late = first (new.group == h) (nat_lt new.at by) (not (new.message == q)) (before new.at by late) where
-  before : (a b : ℕ) → b ≤ a → nat_lt a b ≡ false
+-- a start that an arrival by a tick may not follow is none that comes before
+late_start : (time : Time) (q h : ℕ) (by : Tick) (new : Start) → by < next_arrival time new.at → may_precede time q h by new ≡ false
+late_start time q h by new late = first (new.group == h) (nat_le (next_arrival time new.at) by) (not (new.message == q)) (before (next_arrival time new.at) by late) where
+  before : (a b : ℕ) → b < a → nat_le a b ≡ false
   before a b l = grind (arith, nat_tests, l)
 
   first : (a b c : Bool) → b ≡ false → ((a && b) && c) ≡ false
@@ -62,13 +65,13 @@ late_start q h by new late = first (new.group == h) (nat_lt new.at by) (not (new
 
 module _ (scenario : Scenario) (tables : Tables) (sure : Sure) (starts : List Start) (new : Start) where
   -- and it changes no clock
-  clock_same : (x q h : ℕ) (by : Tick) → by ≤ new.at
+  clock_same : (x q h : ℕ) (by : Tick) → by < next_arrival scenario.time new.at
       → clock_high scenario tables sure (starts ++ new ∷ []) x q h by ≡ clock_high scenario tables sure starts x q h by
   clock_same x q h by late =
       let f : Start → ℕ = clock_from scenario tables sure x q h by in
       let alone : ℕ = clock_alone scenario tables sure q h by in
       pushed f (max 0 alone) starts
-      ∙ ap (λ n. max (fold max (max 0 alone) (map f starts)) n) (clock_unless scenario tables sure q h by new x (late_start q h by new late))
+      ∙ ap (λ n. max (fold max (max 0 alone) (map f starts)) n) (clock_unless scenario tables sure q h by new x (late_start scenario.time q h by new late))
       ∙ max-zero (fold max (max 0 alone) (map f starts)) where
         pushed : (f : Start → ℕ) (b : ℕ) (ys : List Start) → fold max b (map f (ys ++ new ∷ [])) ≡ max (fold max b (map f ys)) (f new)
         pushed f b [] = refl
@@ -82,7 +85,8 @@ module _ (scenario : Scenario) (tables : Tables) (sure : Sure) (starts : List St
     each = λ k l.
         is.each k l
         ∙ sym (ap (λ (clock : ℕ). min (pair_count scenario) (capped sure.time (lead_by scenario tables sure told.message told.group told.by) (clock + 1)))
-        (clock_same (get_or bars k 0) told.message told.group told.by (omega (arith, is.soon))));
+        (clock_same (get_or bars k 0) told.message told.group told.by
+        (let soon = is.soon (omega arith) in let rise = next_rises scenario.time tick new.at late in omega arith)));
   }
 
 -- what was told holds with a start more, if it is of that tick
@@ -98,14 +102,15 @@ pub told_later : (scenario : Scenario) (tables : Tables) (sure : Sure) (bars : L
     → tick ≤ next → AreTold scenario tables sure bars starts tick told → AreTold scenario tables sure bars starts next told
 told_later scenario tables sure bars starts tick next told late are k d l =
     let is = are k d l in
-    record { soon = omega (arith, is.soon, late); each = is.each }
+    let rise = next_rises scenario.time tick next late in
+    record { soon = λ some. let soon = is.soon some in omega arith; each = is.each }
 
 -- where nothing was told, all that was holds
 pub nothing_told : (scenario : Scenario) (tables : Tables) (sure : Sure) (bars : List ℕ) (starts : List Start) (tick : Tick) (told : List Told)
     → All (λ t. (t.by ≡ 0) × (t.stamps ≡ [])) told → AreTold scenario tables sure bars starts tick told
 nothing_told scenario tables sure bars starts tick told none k d l =
     let here = none k d l in
-    record { soon = omega (arith, here.0); each = λ i m. absurd (omega (arith, ap length here.1)) }
+    record { soon = λ some. absurd (omega (arith, ap length here.1)); each = λ i m. absurd (omega (arith, ap length here.1)) }
 
 -- ---- what raises a clock is few
 greatest_few : {X : Type 0} (f : X → ℕ) (most : ℕ) → ((x : X) → f x ≤ most) → (a : ℕ) (xs : List X) → a ≤ most → fold max a (map f xs) ≤ most
@@ -121,7 +126,7 @@ raise_small scenario tables sure starts tick x c g =
 
       stamp_few : (f : ℕ) → stamp_for scenario tables sure starts tick x c g f ≤ pair_count scenario
       stamp_few f =
-          cond_both (f == g) 0 (stamp_high scenario tables.times sure starts x c f (arrives_by tables tick c g f)) (λ n. n ≤ pair_count scenario)
+          cond_both (may_have_come tick f g) (stamp_high scenario tables.times sure starts x c f (arrives_by tables tick c g f)) 0 (λ n. n ≤ pair_count scenario)
           (λ t. omega arith) (λ t. omega arith)
 
 -- ---- one entry of a list after the other

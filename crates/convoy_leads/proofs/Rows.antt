@@ -1,10 +1,16 @@
 -- Worked rows of leads, computed from the definitions alone.
-use Rattle.std.proofs.Common.{◌≡◌, true, false, List, [], ◌∷◌, refl, codes}
+use Rattle.std.proofs.Common.{◌≡◌, true, false, List, [], ◌∷◌, replicate, slice_set, refl, codes, None}
 use Rattle.convoy_scenario.specs.declared.sender.Sender.TheVariants.{Client, Group}
+use Rattle.convoy_scenario.specs.declared.time.Time.{Time}
+use Rattle.convoy_scenario.specs.declared.time.Time.TheVariants.{Ticks, Real}
 use Rattle.convoy_scenario.specs.Scenario.{Link, Scenario}
 use Rattle.convoy_packets.specs.Packets.{packets_of}
 use Rattle.convoy_packets.specs.Assignment.{delay_of, ranges_of}
+use Rattle.convoy_packets.specs.Order.{place}
 use Rattle.convoy_sim.specs.Times.{arrive, settle}
+use Rattle.convoy_sim.specs.Moments.{arrival_rank, commit_rank, moments_of}
+use Rattle.convoy_sim.specs.Stamps.{clocks_of, local_stamp, final_stamp}
+use Rattle.convoy_sim.specs.Delivery.{holds_back, deliver, latency_at, latency_of}
 use Rattle.convoy_sim.proofs.RowScenarios.{message, base_with, base, swapped, raised_twice}
 use Rattle.convoy_intervals.specs.Boxes.{root_of}
 use Rattle.convoy_intervals.specs.Bounds.{plain_bound}
@@ -40,6 +46,8 @@ raised_twice_stays_open = refl
 -- two messages that b sends to a and b. w is committed at b after t only if it arrives late at a: where it arrives early it may raise the clock there before t arrives, and where it arrives late it may not
 late : List Link → Scenario
 late links = record {
+  time = Ticks;
+  tick = None;
   delay = 3;
   groups = codes "a" ∷ codes "b" ∷ [];
   links = links;
@@ -85,6 +93,8 @@ slow_stays_open = refl
 -- six groups, and four messages of which the last goes to all of them
 six_groups : Scenario
 six_groups = record {
+  time = Ticks;
+  tick = None;
   delay = 8;
   groups = codes "a" ∷ codes "b" ∷ codes "c" ∷ codes "d" ∷ codes "e" ∷ codes "f" ∷ [];
   links = [];
@@ -101,3 +111,42 @@ six_groups_closes = refl
 six_groups_stays_open : closes_by_leads six_groups (root_of six_groups) 15 ≡ false
 unfolding six_groups message packets_of ranges_of delay_of arrive settle leads_of sure_time is_led closes_by_leads
 six_groups_stays_open = refl
+
+-- three groups, and two messages that b sends, w after t, to which a's answers come back at once. w cannot be committed at a before the very tick by which t arrives there
+tied : Time → Scenario
+tied time = record {
+  time = time;
+  tick = None;
+  delay = 5;
+  groups = codes "a" ∷ codes "b" ∷ codes "c" ∷ [];
+  links = record { sender = Group 1; to = 0; least = 1; most = 3 } ∷ record { sender = Group 0; to = 1; least = 1; most = 1 } ∷ [];
+  multicasts = message (codes "w") (Group 1) (0 ∷ 1 ∷ 2 ∷ []) 3 ∷ message (codes "t") (Group 1) (0 ∷ 1 ∷ []) 2 ∷ [];
+  target_message = 1;
+  target_group = 1;
+}
+
+-- so in whole ticks t never waits for w, ..
+tied_in_ticks_closes : closes_by_leads (tied Ticks) (root_of (tied Ticks)) 4 ≡ true
+unfolding tied message packets_of ranges_of delay_of arrive settle leads_of sure_time is_led closes_by_leads
+tied_in_ticks_closes = refl
+
+tied_in_ticks_stays_open : closes_by_leads (tied Ticks) (root_of (tied Ticks)) 3 ≡ false
+unfolding tied message packets_of ranges_of delay_of arrive settle leads_of sure_time is_led closes_by_leads
+tied_in_ticks_stays_open = refl
+
+-- .. and in real time it may
+tied_in_real_time_stays_open : closes_by_leads (tied Real) (root_of (tied Real)) 6 ≡ false
+unfolding tied message packets_of ranges_of delay_of arrive settle leads_of sure_time is_led closes_by_leads
+tied_in_real_time_stays_open = refl
+
+tied_in_real_time_closes : closes_by_leads (tied Real) (root_of (tied Real)) 7 ≡ true
+unfolding tied message packets_of ranges_of delay_of arrive settle leads_of sure_time is_led closes_by_leads
+tied_in_real_time_closes = refl
+
+-- where the arrival of t at a is of a later rank than the commit of w there
+tied_in_real_time_attains : latency_of (tied Real) (record {
+  delays = 1 ∷ 1 ∷ 1 ∷ 1 ∷ 1 ∷ 1 ∷ 1 ∷ 5 ∷ 3 ∷ 1 ∷ 1 ∷ [];
+  order = record { arrivals = slice_set (replicate 128 0) (place 1 0) 1; commits = replicate 128 0 };
+}) ≡ 7
+unfolding tied message packets_of delay_of arrive settle arrival_rank commit_rank moments_of clocks_of local_stamp final_stamp holds_back deliver latency_at latency_of
+tied_in_real_time_attains = refl

@@ -1,5 +1,5 @@
 -- The laws of the crates below on which those of leads stand.
-use Rattle.convoy_sim.specs.Laws.{DeliveryLaw, EarlierArrivesBeforeCommit, ArrivesBeforeCommit, LocalStampNamesGroup, FinalStampIsLocal}
+use Rattle.convoy_sim.specs.Laws.{DeliveryLaw, EarlierArrivesBeforeCommit, LocalStampNamesGroup, FinalStampIsLocal, NoLocalStampIsGreater}
 use Rattle.convoy_sim.specs.RaiseLaws.{LastRaise}
 use Rattle.convoy_stamps.specs.Laws.{StampsWithinReach}
 use Rattle.convoy_sure.specs.Laws.{CutsEnclose, SureArrivalsRise, WhatIsSureHolds}
@@ -7,9 +7,9 @@ use Rattle.convoy_sure.specs.Laws.{CutsEnclose, SureArrivalsRise, WhatIsSureHold
 pub record LawsBelow : Type 0 where
   pub delivery : DeliveryLaw
   pub earlier : EarlierArrivesBeforeCommit
-  pub before_commit : ArrivesBeforeCommit
   pub names : LocalStampNamesGroup
   pub is_local : FinalStampIsLocal
+  pub not_greater : NoLocalStampIsGreater
   pub raise : LastRaise
   pub within : StampsWithinReach
   pub cuts : CutsEnclose

@@ -1,15 +1,18 @@
 -- Leads: by how much stamps may exceed that of a message at the target's group, tick by tick. Each number is to be added to how much the message's stamp there exceeds its sure time.
 use Rattle.std.specs.Prelude.{ℕ, zero, suc, ◌+◌, ◌-◌, ◌==◌, nat_lt, nat_le, max, min, Bool, true, false, ◌&&◌, ◌||◌, not, List, [], ◌∷◌, ◌++◌, length, map, slice_index_or, if◌then◌else◌}
 use Rattle.std.specs.List.{fold, filter, list_all, list_any, range_with_len}
+use Rattle.convoy_scenario.specs.declared.time.Time.{Time}
+use Rattle.convoy_scenario.specs.declared.time.Time.TheVariants.{Ticks, Real}
 use Rattle.convoy_scenario.specs.Scenario.{Scenario, message_at, message_numbers}
 use Rattle.convoy_sim.specs.Times.{Tick, greatest}
+use Rattle.convoy_sim.specs.Moments.{next_arrival}
 use Rattle.convoy_sim.specs.Stamps.{is_less}
 use Rattle.convoy_sim.specs.Delivery.{addressed_to}
 use Rattle.convoy_intervals.specs.Bounds.{Tables}
 use Rattle.convoy_stamps.specs.declared.pair.Pair.{Pair}
 use Rattle.convoy_stamps.specs.Reach.{pairs_of}
 use Rattle.convoy_sure.specs.Windows.{LeadTables}
-use Rattle.convoy_sure.specs.SureLeads.{Sure, sure_of, pair_count, is_earlier, sure_after, sure_later, lead_at, top_of}
+use Rattle.convoy_sure.specs.SureLeads.{Sure, sure_of, pair_count, is_earlier, may_be_earlier, sure_after, sure_later, lead_at, top_of}
 
 -- a number no greater than such a lead leaves room for
 abbrev pub capped : ℕ → ℕ → ℕ → ℕ
@@ -28,13 +31,13 @@ abbrev pub window : ℕ → (ℕ → ℕ) → List ℕ → ℕ → ℕ
 window sure lead zs value = fold min (value + length zs) (map (room_above sure lead zs) (range_with_len value (length zs)))
 
 -- message z may arrive at group h at the tick `since` or later, and before message q, which arrives there by that tick
-abbrev pub may_arrive : Tables → Tick → ℕ → ℕ → Tick → ℕ → Bool
-may_arrive tables tick q h since z =
-    not (z == q) && is_earlier (max since (tables.least_arrival z h)) z tick q && nat_le since (tables.greatest_arrival z h)
+abbrev pub may_arrive : Time → Tables → Tick → ℕ → ℕ → Tick → ℕ → Bool
+may_arrive time tables tick q h since z =
+    not (z == q) && may_be_earlier time (max since (tables.least_arrival z h)) z tick q && nat_le since (tables.greatest_arrival z h)
 
 -- the messages that may do so
 abbrev pub arrivals_since : Scenario → Tables → Tick → ℕ → ℕ → Tick → List ℕ
-arrivals_since scenario tables tick q h since = filter (may_arrive tables tick q h since) (addressed_to scenario h)
+arrivals_since scenario tables tick q h since = filter (may_arrive scenario.time tables tick q h since) (addressed_to scenario h)
 
 -- a start: the commit of a message at a group by that tick, the most that it can raise the clock to, and the same for each message that might be committed nowhere before
 pub record Start : Type 0 where
@@ -61,18 +64,18 @@ clock_alone scenario tables sure q h tick =
 abbrev pub clock_since : Scenario → Tables → Sure → ℕ → ℕ → ℕ → Tick → Start → ℕ
 clock_since scenario tables sure x q h tick start =
     window sure.time (λ z. lead_at sure.leads z h)
-    (filter (λ z. not (z == start.message)) (arrivals_since scenario tables tick q h (start.at + 1)))
+    (filter (λ z. not (z == start.message)) (arrivals_since scenario tables tick q h (next_arrival scenario.time start.at)))
     (value_for start x q)
 
 -- the start may come before message q arrives at group h by that tick, where message x is committed nowhere before
-abbrev pub may_start : ℕ → ℕ → ℕ → Tick → Start → Bool
-may_start x q h tick start =
-    (start.group == h) && nat_lt start.at tick && not (start.message == q) && not (start.message == x)
+abbrev pub may_start : Time → ℕ → ℕ → ℕ → Tick → Start → Bool
+may_start time x q h tick start =
+    (start.group == h) && nat_le (next_arrival time start.at) tick && not (start.message == q) && not (start.message == x)
 
 -- the clock by a start that may come before, 0 by one that may not
 abbrev pub clock_from : Scenario → Tables → Sure → ℕ → ℕ → ℕ → Tick → Start → ℕ
 clock_from scenario tables sure x q h tick start =
-    if may_start x q h tick start then clock_since scenario tables sure x q h tick start else 0
+    if may_start scenario.time x q h tick start then clock_since scenario tables sure x q h tick start else 0
 
 -- the clock, by no start or by any
 abbrev pub clock_high : Scenario → Tables → Sure → List Start → ℕ → ℕ → ℕ → Tick → ℕ
@@ -89,14 +92,18 @@ abbrev pub stamp_high : Scenario → Tables → Sure → List Start → ℕ → 
 stamp_high scenario tables sure starts x q h tick =
     min (pair_count scenario) (capped sure.time (lead_by scenario tables sure q h tick) (clock_high scenario tables sure starts x q h tick + 1))
 
--- the last tick by which message c arrives at group f, if it is committed at group g by that tick
+-- the last tick by which message c arrives at another group f, if it is committed at group g by that tick: each proposal takes one tick or more
 abbrev pub arrives_by : LeadTables → Tick → ℕ → ℕ → ℕ → Tick
-arrives_by tables tick c g f = min (tables.times.greatest_arrival c f) (tick - tables.least_proposal c f g)
+arrives_by tables tick c g f = min (tables.times.greatest_arrival c f) (tick - max 1 (tables.least_proposal c f g))
+
+-- a proposal may have come from group f to another group g by that tick
+abbrev pub may_have_come : Tick → ℕ → ℕ → Bool
+may_have_come tick f g = not (f == g) && nat_lt 0 tick
 
 -- the most that the stamp of message c at group f can be, if it is committed at group g at that tick; 0 for g itself, whose own stamp raises no clock there
 abbrev pub stamp_for : Scenario → LeadTables → Sure → List Start → Tick → ℕ → ℕ → ℕ → ℕ → ℕ
 stamp_for scenario tables sure starts tick x c g f =
-    if f == g then 0 else stamp_high scenario tables.times sure starts x c f (arrives_by tables tick c g f)
+    if may_have_come tick f g then stamp_high scenario tables.times sure starts x c f (arrives_by tables tick c g f) else 0
 
 -- the most that the commit of message c at group g at that tick can raise the clock there to
 abbrev pub raise_high : Scenario → LeadTables → Sure → List Start → Tick → ℕ → ℕ → ℕ → ℕ
@@ -147,6 +154,15 @@ starts_before scenario tables sure barring zero = []
 starts_before scenario tables sure barring (suc tick) =
     fold (add_start scenario tables sure barring tick) (starts_before scenario tables sure barring tick) (pairs_of scenario)
 
+-- the first tick at which a commit is past each arrival by that tick
+abbrev pub first_past : Time → Tick → Tick
+first_past Ticks tick = tick
+first_past Real tick = tick + 1
+
+-- the starts that an arrival by that tick may follow
+abbrev pub starts_by : Scenario → LeadTables → Sure → Bool → Tick → List Start
+starts_by scenario tables sure barring tick = starts_before scenario tables sure barring (first_past scenario.time tick)
+
 -- the last tick at which the target can arrive at a group
 abbrev pub last_arrival : Scenario → Tables → Tick
 last_arrival scenario tables =
@@ -165,6 +181,6 @@ is_led scenario tables barring n =
     let target = scenario.target_message in
     let group = scenario.target_group in
     let sure = sure_of scenario tables.times n in
-    let starts = starts_before scenario tables sure barring (last_arrival scenario tables.times) in
-    is_earlier (tables.times.greatest_arrival target group) target (tables.times.least_arrival n group) n
+    let starts = starts_by scenario tables sure barring (last_arrival scenario tables.times) in
+    is_earlier scenario.time (tables.times.greatest_arrival target group) target (tables.times.least_arrival n group) n
     && list_all (λ h. (h == group) || is_surely_less scenario tables.times sure starts h) (message_at scenario target).destinations

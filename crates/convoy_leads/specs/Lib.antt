@@ -2,6 +2,7 @@ pub use Rattle.convoy_scenario.specs.Memory
 pub use Rattle.convoy_scenario.specs.Scenario
 pub use Rattle.convoy_scenario.specs.WellFormed
 pub use Rattle.convoy_packets.specs.Packets
+pub use Rattle.convoy_packets.specs.Order
 pub use Rattle.convoy_packets.specs.Assignment
 pub use Rattle.convoy_packets.specs.Table
 pub use Rattle.convoy_sim.specs.Times
@@ -20,4 +21,5 @@ pub mod Laws
 -- Words of the crate's own parts: no promise rests on them.
 pub mod Below
 pub mod Mosts
+pub mod Changes
 pub mod Tests

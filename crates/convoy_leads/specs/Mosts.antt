@@ -1,7 +1,9 @@
 -- Words of the program's own parts: numbers that are told for some messages at once, for each where that message is barred, that is, committed nowhere before.
-use Rattle.std.specs.Prelude.{ℕ, ◌≡◌, ◌≤◌, ◌<◌, ◌==◌, nat_lt, Bool, ◌&&◌, not, List, [], ◌∷◌, length, All, slice_index, if◌then◌else◌}
+use Rattle.std.specs.Prelude.{ℕ, ◌≡◌, ◌<◌, ◌==◌, nat_le, Bool, ◌&&◌, not, List, [], ◌∷◌, length, All, slice_index, if◌then◌else◌}
+use Rattle.convoy_scenario.specs.declared.time.Time.{Time}
 use Rattle.convoy_scenario.specs.Scenario.{Scenario, message_numbers}
 use Rattle.convoy_sim.specs.Times.{Tick}
+use Rattle.convoy_sim.specs.Moments.{next_arrival}
 use Rattle.convoy_intervals.specs.Bounds.{Tables}
 use Rattle.convoy_sure.specs.SureLeads.{Sure}
 use Rattle.convoy_leads.specs.Leads.{Start, stamp_high}
@@ -16,8 +18,8 @@ pub record AreFor (what : ℕ → ℕ) (bars numbers : List ℕ) : Type 0 where
   pub each : (k : ℕ) → k < length bars → slice_index numbers k ≡ what (slice_index bars k)
 
 -- the start may come before message q arrives at group h by that tick
-abbrev pub may_precede : ℕ → ℕ → Tick → Start → Bool
-may_precede q h tick start = (start.group == h) && nat_lt start.at tick && not (start.message == q)
+abbrev pub may_precede : Time → ℕ → ℕ → Tick → Start → Bool
+may_precede time q h tick start = (start.group == h) && nat_le (next_arrival time start.at) tick && not (start.message == q)
 
 -- what was told of the stamp of a message at a group, where it arrives there by a tick: the most that it can be, for each of the bars
 pub record Told : Type 0 where
@@ -26,9 +28,9 @@ pub record Told : Type 0 where
   pub by : Tick
   pub stamps : List ℕ
 
--- it holds by these starts, and by those that are added at that tick or later
+-- it holds by these starts, and by those that are added at that tick or later: it is of an arrival that precedes any that may follow a commit of that tick
 pub record IsTold (scenario : Scenario) (tables : Tables) (sure : Sure) (bars : List ℕ) (starts : List Start) (tick : Tick) (told : Told) : Type 0 where
-  pub soon : told.by ≤ tick
+  pub soon : 0 < length told.stamps → told.by < next_arrival scenario.time tick
   pub each : (k : ℕ) → k < length told.stamps
       → slice_index told.stamps k ≡ stamp_high scenario tables sure starts (slice_index bars k) told.message told.group told.by
 

@@ -5,7 +5,7 @@ use Rattle.convoy_scenario.specs.Scenario.{Scenario, message_at}
 use Rattle.convoy_intervals.specs.Bounds.{Tables}
 use Rattle.convoy_sure.specs.Windows.{LeadTables}
 use Rattle.convoy_sure.specs.SureLeads.{Sure}
-use Rattle.convoy_leads.specs.Leads.{Start, is_surely_less, last_arrival, starts_before}
+use Rattle.convoy_leads.specs.Leads.{Start, is_surely_less, last_arrival, starts_by}
 
 -- by these starts each stamp of the target elsewhere is surely less than that of a message of which this is sure
 abbrev pub is_less_by : Scenario → Tables → Sure → List Start → Bool
@@ -15,4 +15,4 @@ is_less_by scenario tables sure starts =
 -- the same by all starts
 abbrev pub is_less_elsewhere : Scenario → LeadTables → Sure → Bool → Bool
 is_less_elsewhere scenario tables sure barring =
-    is_less_by scenario tables.times sure (starts_before scenario tables sure barring (last_arrival scenario tables.times))
+    is_less_by scenario tables.times sure (starts_by scenario tables sure barring (last_arrival scenario tables.times))

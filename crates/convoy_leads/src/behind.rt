@@ -25,6 +25,7 @@ pub(crate) struct Scratch {
     pub(crate) alloc: Global,
     pub(crate) starts: Vec<Start>,
     pub(crate) told: Vec<Told>,
+    pub(crate) nexts: Vec<u32>,
 }
 
 impl Scratch {
@@ -34,6 +35,7 @@ impl Scratch {
             alloc,
             starts: Vec::new(alloc),
             told: Vec::new(alloc),
+            nexts: Vec::new(alloc),
         }
     }
 }
@@ -58,7 +60,7 @@ impl<'a> Facts<'a> {
     /// Whether a message surely arrives at the target's group after the target.
     fn arrives_behind(&self, windows: &Windows, n: usize) -> bool
         requires { n < length self.now.scenario.now.multicasts }
-        ensures { result ≡ is_earlier
+        ensures { result ≡ is_earlier self.now.scenario.now.time
             ((tables_by windows.now).times.greatest_arrival self.now.scenario.now.target_message
             self.now.scenario.now.target_group) self.now.scenario.now.target_message
             ((tables_by windows.now).times.least_arrival n self.now.scenario.now.target_group) n }
@@ -66,6 +68,7 @@ impl<'a> Facts<'a> {
         let target = self.scenario.target_message();
         let group = target_group(self.scenario);
         is_earlier(
+            self.scenario.time(),
             windows.greatest_arrival(target, group),
             target,
             windows.least_arrival(n, group),
@@ -86,7 +89,12 @@ impl<'a> Facts<'a> {
             ≡ is_less_elsewhere self.now.scenario.now (tables_by windows.now) sure.now barring) }
     {
         let setting = self.setting(windows, sure, barring);
-        setting.is_led(&self.pairs, &mut scratch.starts, &mut scratch.told)
+        setting.is_led(
+            &self.pairs,
+            &mut scratch.starts,
+            &mut scratch.told,
+            &mut scratch.nexts,
+        )
     }
 
     /// The same at first with no message barred, and then with each.

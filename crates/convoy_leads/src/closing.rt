@@ -1,4 +1,6 @@
-ghost use Rattle.std.specs.Prelude.{◌≡◌, ℕ, ◌≤◌, List, IfOk, IsTrue};
+ghost use Rattle.std.specs.Prelude.{◌≡◌, ◌≤◌, IfOk, IsTrue};
+ghost use Rattle.convoy_packets.specs.Assignment.{Schedule};
+ghost use Rattle.convoy_packets.specs.Order.{IsOrder};
 ghost use Rattle.convoy_sim.specs.Delivery.{latency_of};
 ghost use Rattle.convoy_intervals.specs.Boxes.{IsBox, IsIn};
 ghost use Rattle.convoy_leads.specs.Closing.{closes_by_leads};
@@ -7,6 +9,7 @@ use super::behind::Scratch;
 use super::facts::Facts;
 use super::laws::leads_hold;
 use convoy_intervals::DelayBox;
+use convoy_intervals::laws::members_are_assignments;
 use convoy_packets::Instance;
 use convoy_sure::Windows;
 use std::alloc::{AllocError, Global};
@@ -22,10 +25,12 @@ pub fn closes_by_leads(
     requires inside { IsBox instance.now delay_box.now }
     ensures value { IfOk result
         (λ closed. closed ≡ closes_by_leads instance.now delay_box.now latency) }
-    ensures holds { IfOk result (λ closed. IsTrue closed → (delays : List ℕ)
-        → IsIn delay_box.now delays → latency_of instance.now delays ≤ latency) }
+    ensures holds { IfOk result (λ closed. IsTrue closed → (schedule : Schedule)
+        → IsIn delay_box.now schedule → IsOrder instance.now schedule.order
+        → latency_of instance.now schedule ≤ latency) }
 {
     leads_hold();
+    members_are_assignments();
     let facts = Facts::of(alloc, instance.scenario())?;
     let windows = Windows::of(alloc, instance, delay_box)?;
     let mut scratch = Scratch::new(alloc);

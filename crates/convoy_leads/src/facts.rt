@@ -94,6 +94,7 @@ impl<'a> Facts<'a> {
     {
         Setting {
             scenario: self.scenario,
+            time: self.scenario.time(),
             audiences: &self.audiences,
             windows,
             sure,

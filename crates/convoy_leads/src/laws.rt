@@ -5,8 +5,8 @@ ghost use Rattle.convoy_leads.specs.Below.{LawsBelow};
 ghost use Rattle.convoy_leads.specs.Laws.{ClosedHoldsOverWindows, LeadsHold, ClosesAtPlain};
 
 use convoy_sim::laws::{
-    arrives_before_commit, delivery_law, earlier_arrives_before_commit, final_stamp_is_local,
-    last_raise, local_stamp_names_group,
+    delivery_law, earlier_arrives_before_commit, final_stamp_is_local, last_raise,
+    local_stamp_names_group, no_local_stamp_is_greater,
 };
 use convoy_stamps::laws::stamps_within_reach;
 pub use convoy_sure::laws::sure_leads_hold;
@@ -21,9 +21,9 @@ fn laws_below()
 {
     delivery_law();
     earlier_arrives_before_commit();
-    arrives_before_commit();
     local_stamp_names_group();
     final_stamp_is_local();
+    no_local_stamp_is_greater();
     last_raise();
     stamps_within_reach();
     cuts_enclose();
@@ -31,14 +31,14 @@ fn laws_below()
     what_is_sure_holds();
 }
 
-/// Where windows enclose a schedule and are closed for a latency, the schedule has no greater one.
+/// Where windows enclose an assignment and are closed for a latency, it has no greater one.
 pub fn closed_holds_over_windows()
     ensures { ClosedHoldsOverWindows }
 {
     laws_below();
 }
 
-/// No schedule of a box that leads close for a latency has a greater one.
+/// No assignment in a box that leads close for a latency has a greater one.
 pub fn leads_hold()
     ensures { LeadsHold }
 {

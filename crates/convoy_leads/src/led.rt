@@ -2,23 +2,24 @@ ghost use Rattle.std.specs.Prelude.{◌≡◌, ◌<◌, ◌≤◌, ◌==◌, ◌
 ghost use Rattle.convoy_scenario.specs.declared.limits.TheConstants.{MOST_GROUPS, MOST_MULTICASTS};
 ghost use Rattle.convoy_stamps.specs.Reach.{pairs_of};
 ghost use Rattle.convoy_sure.specs.Windows.{tables_by};
-ghost use Rattle.convoy_leads.specs.Leads.{is_surely_less, last_arrival};
+ghost use Rattle.convoy_leads.specs.Leads.{first_past, is_surely_less, last_arrival};
 ghost use Rattle.convoy_leads.specs.Tests.{is_less_by, is_less_elsewhere};
 
 use super::setting::Setting;
 use super::start::Start;
 use super::told::Told;
-use convoy_scenario::{MOST_GROUPS, MOST_MULTICASTS};
+use convoy_scenario::{MOST_GROUPS, MOST_MULTICASTS, Time};
 use convoy_sim::Timestamp;
 use convoy_stamps::Pair;
-use convoy_sure::destinations;
+use convoy_sure::{LAST_ARRIVAL, destinations};
 use std::alloc::AllocError;
 
 impl<'a> Setting<'a> {
     /// The last tick at which the target can arrive at a group.
     fn last_arrival(&self) -> u32
-        ensures { result ≡ last_arrival self.now.scenario.now
+        ensures value { result ≡ last_arrival self.now.scenario.now
             (tables_by self.now.windows.now).times }
+        ensures fits { result ≤ LAST_ARRIVAL }
     {
         let target = self.scenario.target_message();
         let mut last: u32 = 0;
@@ -86,6 +87,7 @@ impl<'a> Setting<'a> {
         pairs: &[Pair],
         starts: &mut Vec<Start>,
         told: &mut Vec<Told>,
+        nexts: &mut Vec<u32>,
     ) -> Result<bool, AllocError>
         requires pairs { pairs.now ≡ pairs_of self.now.scenario.now }
         requires messages { All (λ p. p.message < length self.now.scenario.now.multicasts) pairs.now }
@@ -93,7 +95,20 @@ impl<'a> Setting<'a> {
         ensures { IfOk result (λ led. led ≡ is_less_elsewhere self.now.scenario.now
             (tables_by self.now.windows.now) self.now.sure.now self.now.barring) }
     {
-        self.write_starts(pairs, self.last_arrival(), starts, told)?;
+        let end = first_past(self.time, self.last_arrival());
+        self.write_starts(pairs, end, starts, told, nexts)?;
         Ok(self.is_less_elsewhere(starts))
+    }
+}
+
+/// The first tick at which a commit is past each arrival by that tick: in whole ticks that tick itself,
+/// and in real time the next one.
+fn first_past(time: Time, tick: u32) -> u32
+    requires { tick ≤ LAST_ARRIVAL }
+    ensures { result ≡ first_past time tick }
+{
+    match time {
+        Time::Ticks => tick,
+        Time::Real => tick + 1,
     }
 }

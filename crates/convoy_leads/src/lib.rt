@@ -5,6 +5,7 @@
 pub use closing::closes_by_leads;
 
 mod behind;
+mod changes;
 mod closing;
 mod facts;
 pub mod laws;

@@ -7,21 +7,23 @@ ghost use Rattle.convoy_sure.specs.Windows.{tables_by};
 ghost use Rattle.convoy_leads.specs.Leads.{arrivals_since, may_arrive};
 ghost use Rattle.convoy_leads.specs.Mosts.{bars_of};
 
-use convoy_scenario::{MOST_GROUPS, MOST_MULTICASTS, Scenario};
-use convoy_sure::{Messages, Sure, Windows, is_earlier, those_after, those_later};
+use convoy_scenario::{MOST_GROUPS, MOST_MULTICASTS, Scenario, Time};
+use convoy_sure::{Messages, Sure, Windows, may_be_earlier, those_after, those_later};
 
-/// What the most of stamps is told from: a scenario, with the messages that go to each group and how
-/// many local stamps there are; the windows of a box; what is sure of one message; and the messages that
-/// are barred, each in turn: all, or the target alone.
+/// What the most of stamps is told from: a scenario, with its kind of time, the messages that go to
+/// each group and how many local stamps there are; the windows of a box; what is sure of one message;
+/// and the messages that are barred, each in turn: all, or the target alone.
 #[derive(Drop)]
 pub(crate) struct Setting<'a> {
     pub(crate) scenario: &'a Scenario,
+    pub(crate) time: Time,
     pub(crate) audiences: &'a [Messages],
     pub(crate) windows: &'a Windows,
     pub(crate) sure: &'a Sure,
     pub(crate) stamps: u32,
     pub(crate) barring: bool,
     pub(crate) bars: &'a [usize],
+    ghost kind: { time ≡ scenario.now.time },
     ghost groups: { audiences.now ≡ map (addressed_to scenario.now) (range_with_len 0 MOST_GROUPS) },
     ghost count: { stamps ≡ pair_count scenario.now },
     ghost few: { stamps ≤ MOST_MULTICASTS * MOST_GROUPS },
@@ -43,7 +45,7 @@ impl<'a> Setting<'a> {
     }
 
     /// The messages that go to a group.
-    fn addressed_to(&self, group: usize) -> &[usize]
+    pub(crate) fn addressed_to(&self, group: usize) -> &[usize]
         requires { group < MOST_GROUPS }
         ensures list { result.now ≡ addressed_to self.now.scenario.now group }
         ensures known { All (λ z. z < MOST_MULTICASTS) result.now }
@@ -57,10 +59,17 @@ impl<'a> Setting<'a> {
     fn may_arrive(&self, tick: u32, q: usize, group: usize, since: u32, z: usize) -> bool
         requires message { z < MOST_MULTICASTS }
         requires group { group < MOST_GROUPS }
-        ensures { result ≡ may_arrive (tables_by self.now.windows.now).times tick q group since z }
+        ensures { result ≡ may_arrive self.now.scenario.now.time
+            (tables_by self.now.windows.now).times tick q group since z }
     {
         z != q
-            && is_earlier(since.max(self.windows.least_arrival(z, group)), z, tick, q)
+            && may_be_earlier(
+                self.time,
+                since.max(self.windows.least_arrival(z, group)),
+                z,
+                tick,
+                q,
+            )
             && since <= self.windows.greatest_arrival(z, group)
     }
 
@@ -86,7 +95,14 @@ impl<'a> Setting<'a> {
         ensures { result ≡ sure_after self.now.scenario.now
             (tables_by self.now.windows.now).times tick q group }
     {
-        those_after(self.windows, self.addressed_to(group), tick, q, group)
+        those_after(
+            self.windows,
+            self.addressed_to(group),
+            self.time,
+            tick,
+            q,
+            group,
+        )
     }
 
     /// The messages that surely arrive at a group after that tick.

@@ -1,10 +1,11 @@
 ghost use Rattle.std.specs.Prelude.{◌≡◌, ℕ, ◌+◌, ◌*◌, ◌<◌, ◌≤◌, ◌==◌, not, max, min, length, map, slice_index, All};
 ghost use Rattle.std.specs.List.{filter};
+ghost use Rattle.convoy_sim.specs.Moments.{next_arrival};
 ghost use Rattle.convoy_scenario.specs.declared.limits.TheConstants.{MOST_GROUPS, MOST_MULTICASTS};
 ghost use Rattle.convoy_sure.specs.SureLeads.{lead_at, sure_later, top_of};
 ghost use Rattle.convoy_sure.specs.Windows.{tables_by};
 ghost use Rattle.convoy_leads.specs.Leads.{arrivals_since, arrives_by, capped, clock_alone, clock_from};
-ghost use Rattle.convoy_leads.specs.Leads.{clock_high, lead_by, raise_high, stamp_high, value_for, window};
+ghost use Rattle.convoy_leads.specs.Leads.{clock_high, lead_by, may_have_come, raise_high, stamp_high, value_for, window};
 ghost use Rattle.convoy_leads.specs.Mosts.{AreFor, AreTold, may_precede};
 
 use super::mosts::{Mosts, cap_all, level, raise_all};
@@ -12,14 +13,22 @@ use super::setting::{Setting, without};
 use super::start::Start;
 use super::told::Told;
 use super::window::{capped, window};
-use convoy_scenario::{MOST_GROUPS, MOST_MULTICASTS};
+use convoy_scenario::{MOST_GROUPS, MOST_MULTICASTS, Time};
+use convoy_sim::next_arrival;
 use convoy_sure::{Messages, destinations, lead_at, top_of};
 
 /// Whether a start may come before message `q` arrives at a group by that tick.
-fn may_precede(q: usize, group: usize, tick: u32, start: &Start) -> bool
-    ensures { result ≡ may_precede q group tick start.now }
+fn may_precede(time: Time, q: usize, group: usize, tick: u32, start: &Start) -> bool
+    ensures { result ≡ may_precede time q group tick start.now }
 {
-    start.group() == group && start.at() < tick && start.message() != q
+    start.group() == group && next_arrival(time, start.at()) <= tick && start.message() != q
+}
+
+/// Whether a proposal may have come from a group to another one by that tick.
+fn may_have_come(tick: u32, from: usize, group: usize) -> bool
+    ensures { result ≡ may_have_come tick from group }
+{
+    from != group && tick > 0
 }
 
 /// How a group's clock may rise by a start until a message arrives there: by the arrivals of these
@@ -69,10 +78,11 @@ impl<'a> Setting<'a> {
     fn arrivals_after(&self, q: usize, group: usize, tick: u32, start: &Start) -> Messages
         requires group { group < MOST_GROUPS }
         ensures { result ≡ filter (λ z. not (z == start.now.message))
-            (arrivals_since self.now.scenario.now
-            (tables_by self.now.windows.now).times tick q group (start.now.at + 1)) }
+            (arrivals_since self.now.scenario.now (tables_by self.now.windows.now).times tick q group
+            (next_arrival self.now.scenario.now.time start.now.at)) }
     {
-        let arrivals = self.arrivals_since(tick, q, group, start.at() + 1);
+        let since = next_arrival(self.time, start.at());
+        let arrivals = self.arrivals_since(tick, q, group, since);
         without(&arrivals, start.message())
     }
 
@@ -80,8 +90,8 @@ impl<'a> Setting<'a> {
     fn rise(&self, q: usize, group: usize, tick: u32, start: &Start) -> Rise
         requires group { group < MOST_GROUPS }
         ensures others { result.others ≡ filter (λ z. not (z == start.now.message))
-            (arrivals_since self.now.scenario.now
-            (tables_by self.now.windows.now).times tick q group (start.now.at + 1)) }
+            (arrivals_since self.now.scenario.now (tables_by self.now.windows.now).times tick q group
+            (next_arrival self.now.scenario.now.time start.now.at)) }
         ensures clock { result.clock ≡ window self.now.sure.now.time
             (λ z. lead_at self.now.sure.now.leads z group) result.others result.value }
         ensures small { result.clock ≤ u16.MAX + MOST_MULTICASTS }
@@ -127,7 +137,7 @@ impl<'a> Setting<'a> {
             (tables_by self.now.windows.now).times self.now.sure.now
             (slice_index self.now.bars.now k) q group tick start.now) }
     {
-        if !may_precede(q, group, tick, start) {
+        if !may_precede(self.time, q, group, tick, start) {
             return;
         }
         let rise = self.rise(q, group, tick, start);
@@ -193,15 +203,15 @@ impl<'a> Setting<'a> {
         stamps
     }
 
-    /// The last tick by which message `c` arrives at group `from`, if it is committed at a group at
-    /// that tick.
-    fn arrives_by(&self, tick: u32, c: usize, group: usize, from: usize) -> u32
+    /// The last tick by which message `c` arrives at group `from`, if it is committed at another group
+    /// at that tick.
+    pub(crate) fn arrives_by(&self, tick: u32, c: usize, group: usize, from: usize) -> u32
         requires message { c < MOST_MULTICASTS }
         requires group { group < MOST_GROUPS }
         requires from { from < MOST_GROUPS }
         ensures { result ≡ arrives_by (tables_by self.now.windows.now) tick c group from }
     {
-        let sent = tick.saturating_sub(self.windows.least_proposal(c, from, group));
+        let sent = tick.saturating_sub(self.windows.least_proposal(c, from, group).max(1));
         self.windows.greatest_arrival(c, from).min(sent)
     }
 
@@ -221,12 +231,12 @@ impl<'a> Setting<'a> {
         requires group { group < MOST_GROUPS }
         requires long { length mosts.old ≡ length self.now.bars.now }
         requires places { length told.old ≡ length self.now.scenario.now.multicasts * MOST_GROUPS }
-        ensures told { (tick : ℕ) → by ≤ tick
+        ensures told { (tick : ℕ) → by < next_arrival self.now.scenario.now.time tick
             → AreTold self.now.scenario.now (tables_by self.now.windows.now).times self.now.sure.now
             self.now.bars.now starts.now tick told.old
             → AreTold self.now.scenario.now (tables_by self.now.windows.now).times self.now.sure.now
             self.now.bars.now starts.now tick told.new }
-        ensures value { (tick : ℕ) → by ≤ tick
+        ensures value { (tick : ℕ) → by < next_arrival self.now.scenario.now.time tick
             → AreTold self.now.scenario.now (tables_by self.now.windows.now).times self.now.sure.now
             self.now.bars.now starts.now tick told.old
             → (k : ℕ) → k < length mosts.old → slice_index mosts.new k
@@ -274,7 +284,7 @@ impl<'a> Setting<'a> {
     {
         let mut mosts = level(self.bars, 0);
         for from in destinations(self.scenario, c) {
-            if *from != group {
+            if may_have_come(tick, *from, group) {
                 let by = self.arrives_by(tick, c, group, *from);
                 self.raise_by_stamps(mosts.as_mut_slice(), told, starts, c, *from, by);
             }

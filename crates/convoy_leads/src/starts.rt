@@ -1,16 +1,19 @@
-ghost use Rattle.std.specs.Prelude.{◌≡◌, ℕ, ◌*◌, ◌<◌, ◌≤◌, false, [], length, All, OnOk};
+ghost use Rattle.std.specs.Prelude.{◌≡◌, ℕ, ◌*◌, ◌<◌, ◌≤◌, false, [], length, slice_index, slice_index_or, All, OnOk};
 ghost use Rattle.std.specs.List.{fold};
-ghost use Rattle.convoy_scenario.specs.declared.limits.TheConstants.{MOST_GROUPS};
+ghost use Rattle.convoy_scenario.specs.declared.limits.TheConstants.{MOST_GROUPS, MOST_MULTICASTS};
+ghost use Rattle.convoy_stamps.specs.declared.pair.Pair.{Pair};
 ghost use Rattle.convoy_stamps.specs.Reach.{pairs_of};
 ghost use Rattle.convoy_sure.specs.Windows.{tables_by};
 ghost use Rattle.convoy_leads.specs.Leads.{may_commit, start_of, with_start, add_start, starts_before};
 ghost use Rattle.convoy_leads.specs.Mosts.{AreTold};
+ghost use Rattle.convoy_leads.specs.Changes.{AreCovered};
 
+use super::changes::least;
 use super::setting::Setting;
 use super::start::{Start, is_covered};
 use super::told::Told;
 use arrayvec::ArrayVec;
-use convoy_scenario::MOST_GROUPS;
+use convoy_scenario::{MOST_GROUPS, MOST_MULTICASTS};
 use convoy_stamps::Pair;
 use std::alloc::AllocError;
 
@@ -28,7 +31,7 @@ fn with_start(starts: &mut Vec<Start>, start: Start) -> Result<(), AllocError>
 impl<'a> Setting<'a> {
     /// Whether the message of a pair, which is not the target, may be committed at the pair's group at
     /// that tick.
-    fn may_commit(&self, tick: u32, pair: Pair) -> bool
+    pub(crate) fn may_commit(&self, tick: u32, pair: Pair) -> bool
         requires message { pair.message < length self.now.scenario.now.multicasts }
         requires group { pair.group < MOST_GROUPS }
         ensures { result ≡ may_commit self.now.scenario.now
@@ -42,7 +45,7 @@ impl<'a> Setting<'a> {
 
     /// The first tick from the first one on at which the message of a pair may be committed at the
     /// pair's group, or else the other one, if that comes before.
-    fn next_commit_of(&self, pair: Pair, from: u32, end: u32) -> u32
+    pub(crate) fn next_commit_of(&self, pair: Pair, from: u32, end: u32) -> u32
         requires message { pair.message < length self.now.scenario.now.multicasts }
         requires group { pair.group < MOST_GROUPS }
         requires ordered { from ≤ end }
@@ -57,24 +60,6 @@ impl<'a> Setting<'a> {
         }
         let first = self.windows.least_settling(pair.message, pair.group);
         first.max(from).min(end)
-    }
-
-    /// The first tick from the first one on at which the message of some pair may be committed at the
-    /// pair's group, or else the other one, if that comes before.
-    fn next_commit(&self, pairs: &[Pair], from: u32, end: u32) -> u32
-        requires messages { All (λ p. p.message < length self.now.scenario.now.multicasts) pairs.now }
-        requires groups { All (λ p. p.group < MOST_GROUPS) pairs.now }
-        requires ordered { from ≤ end }
-        ensures within { (from ≤ result) × (result ≤ end) }
-        ensures idle { (tick : ℕ) → from ≤ tick → tick < result
-            → All (λ p. may_commit self.now.scenario.now
-            (tables_by self.now.windows.now).times tick p ≡ false) pairs.now }
-    {
-        let mut next = end;
-        for pair in pairs {
-            next = next.min(self.next_commit_of(*pair, from, end));
-        }
-        next
     }
 
     /// The start of a pair's commit at that tick, with or without its values for messages that are
@@ -128,40 +113,116 @@ impl<'a> Setting<'a> {
         Ok(())
     }
 
+    /// Adds the start of a pair's commit at a tick, if that is the pair's next, with what follows from
+    /// it for the next ticks.
+    fn visit(
+        &self,
+        tick: u32,
+        starts: &mut Vec<Start>,
+        told: &mut [Told],
+        nexts: &mut [u32],
+        pairs: &[Pair],
+        k: usize,
+    ) -> Result<(), AllocError>
+        requires messages { All (λ p. p.message < length self.now.scenario.now.multicasts) pairs.now }
+        requires groups { All (λ p. p.group < MOST_GROUPS) pairs.now }
+        requires few { length self.now.scenario.now.multicasts ≤ MOST_MULTICASTS }
+        requires tick { tick < u32.MAX }
+        requires within { k < length pairs.now }
+        requires long { length nexts.old ≡ length pairs.now }
+        requires places { length told.old ≡ length self.now.scenario.now.multicasts * MOST_GROUPS }
+        requires told { AreTold self.now.scenario.now (tables_by self.now.windows.now).times
+            self.now.sure.now self.now.bars.now starts.old.items tick told.old }
+        requires covered { AreCovered self.now.scenario.now (tables_by self.now.windows.now)
+            self.now.sure.now self.now.barring starts.old.items tick nexts.old pairs.now }
+        ensures told { OnOk result (AreTold self.now.scenario.now
+            (tables_by self.now.windows.now).times
+            self.now.sure.now self.now.bars.now starts.new.items tick told.new) }
+        ensures covered { OnOk result (AreCovered self.now.scenario.now
+            (tables_by self.now.windows.now)
+            self.now.sure.now self.now.barring starts.new.items tick nexts.new pairs.now) }
+        ensures past { OnOk result (tick < slice_index nexts.new k) }
+        ensures others { OnOk result ((j : ℕ) → tick < slice_index nexts.old j
+            → tick < slice_index nexts.new j) }
+        ensures value { OnOk result ((pair : Pair) → starts.new.items ≡ add_start
+            self.now.scenario.now (tables_by self.now.windows.now) self.now.sure.now
+            self.now.barring tick starts.old.items (slice_index_or pairs.now k pair)) }
+    {
+        if tick < nexts[k] {
+            return Ok(());
+        }
+        let pair = pairs[k];
+        let count = starts.len();
+        self.add_start(tick, starts, told, pair)?;
+        if count < starts.len() {
+            self.hasten(nexts, pairs, pair.group, tick);
+        }
+        nexts[k] = self.next_uncovered(starts, tick, pair);
+        Ok(())
+    }
+
     /// Adds the starts of a tick.
     fn add_starts(
         &self,
         tick: u32,
         starts: &mut Vec<Start>,
         told: &mut [Told],
+        nexts: &mut [u32],
         pairs: &[Pair],
     ) -> Result<(), AllocError>
         requires messages { All (λ p. p.message < length self.now.scenario.now.multicasts) pairs.now }
         requires groups { All (λ p. p.group < MOST_GROUPS) pairs.now }
+        requires few { length self.now.scenario.now.multicasts ≤ MOST_MULTICASTS }
         requires tick { tick < u32.MAX }
+        requires long { length nexts.old ≡ length pairs.now }
         requires places { length told.old ≡ length self.now.scenario.now.multicasts * MOST_GROUPS }
         requires told { AreTold self.now.scenario.now (tables_by self.now.windows.now).times
             self.now.sure.now self.now.bars.now starts.old.items tick told.old }
+        requires covered { AreCovered self.now.scenario.now (tables_by self.now.windows.now)
+            self.now.sure.now self.now.barring starts.old.items tick nexts.old pairs.now }
         ensures told { OnOk result (AreTold self.now.scenario.now
             (tables_by self.now.windows.now).times
             self.now.sure.now self.now.bars.now starts.new.items tick told.new) }
+        ensures covered { OnOk result (AreCovered self.now.scenario.now
+            (tables_by self.now.windows.now)
+            self.now.sure.now self.now.barring starts.new.items tick nexts.new pairs.now) }
+        ensures past { OnOk result (All (λ next. tick < next) nexts.new) }
         ensures value { OnOk result (starts.new.items ≡ fold (add_start self.now.scenario.now
             (tables_by self.now.windows.now) self.now.sure.now self.now.barring tick)
             starts.old.items pairs.now) }
     {
-        for pair in pairs {
-            self.add_start(tick, starts, told, *pair)?;
+        for k in 0..pairs.len() {
+            self.visit(tick, starts, told, nexts, pairs, k)?;
         }
         Ok(())
     }
 
-    /// Writes the starts before a tick in the place of what stood in the list.
+    /// Writes for each pair the first tick at which it may be committed, in the place of what stood in
+    /// the list.
+    fn write_first_commits(&self, pairs: &[Pair], nexts: &mut Vec<u32>) -> Result<(), AllocError>
+        requires messages { All (λ p. p.message < length self.now.scenario.now.multicasts) pairs.now }
+        requires groups { All (λ p. p.group < MOST_GROUPS) pairs.now }
+        ensures long { OnOk result (length nexts.new.items ≡ length pairs.now) }
+        ensures idle { OnOk result ((k : ℕ) (pair : Pair) (tick : ℕ) → k < length pairs.now
+            → tick < slice_index nexts.new.items k → may_commit self.now.scenario.now
+            (tables_by self.now.windows.now).times tick (slice_index_or pairs.now k pair) ≡ false) }
+    {
+        nexts.clear();
+        for pair in pairs {
+            nexts.push(self.next_commit_of(*pair, 0, u32::MAX))?;
+        }
+        Ok(())
+    }
+
+    /// Writes the starts before a tick in the place of what stood in the list, from one tick at which
+    /// any may be added to the next.
     pub(crate) fn write_starts(
         &self,
         pairs: &[Pair],
         end: u32,
         starts: &mut Vec<Start>,
         told: &mut Vec<Told>,
+        nexts: &mut Vec<u32>,
     ) -> Result<(), AllocError>
         requires pairs { pairs.now ≡ pairs_of self.now.scenario.now }
         requires messages { All (λ p. p.message < length self.now.scenario.now.multicasts) pairs.now }
@@ -171,10 +232,17 @@ impl<'a> Setting<'a> {
     {
         starts.clear();
         write_nothing(told, self.scenario.message_count() * MOST_GROUPS)?;
-        let mut tick = self.next_commit(pairs, 0, end);
+        self.write_first_commits(pairs, nexts)?;
+        let mut tick = least(nexts, end);
         while tick < end {
-            self.add_starts(tick, starts, told.as_mut_slice(), pairs)?;
-            tick = self.next_commit(pairs, tick + 1, end);
+            self.add_starts(
+                tick,
+                starts,
+                told.as_mut_slice(),
+                nexts.as_mut_slice(),
+                pairs,
+            )?;
+            tick = least(nexts, end);
         }
         Ok(())
     }

@@ -2,6 +2,7 @@ pub mod Rows
 pub mod Counting
 pub mod Closed
 pub mod Pairs
+pub mod Arrivals
 pub mod Loops
 pub mod KnownPairs
 pub mod StampReach

@@ -1,6 +1,7 @@
 -- Worked rows of the stamp bound, computed from the definitions alone.
-use Rattle.std.proofs.Common.{◌≡◌, [], ◌∷◌, length, refl, codes}
+use Rattle.std.proofs.Common.{◌≡◌, [], ◌∷◌, length, refl, codes, None}
 use Rattle.convoy_scenario.specs.declared.sender.Sender.TheVariants.{Group}
+use Rattle.convoy_scenario.specs.declared.time.Time.TheVariants.{Ticks}
 use Rattle.convoy_scenario.specs.Scenario.{Scenario}
 use Rattle.convoy_packets.specs.Packets.{packets_of}
 use Rattle.convoy_packets.specs.Assignment.{delay_of, ranges_of}
@@ -14,6 +15,8 @@ use Rattle.convoy_stamps.specs.StampBounds.{stamp_bound}
 -- groups a, b and messages t, u, v, w, all to both. The other three surely arrive at b before w, whose stamp there is 4.b at least. There are four messages, but u and v may raise the clocks of a and b by turns: the reach of the stamp of t at a has six pairs, and w may hold t back
 raised_by_turns : Scenario
 raised_by_turns = record {
+  time = Ticks;
+  tick = None;
   delay = 3;
   groups = codes "a" ∷ codes "b" ∷ [];
   links = [];

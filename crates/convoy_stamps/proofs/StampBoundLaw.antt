@@ -38,18 +38,18 @@ not_ahead : (n t : Timestamp) (low high g h : ℕ) → is_less n t ≡ true → 
 not_ahead n t low high g h l e f a b c = grind (arith, nat_tests, l, e, f, a, b, c)
 
 pub keeps_those_ahead : FinalStampIsLocal → LocalStampNamesGroup → StampsWithinReach → StampsPastSureBefore
-    → (scenario : Scenario) (delays : Schedule) (tables : Tables) → IsScenario scenario → Encloses scenario delays tables
-    → KeepsThoseAhead scenario delays (is_surely_behind scenario tables)
-keeps_those_ahead is_local names within past scenario delays tables well enclosed n goes ahead =
+    → (scenario : Scenario) (schedule : Schedule) (tables : Tables) → IsScenario scenario → Encloses scenario schedule tables
+    → KeepsThoseAhead scenario schedule (is_surely_behind scenario tables)
+keeps_those_ahead is_local names within past scenario schedule tables well enclosed n goes ahead =
     false_from_ne_true (is_surely_behind scenario tables n) (λ out.
     let t : ℕ = scenario.target_message in
     let g : ℕ = scenario.target_group in
-    let f = is_local scenario delays well t well.target in
+    let f = is_local scenario schedule well t well.target in
     let behind = less_by_greatest no_stamp (lowest_stamp scenario tables n g) (highest_stamp scenario tables t f.0)
     (map (highest_stamp scenario tables t) (message_at scenario t).destinations) out
     (in-map (highest_stamp scenario tables t) f.0 (message_at scenario t).destinations (in_of_goes scenario t f.0 f.1)) in
-    not_ahead (local_stamp scenario delays n g) (local_stamp scenario delays t f.0)
+    not_ahead (local_stamp scenario schedule n g) (local_stamp scenario schedule t f.0)
     (1 + length (sure_before scenario tables g n)) (length (reach_of scenario tables t f.0)) g f.0
-    (subst (λ s. is_less (local_stamp scenario delays n g) s ≡ true) (sym f.2) ahead)
-    (names scenario delays well n g goes) (names scenario delays well t f.0 f.1)
-    (within scenario delays tables well enclosed t f.0 f.1) (past scenario delays tables well enclosed n g goes) behind)
+    (subst (λ s. is_less (local_stamp scenario schedule n g) s ≡ true) (sym f.2) ahead)
+    (names scenario schedule well n g goes) (names scenario schedule well t f.0 f.1)
+    (within scenario schedule tables well enclosed t f.0 f.1) (past scenario schedule tables well enclosed n g goes) behind)

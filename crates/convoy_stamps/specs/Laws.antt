@@ -33,48 +33,48 @@ ReachIsLeast =
 -- the time of a local stamp is at most the size of its reach over any tables that enclose arrival and settling
 abbrev pub StampsWithinReach : Type 0
 StampsWithinReach =
-    (scenario : Scenario) (delays : Schedule) (tables : Tables) → IsScenario scenario → Encloses scenario delays tables
+    (scenario : Scenario) (schedule : Schedule) (tables : Tables) → IsScenario scenario → Encloses scenario schedule tables
     → (m g : ℕ) → GoesTo scenario m g
-    → (local_stamp scenario delays m g).time ≤ length (reach_of scenario tables m g)
+    → (local_stamp scenario schedule m g).time ≤ length (reach_of scenario tables m g)
 
 -- and it is more than the number of messages that surely arrive there before
 abbrev pub StampsPastSureBefore : Type 0
 StampsPastSureBefore =
-    (scenario : Scenario) (delays : Schedule) (tables : Tables) → IsScenario scenario → Encloses scenario delays tables
+    (scenario : Scenario) (schedule : Schedule) (tables : Tables) → IsScenario scenario → Encloses scenario schedule tables
     → (n g : ℕ) → GoesTo scenario n g
-    → 1 + length (sure_before scenario tables g n) ≤ (local_stamp scenario delays n g).time
+    → 1 + length (sure_before scenario tables g n) ≤ (local_stamp scenario schedule n g).time
 
 -- the test leaves out no message that is ahead of the target at its group
 abbrev pub KeepsThoseAhead : Scenario → Schedule → (ℕ → Bool) → Type 0
-KeepsThoseAhead scenario delays leaves_out =
+KeepsThoseAhead scenario schedule leaves_out =
     (n : ℕ) → GoesTo scenario n scenario.target_group
-    → IsTrue (is_less (local_stamp scenario delays n scenario.target_group) (final_stamp scenario delays scenario.target_message))
+    → IsTrue (is_less (local_stamp scenario schedule n scenario.target_group) (final_stamp scenario schedule scenario.target_message))
     → IsFalse (leaves_out n)
 
 -- the latency under a schedule is at most a bound that leaves out no message ahead of the target, over any tables that enclose arrival and settling
 abbrev pub BoundByHolds : Type 0
 BoundByHolds =
-    (scenario : Scenario) (delays : Schedule) (tables : Tables) (leaves_out : ℕ → Bool)
+    (scenario : Scenario) (schedule : Schedule) (tables : Tables) (leaves_out : ℕ → Bool)
     → IsScenario scenario
-    → Encloses scenario delays tables
-    → KeepsThoseAhead scenario delays leaves_out
-    → latency_of scenario delays ≤ bound_by scenario tables leaves_out
+    → Encloses scenario schedule tables
+    → KeepsThoseAhead scenario schedule leaves_out
+    → latency_of scenario schedule ≤ bound_by scenario tables leaves_out
 
 -- the latency under a schedule is at most the stamp bound over any tables that enclose arrival and settling under it
 abbrev pub StampBoundOverTables : Type 0
 StampBoundOverTables =
-    (scenario : Scenario) (delays : Schedule) (tables : Tables)
+    (scenario : Scenario) (schedule : Schedule) (tables : Tables)
     → IsScenario scenario
-    → Encloses scenario delays tables
-    → latency_of scenario delays ≤ stamp_bound_over scenario tables
+    → Encloses scenario schedule tables
+    → latency_of scenario schedule ≤ stamp_bound_over scenario tables
 
 -- the latency under a member of a box is at most the stamp bound of the box
 abbrev pub StampBoundHolds : Type 0
 StampBoundHolds =
-    (scenario : Scenario) (ranges : Box) (delays : Schedule)
+    (scenario : Scenario) (ranges : Box) (schedule : Schedule)
     → IsScenario scenario
-    → IsIn ranges delays
-    → latency_of scenario delays ≤ stamp_bound scenario ranges
+    → IsIn ranges schedule
+    → latency_of scenario schedule ≤ stamp_bound scenario ranges
 
 -- the stamp bound of a box is at most its plain bound
 abbrev pub StampBoundAtMostPlain : Type 0

@@ -1,7 +1,8 @@
 -- The reach of a local stamp: the local stamps from which it may have risen, one after the other. Each goes by its pair of a message and a group.
-use Rattle.std.specs.Prelude.{ℕ, ◌==◌, nat_lt, nat_le, Bool, ◌&&◌, ◌||◌, not, List, map}
+use Rattle.std.specs.Prelude.{ℕ, ◌==◌, nat_le, Bool, ◌&&◌, ◌||◌, not, List, map}
 use Rattle.std.specs.List.{flat_map}
 use Rattle.convoy_scenario.specs.Scenario.{Scenario, message_at, message_numbers, is_addressed, GoesTo}
+use Rattle.convoy_sim.specs.Moments.{next_arrival}
 use Rattle.convoy_intervals.specs.Bounds.{Tables}
 use Rattle.convoy_stamps.specs.declared.pair.Pair.{Pair}
 use Rattle.convoy_stamps.specs.Closures.{reached_from}
@@ -29,7 +30,7 @@ may_precede tables pair next =
 abbrev pub may_raise : Scenario → Tables → Pair → Pair → Bool
 may_raise scenario tables pair next =
     is_addressed (message_at scenario next.message) pair.group
-    && nat_lt (tables.least_settling next.message pair.group) (tables.greatest_arrival pair.message pair.group)
+    && nat_le (next_arrival scenario.time (tables.least_settling next.message pair.group)) (tables.greatest_arrival pair.message pair.group)
 
 -- the stamp of a pair may have the time after that of the next pair, which is of another message, and by a commit of another one than m
 abbrev pub leads_to : Scenario → Tables → ℕ → Pair → Pair → Bool

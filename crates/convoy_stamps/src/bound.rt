@@ -1,4 +1,5 @@
-ghost use Rattle.std.specs.Prelude.{◌≡◌, ℕ, ◌≤◌, ◌<◌, List, length, IfOk};
+ghost use Rattle.std.specs.Prelude.{◌≡◌, ◌≤◌, ◌<◌, length, IfOk};
+ghost use Rattle.convoy_packets.specs.Assignment.{Schedule};
 ghost use Rattle.convoy_sim.specs.Delivery.{latency_of};
 ghost use Rattle.convoy_intervals.specs.Boxes.{IsBox, IsIn};
 ghost use Rattle.convoy_stamps.specs.StampBounds.{lowest_stamp, highest_final, stamp_bound};
@@ -24,8 +25,8 @@ pub fn stamp_bound(
 ) -> Result<u32, AllocError>
     requires inside { IsBox instance.now delay_box.now }
     ensures value { IfOk result (λ bound. bound ≡ stamp_bound instance.now delay_box.now) }
-    ensures holds { IfOk result (λ bound. (delays : List ℕ) → IsIn delay_box.now delays
-        → latency_of instance.now delays ≤ bound) }
+    ensures holds { IfOk result (λ bound. (schedule : Schedule) → IsIn delay_box.now schedule
+        → latency_of instance.now schedule ≤ bound) }
 {
     let tracked = Tracked::over(alloc, instance, delay_box.copy()?)?;
     stamp_bound_of(alloc, instance, &tracked)
@@ -40,8 +41,8 @@ pub fn stamp_bound_of(
 ) -> Result<u32, AllocError>
     requires { tracked.now.scenario ≡ instance.now }
     ensures value { IfOk result (λ bound. bound ≡ stamp_bound instance.now tracked.now.delay_box) }
-    ensures holds { IfOk result (λ bound. (delays : List ℕ) → IsIn tracked.now.delay_box delays
-        → latency_of instance.now delays ≤ bound) }
+    ensures holds { IfOk result (λ bound. (schedule : Schedule) → IsIn tracked.now.delay_box schedule
+        → latency_of instance.now schedule ≤ bound) }
 {
     stamp_bound_holds();
     let spans = Spans::of(instance, tracked);

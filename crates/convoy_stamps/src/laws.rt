@@ -8,8 +8,8 @@ ghost use Rattle.convoy_stamps.specs.Laws.{StampBoundAtMostPlain};
 
 use convoy_intervals::laws::members_are_enclosed;
 use convoy_sim::laws::{
-    arrives_before_commit, delivery_law, earlier_arrives_before_commit, final_stamp_is_local,
-    local_stamp_names_group, stamps_have_steps, stamps_rise,
+    delivery_law, earlier_arrives_before_commit, final_stamp_is_local, last_raise,
+    local_stamp_names_group, stamps_rise,
 };
 
 /// The reach of a local stamp holds its own pair and, with each pair, those to which it leads.
@@ -27,15 +27,14 @@ pub fn reach_is_least()
 pub fn stamps_within_reach()
     ensures { StampsWithinReach }
 {
-    stamps_have_steps();
-    arrives_before_commit();
+    last_raise();
 }
 
 /// The time of a local stamp is more than the number of messages that surely arrive there before.
 pub fn stamps_past_sure_before()
     ensures { StampsPastSureBefore }
 {
-    stamps_have_steps();
+    last_raise();
     stamps_rise();
 }
 

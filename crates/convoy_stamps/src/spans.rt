@@ -1,11 +1,12 @@
-ghost use Rattle.std.specs.Prelude.{◌≡◌, ◌<◌, length};
+ghost use Rattle.std.specs.Prelude.{◌≡◌, ◌<◌, nat_le, length};
 ghost use Rattle.convoy_scenario.specs.Scenario.{message_at, is_addressed};
+ghost use Rattle.convoy_sim.specs.Moments.{next_arrival};
 ghost use Rattle.convoy_intervals.specs.Spans.{span_of};
 
 use super::pair::Pair;
 use convoy_intervals::{Span, Tracked};
 use convoy_packets::Instance;
-use convoy_scenario::Scenario;
+use convoy_scenario::{Scenario, Time};
 use std::marker::Model;
 
 /// A scenario with a box, and what the box leaves open of each message at each group.
@@ -113,7 +114,11 @@ impl<'a> Spans<'a> {
     {
         let _scenario = self.scenario();
         self.goes_to(next.message, pair.group)
-            && self.span(next.message, pair.group).settling.0 < self.last_arrival(pair)
+            && may_follow(
+                self.instance.time(),
+                self.span(next.message, pair.group).settling.0,
+                self.last_arrival(pair),
+            )
     }
 
     /// Whether the stamp of a pair may have the time after that of the next pair, which is of another
@@ -138,5 +143,15 @@ impl<'a> Spans<'a> {
     {
         let same = pair.message == next.message && pair.group == next.group;
         same || self.leads_to(pair, next)
+    }
+}
+
+/// Whether a message may arrive at a group at a tick after a commit there at another tick.
+fn may_follow(time: Time, committed: u32, arrives: u32) -> bool
+    ensures { result ≡ nat_le (next_arrival time committed) arrives }
+{
+    match time {
+        Time::Ticks => committed < arrives,
+        Time::Real => committed <= arrives,
     }
 }

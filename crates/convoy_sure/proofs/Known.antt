@@ -5,7 +5,7 @@ use Rattle.std.proofs.lemmas.List.{get_or_past}
 use Rattle.convoy_scenario.specs.declared.limits.TheConstants.{MOST_GROUPS}
 use Rattle.convoy_scenario.specs.Scenario.{Scenario, message_at, no_message}
 use Rattle.convoy_scenario.specs.WellFormed.{IsScenario}
-use Rattle.convoy_sim.specs.Places.{place}
+use Rattle.convoy_packets.specs.Order.{place}
 use Rattle.convoy_sure.specs.SureLeads.{lead_at, top_of}
 use Rattle.convoy_sure.proofs.SureLaws.{group_is_low}
 use Rattle.convoy_sure.proofs.Tops.{top_small}

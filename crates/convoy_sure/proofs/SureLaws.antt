@@ -1,28 +1,29 @@
 -- The law of sure leads: the stamp of a message at the target's group exceeds each other one by what its table of leads says.
 use Rattle.std.proofs.Common.{◌≡◌, ℕ, ◌+◌, ◌-◌, ◌*◌, ◌<◌, ◌≤◌, zero, suc, max, Bool, true, ◌==◌, ◌⊎◌, nat_lt, inl, inr, List, [], ◌∷◌, length, map, replicate, get_or, slice_set, fold, refl, sym, ap, ap₂, subst, arith}
-use Rattle.std.proofs.lemmas.Bool.{cases_Bool, cases_eq, cond-true, cond-false, ltb-true, eqb-true}
+use Rattle.std.proofs.lemmas.Bool.{cases_Bool, cond-true, cond-false, ltb-true, eqb-true}
 use Rattle.std.specs.List.{filter, range_with_len}
-use Rattle.std.proofs.lemmas.Bool.Decides.{nat_tests}
 use Rattle.convoy_scenario.specs.declared.limits.TheConstants.{MOST_GROUPS}
 use Rattle.convoy_scenario.specs.Scenario.{Scenario, message_at, no_message, GoesTo}
 use Rattle.convoy_scenario.specs.WellFormed.{IsScenario}
 use Rattle.convoy_packets.specs.Assignment.{Schedule}
 use Rattle.convoy_sim.specs.Times.{arrive, settle}
+use Rattle.convoy_sim.specs.Moments.{arrival_of, commit_of}
 use Rattle.convoy_sim.specs.Stamps.{local_stamp, final_stamp}
 use Rattle.convoy_sim.specs.Delivery.{addressed_to}
-use Rattle.convoy_sim.specs.Places.{place}
+use Rattle.convoy_packets.specs.Order.{place}
 use Rattle.convoy_sim.proofs.Membership.{IsIn, in_of_filter, greatest_most, all-in}
 use Rattle.convoy_sim.proofs.Addressed.{goes_of_addressed, goes_from_in, in_of_goes, number_of_goes}
-use Rattle.convoy_sim.proofs.MomentsOrder.{time_of_not_less}
+use Rattle.convoy_sim.proofs.MomentsOrder.{before_by_tick, time_of_not_less}
 use Rattle.convoy_intervals.specs.Bounds.{Tables, Encloses}
 use Rattle.convoy_stamps.specs.declared.pair.Pair.{Pair}
 use Rattle.convoy_stamps.specs.Reach.{IsPair, pairs_of}
+use Rattle.convoy_stamps.proofs.Arrivals.{once-addressed, one_time, stamp_positive}
 use Rattle.convoy_stamps.proofs.Counting.{once-filter}
 use Rattle.convoy_stamps.proofs.Pairs.{goes_of_pair}
 use Rattle.convoy_sure.specs.SureLeads.{is_earlier, sure_after, sure_later, sure_behind, lead_at, top_of, top_behind, next_lead, with_lead, is_later, insert_pair, last_first, first_leads, leads_of, sure_time}
 use Rattle.convoy_sure.specs.Laws.{SureArrivalsRise, SureLeadsHold, WhatIsSureHolds}
 use Rattle.convoy_sure.specs.Below.{LawsBelow}
-use Rattle.convoy_sure.proofs.Times.{arrivals_from, commit_from_tick, one_time, stamp_positive, once-addressed}
+use Rattle.convoy_sure.proofs.Times.{surely_before}
 use Rattle.convoy_sure.proofs.Tops.{top_within}
 
 -- ---- lists
@@ -65,42 +66,30 @@ group_is_low scenario well m g goes =
     let few = well.groups_high in
     omega arith
 
-pub earlier_parts : (a z b q : ℕ) → is_earlier a z b q ≡ true → (a < b) ⊎ ((a ≡ b) × (z < q))
-earlier_parts a z b q t = elim (cases_Bool (nat_lt a b)) [
-  | inl e ↦ inl (ltb-true a b e)
-  | inr e ↦ inr (grind (arith, nat_tests, t, e), grind (arith, nat_tests, t, e))
-]
-
-module _ (below : LawsBelow) (scenario : Scenario) (delays : Schedule) (tables : Tables) (well : IsScenario scenario) (enclosed : Encloses scenario delays tables) where
+module _ (below : LawsBelow) (scenario : Scenario) (schedule : Schedule) (tables : Tables) (well : IsScenario scenario) (enclosed : Encloses scenario schedule tables) where
   abbrev pub time_of : ℕ → ℕ → ℕ
-  time_of m g = (local_stamp scenario delays m g).time
+  time_of m g = (local_stamp scenario schedule m g).time
 
   -- what surely comes after a coming has a greater time
-  pub after_rises : (q g tick : ℕ) → GoesTo scenario q g → arrive scenario delays q g ≤ tick → (z : ℕ) → GoesTo scenario z g
-      → is_earlier tick q (tables.least_arrival z g) z ≡ true → time_of q g < time_of z g
+  pub after_rises : (q g tick : ℕ) → GoesTo scenario q g → arrive scenario schedule q g ≤ tick → (z : ℕ) → GoesTo scenario z g
+      → is_earlier scenario.time tick q (tables.least_arrival z g) z ≡ true → time_of q g < time_of z g
   after_rises q g tick goes l z to t =
-      let low = enclosed.arrival_low z g to in
-      below.rise scenario delays well q z g goes to (arrivals_from scenario delays q z g (elim (earlier_parts tick q (tables.least_arrival z g) z t) [
-        | inl a ↦ inl (omega arith)
-        | inr a ↦ elim (cases_eq (arrive scenario delays q g) (arrive scenario delays z g)) [
-          | inl e ↦ inr (e, a.1)
-          | inr d ↦ inl (omega (arith, a.0, d))
-        ]
-      ]))
+      below.rise scenario schedule well q z g goes to
+      (surely_before scenario schedule q z g tick (tables.least_arrival z g) l (enclosed.arrival_low z g to) t)
 
   -- what surely comes after a commit has a greater time than each stamp of its message
-  pub later_rises : (q g y tick : ℕ) → GoesTo scenario q g → GoesTo scenario q y → settle scenario delays q y ≤ tick → (z : ℕ) → GoesTo scenario z y
+  pub later_rises : (q g y tick : ℕ) → GoesTo scenario q g → GoesTo scenario q y → settle scenario schedule q y ≤ tick → (z : ℕ) → GoesTo scenario z y
       → nat_lt tick (tables.least_arrival z y) ≡ true → time_of q g < time_of z y
   later_rises q g y tick goes at l z to t =
       let low = enclosed.arrival_low z y to in
       let sure = ltb-true tick (tables.least_arrival z y) t in
-      let past = below.rise_past scenario delays well q z y at to (commit_from_tick scenario delays q z y (omega arith)) in
-      let most = time_of_not_less (final_stamp scenario delays q) (local_stamp scenario delays q g) (below.not_greater scenario delays well q g goes) in
+      let past = below.rise_past scenario schedule well q z y at to (before_by_tick (commit_of scenario schedule q y) (arrival_of scenario schedule z y) (omega arith)) in
+      let most = time_of_not_less (final_stamp scenario schedule q) (local_stamp scenario schedule q g) (below.not_greater scenario schedule well q g goes) in
       omega arith
 
-module _ (below : LawsBelow) (scenario : Scenario) (delays : Schedule) (tables : Tables) (well : IsScenario scenario) (enclosed : Encloses scenario delays tables) (n : ℕ) (goes_n : GoesTo scenario n scenario.target_group) where
+module _ (below : LawsBelow) (scenario : Scenario) (schedule : Schedule) (tables : Tables) (well : IsScenario scenario) (enclosed : Encloses scenario schedule tables) (n : ℕ) (goes_n : GoesTo scenario n scenario.target_group) where
   abbrev pub time : ℕ → ℕ → ℕ
-  time m g = (local_stamp scenario delays m g).time
+  time m g = (local_stamp scenario schedule m g).time
 
   -- the time that all is measured against
   abbrev pub own : ℕ
@@ -117,7 +106,7 @@ module _ (below : LawsBelow) (scenario : Scenario) (delays : Schedule) (tables :
   top_sure leads sure g v test above =
       top_within (λ z. time z g) (λ z. lead_at leads z g) (filter test (addressed_to scenario g)) (own + 1) v
       (once-filter test (addressed_to scenario g) (once-addressed scenario g))
-      (λ a b i j e. one_time below scenario delays well g a b (to a i) (to b j) e)
+      (λ a b i j e. one_time below.rise scenario schedule well g a b (to a i) (to b j) e)
       (λ z i. above z (to z i) (in_of_filter test z (addressed_to scenario g) i).1)
       (λ z i. sure z g (to z i)) where
         to : (z : ℕ) → IsIn z (filter test (addressed_to scenario g)) → GoesTo scenario z g
@@ -128,14 +117,14 @@ module _ (below : LawsBelow) (scenario : Scenario) (delays : Schedule) (tables :
   behind_sure leads sure q g y goes at = elim (cases_Bool (y == g)) [
     | inl e ↦
         let same : y ≡ g = eqb-true y g e in
-        let here = top_sure leads sure g (time q g) (λ z. is_earlier (tables.greatest_arrival q g) q (tables.least_arrival z g) z)
-        (after_rises below scenario delays tables well enclosed q g (tables.greatest_arrival q g) goes (enclosed.arrival_high q g goes)) in
+        let here = top_sure leads sure g (time q g) (λ z. is_earlier scenario.time (tables.greatest_arrival q g) q (tables.least_arrival z g) z)
+        (after_rises below scenario schedule tables well enclosed q g (tables.greatest_arrival q g) goes (enclosed.arrival_high q g goes)) in
         subst (λ l. top_of (λ z. lead_at leads z y) l ≤ (own + 1) - time q g)
         (sym (cond-true (y == g) (sure_after scenario tables (tables.greatest_arrival q g) q g) (sure_later scenario tables (tables.greatest_settling q y) y) e))
         (subst (λ k. top_of (λ z. lead_at leads z k) (sure_after scenario tables (tables.greatest_arrival q g) q g) ≤ (own + 1) - time q g) (sym same) here)
     | inr e ↦
         let there = top_sure leads sure y (time q g) (λ z. nat_lt (tables.greatest_settling q y) (tables.least_arrival z y))
-        (later_rises below scenario delays tables well enclosed q g y (tables.greatest_settling q y) goes at (enclosed.settling_high q y at)) in
+        (later_rises below scenario schedule tables well enclosed q g y (tables.greatest_settling q y) goes at (enclosed.settling_high q y at)) in
         subst (λ l. top_of (λ z. lead_at leads z y) l ≤ (own + 1) - time q g)
         (sym (cond-false (y == g) (sure_after scenario tables (tables.greatest_arrival q g) q g) (sure_later scenario tables (tables.greatest_settling q y) y) e))
         there
@@ -189,35 +178,35 @@ module _ (below : LawsBelow) (scenario : Scenario) (delays : Schedule) (tables :
   time_sure leads sure =
       let each : (g : ℕ) → top_of (λ z. lead_at leads z g) (addressed_to scenario g) ≤ own + 1 = λ g.
       let here = top_within (λ z. time z g) (λ z. lead_at leads z g) (addressed_to scenario g) (own + 1) 0 (once-addressed scenario g)
-      (λ a b i j e. one_time below scenario delays well g a b (goes_of_addressed scenario a g i) (goes_of_addressed scenario b g j) e)
-      (λ z i. stamp_positive below scenario delays well z g (goes_of_addressed scenario z g i))
+      (λ a b i j e. one_time below.rise scenario schedule well g a b (goes_of_addressed scenario a g i) (goes_of_addressed scenario b g j) e)
+      (λ z i. stamp_positive below.raise scenario schedule well z g (goes_of_addressed scenario z g i))
       (λ z i. sure z g (goes_of_addressed scenario z g i)) in
       omega arith in
       let all = greatest_most (λ g. top_of (λ z. lead_at leads z g) (addressed_to scenario g)) (own + 1) (range_with_len 0 (length scenario.groups)) (λ g i. each g) in
       omega arith
 
 pub leads_hold : LawsBelow → SureLeadsHold
-leads_hold below scenario delays tables well enclosed n goes =
-    let sure = leads_sure below scenario delays tables well enclosed n goes in
-    (λ q g to some. let here = sure q g to in omega arith, time_sure below scenario delays tables well enclosed n goes (leads_of scenario tables n) sure)
+leads_hold below scenario schedule tables well enclosed n goes =
+    let sure = leads_sure below scenario schedule tables well enclosed n goes in
+    (λ q g to some. let here = sure q g to in omega arith, time_sure below scenario schedule tables well enclosed n goes (leads_of scenario tables n) sure)
 
 pub arrivals_rise : LawsBelow → SureArrivalsRise
-arrivals_rise below scenario delays tables well enclosed q g tick goes soon z to after = after_rises below scenario delays tables well enclosed q g tick goes soon z to after
+arrivals_rise below scenario schedule tables well enclosed q g tick goes soon z to after = after_rises below scenario schedule tables well enclosed q g tick goes soon z to after
 
 pub sure_holds : LawsBelow → WhatIsSureHolds
-sure_holds below scenario delays tables well enclosed n goes_n =
+sure_holds below scenario schedule tables well enclosed n goes_n =
     let leads : List ℕ = leads_of scenario tables n in
-    let sure = leads_sure below scenario delays tables well enclosed n goes_n in
-    let time : ℕ → ℕ → ℕ = λ m g. (local_stamp scenario delays m g).time in
+    let sure = leads_sure below scenario schedule tables well enclosed n goes_n in
+    let time : ℕ → ℕ → ℕ = λ m g. (local_stamp scenario schedule m g).time in
     record {
       leads_hold = sure;
       after_holds = λ q g tick goes soon.
-          top_sure below scenario delays tables well enclosed n goes_n leads sure g (time q g)
-          (λ z. is_earlier tick q (tables.least_arrival z g) z)
-          (after_rises below scenario delays tables well enclosed q g tick goes soon);
+          top_sure below scenario schedule tables well enclosed n goes_n leads sure g (time q g)
+          (λ z. is_earlier scenario.time tick q (tables.least_arrival z g) z)
+          (after_rises below scenario schedule tables well enclosed q g tick goes soon);
       later_holds = λ q g y tick goes at soon.
-          top_sure below scenario delays tables well enclosed n goes_n leads sure y (time q g)
+          top_sure below scenario schedule tables well enclosed n goes_n leads sure y (time q g)
           (λ z. nat_lt tick (tables.least_arrival z y))
-          (later_rises below scenario delays tables well enclosed q g y tick goes at soon);
-      time_holds = time_sure below scenario delays tables well enclosed n goes_n leads sure;
+          (later_rises below scenario schedule tables well enclosed q g y tick goes at soon);
+      time_holds = time_sure below scenario schedule tables well enclosed n goes_n leads sure;
     }

@@ -9,7 +9,7 @@ use Rattle.convoy_packets.specs.declared.packet.Packet.TheVariants.{Propose}
 use Rattle.convoy_packets.specs.Assignment.{Schedule, delay_of}
 use Rattle.convoy_packets.specs.Table.{least_of}
 use Rattle.convoy_sim.specs.Times.{arrive, settle, propose_arrive}
-use Rattle.convoy_sim.specs.Places.{place}
+use Rattle.convoy_packets.specs.Order.{place}
 use Rattle.convoy_sim.proofs.Membership.{IsIn, in_greatest}
 use Rattle.convoy_sim.proofs.Addressed.{in_of_goes, goes_from_in, number_of_goes}
 use Rattle.convoy_intervals.specs.Boxes.{Box, greatest_of}
@@ -33,9 +33,9 @@ entry_is scenario what well m g goes =
     ∙ ap₂ one message group ∙ cond-true (is_addressed (message_at scenario m) g) (what m g) 0 goes
 
 -- between destinations the entry is the delay of the proposal
-proposal_is : (scenario : Scenario) (delays : Schedule) → IsScenario scenario → (m h g : ℕ) → GoesTo scenario m h → GoesTo scenario m g
-    → entry_at (proposals_of scenario delays) (place m h) g ≡ delay_of scenario delays (Propose m h g)
-proposal_is scenario delays well m h g from to =
+proposal_is : (scenario : Scenario) (schedule : Schedule) → IsScenario scenario → (m h g : ℕ) → GoesTo scenario m h → GoesTo scenario m g
+    → entry_at (proposals_of scenario schedule) (place m h) g ≡ delay_of scenario schedule (Propose m h g)
+proposal_is scenario schedule well m h g from to =
     let low_h = group_is_low scenario well m h from in
     let low_g = group_is_low scenario well m g to in
     let known = number_of_goes scenario m h from in
@@ -44,27 +44,27 @@ proposal_is scenario delays well m h g from to =
     let message : place m h / MOST_GROUPS ≡ m = omega arith in
     let first : place m h % MOST_GROUPS ≡ h = omega arith in
     let second : at % MOST_GROUPS ≡ g = omega arith in
-    get_or-map-range_with_len (λ i. proposal_delay scenario delays (i / MOST_GROUPS / MOST_GROUPS) (i / MOST_GROUPS % MOST_GROUPS) (i % MOST_GROUPS))
+    get_or-map-range_with_len (λ i. proposal_delay scenario schedule (i / MOST_GROUPS / MOST_GROUPS) (i / MOST_GROUPS % MOST_GROUPS) (i % MOST_GROUPS))
     0 (length scenario.multicasts * MOST_GROUPS * MOST_GROUPS) at at 0 (omega arith) (omega arith)
-    ∙ ap₂ (λ i k. proposal_delay scenario delays (i / MOST_GROUPS) (i % MOST_GROUPS) k) rest second
-    ∙ ap₂ (λ n k. proposal_delay scenario delays n k g) message first
-    ∙ cond-true (is_addressed (message_at scenario m) h && is_addressed (message_at scenario m) g) (delay_of scenario delays (Propose m h g)) 0
+    ∙ ap₂ (λ i k. proposal_delay scenario schedule (i / MOST_GROUPS) (i % MOST_GROUPS) k) rest second
+    ∙ ap₂ (λ n k. proposal_delay scenario schedule n k g) message first
+    ∙ cond-true (is_addressed (message_at scenario m) h && is_addressed (message_at scenario m) g) (delay_of scenario schedule (Propose m h g)) 0
     (and_from (is_addressed (message_at scenario m) h) (is_addressed (message_at scenario m) g) from to)
 
 -- tables that say the same at destinations enclose the same
-windows_enclose : (scenario : Scenario) (ranges : Box) (delays : Schedule) → IsScenario scenario → Encloses scenario delays (tables_of scenario ranges)
-    → ((m h g : ℕ) → delay_of scenario (least_of ranges) (Propose m h g) ≤ delay_of scenario delays (Propose m h g))
-    → ((m h g : ℕ) → delay_of scenario delays (Propose m h g) ≤ delay_of scenario (greatest_of ranges) (Propose m h g))
-    → EnclosesAll scenario delays (tables_by (windows_of scenario ranges))
-windows_enclose scenario ranges delays well enclosed low high = record {
+windows_enclose : (scenario : Scenario) (ranges : Box) (schedule : Schedule) → IsScenario scenario → Encloses scenario schedule (tables_of scenario ranges)
+    → ((m h g : ℕ) → delay_of scenario (least_of ranges) (Propose m h g) ≤ delay_of scenario schedule (Propose m h g))
+    → ((m h g : ℕ) → delay_of scenario schedule (Propose m h g) ≤ delay_of scenario (greatest_of ranges) (Propose m h g))
+    → EnclosesAll scenario schedule (tables_by (windows_of scenario ranges))
+windows_enclose scenario ranges schedule well enclosed low high = record {
   times = record {
-    arrival_low = λ m g goes. subst (λ e. e ≤ arrive scenario delays m g) (sym (entry_is scenario (tables_of scenario ranges).least_arrival well m g goes)) (enclosed.arrival_low m g goes);
-    arrival_high = λ m g goes. subst (λ e. arrive scenario delays m g ≤ e) (sym (entry_is scenario (tables_of scenario ranges).greatest_arrival well m g goes)) (enclosed.arrival_high m g goes);
-    settling_low = λ m g goes. subst (λ e. e ≤ settle scenario delays m g) (sym (entry_is scenario (tables_of scenario ranges).least_settling well m g goes)) (enclosed.settling_low m g goes);
-    settling_high = λ m g goes. subst (λ e. settle scenario delays m g ≤ e) (sym (entry_is scenario (tables_of scenario ranges).greatest_settling well m g goes)) (enclosed.settling_high m g goes);
+    arrival_low = λ m g goes. subst (λ e. e ≤ arrive scenario schedule m g) (sym (entry_is scenario (tables_of scenario ranges).least_arrival well m g goes)) (enclosed.arrival_low m g goes);
+    arrival_high = λ m g goes. subst (λ e. arrive scenario schedule m g ≤ e) (sym (entry_is scenario (tables_of scenario ranges).greatest_arrival well m g goes)) (enclosed.arrival_high m g goes);
+    settling_low = λ m g goes. subst (λ e. e ≤ settle scenario schedule m g) (sym (entry_is scenario (tables_of scenario ranges).least_settling well m g goes)) (enclosed.settling_low m g goes);
+    settling_high = λ m g goes. subst (λ e. settle scenario schedule m g ≤ e) (sym (entry_is scenario (tables_of scenario ranges).greatest_settling well m g goes)) (enclosed.settling_high m g goes);
   };
-  proposals_low = λ m h g from to. subst (λ e. e ≤ delay_of scenario delays (Propose m h g)) (sym (proposal_is scenario (least_of ranges) well m h g from to)) (low m h g);
-  proposals_high = λ m h g from to. subst (λ e. delay_of scenario delays (Propose m h g) ≤ e) (sym (proposal_is scenario (greatest_of ranges) well m h g from to)) (high m h g);
+  proposals_low = λ m h g from to. subst (λ e. e ≤ delay_of scenario schedule (Propose m h g)) (sym (proposal_is scenario (least_of ranges) well m h g from to)) (low m h g);
+  proposals_high = λ m h g from to. subst (λ e. delay_of scenario schedule (Propose m h g) ≤ e) (sym (proposal_is scenario (greatest_of ranges) well m h g from to)) (high m h g);
 }
 
 pub windows_are_tables : WindowsAreTables
@@ -76,14 +76,14 @@ windows_are_tables scenario ranges well m g goes = record {
 }
 
 pub windows_enclose_members : MembersAreEnclosed → WindowsEncloseMembers
-windows_enclose_members enclosed scenario ranges delays well member =
-    windows_enclose scenario ranges delays well (enclosed scenario ranges delays member)
-    (λ m h g. least_delay scenario ranges delays member (Propose m h g))
-    (λ m h g. greatest_delay scenario ranges delays member (Propose m h g))
+windows_enclose_members enclosed scenario ranges schedule well member =
+    windows_enclose scenario ranges schedule well (enclosed scenario ranges schedule member)
+    (λ m h g. least_delay scenario ranges schedule member (Propose m h g))
+    (λ m h g. greatest_delay scenario ranges schedule member (Propose m h g))
 
 -- ---- cut windows
-module _ (scenario : Scenario) (delays : Schedule) (windows : Windows) (m k tick : ℕ) (well : IsScenario scenario) (enclosed : EnclosesAll scenario delays (tables_by windows))
-    (goes : GoesTo scenario m k) (late : tick ≤ arrive scenario delays m k) where
+module _ (scenario : Scenario) (schedule : Schedule) (windows : Windows) (m k tick : ℕ) (well : IsScenario scenario) (enclosed : EnclosesAll scenario schedule (tables_by windows))
+    (goes : GoesTo scenario m k) (late : tick ≤ arrive scenario schedule m k) where
   -- the entries are no greater than these numbers at destinations
   AreBelow : (ℕ → ℕ → ℕ) → List ℕ → Type 0
   AreBelow what entries = (n g : ℕ) → GoesTo scenario n g → entry_at entries n g ≤ what n g
@@ -98,15 +98,15 @@ module _ (scenario : Scenario) (delays : Schedule) (windows : Windows) (m k tick
         subst (λ v. v ≤ what i h) (sym e.1) (subst (λ a. value ≤ what a h) same.0 (subst (λ b. value ≤ what n b) same.1 here))
   ]
 
-  by_way : (g : ℕ) → GoesTo scenario m g → tick + (tables_by windows).least_proposal m k g ≤ settle scenario delays m g
+  by_way : (g : ℕ) → GoesTo scenario m g → tick + (tables_by windows).least_proposal m k g ≤ settle scenario schedule m g
   unfolding settle
   by_way g to =
       let low = enclosed.proposals_low m k g goes to in
-      let most = in_greatest (propose_arrive scenario delays m g) k (message_at scenario m).destinations (in_of_goes scenario m k goes) in
+      let most = in_greatest (propose_arrive scenario schedule m g) k (message_at scenario m).destinations (in_of_goes scenario m k goes) in
       omega arith
 
-  settlings_below : (entries : List ℕ) (gs : List ℕ) → ((g : ℕ) → IsIn g gs → GoesTo scenario m g) → AreBelow (settle scenario delays) entries
-      → AreBelow (settle scenario delays) (fold (with_settling windows m k tick) entries gs)
+  settlings_below : (entries : List ℕ) (gs : List ℕ) → ((g : ℕ) → IsIn g gs → GoesTo scenario m g) → AreBelow (settle scenario schedule) entries
+      → AreBelow (settle scenario schedule) (fold (with_settling windows m k tick) entries gs)
   unfolding AreBelow
   settlings_below entries [] to below = below
   settlings_below entries (g ∷ gs) to below =
@@ -114,15 +114,15 @@ module _ (scenario : Scenario) (delays : Schedule) (windows : Windows) (m k tick
       let way = by_way g there in
       let old = below m g there in
       settlings_below (with_settling windows m k tick entries g) gs (λ h i. to h (inr i))
-      (set_below (settle scenario delays) entries m g (max (tick + (tables_by windows).least_proposal m k g) (entry_at entries m g)) there (omega arith) below)
+      (set_below (settle scenario schedule) entries m g (max (tick + (tables_by windows).least_proposal m k g) (entry_at entries m g)) there (omega arith) below)
 
-  arrival_cut : EnclosesAll scenario delays (tables_by (with_arrival scenario windows m k tick))
+  arrival_cut : EnclosesAll scenario schedule (tables_by (with_arrival scenario windows m k tick))
   unfolding AreBelow
   arrival_cut =
       let old = enclosed.times.arrival_low m k goes in
       record {
         times = record {
-          arrival_low = set_below (arrive scenario delays) windows.least_arrivals m k (max tick (entry_at windows.least_arrivals m k)) goes (omega arith) enclosed.times.arrival_low;
+          arrival_low = set_below (arrive scenario schedule) windows.least_arrivals m k (max tick (entry_at windows.least_arrivals m k)) goes (omega arith) enclosed.times.arrival_low;
           arrival_high = enclosed.times.arrival_high;
           settling_low = settlings_below windows.least_settlings (message_at scenario m).destinations (λ g i. goes_from_in scenario m g i) enclosed.times.settling_low;
           settling_high = enclosed.times.settling_high;
@@ -132,4 +132,4 @@ module _ (scenario : Scenario) (delays : Schedule) (windows : Windows) (m k tick
       }
 
 pub cuts_enclose : CutsEnclose
-cuts_enclose scenario delays windows m k tick well enclosed goes late = arrival_cut scenario delays windows m k tick well enclosed goes late
+cuts_enclose scenario schedule windows m k tick well enclosed goes late = arrival_cut scenario schedule windows m k tick well enclosed goes late

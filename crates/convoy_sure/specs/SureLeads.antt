@@ -2,21 +2,33 @@
 use Rattle.std.specs.Prelude.{ℕ, ◌+◌, ◌-◌, ◌*◌, ◌==◌, nat_lt, nat_le, max, min, Bool, ◌&&◌, ◌||◌, List, [], ◌∷◌, length, map, replicate, slice_index_or, slice_set, if◌then◌else◌}
 use Rattle.std.specs.List.{fold, filter, range_with_len}
 use Rattle.convoy_scenario.specs.declared.limits.TheConstants.{MOST_GROUPS}
+use Rattle.convoy_scenario.specs.declared.time.Time.{Time}
+use Rattle.convoy_scenario.specs.declared.time.Time.TheVariants.{Ticks, Real}
 use Rattle.convoy_scenario.specs.Scenario.{Scenario, message_at}
 use Rattle.convoy_sim.specs.Times.{Tick, greatest}
 use Rattle.convoy_sim.specs.Delivery.{addressed_to}
-use Rattle.convoy_sim.specs.Places.{place}
+use Rattle.convoy_packets.specs.Order.{place}
 use Rattle.convoy_intervals.specs.Bounds.{Tables}
 use Rattle.convoy_stamps.specs.declared.pair.Pair.{Pair}
 use Rattle.convoy_stamps.specs.Reach.{pairs_of}
 
--- the arrival of message z at one tick is before that of message q at another
-abbrev pub is_earlier : Tick → ℕ → Tick → ℕ → Bool
-is_earlier a z b q = nat_lt a b || ((a == b) && nat_lt z q)
+-- the arrival of message z at one tick is before that of message q at another in the fixed order of ties
+abbrev pub is_first : Tick → ℕ → Tick → ℕ → Bool
+is_first a z b q = nat_lt a b || ((a == b) && nat_lt z q)
+
+-- the arrival of message z at one tick is surely before that of message q at another
+abbrev pub is_earlier : Time → Tick → ℕ → Tick → ℕ → Bool
+is_earlier Ticks a z b q = is_first a z b q
+is_earlier Real a z b q = nat_lt a b
+
+-- the arrival of message z at one tick may be before that of message q at another
+abbrev pub may_be_earlier : Time → Tick → ℕ → Tick → ℕ → Bool
+may_be_earlier Ticks a z b q = is_first a z b q
+may_be_earlier Real a z b q = nat_le a b
 
 -- the messages that surely arrive at group g after message q, which arrives there by that tick
 abbrev pub sure_after : Scenario → Tables → Tick → ℕ → ℕ → List ℕ
-sure_after scenario tables tick q g = filter (λ z. is_earlier tick q (tables.least_arrival z g) z) (addressed_to scenario g)
+sure_after scenario tables tick q g = filter (λ z. is_earlier scenario.time tick q (tables.least_arrival z g) z) (addressed_to scenario g)
 
 -- the messages that surely arrive at group g after that tick
 abbrev pub sure_later : Scenario → Tables → Tick → ℕ → List ℕ
@@ -59,7 +71,7 @@ with_lead scenario tables leads pair = slice_set leads (place pair.message pair.
 
 -- the first pair arrives later, at the latest, than the second one
 abbrev pub is_later : Tables → Pair → Pair → Bool
-is_later tables p q = is_earlier (tables.greatest_arrival q.message q.group) q.message (tables.greatest_arrival p.message p.group) p.message
+is_later tables p q = is_first (tables.greatest_arrival q.message q.group) q.message (tables.greatest_arrival p.message p.group) p.message
 
 -- a pair put in its place among some that are in order
 abbrev pub insert_pair : Tables → List Pair → Pair → List Pair

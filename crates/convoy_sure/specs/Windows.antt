@@ -7,7 +7,7 @@ use Rattle.convoy_packets.specs.declared.packet.Packet.TheVariants.{Propose}
 use Rattle.convoy_packets.specs.Assignment.{Schedule, delay_of}
 use Rattle.convoy_packets.specs.Table.{least_of}
 use Rattle.convoy_sim.specs.Times.{Tick}
-use Rattle.convoy_sim.specs.Places.{place}
+use Rattle.convoy_packets.specs.Order.{place}
 use Rattle.convoy_intervals.specs.Boxes.{Box, greatest_of}
 use Rattle.convoy_intervals.specs.Bounds.{Tables, Encloses, tables_of}
 
@@ -18,10 +18,10 @@ pub record LeadTables : Type 0 where
   pub greatest_proposal : ℕ → ℕ → ℕ → ℕ
 
 -- the tables enclose arrival and settling under a schedule, and the delay of each proposal between destinations
-pub record EnclosesAll (scenario : Scenario) (delays : Schedule) (tables : LeadTables) : Type 0 where
-  pub times : Encloses scenario delays tables.times
-  pub proposals_low : (m h g : ℕ) → GoesTo scenario m h → GoesTo scenario m g → tables.least_proposal m h g ≤ delay_of scenario delays (Propose m h g)
-  pub proposals_high : (m h g : ℕ) → GoesTo scenario m h → GoesTo scenario m g → delay_of scenario delays (Propose m h g) ≤ tables.greatest_proposal m h g
+pub record EnclosesAll (scenario : Scenario) (schedule : Schedule) (tables : LeadTables) : Type 0 where
+  pub times : Encloses scenario schedule tables.times
+  pub proposals_low : (m h g : ℕ) → GoesTo scenario m h → GoesTo scenario m g → tables.least_proposal m h g ≤ delay_of scenario schedule (Propose m h g)
+  pub proposals_high : (m h g : ℕ) → GoesTo scenario m h → GoesTo scenario m g → delay_of scenario schedule (Propose m h g) ≤ tables.greatest_proposal m h g
 
 -- the same in lists: an entry for each message at each group, and for the proposals one for each message at each two groups
 pub record Windows : Type 0 where
@@ -60,18 +60,18 @@ entries_of scenario what = map (entry_of scenario what) (range_with_len 0 (lengt
 
 -- the delay of the proposal of message m from group h to group g, 0 where one of them is no destination
 abbrev pub proposal_delay : Scenario → Schedule → ℕ → ℕ → ℕ → ℕ
-proposal_delay scenario delays m h g =
-    if is_addressed (message_at scenario m) h && is_addressed (message_at scenario m) g then delay_of scenario delays (Propose m h g) else 0
+proposal_delay scenario schedule m h g =
+    if is_addressed (message_at scenario m) h && is_addressed (message_at scenario m) g then delay_of scenario schedule (Propose m h g) else 0
 
 -- the entry at a place in a table of proposals
 abbrev pub proposal_entry : Scenario → Schedule → ℕ → ℕ
-proposal_entry scenario delays i =
-    proposal_delay scenario delays (i / MOST_GROUPS / MOST_GROUPS) (i / MOST_GROUPS % MOST_GROUPS) (i % MOST_GROUPS)
+proposal_entry scenario schedule i =
+    proposal_delay scenario schedule (i / MOST_GROUPS / MOST_GROUPS) (i / MOST_GROUPS % MOST_GROUPS) (i % MOST_GROUPS)
 
 -- an entry for the proposal of each message from each group to each group
 abbrev pub proposals_of : Scenario → Schedule → List ℕ
-proposals_of scenario delays =
-    map (proposal_entry scenario delays) (range_with_len 0 (length scenario.multicasts * MOST_GROUPS * MOST_GROUPS))
+proposals_of scenario schedule =
+    map (proposal_entry scenario schedule) (range_with_len 0 (length scenario.multicasts * MOST_GROUPS * MOST_GROUPS))
 
 -- the windows of a box
 abbrev pub windows_of : Scenario → Box → Windows

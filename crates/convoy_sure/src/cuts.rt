@@ -1,7 +1,7 @@
 ghost use Rattle.std.specs.Prelude.{◌≡◌, ℕ, ◌+◌, ◌<◌, ◌≤◌, max, length, slice_set, All, IfOk};
 ghost use Rattle.std.specs.List.{fold};
 ghost use Rattle.convoy_scenario.specs.Scenario.{message_at};
-ghost use Rattle.convoy_sim.specs.Places.{place};
+ghost use Rattle.convoy_packets.specs.Order.{place};
 ghost use Rattle.convoy_sure.specs.Windows.{entry_at, with_arrival, with_settling};
 
 use super::messages::destinations;

@@ -11,6 +11,7 @@ use super::windows::{LAST_ARRIVAL, LAST_SETTLING, Windows};
 use convoy_intervals::laws::{greatest_is_member, least_is_member, members_are_assignments};
 use convoy_intervals::{DelayBox, arrivals, proposal_delays, settlings};
 use convoy_packets::Instance;
+use convoy_packets::laws::fixed_order_is_order;
 use convoy_scenario::MOST_GROUPS;
 use convoy_sim::laws::committed_within_two_delays;
 use std::alloc::{AllocError, Global};
@@ -139,6 +140,7 @@ fn settlings_within(
     ensures greatest { result.1 ≡ settle instance.now (greatest_of delay_box.now) message group }
     ensures fits { (result.0 ≤ LAST_SETTLING) × (result.1 ≤ LAST_SETTLING) }
 {
+    fixed_order_is_order();
     least_is_member();
     greatest_is_member();
     members_are_assignments();

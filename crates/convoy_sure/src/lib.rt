@@ -6,7 +6,7 @@ pub use messages::{Messages, all_messages, audiences, destinations, one_message}
 pub use pairs::{list_pairs, target_group};
 pub use ranks::top_of;
 pub use sure::{Sure, lead_at};
-pub use sure_arrivals::{is_earlier, those_after, those_later};
+pub use sure_arrivals::{is_earlier, may_be_earlier, those_after, those_later};
 pub use sure_leads::sure_of;
 pub use windows::{LAST_ARRIVAL, LAST_SETTLING, Windows};
 

@@ -56,7 +56,14 @@ impl<'a> Scene<'a> {
         ensures { result ≡ sure_after self.now.scenario.now
             (tables_by self.now.windows.now).times tick q group }
     {
-        those_after(self.windows, self.addressed_to(group), tick, q, group)
+        those_after(
+            self.windows,
+            self.addressed_to(group),
+            self.scenario.time(),
+            tick,
+            q,
+            group,
+        )
     }
 
     /// The messages that surely arrive at a group after that tick.

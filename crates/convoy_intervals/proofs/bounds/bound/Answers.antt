@@ -17,5 +17,5 @@ is_bound c =
 pub returns : goal.returns
 returns c = record {
   value = is_bound c;
-  holds = λ delays member. omega (arith, is_bound c, c.plain_bound_holds.ensures c.args.instance.now c.args.delay_box.now delays c.issue_tick.ensures.lawful member);
+  holds = λ schedule member. omega (arith, is_bound c, c.plain_bound_holds.ensures c.args.instance.now c.args.delay_box.now schedule c.issue_tick.ensures.lawful member);
 }

@@ -3,4 +3,5 @@ use Rattle.convoy_intervals.proofs.Members.{AreWithin-outer}
 use Rattle.convoy_intervals.proofs.laws.members_are_assignments.Goals as goal
 
 pub returns : goal.returns
-returns c plan ranges delays box member = AreWithin-outer (ranges_of plan) ranges delays box member
+returns c plan ranges schedule box member order =
+    record { delays = AreWithin-outer (ranges_of plan) ranges schedule.delays box member; order = order }

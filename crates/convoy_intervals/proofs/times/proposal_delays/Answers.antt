@@ -1,4 +1,4 @@
-use Rattle.std.proofs.Common.{ℕ, refl, sym, ap, ◌∙◌}
+use Rattle.std.proofs.Common.{ℕ, refl}
 use Rattle.convoy_packets.specs.declared.packet.Packet.TheVariants.{Propose}
 use Rattle.convoy_intervals.proofs.PacketDelays.{place_in_box, delay_at_end}
 use Rattle.convoy_intervals.proofs.times.proposal_delays.Goals as goal

@@ -12,6 +12,7 @@ returns-clause-value c =
     (subst (λ (s : Scenario). told s c.in_ok-windows.windows) (c.in_ok-facts.ensures ∙ c.scenario.ensures.value) c.in_ok-closed.ensures)
 
 pub returns-clause-holds : goal.returns-clause-holds
-returns-clause-holds c told delays member =
-    c.leads_hold.ensures c.args.instance.now c.args.delay_box.now delays c.args.latency c.scenario.ensures.lawful member
+returns-clause-holds c told schedule member order =
+    let assigned = c.members_are_assignments.ensures c.args.instance.now c.args.delay_box.now schedule c.requires.inside member order in
+    c.leads_hold.ensures c.args.instance.now c.args.delay_box.now schedule c.args.latency c.scenario.ensures.lawful assigned member
     (subst IsTrue (returns-clause-value c) told)

@@ -16,6 +16,6 @@ pub returns-clause-value : goal.returns-clause-value
 returns-clause-value c = value_is (goal.at.returns-clause-value c).After-saturating_sub
 
 pub returns-clause-holds : goal.returns-clause-holds
-returns-clause-holds c delays member =
+returns-clause-holds c schedule member =
     let value = value_is (goal.at.returns-clause-holds c).After-saturating_sub in
-    omega (arith, value, c.stamp_bound_holds.ensures c.args.instance.now c.args.tracked.now.delay_box delays c.issue_tick-issued.ensures.lawful member)
+    omega (arith, value, c.stamp_bound_holds.ensures c.args.instance.now c.args.tracked.now.delay_box schedule c.issue_tick-issued.ensures.lawful member)

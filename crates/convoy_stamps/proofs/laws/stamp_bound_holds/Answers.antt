@@ -4,5 +4,5 @@ use Rattle.convoy_stamps.proofs.laws.stamp_bound_holds.Goals as goal
 
 pub returns : goal.returns
 unfolding stamp_bound
-returns c scenario ranges delays well member =
-    c.stamp_bound_over_tables.ensures scenario delays (tables_of scenario ranges) well (c.members_are_enclosed.ensures scenario ranges delays member)
+returns c scenario ranges schedule well member =
+    c.stamp_bound_over_tables.ensures scenario schedule (tables_of scenario ranges) well (c.members_are_enclosed.ensures scenario ranges schedule member)

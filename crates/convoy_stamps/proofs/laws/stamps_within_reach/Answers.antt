@@ -2,5 +2,5 @@ use Rattle.convoy_stamps.proofs.StampReach.{within_reach}
 use Rattle.convoy_stamps.proofs.laws.stamps_within_reach.Goals as goal
 
 pub returns : goal.returns
-returns c scenario delays tables well enclosed m g goes =
-    within_reach c.stamps_have_steps.ensures c.arrives_before_commit.ensures scenario delays tables well enclosed m g goes
+returns c scenario schedule tables well enclosed m g goes =
+    within_reach c.last_raise.ensures scenario schedule tables well enclosed m g goes

@@ -2,4 +2,4 @@ use Rattle.convoy_sure.proofs.SureLaws.{leads_hold}
 use Rattle.convoy_sure.proofs.laws.sure_leads_hold.Goals as goal
 
 pub returns : goal.returns
-returns c scenario delays tables well enclosed n goes = leads_hold c.laws_below.ensures scenario delays tables well enclosed n goes
+returns c scenario schedule tables well enclosed n goes = leads_hold c.laws_below.ensures scenario schedule tables well enclosed n goes

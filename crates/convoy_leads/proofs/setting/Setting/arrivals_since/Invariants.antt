@@ -6,6 +6,6 @@ use Rattle.convoy_leads.proofs.setting.Setting.arrivals_since.Given as goal
 abbrev pub invariant-loop-z : goal.invariant-loop-z
 invariant-loop-z l =
     record {
-      so_far : l.arrivals ≡ filter (may_arrive (tables_by l.self.windows.now).times l.tick l.q l.group l.since) (take l.z-index l.z-items);
+      so_far : l.arrivals ≡ filter (may_arrive l.self.scenario.now.time (tables_by l.self.windows.now).times l.tick l.q l.group l.since) (take l.z-index l.z-items);
       few : length l.arrivals ≤ l.z-index;
     }

@@ -1,6 +1,7 @@
-use Rattle.std.proofs.Common.{ap, ◌∙◌}
+use Rattle.std.proofs.Common.{◌≡◌, ap, ◌∙◌}
+use Rattle.convoy_scenario.specs.declared.time.Time.{Time}
 use Rattle.convoy_sure.specs.Windows.{tables_by}
-use Rattle.convoy_leads.specs.Leads.{starts_before}
+use Rattle.convoy_leads.specs.Leads.{first_past, last_arrival, starts_before}
 use Rattle.convoy_leads.specs.Tests.{is_less_by}
 use Rattle.convoy_leads.proofs.setting.Setting.is_led.Goals as goal
 
@@ -11,4 +12,9 @@ returns c =
     let sure = c.args.self.now.sure.now in
     c.is_less_elsewhere.ensures
     ∙ ap (is_less_by scenario tables.times sure)
-    (c.deref.ensures.value ∙ c.in_ok-write_starts.ensures ∙ ap (starts_before scenario tables sure c.args.self.now.barring) c.last_arrival.ensures)
+    (c.deref.ensures.value ∙ c.in_ok-write_starts.ensures ∙ ap (starts_before scenario tables sure c.args.self.now.barring) end) where
+      end : c.first_past-end.result ≡ first_past c.args.self.now.scenario.now.time (last_arrival c.args.self.now.scenario.now (tables_by c.args.self.now.windows.now).times)
+      end =
+          c.first_past-end.ensures
+          ∙ ap (first_past c.args.self.now.time) c.last_arrival.ensures.value
+          ∙ ap (λ (time : Time). first_past time (last_arrival c.args.self.now.scenario.now (tables_by c.args.self.now.windows.now).times)) c.args.self.now.kind

@@ -3,6 +3,7 @@ use Rattle.std.proofs.Math.Nat.{max-zero}
 use Rattle.std.proofs.lemmas.Bool.{ne_eqb}
 use Rattle.std.proofs.lemmas.List.{set-get_or}
 use Rattle.std.proofs.lemmas.List.Elements.{All-set}
+use Rattle.convoy_scenario.specs.declared.time.Time.{Time}
 use Rattle.convoy_sure.specs.SureLeads.{lead_at}
 use Rattle.convoy_sure.specs.Windows.{tables_by}
 use Rattle.convoy_leads.specs.Leads.{clock_from, value_for, window}
@@ -24,7 +25,8 @@ loop-k-preserved c =
     let x : ℕ = get_or c.args.self.now.bars.now k 0 in
     let clock : ℕ → ℕ = λ bar. clock_from scenario tables sure bar c.args.q c.args.group c.args.tick start in
     let f : ℕ → ℕ = λ j. max (get_or old j 0) (clock (get_or c.args.self.now.bars.now j 0)) in
-    let may : may_precede c.args.q c.args.group c.args.tick start ≡ true = sym c.may_precede.ensures ∙ c.if-not-may_precede.false in
+    let may : may_precede scenario.time c.args.q c.args.group c.args.tick start ≡ true =
+    ap (λ (t : Time). may_precede t c.args.q c.args.group c.args.tick start) (sym c.args.self.now.kind) ∙ sym c.may_precede.ensures ∙ c.if-not-may_precede.false in
     let within : k < length now = omega arith in
     let here : get_or now k 0 ≡ get_or old k 0 = c.loop-k.invariant.left k (omega arith) in
     elim c.if-self-k.branch [

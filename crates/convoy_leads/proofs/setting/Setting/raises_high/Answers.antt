@@ -1,15 +1,17 @@
-use Rattle.std.proofs.Common.{◌≡◌, ℕ, ◌≤◌, ◌==◌, true, false, List, length, get_or, max, map, take, sym, ap, ap₂, subst, ◌∙◌, eq-eqb, arith}
+use Rattle.std.proofs.Common.{◌≡◌, ℕ, ◌<◌, ◌==◌, not, nat_lt, true, false, List, length, get_or, max, map, take, sym, ap, ap₂, subst, ◌∙◌, arith}
 use Rattle.std.proofs.Math.Nat.{max-zero}
-use Rattle.std.proofs.lemmas.Bool.{cond-false, cond-true, ne_eqb}
+use Rattle.std.proofs.lemmas.Bool.{and_parts, cond-false, cond-true, ltb-true}
 use Rattle.arrayvec.specs.ArrayVec.{ArrayVec}
 use Rattle.convoy_sim.proofs.Ranges.{refilled}
 use Rattle.convoy_sim.specs.Times.{greatest}
+use Rattle.convoy_sim.specs.Moments.{next_arrival}
 use Rattle.convoy_sure.specs.Windows.{tables_by}
-use Rattle.convoy_leads.specs.Leads.{arrives_by, stamp_for, stamp_high}
+use Rattle.convoy_leads.specs.Leads.{arrives_by, may_have_come, stamp_for, stamp_high}
 use Rattle.convoy_leads.specs.Mosts.{AreTold, Told}
 use Rattle.convoy_leads.proofs.Loops.{greatest_more}
+use Rattle.convoy_leads.proofs.Times.{next_no_sooner}
 use Rattle.convoy_leads.proofs.setting.Setting.raises_high.Goals as goal
-use Rattle.convoy_leads.proofs.setting.Setting.raises_high.Goals.{then-from-group, else-from-group}
+use Rattle.convoy_leads.proofs.setting.Setting.raises_high.Goals.{then-may_have_come, else-may_have_come}
 
 pub loop-from-preserved : goal.loop-from-preserved
 loop-from-preserved c =
@@ -24,14 +26,16 @@ loop-from-preserved c =
     let most : ℕ → ℕ → ℕ = λ bar by. stamp_high scenario tables.times sure c.args.starts.now bar c.args.c from by in
     let holds : List Told → Type 0 = AreTold scenario tables.times sure bars c.args.starts.now c.args.tick in
     let items : ArrayVec ℕ → List ℕ = λ m. m.items in
-    elim c.if-from-group.branch [
-      | then-from-group w ↦
-          let soon : w.arrives_by-by.result ≤ c.args.tick = omega (arith, w.arrives_by-by.ensures) in
+    elim c.if-may_have_come.branch [
+      | then-may_have_come w ↦
+          let test : may_have_come c.args.tick from c.args.group ≡ true = sym c.may_have_come.ensures ∙ w.if-may_have_come.true in
+          let some : 0 < c.args.tick = ltb-true 0 c.args.tick (and_parts (not (from == c.args.group)) (nat_lt 0 c.args.tick) test).1 in
+          let late = next_no_sooner scenario.time c.args.tick in
+          let soon : w.arrives_by-by.result < next_arrival scenario.time c.args.tick = omega (arith, w.arrives_by-by.ensures) in
           let lent : w.as_mut_slice.result.now ≡ c.loop-from.mosts.items = w.as_mut_slice.ensures.value in
           let long : length w.raise_by_stamps.new.mosts ≡ length c.loop-from.mosts.items = w.raise_by_stamps.auto.mosts ∙ ap length lent in
-          let is : c.if-from-group.mosts.items ≡ w.raise_by_stamps.new.mosts =
+          let is : c.if-may_have_come.mosts.items ≡ w.raise_by_stamps.new.mosts =
           ap items w.mosts-is ∙ refilled (length c.loop-from.mosts.items) c.loop-from.mosts.items w.raise_by_stamps.new.mosts long in
-          let other : (from == c.args.group) ≡ false = ne_eqb from c.args.group w.if-from-group.true in
           record {
             told = subst holds (sym w.told-is) (w.raise_by_stamps.ensures.told c.args.tick soon c.loop-from.invariant.told);
             long = ap length is ∙ long ∙ c.loop-from.invariant.long;
@@ -39,21 +43,21 @@ loop-from-preserved c =
                 let bar : ℕ = get_or bars k 0 in
                 let by : most bar w.arrives_by-by.result ≡ f bar from =
                 ap (most bar) w.arrives_by-by.ensures
-                ∙ sym (cond-false (from == c.args.group) 0 (most bar (arrives_by tables c.args.tick c.args.c c.args.group from)) other) in
+                ∙ sym (cond-true (may_have_come c.args.tick from c.args.group) (most bar (arrives_by tables c.args.tick c.args.c c.args.group from)) 0 test) in
                 ap (λ (xs : List ℕ). get_or xs k 0) is
                 ∙ w.raise_by_stamps.ensures.value c.args.tick soon c.loop-from.invariant.told k (omega (arith, l, c.loop-from.invariant.long, ap length lent))
                 ∙ ap₂ max (ap (λ (xs : List ℕ). get_or xs k 0) lent ∙ c.loop-from.invariant.so_far k l) by
                 ∙ sym (greatest_more (f bar) groups i c.loop-from-test.true);
           }
-      | else-from-group w ↦
-          let same : (from == c.args.group) ≡ true = eq-eqb from c.args.group w.if-from-group.false in
+      | else-may_have_come w ↦
+          let test : may_have_come c.args.tick from c.args.group ≡ false = sym c.may_have_come.ensures ∙ w.if-may_have_come.false in
           record {
             told = subst holds (sym w.told-is) c.loop-from.invariant.told;
             long = ap (λ (m : ArrayVec ℕ). length m.items) w.mosts-is ∙ c.loop-from.invariant.long;
             so_far = λ k l.
                 let bar : ℕ = get_or bars k 0 in
                 let before : ℕ = greatest (map (f bar) (take i groups)) in
-                let none : f bar from ≡ 0 = cond-true (from == c.args.group) 0 (most bar (arrives_by tables c.args.tick c.args.c c.args.group from)) same in
+                let none : f bar from ≡ 0 = cond-false (may_have_come c.args.tick from c.args.group) (most bar (arrives_by tables c.args.tick c.args.c c.args.group from)) 0 test in
                 ap (λ (m : ArrayVec ℕ). get_or m.items k 0) w.mosts-is
                 ∙ c.loop-from.invariant.so_far k l
                 ∙ sym (max-zero before)

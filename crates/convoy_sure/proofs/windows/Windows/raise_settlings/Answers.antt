@@ -1,7 +1,7 @@
 use Rattle.std.proofs.Common.{List, ℕ, ◌+◌, get_or, sym, ap, ◌∙◌, arith}
 use Rattle.convoy_sure.specs.Windows.{entry_at, with_settling}
 use Rattle.std.proofs.Common.{max, slice_set}
-use Rattle.convoy_sim.specs.Places.{place}
+use Rattle.convoy_packets.specs.Order.{place}
 use Rattle.convoy_sure.proofs.Loops.{fold_more}
 use Rattle.convoy_sure.proofs.windows.Windows.raise_settlings.Goals as goal
 
