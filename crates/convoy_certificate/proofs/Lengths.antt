@@ -1,9 +1,9 @@
 -- How many bytes the lines of a certificate have at most, and its text.
-use Rattle.std.proofs.Common.{◌≡◌, ℕ, zero, suc, ◌+◌, ◌*◌, ◌<◌, ◌≤◌, ◌^◌, nat_le, nat_lt, ◌==◌, true, ◌&&◌, ◌||◌, not, Some, None, List, [], ◌∷◌, ◌++◌, length, length-append, map, get_or, All, ap, ◌∙◌, add-one, arith, refl, codes, decimal}
+use Rattle.std.proofs.Common.{◌≡◌, ℕ, zero, suc, ◌+◌, ◌*◌, ◌<◌, ◌≤◌, ◌^◌, nat_le, nat_lt, ◌==◌, true, ◌&&◌, ◌||◌, not, Option, Some, None, List, [], ◌∷◌, ◌++◌, length, length-append, map, get_or, All, ap, ◌∙◌, add-one, arith, refl, codes, decimal}
 use Rattle.std.specs.List.{AllByRecursion, flat_map, list_all}
 use Rattle.std.specs.List.Sorted.{IsStrictlyIncreasing}
 use Rattle.std.specs.Str.{bytes_eq}
-use Rattle.std.proofs.lemmas.Bool.{and_parts, leb-true}
+use Rattle.std.proofs.lemmas.Bool.{and_parts, false≢true, leb-true}
 use Rattle.std.proofs.lemmas.Bool.Decides.{nat_tests}
 use Rattle.std.proofs.lemmas.Fmt.{length-decimal-le}
 use Rattle.std.proofs.lemmas.List.{length-map}
@@ -11,21 +11,29 @@ use Rattle.std.proofs.lemmas.List.Concat.{flat_map-append}
 use Rattle.std.proofs.lemmas.List.Elements.{recursion_from_All}
 use Rattle.convoy_scenario.specs.declared.limits.TheConstants.{LONGEST_NAME, MOST_GROUPS}
 use Rattle.convoy_scenario.specs.declared.sender.Sender.{Sender}
+use Rattle.convoy_scenario.specs.declared.time.Time.{Time}
+use Rattle.convoy_scenario.specs.declared.time.Time.TheVariants.{Ticks, Real}
 use Rattle.convoy_scenario.specs.declared.sender.Sender.TheVariants.{Client, Group}
 use Rattle.convoy_lines.specs.Texts.{spaced, line_of, ended, text_of}
+use Rattle.convoy_scenario.specs.declared.duration.TimeUnit.{TimeUnit}
+use Rattle.convoy_scenario.specs.declared.duration.TimeUnit.TheVariants.{Seconds, Milliseconds, Microseconds, Nanoseconds}
+use Rattle.convoy_scenario.specs.declared.duration.TheConstants.{LONGEST_DURATION, MOST_UNITS}
+use Rattle.convoy_scenario.specs.Durations.{count_of, unit_of, unit_word}
 use Rattle.convoy_scenario.specs.Naming.{sender_word}
-use Rattle.convoy_scenario_lines.specs.Lines.{delay_line, groups_line, link_line, multicast_line, target_line, scenario_lines}
+use Rattle.convoy_scenario_lines.specs.Lines.{time_lines, tick_line, tick_lines, delay_line, groups_line, link_line, multicast_line, target_line, lines_from_delay, scenario_lines}
 use Rattle.convoy_scenario.specs.Scenario.{Link, Message, Scenario, message_at, group_name_at, no_message}
-use Rattle.convoy_scenario.specs.WellFormed.{is_letter, is_name_byte, is_name, client_word, is_group_name, sender_place, is_before, follows, ascend_after, IsSender, IsLink, IsMulticast, IsScenario}
-use Rattle.convoy_packets.specs.Laws.{PacketsAreFew, DelaysAreOneEach}
+use Rattle.convoy_scenario.specs.WellFormed.{is_tick, is_letter, is_name_byte, is_name, client_word, is_group_name, sender_place, is_before, follows, ascend_after, IsSender, IsLink, IsMulticast, IsScenario}
+use Rattle.convoy_packets.specs.Laws.{PacketsAreFew, DelaysAreOneEach, RanksAreFew}
 use Rattle.convoy_certificate.specs.declared.certificate.TheConstants.{LONGEST_TEXT, MOST_NODES}
 use Rattle.convoy_certificate.specs.declared.node.Node.{Node}
 use Rattle.convoy_certificate.specs.declared.node.Node.TheVariants.{Split, Bound, Point, Stamp, Lead}
 use Rattle.convoy_certificate.specs.declared.version.Version.{Version}
-use Rattle.convoy_certificate.specs.declared.version.Version.TheVariants.{One, Two, Three}
+use Rattle.convoy_certificate.specs.declared.version.Version.TheVariants.{One, Two, Three, Four}
 use Rattle.convoy_certificate.specs.Certificate.{Certificate, IsNode, IsCertificate}
-use Rattle.convoy_certificate.specs.Text.{version_of, version_line, latency_line, schedule_line, node_line, end_line, certificate_text}
-use Rattle.convoy_certificate.proofs.Again.{Small, small_assigned}
+use Rattle.convoy_certificate.specs.Text.{version_of, version_line, latency_line, schedule_line, order_line, order_lines, ranks_written, schedule_lines, node_line, end_line, certificate_text}
+use Rattle.convoy_certificate.proofs.Again.{Small, delay_fits, small_assigned}
+use Rattle.convoy_certificate.proofs.LineLaws.{OrderGrounds}
+use Rattle.convoy_certificate.proofs.Orders.{written}
 
 -- ---- words, lines and texts
 
@@ -71,30 +79,31 @@ texts_append xs ys = ap length (flat_map-append ended xs ys) ∙ length-append (
 
 -- ---- the nodes
 
-node_length : (node : Node) → IsNode node → length (node_line node) ≤ 12
-node_length (Split packet at) is =
+node_length : (time : Time) (node : Node) → IsNode time node → length (node_line node) ≤ 12
+node_length time (Split packet at) is =
     let packet_within = is.0 in
     let at_within = is.2 in
     let four : length (decimal packet) ≤ 4 = length-decimal-le 4 packet (omega arith) (omega arith) (omega arith) in
-    let two : length (decimal at) ≤ 2 = length-decimal-le 2 at (omega arith) (omega arith) (omega arith) in
+    let within = delay_fits time in
+    let five : length (decimal at) ≤ 5 = length-decimal-le 5 at (omega arith) (omega (arith, at_within, within)) (omega (arith, at_within, within)) in
     let both = length-append (spaced (decimal packet)) (spaced (decimal at) ++ []) in
     let last = length-append (spaced (decimal at)) [] in
     omega arith
-node_length Bound is = omega arith
-node_length Point is = omega arith
-node_length Stamp is = omega arith
-node_length (Lead latency) is =
+node_length time Bound is = omega arith
+node_length time Point is = omega arith
+node_length time Stamp is = omega arith
+node_length time (Lead latency) is =
     let ten : length (decimal latency) ≤ 10 = length-decimal-le 10 latency (omega arith) (omega (arith, is)) (omega (arith, is)) in
     let last = length-append (spaced (decimal latency)) [] in
     omega arith
 
-nodes_length : (nodes : List Node) → AllByRecursion IsNode nodes → length (text_of (map node_line nodes)) ≤ length nodes * 13
-nodes_length [] are = omega arith
-nodes_length (node ∷ nodes) are =
+nodes_length : (time : Time) (nodes : List Node) → AllByRecursion (IsNode time) nodes → length (text_of (map node_line nodes)) ≤ length nodes * 13
+nodes_length time [] are = omega arith
+nodes_length time (node ∷ nodes) are =
     let sum = length-append (ended (node_line node)) (text_of (map node_line nodes)) in
     let here = ended_length (node_line node) in
-    let rest = nodes_length nodes are.1 in
-    let first = node_length node are.0 in
+    let rest = nodes_length time nodes are.1 in
+    let first = node_length time node are.0 in
     omega arith
 
 -- ---- the scenario
@@ -209,9 +218,9 @@ lines_append : (xs ys : List (List ℕ)) → AreShortLines xs → AreShortLines 
 lines_append [] ys a b = b
 lines_append (x ∷ xs) ys a b = (a.0, lines_append xs ys a.1 b)
 
--- the text of a scenario has at most 91 lines of at most 301 bytes, their ends among them
-scenario_length : (plan : Scenario) → IsScenario plan → length (text_of (scenario_lines plan)) ≤ 27_391
-scenario_length plan is =
+-- from the line `delay` on the text of a scenario has at most 91 lines of at most 301 bytes, their ends among them
+length_from_delay : (plan : Scenario) → IsScenario plan → length (text_of (lines_from_delay plan)) ≤ 27_391
+length_from_delay plan is =
     let delay_within = is.delay_high in
     let groups_within = is.groups_high in
     let multicasts_within = is.multicasts_high in
@@ -233,48 +242,108 @@ scenario_length plan is =
     let few = few_links (length plan.groups) plan.delay plan.links groups_within are_links is.ascending in
     let all = length-append (map (link_line plan) plan.links) (map (multicast_line plan) plan.multicasts ++ target_line plan ∷ []) in
     let linked = length-map plan.links (link_line plan) in
-    let text = text_length (scenario_lines plan) (delay_short, (groups_short, lines)) in
+    let text = text_length (lines_from_delay plan) (delay_short, (groups_short, lines)) in
     let count = length-append (map (multicast_line plan) plan.multicasts) (target_line plan ∷ []) in
     let many = length-map plan.multicasts (multicast_line plan) in
     omega arith
 
+time_length : (time : Time) → length (text_of (time_lines time)) ≤ 10
+time_length Ticks = omega arith
+time_length Real = omega arith
+
+unit_length : (unit : TimeUnit) → length (unit_word unit) ≤ 16
+unit_length Seconds = omega arith
+unit_length Milliseconds = omega arith
+unit_length Microseconds = omega arith
+unit_length Nanoseconds = omega arith
+
+tick_few : (time : Time) (tick : ℕ) → is_tick time (Some tick) ≡ true → count_of tick ≤ MOST_UNITS
+tick_few Ticks tick e = absurd (false≢true e)
+tick_few Real tick e = leb-true (count_of tick) MOST_UNITS (and_parts (nat_le 1 tick && nat_le tick LONGEST_DURATION) (nat_le (count_of tick) MOST_UNITS) e).1
+
+tick_length : (time : Time) (tick : Option ℕ) → is_tick time tick ≡ true → length (text_of (tick_lines tick)) ≤ 39
+tick_length time None is = omega arith
+tick_length time (Some tick) is =
+    let few = tick_few time tick is in
+    let line = line_length (codes "tick") (decimal (count_of tick) ∷ unit_word (unit_of tick) ∷ []) (number_length (count_of tick) (omega (arith, few)), (unit_length (unit_of tick), tt)) in
+    let here = ended_length (tick_line tick) in
+    let sum = length-append (ended (tick_line tick)) [] in
+    omega arith
+
+scenario_length : (plan : Scenario) → IsScenario plan → length (text_of (scenario_lines plan)) ≤ 27_440
+scenario_length plan is =
+    let sum = texts_append (time_lines plan.time) (tick_lines plan.tick ++ lines_from_delay plan) in
+    let more = texts_append (tick_lines plan.tick) (lines_from_delay plan) in
+    let time = time_length plan.time in
+    let tick = tick_length plan.time plan.tick is.tick in
+    let rest = length_from_delay plan is in
+    omega arith
+
 -- ---- the certificate
 
-delays_short : (delays : List ℕ) → Small delays → AreShort (map decimal delays)
-delays_short [] small = tt
-delays_short (d ∷ ds) small =
+numbers_short : (numbers : List ℕ) → Small numbers → AreShort (map decimal numbers)
+numbers_short [] small = tt
+numbers_short (n ∷ ns) small =
     let within = small.0 in
-    (number_length d (omega arith), delays_short ds small.1)
+    (number_length n (omega arith), numbers_short ns small.1)
 
-schedule_length : PacketsAreFew → DelaysAreOneEach → (c : Certificate) → IsCertificate c → length (schedule_line c.delays) ≤ 17_416
-schedule_length few one_each c is =
-    let packets = few c.scenario is.scenario in
-    let each = one_each c.scenario c.delays is.assigned in
-    let line = line_length (codes "schedule") (map decimal c.delays) (delays_short c.delays (small_assigned c.scenario c.delays is.scenario is.assigned)) in
-    let count = length-map c.delays decimal in
+list_length : (label numbers : List ℕ) → Small numbers → length (line_of label (map decimal numbers)) ≤ length label + length numbers * 17
+list_length label numbers small =
+    let line = line_length label (map decimal numbers) (numbers_short numbers small) in
+    let count = length-map numbers decimal in
+    omega arith
+
+-- the lines of an order of at most 256 ranks
+order_length : (time : Time) (ranks : List ℕ) → Small ranks → length ranks ≤ 256 → length (text_of (order_lines time ranks)) ≤ 4_358
+order_length Ticks ranks small few = omega arith
+order_length Real ranks small few =
+    let line = list_length (codes "order") ranks small in
+    let here = ended_length (order_line ranks) in
+    let sum = length-append (ended (order_line ranks)) [] in
+    omega arith
+
+-- what the length of a text rests on
+pub record ShortGrounds : Type 0 where
+  pub packets : PacketsAreFew
+  pub delays : DelaysAreOneEach
+  pub ranks : RanksAreFew
+
+schedule_length : ShortGrounds → OrderGrounds → (c : Certificate) → IsCertificate c → length (text_of (schedule_lines c.scenario c.schedule)) ≤ 21_775
+schedule_length short grounds c is =
+    let packets = short.packets c.scenario is.scenario in
+    let each = short.delays c.scenario c.schedule is.assigned in
+    let few = short.ranks c.scenario in
+    let order = written grounds c.scenario c.schedule.order is.assigned.order in
+    let count = order.few in
+    let line = list_length (codes "schedule") c.schedule.delays (small_assigned c.scenario c.schedule is.scenario is.assigned) in
+    let here = ended_length (schedule_line c.schedule.delays) in
+    let ranks = ranks_written c.scenario c.schedule.order in
+    let ties = order_length c.scenario.time ranks order.small (omega arith) in
+    let sum = length-append (ended (schedule_line c.schedule.delays)) (text_of (order_lines c.scenario.time ranks)) in
     omega arith
 
 version_length : (version : Version) → length (ended (version_line version)) ≡ 9
 version_length One = refl
 version_length Two = refl
 version_length Three = refl
+version_length Four = refl
 
 -- the text of a certificate is within the limit
-pub certificate_length : PacketsAreFew → DelaysAreOneEach → (c : Certificate) → IsCertificate c → length c.nodes ≤ MOST_NODES → length (certificate_text c) ≤ LONGEST_TEXT
-certificate_length few one_each c is nodes_within =
+pub certificate_length : ShortGrounds → OrderGrounds → (c : Certificate) → IsCertificate c → length c.nodes ≤ MOST_NODES → length (certificate_text c) ≤ LONGEST_TEXT
+certificate_length short grounds c is nodes_within =
     let nodes : List (List ℕ) = map node_line c.nodes in
     let foot : List (List ℕ) = end_line ∷ [] in
-    let tail : List (List ℕ) = latency_line c.latency ∷ schedule_line c.delays ∷ (nodes ++ foot) in
+    let ties : List (List ℕ) = schedule_lines c.scenario c.schedule in
+    let tail : List (List ℕ) = latency_line c.latency ∷ (ties ++ (nodes ++ foot)) in
     let latency = line_length (codes "latency") (decimal c.latency ∷ []) (number_length c.latency is.latency, tt) in
-    let schedule = schedule_length few one_each c is in
+    let schedule = schedule_length short grounds c is in
     let scenario = scenario_length c.scenario is.scenario in
-    let all_nodes = nodes_length c.nodes (recursion_from_All IsNode c.nodes is.nodes) in
+    let all_nodes = nodes_length c.scenario.time c.nodes (recursion_from_All (IsNode c.scenario.time) c.nodes is.nodes) in
     let s0 : length (certificate_text c) ≡ length (ended (version_line (version_of c))) + length (text_of (scenario_lines c.scenario ++ tail)) = length-append (ended (version_line (version_of c))) (text_of (scenario_lines c.scenario ++ tail)) in
     let s : length (ended (version_line (version_of c))) ≡ 9 = version_length (version_of c) in
     let s1 : length (text_of (scenario_lines c.scenario ++ tail)) ≡ length (text_of (scenario_lines c.scenario)) + length (text_of tail) = texts_append (scenario_lines c.scenario) tail in
-    let s2 : length (text_of tail) ≡ length (ended (latency_line c.latency)) + length (text_of (schedule_line c.delays ∷ (nodes ++ foot))) = length-append (ended (latency_line c.latency)) (text_of (schedule_line c.delays ∷ (nodes ++ foot))) in
-    let s3 : length (text_of (schedule_line c.delays ∷ (nodes ++ foot))) ≡ length (ended (schedule_line c.delays)) + length (text_of (nodes ++ foot)) = length-append (ended (schedule_line c.delays)) (text_of (nodes ++ foot)) in
+    let s2 : length (text_of tail) ≡ length (ended (latency_line c.latency)) + length (text_of (ties ++ (nodes ++ foot))) = length-append (ended (latency_line c.latency)) (text_of (ties ++ (nodes ++ foot))) in
+    let s3 : length (text_of (ties ++ (nodes ++ foot))) ≡ length (text_of ties) + length (text_of (nodes ++ foot)) = texts_append ties (nodes ++ foot) in
     let s4 : length (text_of (nodes ++ foot)) ≡ length (text_of nodes) + 4 = texts_append nodes foot in
     let e0 = ended_length (latency_line c.latency) in
-    let e1 = ended_length (schedule_line c.delays) in
     omega arith

@@ -9,6 +9,7 @@ use Rattle.std.proofs.lemmas.Option.{same_Some}
 use Rattle.std.proofs.lemmas.Slice.Eq.{bytes_eq-Decides}
 use Rattle.convoy_lines.specs.Laws.{IsWord, IsLine, NumbersAreDecimals, DecimalsAreWords, WordsOfLines, WordsMakeLines, LabelledLines, NumberLines, LinesOfTexts}
 use Rattle.convoy_scenario_lines.specs.Laws.{ScenarioLinesAreLines, ScenariosAreTheirLines}
+use Rattle.convoy_packets.specs.Laws.{FixedOrderIsDecided, ListsAreTheirOrders, NoRanksGiveFixedOrder, OrdersAreTheirLists, RanksAreOneEach}
 use Rattle.convoy_lines.specs.Chains.{◌>>=◌}
 use Rattle.convoy_lines.specs.Labels.{greatest_number, words_after, number_in}
 use Rattle.convoy_lines.specs.Places.{lines_in}
@@ -31,6 +32,8 @@ pub record ReadGrounds : Type 0 where
   pub number_lines : NumberLines
   pub texts : LinesOfTexts
   pub scenarios : ScenariosAreTheirLines
+  pub no_ranks : NoRanksGiveFixedOrder
+  pub lists : ListsAreTheirOrders
 
 pub bind_some : {A B : Type 0} (o : Option A) (f : A → Option B) (y : B) → (o >>= f) ≡ Some y → (x : A) × (o ≡ Some x) × (f x ≡ Some y)
 bind_some None f y e = absurd cc
@@ -45,6 +48,13 @@ same_bytes xs ys e = (bytes_eq-Decides xs ys).0 e
 
 -- ---- what is written
 
+-- what the writing of an order of ties rests on
+pub record OrderGrounds : Type 0 where
+  pub none : NoRanksGiveFixedOrder
+  pub again : OrdersAreTheirLists
+  pub one_each : RanksAreOneEach
+  pub decided : FixedOrderIsDecided
+
 -- what the writing rests on: what is written is read again
 pub record WrittenGrounds : Type 0 where
   pub numbers : NumbersAreDecimals
@@ -56,6 +66,7 @@ pub record WrittenGrounds : Type 0 where
   pub texts : LinesOfTexts
   pub scenario_lines : ScenarioLinesAreLines
   pub scenarios : ScenariosAreTheirLines
+  pub orders : OrderGrounds
 
 abbrev pub AreWords : List (List ℕ) → Type 0
 AreWords words = AllByRecursion IsWord words

@@ -16,24 +16,27 @@ use Rattle.convoy_scenario_lines.specs.LineReading.{form_at, scenario_at}
 use Rattle.convoy_lines.specs.Texts.{line_of}
 use Rattle.convoy_scenario_lines.specs.Lines.{scenario_lines}
 use Rattle.convoy_scenario_lines.specs.declared.line_fault.Expected.{Expected}
+use Rattle.convoy_packets.specs.Order.{Order, no_order}
+use Rattle.convoy_packets.specs.OrderLists.{order_of}
+use Rattle.convoy_scenario.specs.declared.time.Time.{Time}
+use Rattle.convoy_scenario.specs.declared.time.Time.TheVariants.{Ticks, Real}
+use Rattle.convoy_scenario.specs.Scenario.{Scenario}
+use Rattle.convoy_scenario_lines.specs.Laws.{time_of}
 use Rattle.convoy_certificate.proofs.LineLaws.{ReadGrounds, latency_word, same_bytes}
+use Rattle.convoy_certificate.proofs.Orders.{list_kept}
+use Rattle.convoy_certificate.proofs.Steps.{after_version, after_scenario, after_latency, after_delays, order_after, after_order, after_nodes, in_steps, bind_ok}
 use Rattle.convoy_certificate.proofs.NodeLaws.{neither, leads_more, and_then_takes, map_takes, node_takes}
 use Rattle.convoy_certificate.specs.declared.certificate.TheConstants.{MOST_LEADS, MOST_NODES}
 use Rattle.convoy_certificate.specs.declared.node.Node.{Node}
 use Rattle.convoy_certificate.specs.declared.text_fault.TextFault.{TextFault}
 use Rattle.convoy_certificate.specs.declared.version.Version.{Version}
-use Rattle.convoy_certificate.specs.declared.version.Version.TheVariants.{One, Two, Three}
+use Rattle.convoy_certificate.specs.declared.version.Version.TheVariants.{One, Two, Three, Four}
 use Rattle.convoy_certificate.specs.declared.text_fault.TextFault.TheVariants as faults
 use Rattle.convoy_certificate.specs.Certificate.{Certificate}
-use Rattle.convoy_certificate.specs.Forms.{version_in, delays_in, schedule_in, node_in, node_or_end, greatest_number_of_delay}
-use Rattle.convoy_lines.specs.Results.{◌>>=◌}
-use Rattle.convoy_certificate.specs.Reading.{in_text, is_same_version, whole, is_assignment, leads_with, are_too_many, from_node, nodes_in, nodes_at, certificate_of, IsTextOf}
+use Rattle.convoy_certificate.specs.Forms.{version_in, numbers_in, list_in, schedule_in, order_in, node_in, node_or_end, greatest_listed}
+use Rattle.convoy_certificate.specs.Reading.{in_text, is_same_version, is_assignment, is_order_list, order_at, leads_with, are_too_many, from_node, nodes_in, nodes_at, certificate_with, certificate_of, IsTextOf}
 use Rattle.convoy_certificate.specs.Laws.{TextsAreKept}
-use Rattle.convoy_certificate.specs.Text.{is_lead, lines_version, version_of, version_line, latency_line, schedule_line, node_line, end_line, certificate_lines, certificate_text}
-
-bind_ok : {A B : Type 0} (r : Result A TextFault) (f : A → Result B TextFault) (y : B) → (r >>= f) ≡ Ok y → (x : A) × (r ≡ Ok x) × (f x ≡ Ok y)
-bind_ok (Ok x) f y e = (x, refl, e)
-bind_ok (Err fault) f y e = absurd cc
+use Rattle.convoy_certificate.specs.Text.{is_lead, lines_version, version_of, version_line, latency_line, schedule_line, order_line, order_lines, ranks_written, node_line, end_line, certificate_lines, certificate_text}
 
 same_ok : {A : Type 0} (x y : A) → ◌≡◌ {A = Result A TextFault} (Ok x) (Ok y) → x ≡ y
 same_ok x y e = cc
@@ -79,15 +82,22 @@ version_takes line version e =
           let read : Some One ≡ Some version = rw one at e in
           same_bytes line (version_line One) one ∙ ap version_line (same_Some One version read)
       | inr other ↦
-          let read : cond (bytes_eq line (version_line Two)) (Some Two) (cond (bytes_eq line (version_line Three)) (Some Three) None) ≡ Some version = rw other at e in
+          let read : cond (bytes_eq line (version_line Two)) (Some Two) (cond (bytes_eq line (version_line Three)) (Some Three) (cond (bytes_eq line (version_line Four)) (Some Four) None)) ≡ Some version = rw other at e in
           elim (cases_Bool (bytes_eq line (version_line Two))) [
             | inl two ↦
                 let last : Some Two ≡ Some version = rw two at read in
                 same_bytes line (version_line Two) two ∙ ap version_line (same_Some Two version last)
             | inr neither ↦
-                let last : cond (bytes_eq line (version_line Three)) (Some Three) None ≡ Some version = rw neither at read in
-                let three = cond_some (bytes_eq line (version_line Three)) Three version last in
-                same_bytes line (version_line Three) three.0 ∙ ap version_line three.1
+                let newer : cond (bytes_eq line (version_line Three)) (Some Three) (cond (bytes_eq line (version_line Four)) (Some Four) None) ≡ Some version = rw neither at read in
+                elim (cases_Bool (bytes_eq line (version_line Three))) [
+                  | inl three ↦
+                      let last : Some Three ≡ Some version = rw three at newer in
+                      same_bytes line (version_line Three) three ∙ ap version_line (same_Some Three version last)
+                  | inr none ↦
+                      let last : cond (bytes_eq line (version_line Four)) (Some Four) None ≡ Some version = rw none at newer in
+                      let four = cond_some (bytes_eq line (version_line Four)) Four version last in
+                      same_bytes line (version_line Four) four.0 ∙ ap version_line four.1
+                ]
           ]
     ]
 
@@ -95,12 +105,19 @@ one_version : (version other : Version) → is_same_version version other ≡ tr
 one_version One One e = refl
 one_version Two Two e = refl
 one_version Three Three e = refl
+one_version Four Four e = refl
 one_version One Two e = absurd (false≢true e)
 one_version One Three e = absurd (false≢true e)
+one_version One Four e = absurd (false≢true e)
 one_version Two One e = absurd (false≢true e)
 one_version Two Three e = absurd (false≢true e)
+one_version Two Four e = absurd (false≢true e)
 one_version Three One e = absurd (false≢true e)
 one_version Three Two e = absurd (false≢true e)
+one_version Three Four e = absurd (false≢true e)
+one_version Four One e = absurd (false≢true e)
+one_version Four Two e = absurd (false≢true e)
+one_version Four Three e = absurd (false≢true e)
 
 abbrev line_for : Option Node → List ℕ
 line_for None = end_line
@@ -129,21 +146,51 @@ if_true false fault r x e = absurd cc
 both : (l : Lines) (lines : List (List ℕ)) → l.ended ≡ lines → l.rest ≡ [] → l ≡ record { ended = lines; rest = [] }
 both l lines e f = ap₂ (λ ls r. record { ended = ls; rest = r }) e f
 
+-- the lines that stood between two places
+record TookLines (lines : List (List ℕ)) (place past : Place) : Type 0 where
+  before : place.ended ≡ lines ++ past.ended
+  after : place.rest ≡ past.rest
+
+-- the lines of an order where time goes as it does
+timed : (time known : Time) (ranks : List ℕ) (place past : Place) → time ≡ known → TookLines (order_lines known ranks) place past → TookLines (order_lines time ranks) place past
+timed time known ranks place past e taken = subst (λ (t : Time). TookLines (order_lines t ranks) place past) (sym e) taken
+
+-- where no order is read, ties fall in the fixed order
+fixed_takes : (place : Place) (x : Order × Place) → ◌≡◌ {A = Result (Order × Place) TextFault} (Ok (no_order, place)) (Ok x) → TookLines [] place x.1
+fixed_takes place x e = subst (λ (y : Order × Place). TookLines [] place y.1) (same_ok (no_order, place) x e) (record { before = refl; after = refl })
+
 module _ (grounds : ReadGrounds) where
-  -- ---- the schedule
+  -- ---- the lists of numbers
 
-  delays_take : (words : List (List ℕ)) (delays : List ℕ) → delays_in words ≡ Some delays → words ≡ map decimal delays
-  delays_take [] delays e = ap (map decimal) (same_Some [] delays e)
-  delays_take (w ∷ ws) delays e =
-      let a = and_then_takes (λ delay. option_map (λ more. delay ∷ more) (delays_in ws)) (number_of greatest_number_of_delay w) delays e in
-      let b = map_takes (λ more. a.0 ∷ more) (delays_in ws) delays a.2 in
-      let number = (grounds.numbers greatest_number_of_delay w a.0 (omega arith)).0 a.1 in
-      ap (λ x. x ∷ ws) number.0 ∙ ap (λ xs. decimal a.0 ∷ xs) (delays_take ws b.0 b.1) ∙ ap (map decimal) b.2
+  numbers_take : (words : List (List ℕ)) (numbers : List ℕ) → numbers_in words ≡ Some numbers → words ≡ map decimal numbers
+  numbers_take [] numbers e = ap (map decimal) (same_Some [] numbers e)
+  numbers_take (w ∷ ws) numbers e =
+      let a = and_then_takes (λ number. option_map (λ more. number ∷ more) (numbers_in ws)) (number_of greatest_listed w) numbers e in
+      let b = map_takes (λ more. a.0 ∷ more) (numbers_in ws) numbers a.2 in
+      let number = (grounds.numbers greatest_listed w a.0 (omega arith)).0 a.1 in
+      ap (λ x. x ∷ ws) number.0 ∙ ap (λ xs. decimal a.0 ∷ xs) (numbers_take ws b.0 b.1) ∙ ap (map decimal) b.2
 
-  schedule_takes : (line : List ℕ) (delays : List ℕ) → schedule_in line ≡ Some delays → line ≡ schedule_line delays
-  schedule_takes line delays e =
-      let a = and_then_takes delays_in (words_after (codes "schedule") line) delays e in
-      (grounds.labelled (codes "schedule") line a.0).0 a.1 ∙ ap (line_of (codes "schedule")) (delays_take a.0 delays a.2)
+  list_takes : (label line : List ℕ) (numbers : List ℕ) → list_in label line ≡ Some numbers → line ≡ line_of label (map decimal numbers)
+  list_takes label line numbers e =
+      let a = and_then_takes numbers_in (words_after label line) numbers e in
+      (grounds.labelled label line a.0).0 a.1 ∙ ap (line_of label) (numbers_take a.0 numbers a.2)
+
+  -- ---- the order of ties
+
+  order_takes : (version : Version) (plan : Scenario) (place : Place) (x : Order × Place) → plan.time ≡ time_of (lines_version version) → order_at version plan place ≡ Ok x
+      → TookLines (order_lines plan.time (ranks_written plan x.0)) place x.1
+  order_takes One plan place x ticks e = timed plan.time Ticks (ranks_written plan x.0) place x.1 ticks (fixed_takes place x e)
+  order_takes Two plan place x ticks e = timed plan.time Ticks (ranks_written plan x.0) place x.1 ticks (fixed_takes place x e)
+  order_takes Three plan place x ticks e = timed plan.time Ticks (ranks_written plan x.0) place x.1 ticks (fixed_takes place x e)
+  order_takes Four plan place x real e =
+      let a = bind_ok (in_text (form_at expected.Order order_in place)) (λ ranks. if is_order_list plan ranks.0 then Ok (order_of plan ranks.0, ranks.1) else Err faults.Schedule) x e in
+      let b = if_true (is_order_list plan a.0.0) faults.Schedule (Ok (order_of plan a.0.0, a.0.1)) x a.2 in
+      let same : (order_of plan a.0.0, a.0.1) ≡ x = same_ok (order_of plan a.0.0, a.0.1) x b.1 in
+      let line = took expected.Order order_in place a.0 a.1 in
+      let ranks : ranks_written plan x.0 ≡ a.0.0 = ap (λ (y : Order × Place). ranks_written plan y.0) (sym same) ∙ list_kept grounds.no_ranks grounds.lists plan a.0.0 b.0 in
+      let taken : TookLines (order_line a.0.0 ∷ []) place a.0.1 = record { before = line.ended ∙ ap (λ l. l ∷ a.0.1.ended) (list_takes (codes "order") line.line a.0.0 line.has); after = line.rest } in
+      let past = subst (λ (y : Order × Place). TookLines (order_line a.0.0 ∷ []) place y.1) same taken in
+      timed plan.time Real (ranks_written plan x.0) place x.1 real (subst (λ (rs : List ℕ). TookLines (order_line rs ∷ []) place x.1) (sym ranks) past)
 
   -- ---- nodes
 
@@ -187,42 +234,41 @@ module _ (grounds : ReadGrounds) where
   -- ---- the certificate
 
   pub certificate_takes : (text : List ℕ) (c : Certificate) → certificate_of text ≡ Ok c → IsTextOf c text
-  unfolding certificate_of
   certificate_takes text c e =
       let start = place_before text 1 in
-      let a = bind_ok (in_text (form_at expected.Convoy version_in start)) (λ version. in_text (scenario_at (lines_version version.0) version.1) >>= λ scenario. in_text (form_at expected.Latency (number_in (codes "latency")) scenario.1) >>= λ latency.
-      in_text (form_at expected.Schedule schedule_in latency.1) >>= λ delays. cond (is_assignment scenario.0 delays.0) (nodes_at version.0 0 0 delays.1) (Err faults.Schedule) >>= λ nodes.
-      whole version.0 (record { scenario = scenario.0; latency = latency.0; delays = delays.0; nodes = nodes.0 }) nodes.1) c e in
-      let b = bind_ok (in_text (scenario_at (lines_version a.0.0) a.0.1)) (λ scenario. in_text (form_at expected.Latency (number_in (codes "latency")) scenario.1) >>= λ latency.
-      in_text (form_at expected.Schedule schedule_in latency.1) >>= λ delays. cond (is_assignment scenario.0 delays.0) (nodes_at a.0.0 0 0 delays.1) (Err faults.Schedule) >>= λ nodes.
-      whole a.0.0 (record { scenario = scenario.0; latency = latency.0; delays = delays.0; nodes = nodes.0 }) nodes.1) c a.2 in
-      let d = bind_ok (in_text (form_at expected.Latency (number_in (codes "latency")) b.0.1)) (λ latency.
-      in_text (form_at expected.Schedule schedule_in latency.1) >>= λ delays. cond (is_assignment b.0.0 delays.0) (nodes_at a.0.0 0 0 delays.1) (Err faults.Schedule) >>= λ nodes.
-      whole a.0.0 (record { scenario = b.0.0; latency = latency.0; delays = delays.0; nodes = nodes.0 }) nodes.1) c b.2 in
-      let f = bind_ok (in_text (form_at expected.Schedule schedule_in d.0.1)) (λ delays. cond (is_assignment b.0.0 delays.0) (nodes_at a.0.0 0 0 delays.1) (Err faults.Schedule) >>= λ nodes.
-      whole a.0.0 (record { scenario = b.0.0; latency = d.0.0; delays = delays.0; nodes = nodes.0 }) nodes.1) c d.2 in
-      let g = bind_ok (cond (is_assignment b.0.0 f.0.0) (nodes_at a.0.0 0 0 f.0.1) (Err faults.Schedule)) (λ nodes.
-      whole a.0.0 (record { scenario = b.0.0; latency = d.0.0; delays = f.0.0; nodes = nodes.0 }) nodes.1) c f.2 in
-      let made : Certificate = record { scenario = b.0.0; latency = d.0.0; delays = f.0.0; nodes = g.0.0 } in
-      let version = if_true (is_same_version a.0.0 (version_of made)) (faults.Line 1 expected.Convoy) (cond (is_at_end g.0.1) (Ok made) (Err faults.AfterEnd)) c g.2 in
+      let a = bind_ok (in_text (form_at expected.Convoy version_in start)) after_version c (sym (in_steps text) ∙ e) in
+      let v = a.0.0 in
+      let b = bind_ok (in_text (scenario_at (lines_version v) a.0.1)) (after_scenario v) c a.2 in
+      let plan = b.0.0 in
+      let d = bind_ok (in_text (form_at expected.Latency (number_in (codes "latency")) b.0.1)) (after_latency v plan) c b.2 in
+      let f = bind_ok (in_text (form_at expected.Schedule schedule_in d.0.1)) (after_delays v plan d.0.0) c d.2 in
+      let h = bind_ok (order_after v plan f.0) (after_order v plan d.0.0 f.0.0) c f.2 in
+      let g = bind_ok (nodes_at v 0 0 h.0.1) (after_nodes v plan d.0.0 f.0.0 h.0.0) c h.2 in
+      let made : Certificate = certificate_with plan d.0.0 f.0.0 h.0.0 g.0.0 in
+      let version = if_true (is_same_version v (version_of made)) (faults.Line 1 expected.Convoy) (cond (is_at_end g.0.1) (Ok made) (Err faults.AfterEnd)) c g.2 in
       let last = if_true (is_at_end g.0.1) faults.AfterEnd (Ok made) c version.1 in
       let same : made ≡ c = same_ok made c last.1 in
       let over = nil_ended g.0.1 last.0 in
       let t-version = took expected.Convoy version_in start a.0 a.1 in
-      let t-scenario = ((grounds.scenarios (lines_version a.0.0) b.0.0 a.0.1 b.0.1).0 (from_lines (scenario_at (lines_version a.0.0) a.0.1) b.0 b.1)).2 in
+      let scenario = (grounds.scenarios (lines_version v) plan a.0.1 b.0.1).0 (from_lines (scenario_at (lines_version v) a.0.1) b.0 b.1) in
+      let t-scenario = scenario.2 in
       let t-latency = took expected.Latency (number_in (codes "latency")) b.0.1 d.0 d.1 in
       let t-schedule = took expected.Schedule schedule_in d.0.1 f.0 f.1 in
-      let t-nodes = nodes_take a.0.0 0 0 f.0.1.number f.0.1.rest f.0.1.ended g.0 (omega arith) (omega arith) (if_true (is_assignment b.0.0 f.0.0) faults.Schedule (nodes_at a.0.0 0 0 f.0.1) g.0 g.1).1 in
-      let nodes : f.0.1.ended ≡ map node_line g.0.0 ++ end_line ∷ [] = t-nodes.before ∙ ap (λ ls. map node_line g.0.0 ++ end_line ∷ ls) over.0 in
-      let schedule : d.0.1.ended ≡ schedule_line f.0.0 ∷ (map node_line g.0.0 ++ end_line ∷ []) =
-      t-schedule.ended ∙ ap (λ l. l ∷ f.0.1.ended) (schedule_takes t-schedule.line f.0.0 t-schedule.has) ∙ ap (λ ls. schedule_line f.0.0 ∷ ls) nodes in
-      let latency : b.0.1.ended ≡ latency_line d.0.0 ∷ schedule_line f.0.0 ∷ (map node_line g.0.0 ++ end_line ∷ []) =
+      let t-order = order_takes v plan f.0.1 h.0 scenario.1.time (if_true (is_assignment plan f.0.0) faults.Schedule (order_at v plan f.0.1) h.0 h.1).1 in
+      let t-nodes = nodes_take v 0 0 h.0.1.number h.0.1.rest h.0.1.ended g.0 (omega arith) (omega arith) g.1 in
+      let ties : List (List ℕ) = order_lines plan.time (ranks_written plan h.0.0) in
+      let tail : List (List ℕ) = map node_line g.0.0 ++ end_line ∷ [] in
+      let nodes : h.0.1.ended ≡ tail = t-nodes.before ∙ ap (λ ls. map node_line g.0.0 ++ end_line ∷ ls) over.0 in
+      let order : f.0.1.ended ≡ ties ++ tail = t-order.before ∙ ap (λ ls. ties ++ ls) nodes in
+      let schedule : d.0.1.ended ≡ schedule_line f.0.0 ∷ (ties ++ tail) =
+      t-schedule.ended ∙ ap (λ l. l ∷ f.0.1.ended) (list_takes (codes "schedule") t-schedule.line f.0.0 t-schedule.has) ∙ ap (λ ls. schedule_line f.0.0 ∷ ls) order in
+      let latency : b.0.1.ended ≡ latency_line d.0.0 ∷ schedule_line f.0.0 ∷ (ties ++ tail) =
       t-latency.ended ∙ ap (λ l. l ∷ d.0.1.ended) ((grounds.number_lines (codes "latency") t-latency.line d.0.0 latency_word).0 t-latency.has).0 ∙ ap (λ ls. latency_line d.0.0 ∷ ls) schedule in
-      let whole : start.ended ≡ certificate_lines made =
-      t-version.ended ∙ ap (λ l. l ∷ a.0.1.ended) (version_takes t-version.line a.0.0 t-version.has ∙ ap version_line (one_version a.0.0 (version_of made) version.0)) ∙ ap (λ ls. version_line (version_of made) ∷ ls) (t-scenario.ended ∙ ap (λ ls. scenario_lines b.0.0 ++ ls) latency) in
-      let nothing : start.rest ≡ [] = t-version.rest ∙ t-scenario.rest ∙ t-latency.rest ∙ t-schedule.rest ∙ t-nodes.after ∙ over.1 in
+      let all : start.ended ≡ certificate_lines made =
+      t-version.ended ∙ ap (λ l. l ∷ a.0.1.ended) (version_takes t-version.line v t-version.has ∙ ap version_line (one_version v (version_of made) version.0)) ∙ ap (λ ls. version_line (version_of made) ∷ ls) (t-scenario.ended ∙ ap (λ ls. scenario_lines plan ++ ls) latency) in
+      let nothing : start.rest ≡ [] = t-version.rest ∙ t-scenario.rest ∙ t-latency.rest ∙ t-schedule.rest ∙ t-order.after ∙ t-nodes.after ∙ over.1 in
       let read : text ≡ certificate_text made =
-      ((grounds.texts text (certificate_lines made)).0 (both (lines_in text) (certificate_lines made) whole nothing)).0 in
+      ((grounds.texts text (certificate_lines made)).0 (both (lines_in text) (certificate_lines made) all nothing)).0 in
       subst (λ (x : Certificate). IsTextOf x text) same (read, record { few = omega (arith, t-nodes.few); few_leads = omega (arith, t-nodes.few_leads) })
 
 -- what was read has this text

@@ -6,6 +6,8 @@ pub use Rattle.convoy_lines.specs.Results
 pub use Rattle.convoy_lines.specs.Texts
 pub use Rattle.convoy_lines.specs.Words
 pub use Rattle.convoy_packets.specs.Assignment
+pub use Rattle.convoy_packets.specs.Order
+pub use Rattle.convoy_packets.specs.OrderLists
 pub use Rattle.convoy_scenario_lines.specs.LineReading
 pub use Rattle.convoy_scenario_lines.specs.Lines
 pub use Rattle.convoy_scenario.specs.Memory

@@ -1,7 +1,7 @@
 -- What reading a text answers: the certificate, or the first fault in the order of the lines.
-use Rattle.std.specs.Prelude.{◌≡◌, ℕ, ◌+◌, ◌≤◌, ◌==◌, nat_le, nat_lt, Bool, true, false, ◌&&◌, ◌||◌, if◌then◌else◌, List, [], ◌∷◌, length, codes, Option, Some, None, ok_or, Result, Ok, Err}
+use Rattle.std.specs.Prelude.{◌≡◌, ℕ, ◌+◌, ◌≤◌, ◌==◌, nat_le, nat_lt, Bool, true, false, ◌&&◌, ◌||◌, not, if◌then◌else◌, List, [], ◌∷◌, length, codes, Option, Some, None, ok_or, Result, Ok, Err}
 use Rattle.std.specs.Cmp.Lexicographic.{pointwise}
-use Rattle.std.specs.List.{count_by}
+use Rattle.std.specs.List.{count_by, list_all}
 use Rattle.convoy_scenario_lines.specs.declared.line_fault.Expected.TheVariants as expected
 use Rattle.convoy_scenario_lines.specs.declared.line_fault.LineFault.{LineFault}
 use Rattle.convoy_scenario_lines.specs.declared.line_fault.LineFault.TheVariants as lines
@@ -10,16 +10,19 @@ use Rattle.convoy_lines.specs.Places.{Place, place_before, is_at_end}
 use Rattle.convoy_scenario_lines.specs.LineReading.{form_at, scenario_at}
 use Rattle.convoy_lines.specs.Results.{◌>>=◌}
 use Rattle.convoy_scenario.specs.Scenario.{Scenario}
+use Rattle.convoy_packets.specs.declared.order.TheConstants.{GREATEST_RANK}
 use Rattle.convoy_packets.specs.Assignment.{ranges_of}
+use Rattle.convoy_packets.specs.Order.{Order, no_order}
+use Rattle.convoy_packets.specs.OrderLists.{is_no_order, order_of, rank_count}
 use Rattle.convoy_certificate.specs.declared.certificate.TheConstants.{MOST_LEADS, MOST_NODES}
 use Rattle.convoy_certificate.specs.declared.node.Node.{Node}
 use Rattle.convoy_certificate.specs.declared.text_fault.TextFault.{TextFault}
 use Rattle.convoy_certificate.specs.declared.text_fault.TextFault.TheVariants as faults
 use Rattle.convoy_certificate.specs.declared.version.Version.{Version}
-use Rattle.convoy_certificate.specs.declared.version.Version.TheVariants.{One, Two, Three}
+use Rattle.convoy_certificate.specs.declared.version.Version.TheVariants.{One, Two, Three, Four}
 use Rattle.convoy_certificate.specs.Certificate.{Certificate}
 use Rattle.convoy_certificate.specs.Text.{is_lead, lines_version, version_of, certificate_text}
-use Rattle.convoy_certificate.specs.Forms.{version_in, schedule_in, node_or_end}
+use Rattle.convoy_certificate.specs.Forms.{version_in, schedule_in, order_in, node_or_end}
 
 -- the fault of a line, told of a text
 abbrev pub text_fault : LineFault → TextFault
@@ -38,6 +41,21 @@ is_within range delay = nat_le range.0 delay && nat_le delay range.1
 -- there is one delay for each packet, and each is in its packet's range
 abbrev pub is_assignment : Scenario → List ℕ → Bool
 is_assignment scenario delays = pointwise is_within (ranges_of scenario) delays
+
+-- the list is that of an order of the scenario's ties: none of its ranks is too great, and there is one for each moment and one of them is not 0, or there is none
+abbrev pub is_order_list : Scenario → List ℕ → Bool
+is_order_list scenario ranks =
+    (length ranks == 0)
+    || ((length ranks == rank_count scenario) && list_all (λ rank. nat_le rank GREATEST_RANK) ranks && not (is_no_order (order_of scenario ranks)))
+
+-- the order of ties of the next line, in version 4; the others have no such line, and ties fall in the fixed order
+abbrev pub order_at : Version → Scenario → Place → Result (Order × Place) TextFault
+order_at One scenario place = Ok (no_order, place)
+order_at Two scenario place = Ok (no_order, place)
+order_at Three scenario place = Ok (no_order, place)
+order_at Four scenario place = do
+  ranks ← in_text (form_at expected.Order order_in place)
+  if is_order_list scenario ranks.0 then Ok (order_of scenario ranks.0, ranks.1) else Err faults.Schedule
 
 -- how many lead leaves there are with that node, after so many of them
 abbrev pub leads_with : ℕ → Node → ℕ
@@ -69,7 +87,13 @@ abbrev pub is_same_version : Version → Version → Bool
 is_same_version One One = true
 is_same_version Two Two = true
 is_same_version Three Three = true
+is_same_version Four Four = true
 is_same_version version other = false
+
+-- the certificate of these parts
+abbrev pub certificate_with : Scenario → ℕ → List ℕ → Order → List Node → Certificate
+certificate_with scenario latency delays order nodes =
+    record { scenario = scenario; latency = latency; schedule = record { delays = delays; order = order }; nodes = nodes }
 
 -- the certificate that was read up to a place, if it is written in that version, and nothing follows
 abbrev pub whole : Version → Certificate → Place → Result Certificate TextFault
@@ -84,8 +108,9 @@ certificate_of text = do
   scenario ← in_text (scenario_at (lines_version version.0) version.1)
   latency ← in_text (form_at expected.Latency (number_in (codes "latency")) scenario.1)
   delays ← in_text (form_at expected.Schedule schedule_in latency.1)
-  nodes ← if is_assignment scenario.0 delays.0 then nodes_at version.0 0 0 delays.1 else Err faults.Schedule
-  whole version.0 (record { scenario = scenario.0; latency = latency.0; delays = delays.0; nodes = nodes.0 }) nodes.1
+  order ← if is_assignment scenario.0 delays.0 then order_at version.0 scenario.0 delays.1 else Err faults.Schedule
+  nodes ← nodes_at version.0 0 0 order.1
+  whole version.0 (certificate_with scenario.0 latency.0 delays.0 order.0 nodes.0) nodes.1
 
 -- there are no more nodes, and no more lead leaves among them, than may be read
 pub record AreReadable (nodes : List Node) : Type 0 where

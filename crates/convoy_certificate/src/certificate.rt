@@ -2,12 +2,12 @@ ghost use Rattle.std.specs.Prelude.{◌≡◌};
 ghost use Rattle.std.specs.List.{All, list_any};
 ghost use Rattle.convoy_packets.specs.Assignment.{IsAssignment};
 ghost use Rattle.convoy_certificate.specs.Certificate.{IsNode, IsCertificate};
-ghost use Rattle.convoy_certificate.specs.Text.{is_stamp, is_lead, version_of};
+ghost use Rattle.convoy_certificate.specs.Text.{is_stamp, is_lead, version_for, version_of};
 
 use super::node::Node;
 use super::version::Version;
-use convoy_packets::{Delays, Instance};
-use convoy_scenario::Scenario;
+use convoy_packets::{Instance, Schedule};
+use convoy_scenario::{Scenario, Time};
 use std::marker::Model;
 
 /// How many nodes a certificate that is read has at most.
@@ -23,13 +23,13 @@ pub const LONGEST_TEXT: usize = 67_108_864;
 /// has it, and the nodes of a tree that shows that no other schedule has a greater one.
 ///
 /// The schedule is an assignment of the scenario, and each split names a packet number from 0 to
-/// `GREATEST_PACKET` and a place from 1 to `GREATEST_DELAY`. Nothing else is known of the nodes: they
-/// may be no tree, and there may be none.
+/// `GREATEST_PACKET` and a place from 1 to the greatest delay for how its time goes. In real time no node is a point or stamp
+/// leaf. Nothing else is known of the nodes: they may be no tree, and there may be none.
 #[derive(Debug, Drop)]
 pub struct Certificate {
     instance: Instance,
     latency: u32,
-    delays: Delays,
+    schedule: Schedule,
     nodes: Vec<Node>,
 }
 
@@ -41,34 +41,39 @@ impl Model for Certificate {
     ghost view = { λ c. record {
       scenario = c.instance;
       latency = c.latency;
-      delays = c.delays;
+      schedule = c.schedule;
       nodes = c.nodes.items;
     } };
 
     ghost invariant = { λ c. IsCertificate (record {
       scenario = c.instance;
       latency = c.latency;
-      delays = c.delays;
+      schedule = c.schedule;
       nodes = c.nodes.items;
     }) };
 }
 
 impl Certificate {
     /// A certificate of these parts.
-    pub fn new(instance: Instance, latency: u32, delays: Delays, nodes: Vec<Node>) -> Certificate
-        requires assigned { IsAssignment instance delays }
-        requires nodes { All IsNode nodes.items }
+    pub fn new(
+        instance: Instance,
+        latency: u32,
+        schedule: Schedule,
+        nodes: Vec<Node>,
+    ) -> Certificate
+        requires assigned { IsAssignment instance schedule }
+        requires nodes { All (IsNode instance.time) nodes.items }
         ensures { result ≡ record {
           scenario = instance;
           latency = latency;
-          delays = delays;
+          schedule = schedule;
           nodes = nodes.items;
         } }
     {
         Certificate {
             instance,
             latency,
-            delays,
+            schedule,
             nodes,
         }
     }
@@ -87,20 +92,14 @@ impl Certificate {
         &self.instance
     }
 
-    /// The version in which the certificate is written: `Three` where its tree has a lead leaf; else
-    /// `Two` where its scenario has a link or its tree a stamp leaf; else `One` (docs/FORMATS.md,
-    /// "Certificate text").
+    /// The version in which the certificate is written: `Four` where its scenario's time is real. In
+    /// whole ticks `Three` where its tree has a lead leaf; else `Two` where its scenario has a link or
+    /// its tree a stamp leaf; else `One` (docs/FORMATS.md, "Certificate text").
     pub fn version(&self) -> Version
         ensures { result ≡ version_of self.now }
     {
-        let nodes = self.nodes.as_slice();
-        if has_lead(nodes) {
-            Version::Three
-        } else if self.scenario().link_count() == 0 && !has_stamp(nodes) {
-            Version::One
-        } else {
-            Version::Two
-        }
+        let scenario = self.scenario();
+        version_for(scenario.time(), scenario.link_count(), &self.nodes)
     }
 
     /// The stated latency, in ticks.
@@ -111,11 +110,11 @@ impl Certificate {
     }
 
     /// The schedule.
-    pub fn delays(&self) -> &Delays
-        ensures value { result.now ≡ self.now.delays }
+    pub fn schedule(&self) -> &Schedule
+        ensures value { result.now ≡ self.now.schedule }
         ensures lawful { IsCertificate self.now }
     {
-        &self.delays
+        &self.schedule
     }
 
     /// The nodes, in their order.
@@ -127,19 +126,31 @@ impl Certificate {
     }
 
     /// The instance, the stated latency in ticks, the schedule and the nodes, none of them copied.
-    pub fn into_parts(self) -> (Instance, u32, Delays, Vec<Node>)
+    pub fn into_parts(self) -> (Instance, u32, Schedule, Vec<Node>)
         ensures instance { result.0 ≡ self.scenario }
         ensures latency { result.1 ≡ self.latency }
-        ensures delays { result.2 ≡ self.delays }
+        ensures schedule { result.2 ≡ self.schedule }
         ensures nodes { result.3.items ≡ self.nodes }
     {
         let Certificate {
             instance,
             latency,
-            delays,
+            schedule,
             nodes,
         } = self;
-        (instance, latency, delays, nodes)
+        (instance, latency, schedule, nodes)
+    }
+}
+
+/// The version for so many links and for these nodes, where time goes so.
+fn version_for(time: Time, links: usize, nodes: &[Node]) -> Version
+    ensures { result ≡ version_for time links nodes.now }
+{
+    match time {
+        Time::Real => Version::Four,
+        Time::Ticks if has_lead(nodes) => Version::Three,
+        Time::Ticks if links == 0 && !has_stamp(nodes) => Version::One,
+        Time::Ticks => Version::Two,
     }
 }
 

@@ -6,7 +6,10 @@ use convoy_lines::laws::{
     decimals_are_words, labelled_lines, lines_of_texts, number_lines, numbers_are_decimals,
     words_make_lines, words_of_lines,
 };
-use convoy_packets::laws::{delays_are_one_each, packets_are_few};
+use convoy_packets::laws::{
+    delays_are_one_each, fixed_order_is_decided, lists_are_their_orders, no_ranks_give_fixed_order,
+    orders_are_their_lists, packets_are_few, ranks_are_few, ranks_are_one_each,
+};
 use convoy_scenario_lines::laws::{scenario_lines_are_lines, scenarios_are_their_lines};
 
 /// Two certificates with one text are equal.
@@ -22,6 +25,10 @@ pub fn texts_differ()
     lines_of_texts();
     scenario_lines_are_lines();
     scenarios_are_their_lines();
+    no_ranks_give_fixed_order();
+    orders_are_their_lists();
+    ranks_are_one_each();
+    fixed_order_is_decided();
 }
 
 /// The text of a certificate with no more nodes than may be read is read as that certificate.
@@ -37,6 +44,10 @@ pub fn texts_are_read()
     lines_of_texts();
     scenario_lines_are_lines();
     scenarios_are_their_lines();
+    no_ranks_give_fixed_order();
+    orders_are_their_lists();
+    ranks_are_one_each();
+    fixed_order_is_decided();
 }
 
 /// The text of a certificate with no more nodes than may be read has at most `LONGEST_TEXT` bytes.
@@ -45,6 +56,11 @@ pub fn texts_are_short()
 {
     packets_are_few();
     delays_are_one_each();
+    no_ranks_give_fixed_order();
+    orders_are_their_lists();
+    ranks_are_one_each();
+    ranks_are_few();
+    fixed_order_is_decided();
 }
 
 /// A certificate that is read from a text has this text, and no more nodes than may be read.
@@ -57,4 +73,6 @@ pub fn texts_are_kept()
     number_lines();
     lines_of_texts();
     scenarios_are_their_lines();
+    no_ranks_give_fixed_order();
+    lists_are_their_orders();
 }

@@ -9,9 +9,9 @@ pub enum Node {
     Split { packet: u16, at: u16 },
     /// A leaf: the plain bound shows that no delays of its box have a greater latency.
     Bound,
-    /// A leaf: its box has one delay for each packet, whose latency is not greater.
+    /// A leaf in whole ticks: its box has one delay for each packet, whose latency is not greater.
     Point,
-    /// A leaf: the stamp bound shows that no delays of its box have a greater latency.
+    /// A leaf in whole ticks: the stamp bound shows that no delays of its box have a greater latency.
     Stamp,
     /// A leaf: leads show that no delays of its box have a latency above this, in ticks, which may be
     /// less than that of the certificate.

@@ -1,24 +1,31 @@
-ghost use Rattle.std.specs.Prelude.{◌≡◌, ◌≤◌, codes, Ok, IfOk, IfSome};
+ghost use Rattle.std.specs.Prelude.{◌≡◌, ◌≤◌, nat_le, if◌then◌else◌, codes, Some, None, Ok, IfOk, IfSome, IsTrue};
 ghost use Rattle.std.specs.Cmp.Lexicographic.{pointwise};
-ghost use Rattle.std.specs.List.{All};
+ghost use Rattle.std.specs.List.{All, list_all};
 ghost use Rattle.std.specs.Result.{result_map_both};
 ghost use Rattle.convoy_scenario.specs.Memory.{IsUnlessMemory};
 ghost use Rattle.convoy_lines.specs.Labels.{number_in};
+ghost use Rattle.convoy_packets.specs.declared.order.TheConstants.{GREATEST_RANK};
+ghost use Rattle.convoy_packets.specs.Order.{IsOrder};
+ghost use Rattle.convoy_packets.specs.OrderLists.{AreSmall, order_of};
+ghost use Rattle.convoy_scenario.specs.declared.time.Time.TheVariants.{Real};
+ghost use Rattle.convoy_scenario_lines.specs.Laws.{time_of};
 ghost use Rattle.convoy_scenario_lines.specs.LineReading.{form_at, scenario_at};
 ghost use Rattle.convoy_certificate.specs.Certificate.{Certificate, IsCertificate, IsNode};
-ghost use Rattle.convoy_certificate.specs.Forms.{version_in, schedule_in, node_or_end};
-ghost use Rattle.convoy_certificate.specs.Reading.{in_text, is_same_version, is_within, are_too_many, leads_with, nodes_at, certificate_of, IsTextOf};
+ghost use Rattle.convoy_certificate.specs.Forms.{version_in, schedule_in, order_in, node_or_end};
+ghost use Rattle.convoy_certificate.specs.Reading.{in_text, is_same_version, is_within, is_order_list, order_at, are_too_many, leads_with, nodes_at, certificate_of, IsTextOf};
 ghost use Rattle.convoy_certificate.specs.Text.{lines_version};
 
 use super::certificate::{Certificate, MOST_LEADS, MOST_NODES, is_lead};
 use super::laws::{texts_are_kept, texts_are_read};
-use super::lines::{node_or_end, schedule_in, version_in};
+use super::lines::{list_in, node_or_end, version_in};
 use super::node::Node;
 use super::text_fault::TextFault;
 use super::version::Version;
 use convoy_lines::{LineReader, number_in};
-use convoy_packets::{Delays, Instance};
+use convoy_packets::laws::{fixed_order_is_order, no_ranks_give_fixed_order};
+use convoy_packets::{GREATEST_RANK, Instance, Order, Schedule};
 use convoy_scenario::Scenario;
+use convoy_scenario_lines::laws::scenarios_are_their_lines;
 use convoy_scenario_lines::{Expected, read_lines};
 use std::alloc::Global;
 
@@ -52,13 +59,15 @@ fn read_all(alloc: Global, text: &[u8]) -> Result<Certificate, TextFault>
     let version = read_version(&mut reader)?;
     let scenario = read_scenario(alloc, version, &mut reader)?;
     let latency = read_latency(&mut reader)?;
-    let delays = read_schedule(alloc, &mut reader)?;
+    let delays = read_delays(alloc, &mut reader)?;
     let instance = Instance::of(alloc, scenario)?;
     if !are_within(instance.table().ranges(), &delays) {
         return Err(TextFault::Schedule);
     }
+    let order = read_order(alloc, version, instance.scenario(), &mut reader)?;
     let nodes = read_nodes(alloc, version, &mut reader)?;
-    let certificate = Certificate::new(instance, latency, Delays::from_vec(delays), nodes);
+    let schedule = Schedule::with_order(delays, order);
+    let certificate = Certificate::new(instance, latency, schedule, nodes);
     if !is_same_version(version, certificate.version()) {
         return Err(TextFault::Line(1, Expected::Convoy));
     }
@@ -75,6 +84,7 @@ fn is_same_version(version: Version, other: Version) -> bool
         (Version::One, Version::One) => true,
         (Version::Two, Version::Two) => true,
         (Version::Three, Version::Three) => true,
+        (Version::Four, Version::Four) => true,
         _ => false,
     }
 }
@@ -93,9 +103,12 @@ fn read_scenario(
     version: Version,
     reader: &mut LineReader,
 ) -> Result<Scenario, TextFault>
-    ensures { IsUnlessMemory TextFault.Memory (in_text (scenario_at (lines_version version) reader.old))
+    ensures value { IsUnlessMemory TextFault.Memory
+        (in_text (scenario_at (lines_version version) reader.old))
         (result_map_both (λ scenario. (scenario, reader.new)) (λ fault. fault) result) }
+    ensures timed { IfOk result (λ scenario. scenario.time ≡ time_of (lines_version version)) }
 {
+    scenarios_are_their_lines();
     Ok(read_lines(alloc, version.of_lines(), reader)?)
 }
 
@@ -108,14 +121,14 @@ fn read_latency(reader: &mut LineReader) -> Result<u32, TextFault>
     number_in(line, b"latency").ok_or(wrong)
 }
 
-fn read_schedule(alloc: Global, reader: &mut LineReader) -> Result<Vec<u16>, TextFault>
+fn read_delays(alloc: Global, reader: &mut LineReader) -> Result<Vec<u16>, TextFault>
     ensures { IsUnlessMemory TextFault.Memory
         (in_text (form_at Expected.Schedule schedule_in reader.old))
         (result_map_both (λ delays. (delays.items, reader.new)) (λ fault. fault) result) }
 {
     let wrong = TextFault::Line(reader.number(), Expected::Schedule);
     let line = reader.line().ok_or(wrong)?;
-    schedule_in(alloc, line, wrong)
+    list_in(alloc, b"schedule", line, wrong)
 }
 
 /// Whether there is one delay for each range, in its range.
@@ -135,6 +148,64 @@ fn are_within(ranges: &[(u16, u16)], delays: &[u16]) -> bool
     rest.is_empty()
 }
 
+/// The order of ties: that of the next line in version 4, and the fixed one in the others.
+fn read_order(
+    alloc: Global,
+    version: Version,
+    scenario: &Scenario,
+    reader: &mut LineReader,
+) -> Result<Order, TextFault>
+    requires { scenario.now.time ≡ time_of (lines_version version) }
+    ensures value { IsUnlessMemory TextFault.Memory (order_at version scenario.now reader.old)
+        (result_map_both (λ order. (order, reader.new)) (λ fault. fault) result) }
+    ensures lawful { IfOk result (λ order. IsOrder scenario.now order) }
+{
+    fixed_order_is_order();
+    match version {
+        Version::One | Version::Two | Version::Three => Ok(Order::none()),
+        Version::Four => {
+            let ranks = read_ranks(alloc, reader)?;
+            order_of(scenario, &ranks).ok_or(TextFault::Schedule)
+        }
+    }
+}
+
+fn read_ranks(alloc: Global, reader: &mut LineReader) -> Result<Vec<u16>, TextFault>
+    ensures { IsUnlessMemory TextFault.Memory (in_text (form_at Expected.Order order_in reader.old))
+        (result_map_both (λ ranks. (ranks.items, reader.new)) (λ fault. fault) result) }
+{
+    let wrong = TextFault::Line(reader.number(), Expected::Order);
+    let line = reader.line().ok_or(wrong)?;
+    list_in(alloc, b"order", line, wrong)
+}
+
+/// The order of the scenario's ties that a list of ranks is; None where it is not written as one.
+fn order_of(scenario: &Scenario, ranks: &[u16]) -> Option<Order>
+    requires { scenario.now.time ≡ Real }
+    ensures value { result ≡ (if is_order_list scenario.now ranks.now
+        then Some (order_of scenario.now ranks.now) else None) }
+    ensures lawful { IfSome result (IsOrder scenario.now) }
+{
+    no_ranks_give_fixed_order();
+    fixed_order_is_order();
+    if ranks.is_empty() {
+        return Some(Order::none());
+    }
+    if ranks.len() != Order::rank_count(scenario) || !are_small(ranks) {
+        return None;
+    }
+    let order = Order::from_ranks(scenario, ranks);
+    (!order.is_none()).then_some(order)
+}
+
+/// Whether none of the ranks is too great.
+fn are_small(ranks: &[u16]) -> bool
+    ensures value { result ≡ list_all (λ rank. nat_le rank GREATEST_RANK) ranks.now }
+    ensures lawful { IsTrue result → AreSmall ranks.now }
+{
+    ranks.iter().all(|rank| *rank <= u16::from(GREATEST_RANK))
+}
+
 /// The nodes up to the line `end`.
 fn read_nodes(
     alloc: Global,
@@ -143,7 +214,7 @@ fn read_nodes(
 ) -> Result<Vec<Node>, TextFault>
     ensures value { IsUnlessMemory TextFault.Memory (nodes_at version 0 0 reader.old)
         (result_map_both (λ nodes. (nodes.items, reader.new)) (λ fault. fault) result) }
-    ensures lawful { IfOk result (λ nodes. All IsNode nodes.items) }
+    ensures lawful { IfOk result (λ nodes. All (IsNode (time_of (lines_version version))) nodes.items) }
 {
     let mut nodes = Vec::new(alloc);
     let mut leads = 0;
@@ -176,7 +247,7 @@ fn are_too_many(count: usize, leads: usize) -> bool
 fn read_node(version: Version, reader: &mut LineReader) -> Result<Option<Node>, TextFault>
     ensures value { result_map_both (λ node. (node, reader.new)) (λ fault. fault) result
         ≡ in_text (form_at Expected.Node (node_or_end version) reader.old) }
-    ensures lawful { IfOk result (λ node. IfSome node IsNode) }
+    ensures lawful { IfOk result (λ node. IfSome node (IsNode (time_of (lines_version version)))) }
 {
     let wrong = TextFault::Line(reader.number(), Expected::Node);
     let line = reader.line().ok_or(wrong)?;

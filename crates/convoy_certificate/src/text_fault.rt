@@ -11,12 +11,13 @@ pub enum TextFault {
     /// was expected there.
     #[error("line {0} is not a line `{1}`, or is not ended")]
     Line(usize, Expected),
-    /// The lines from `delay` to `target` have their form, but there is no such scenario.
+    /// The lines of the scenario have their form, but there is no such scenario.
     #[error("the lines are no scenario: {0}")]
     Scenario(ScenarioFault),
     /// The line `schedule` has its form, but the number of delays is not the number of packets, or a
-    /// delay is not in its packet's range.
-    #[error("the schedule has not one delay for each packet in its range")]
+    /// delay is not in its packet's range; or the line `order` has its form, but the number of ranks is
+    /// not that of the moments, or one is above `GREATEST_RANK`, or all of them are 0 and written out.
+    #[error("the schedule has not one delay for each packet in its range, or no such order of ties")]
     Schedule,
     /// There are more than `MOST_NODES` nodes, or more than `MOST_LEADS` lead leaves among them.
     #[error("there are too many nodes")]

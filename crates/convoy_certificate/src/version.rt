@@ -3,12 +3,16 @@ use convoy_scenario_lines::Version as LinesVersion;
 /// A version of the text of a certificate (docs/FORMATS.md, "Certificate text").
 #[derive(Clone, Copy, Debug, PartialEq, Eq)]
 pub enum Version {
-    /// A scenario without links, and a tree of splits, bound leaves and point leaves.
+    /// A scenario in whole ticks without links, and a tree of splits, bound leaves and point leaves.
     One,
-    /// Lines `link` and stamp leaves may stand in the text, and one of them does.
+    /// A scenario in whole ticks: lines `link` and stamp leaves may stand in the text, and one of them
+    /// does.
     Two,
-    /// Lead leaves may stand in the text too, and one of them does.
+    /// A scenario in whole ticks: lead leaves may stand in the text too, and one of them does.
     Three,
+    /// A scenario in real time, a schedule with an order of ties, and a tree of splits, bound leaves
+    /// and lead leaves.
+    Four,
 }
 
 impl Version {
@@ -22,6 +26,7 @@ impl Version {
         match self {
             Version::One => LinesVersion::One,
             Version::Two | Version::Three => LinesVersion::Two,
+            Version::Four => LinesVersion::Three,
         }
     }
 }

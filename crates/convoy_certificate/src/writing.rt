@@ -1,11 +1,13 @@
 ghost use Rattle.std.specs.Prelude.{◌≡◌, ◌++◌, map, codes, decimal, IfOk, OnOk, OnErr};
-ghost use Rattle.convoy_lines.specs.Texts.{ended, spaced, text_of};
-ghost use Rattle.convoy_certificate.specs.Text.{version_line, schedule_line, node_line, certificate_text};
+ghost use Rattle.convoy_lines.specs.Texts.{ended, line_of, spaced, text_of};
+ghost use Rattle.convoy_certificate.specs.Text.{version_line, schedule_lines, order_line, ranks_written, node_line, certificate_text};
 
 use super::certificate::Certificate;
 use super::node::Node;
 use super::version::Version;
 use convoy_lines::{push_number, push_number_line};
+use convoy_packets::{Order, Schedule};
+use convoy_scenario::{Scenario, Time};
 use convoy_scenario_lines::write_lines;
 use std::alloc::{AllocError, Global};
 
@@ -23,9 +25,10 @@ fn text_of(alloc: Global, certificate: &Certificate) -> Result<Vec<u8>, AllocErr
     ensures { IfOk result (λ text. text.items ≡ certificate_text certificate.now) }
 {
     let mut text = Vec::from_slice(alloc, version_line(certificate.version()))?;
-    write_lines(alloc, certificate.scenario(), &mut text)?;
+    let scenario = certificate.scenario();
+    write_lines(alloc, scenario, &mut text)?;
     push_number_line(&mut text, "latency", certificate.latency())?;
-    push_schedule(&mut text, certificate.delays().as_slice())?;
+    push_schedule(alloc, scenario, certificate.schedule(), &mut text)?;
     push_nodes(&mut text, certificate.nodes())?;
     text.extend_from_slice(b"end\n")?;
     Ok(text)
@@ -39,17 +42,54 @@ fn version_line(version: Version) -> &'static [u8]
         Version::One => b"convoy 1\n",
         Version::Two => b"convoy 2\n",
         Version::Three => b"convoy 3\n",
+        Version::Four => b"convoy 4\n",
     }
 }
 
-/// Appends the line of a schedule, the delays in packet order. Where memory runs out, a front of the
-/// line may have been appended.
-pub fn push_schedule(text: &mut Vec<u8>, delays: &[u16]) -> Result<(), AllocError>
-    ensures { OnOk result (text.new.items ≡ text.old.items ++ ended (schedule_line delays.now)) }
+/// Appends the lines of a schedule: that of its delays in packet order, and in real time that of the
+/// order of its ties. Where memory runs out, a front of the lines may have been appended.
+pub fn push_schedule(
+    alloc: Global,
+    scenario: &Scenario,
+    schedule: &Schedule,
+    text: &mut Vec<u8>,
+) -> Result<(), AllocError>
+    ensures { OnOk result
+        (text.new.items ≡ text.old.items ++ text_of (schedule_lines scenario.now schedule.now)) }
 {
-    text.extend_from_slice(b"schedule")?;
-    for delay in delays {
-        push_further_number(text, u32::from(*delay))?;
+    push_list(text, "schedule", schedule.delays())?;
+    match scenario.time() {
+        Time::Ticks => Ok(()),
+        Time::Real => push_order(alloc, scenario, schedule.order(), text),
+    }
+}
+
+/// Appends the line of an order of ties. Where memory runs out, a front of the line may have been
+/// appended.
+fn push_order(
+    alloc: Global,
+    scenario: &Scenario,
+    order: &Order,
+    text: &mut Vec<u8>,
+) -> Result<(), AllocError>
+    ensures { OnOk result (text.new.items
+        ≡ text.old.items ++ ended (order_line (ranks_written scenario.now order.now))) }
+{
+    if order.is_none() {
+        return push_list(text, "order", &[]);
+    }
+    let ranks = order.ranks(alloc, scenario)?;
+    push_list(text, "order", &ranks)
+}
+
+/// Appends a line of numbers: its label, and each number after a space.
+fn push_list(text: &mut Vec<u8>, label: &str, numbers: &[u16]) -> Result<(), AllocError>
+    ensures { OnOk result (text.new.items
+        ≡ text.old.items ++ ended (line_of label.now (map decimal numbers.now))) }
+{
+    text.extend_from_slice(label.as_bytes())?;
+    for number in numbers {
+        push_further_number(text, u32::from(*number))?;
     }
     Ok(text.push(b'\n')?)
 }

@@ -24,7 +24,7 @@ if_latency certificate fault other false latency answer = cc
 checked_latency : (certificate : Certificate) (latency : ℕ) → checked certificate ≡ Ok latency → latency ≡ certificate.latency
 unfolding checked
 checked_latency certificate latency answer =
-    let simulated = latency_of certificate.scenario certificate.delays in
+    let simulated = latency_of certificate.scenario certificate.schedule in
     let fault = first_fault certificate.scenario certificate.latency 0 (root_of certificate.scenario ∷ []) certificate.nodes in
     if_latency certificate fault (refused.Latency simulated) (simulated == certificate.latency) latency answer
 

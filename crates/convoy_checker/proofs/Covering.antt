@@ -5,6 +5,8 @@ use Rattle.std.proofs.lemmas.Bool.{cases_lt}
 use Rattle.std.proofs.lemmas.List.Elements.{All-nil, All-cons, All-head, All-tail, All-append}
 use Rattle.convoy_scenario.specs.Scenario.{Scenario}
 use Rattle.convoy_scenario.specs.WellFormed.{IsScenario}
+use Rattle.convoy_packets.specs.Assignment.{Schedule}
+use Rattle.convoy_packets.specs.Order.{IsOrder}
 use Rattle.convoy_sim.specs.Delivery.{latency_of}
 use Rattle.convoy_intervals.specs.Boxes.{IsBox, IsIn, lower_half, upper_half}
 use Rattle.convoy_intervals.specs.Laws.{HalvesAreBoxes, HalvesPartition}
@@ -27,7 +29,7 @@ pub record Grounds : Type 0 where
 
 -- no member of the box has a greater latency
 pub record IsCovered (plan : Scenario) (latency : ℕ) (box : Box) : Type 0 where
-  pub at : (delays : List ℕ) → IsIn box delays → latency_of plan delays ≤ latency
+  pub at : (schedule : Schedule) → IsIn box schedule → IsOrder plan schedule.order → latency_of plan schedule ≤ latency
 
 module _ (grounds : Grounds) (plan : Scenario) (lawful : IsScenario plan) (latency : ℕ) where
   -- the boxes below a right node are boxes
@@ -44,12 +46,12 @@ module _ (grounds : Grounds) (plan : Scenario) (lawful : IsScenario plan) (laten
   -- a box that is split is covered where both halves are
   split_covers : (packet at : ℕ) (box : Box) → CanSplit box packet at → IsCovered plan latency (lower_half box packet at) → IsCovered plan latency (upper_half box packet at) → IsCovered plan latency box
   split_covers packet at box right lower upper = record { at = members } where
-    members : (delays : List ℕ) → IsIn box delays → latency_of plan delays ≤ latency
-    members delays member =
-        let part = grounds.part box packet at delays right in
-        elim (cases_lt at (get_or delays packet 0)) [
-          | inl above ↦ upper.at delays (part.1.1 (member, above))
-          | inr within ↦ lower.at delays (part.0.1 (member, within))
+    members : (schedule : Schedule) → IsIn box schedule → IsOrder plan schedule.order → latency_of plan schedule ≤ latency
+    members schedule member order =
+        let part = grounds.part box packet at schedule right in
+        elim (cases_lt at (get_or schedule.delays packet 0)) [
+          | inl above ↦ upper.at schedule (part.1.1 (member, above)) order
+          | inr within ↦ lower.at schedule (part.0.1 (member, within)) order
         ]
 
   -- a box is covered where its node is right and the boxes below are covered
@@ -60,13 +62,13 @@ module _ (grounds : Grounds) (plan : Scenario) (lawful : IsScenario plan) (laten
       let upper = upper_half box packet at in
       split_covers packet at box right (All-head Covered lower (upper ∷ []) below) (All-head Covered upper [] (All-tail Covered lower (upper ∷ []) below))
   node_covers Bound box is_box right below =
-      record { at = λ delays member. grounds.bound plan latency box delays lawful is_box right member }
+      record { at = λ schedule member order. grounds.bound plan latency box schedule lawful is_box right member order }
   node_covers Point box is_box right below =
-      record { at = λ delays member. grounds.point plan latency box delays lawful is_box right member }
+      record { at = λ schedule member order. grounds.point plan latency box schedule lawful is_box right member order }
   node_covers Stamp box is_box right below =
-      record { at = λ delays member. grounds.stamp plan latency box delays lawful is_box right member }
+      record { at = λ schedule member order. grounds.stamp plan latency box schedule lawful is_box right member order }
   node_covers (Lead named) box is_box right below =
-      record { at = λ delays member. omega (arith, grounds.lead plan named box delays lawful is_box right.1 member, right.0) }
+      record { at = λ schedule member order. omega (arith, grounds.lead plan named box schedule lawful is_box right.1 member order, right.0) }
 
   -- the two parts of what holds of each of a list of boxes
   parts : (boxes others : List Box) → All (IsCovered plan latency) (boxes ++ others) → All (IsCovered plan latency) boxes × All (IsCovered plan latency) others

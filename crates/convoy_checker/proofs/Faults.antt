@@ -1,10 +1,12 @@
 -- There is no fault just where all is right: of a node, of trees over boxes, and of a certificate.
-use Rattle.std.specs.Prelude.{◌≡◌, ◌↔◌, ℕ, ◌+◌, ◌==◌, ◌≤◌, ◌<◌, nat_le, nat_lt, ◌&&◌, Bool, true, false, if◌then◌else◌, List, [], ◌∷◌, ◌++◌, length, Option, Some, None, Result, Ok, Err}
+use Rattle.std.specs.Prelude.{◌≡◌, ◌↔◌, ℕ, ◌+◌, ◌==◌, ◌≤◌, nat_le, ◌&&◌, Bool, true, false, if◌then◌else◌, List, [], ◌∷◌, ◌++◌, Option, Some, None, Result, Ok, Err}
 use Rattle.std.specs.Bool.{Decides}
 use Rattle.std.specs.Option.{option_or}
 use Rattle.std.proofs.Common.{refl}
 use Rattle.std.proofs.lemmas.Bool.{leb-true, le-leb}
 use Rattle.std.proofs.lemmas.Bool.Decides.{Decides-and, Decides-eqb}
+use Rattle.convoy_scenario.specs.declared.time.Time.{Time}
+use Rattle.convoy_scenario.specs.declared.time.Time.TheVariants.{Ticks, Real}
 use Rattle.convoy_scenario.specs.Scenario.{Scenario}
 use Rattle.convoy_sim.specs.Delivery.{latency_of}
 use Rattle.convoy_intervals.specs.Boxes.{Box, CanSplit, IsPoint, can_split, is_point, greatest_of, root_of}
@@ -17,13 +19,20 @@ use Rattle.convoy_certificate.specs.declared.node.Node.{Node}
 use Rattle.convoy_certificate.specs.declared.node.Node.TheVariants.{Split, Bound, Point, Stamp, Lead}
 use Rattle.convoy_checker.specs.declared.refused.Refused.{Refused}
 use Rattle.convoy_checker.specs.declared.refused.Refused.TheVariants as refused
-use Rattle.convoy_checker.specs.Checks.{fault_unless, node_fault, first_fault, verdict, checked}
+use Rattle.convoy_checker.specs.Checks.{fault_unless, in_ticks, node_fault, first_fault, verdict, checked}
 use Rattle.convoy_checker.specs.Leaves.{ClosesByLeads, IsRight}
 use Rattle.convoy_checker.specs.Trees.{AreTrees, boxes_below}
 use Rattle.convoy_checker.specs.Validity.{IsValid}
 
 Decides-le : (a b : ℕ) → Decides (nat_le a b) (a ≤ b)
 Decides-le a b = (leb-true a b, le-leb a b)
+
+ticks_not_real : Real ≡ Ticks → ⊥
+ticks_not_real e = cc
+
+Decides-in_ticks : (time : Time) → Decides (in_ticks time) (time ≡ Ticks)
+Decides-in_ticks Ticks = (λ yes. refl, λ is. refl)
+Decides-in_ticks Real = (λ yes. absurd cc, λ is. absurd (ticks_not_real is))
 
 -- a test has no fault just where it says yes
 fault_unless_none : (fault : Refused) (test : Bool) (Holds : Type 0) → Decides test Holds → (fault_unless test fault ≡ None) ↔ Holds
@@ -41,10 +50,16 @@ node_none plan latency number Bound box =
 node_none plan latency number Point box =
     let tried = latency_of plan (greatest_of box) in
     let low = nat_le tried latency in
-    fault_unless_none (refused.PointLeaf number) (is_point box && low) (IsPoint box × (tried ≤ latency)) (Decides-and (is_point box) low (Decides-is_point box) (Decides-le tried latency))
+    let all = Decides-and (in_ticks plan.time) (is_point box && low) (Decides-in_ticks plan.time)
+    (Decides-and (is_point box) low (Decides-is_point box) (Decides-le tried latency)) in
+    fault_unless_none (refused.PointLeaf number) (in_ticks plan.time && (is_point box && low)) ((plan.time ≡ Ticks) × IsPoint box × (tried ≤ latency)) (
+      λ yes. let held = all.0 yes in (held.0, held.1.0, held.1.1),
+      λ holds. all.1 (holds.0, (holds.1, holds.2)),
+    )
 node_none plan latency number Stamp box =
     let bound = stamp_bound plan box in
-    fault_unless_none (refused.StampLeaf number bound) (nat_le bound latency) (bound ≤ latency) (Decides-le bound latency)
+    fault_unless_none (refused.StampLeaf number bound) (in_ticks plan.time && nat_le bound latency) ((plan.time ≡ Ticks) × (bound ≤ latency))
+    (Decides-and (in_ticks plan.time) (nat_le bound latency) (Decides-in_ticks plan.time) (Decides-le bound latency))
 node_none plan latency number (Lead named) box =
     let low = nat_le named latency in
     let closed = closes_by_leads plan box named in
@@ -86,7 +101,7 @@ unfolding checked
 checked_valid certificate =
     let plan = certificate.scenario in
     let latency = certificate.latency in
-    let simulated = latency_of plan certificate.delays in
+    let simulated = latency_of plan certificate.schedule in
     let fault = first_fault plan latency 0 (root_of plan ∷ []) certificate.nodes in
     let trees = trees_none plan latency 0 (root_of plan ∷ []) certificate.nodes in
     let answer = tree_answer certificate fault in

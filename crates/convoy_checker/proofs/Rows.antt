@@ -1,13 +1,16 @@
 -- Worked rows of what checking answers, computed from the definitions alone.
-use Rattle.std.specs.Prelude.{Ok, Err}
+use Rattle.std.specs.Prelude.{Ok, Err, None}
 use Rattle.std.proofs.Common.{◌≡◌, ℕ, List, [], ◌∷◌, replicate, refl, codes}
 use Rattle.convoy_scenario.specs.declared.sender.Sender.{Sender}
 use Rattle.convoy_scenario.specs.declared.sender.Sender.TheVariants.{Client, Group}
+use Rattle.convoy_scenario.specs.declared.time.Time.TheVariants.{Ticks, Real}
 use Rattle.convoy_scenario.specs.Scenario.{Message, Scenario}
 use Rattle.convoy_packets.specs.Packets.{packets_of}
-use Rattle.convoy_packets.specs.Assignment.{delay_of, ranges_of}
+use Rattle.convoy_packets.specs.Assignment.{delay_of, in_fixed_order, ranges_of}
+use Rattle.convoy_packets.specs.Order.{no_order}
+use Rattle.convoy_packets.specs.OrderLists.{marks_of, order_of}
 use Rattle.convoy_sim.specs.Times.{arrive, settle}
-use Rattle.convoy_sim.specs.Moments.{moments_of}
+use Rattle.convoy_sim.specs.Moments.{arrival_rank, commit_rank, moments_of}
 use Rattle.convoy_sim.specs.Stamps.{clocks_of, local_stamp, final_stamp}
 use Rattle.convoy_sim.specs.Delivery.{holds_back, deliver, latency_at, latency_of}
 use Rattle.convoy_intervals.specs.Bounds.{plain_bound}
@@ -27,6 +30,8 @@ message name sender destinations at =
 -- the base scenario, with its greatest delay and the tick at which y is issued
 base_with : ℕ → ℕ → Scenario
 base_with delay at = record {
+  time = Ticks;
+  tick = None;
   delay = delay;
   groups = codes "a" ∷ codes "b" ∷ [];
   links = [];
@@ -39,6 +44,8 @@ base_with delay at = record {
 -- the base with its groups in the order b, a
 swapped : Scenario
 swapped = record {
+  time = Ticks;
+  tick = None;
   delay = 3;
   groups = codes "b" ∷ codes "a" ∷ [];
   links = [];
@@ -51,69 +58,113 @@ swapped = record {
 -- the certificate whose schedule gives each of the eight packets its greatest delay
 all_greatest : Scenario → ℕ → List Node → Certificate
 all_greatest plan latency nodes =
-    record { scenario = plan; latency = latency; delays = replicate 8 plan.delay; nodes = nodes }
+    record { scenario = plan; latency = latency; schedule = in_fixed_order (replicate 8 plan.delay); nodes = nodes }
 
 one_bound : checked (all_greatest (base_with 3 6) 12 (Bound ∷ [])) ≡ Ok 12
-unfolding base_with all_greatest message packets_of ranges_of delay_of arrive settle moments_of clocks_of local_stamp final_stamp holds_back deliver latency_at latency_of plain_bound checked
+unfolding base_with all_greatest message packets_of ranges_of delay_of arrive settle arrival_rank commit_rank no_order moments_of clocks_of local_stamp final_stamp holds_back deliver latency_at latency_of plain_bound checked
 one_bound = refl
 
 other_latency : checked (all_greatest (base_with 3 6) 11 (Bound ∷ [])) ≡ Err (refused.Latency 12)
-unfolding base_with all_greatest message packets_of ranges_of delay_of arrive settle moments_of clocks_of local_stamp final_stamp holds_back deliver latency_at latency_of plain_bound checked
+unfolding base_with all_greatest message packets_of ranges_of delay_of arrive settle arrival_rank commit_rank no_order moments_of clocks_of local_stamp final_stamp holds_back deliver latency_at latency_of plain_bound checked
 other_latency = refl
 
 a_bound_too_many : checked (all_greatest (base_with 3 6) 12 (Bound ∷ Bound ∷ [])) ≡ Err refused.TreeCount
-unfolding base_with all_greatest message packets_of ranges_of delay_of arrive settle moments_of clocks_of local_stamp final_stamp holds_back deliver latency_at latency_of plain_bound checked
+unfolding base_with all_greatest message packets_of ranges_of delay_of arrive settle arrival_rank commit_rank no_order moments_of clocks_of local_stamp final_stamp holds_back deliver latency_at latency_of plain_bound checked
 a_bound_too_many = refl
 
 a_half_too_few : checked (all_greatest (base_with 3 6) 12 (Split 0 1 ∷ Bound ∷ [])) ≡ Err refused.TreeCount
-unfolding base_with all_greatest message packets_of ranges_of delay_of arrive settle moments_of clocks_of local_stamp final_stamp holds_back deliver latency_at latency_of plain_bound checked
+unfolding base_with all_greatest message packets_of ranges_of delay_of arrive settle arrival_rank commit_rank no_order moments_of clocks_of local_stamp final_stamp holds_back deliver latency_at latency_of plain_bound checked
 a_half_too_few = refl
 
 no_nodes : checked (all_greatest (base_with 3 6) 12 []) ≡ Err refused.TreeCount
-unfolding base_with all_greatest message packets_of ranges_of delay_of arrive settle moments_of clocks_of local_stamp final_stamp holds_back deliver latency_at latency_of plain_bound checked
+unfolding base_with all_greatest message packets_of ranges_of delay_of arrive settle arrival_rank commit_rank no_order moments_of clocks_of local_stamp final_stamp holds_back deliver latency_at latency_of plain_bound checked
 no_nodes = refl
 
 a_split : checked (all_greatest (base_with 3 6) 12 (Split 0 1 ∷ Bound ∷ Bound ∷ [])) ≡ Ok 12
-unfolding base_with all_greatest message packets_of ranges_of delay_of arrive settle moments_of clocks_of local_stamp final_stamp holds_back deliver latency_at latency_of plain_bound checked
+unfolding base_with all_greatest message packets_of ranges_of delay_of arrive settle arrival_rank commit_rank no_order moments_of clocks_of local_stamp final_stamp holds_back deliver latency_at latency_of plain_bound checked
 a_split = refl
 
 no_point : checked (all_greatest (base_with 3 6) 12 (Point ∷ [])) ≡ Err (refused.PointLeaf 0)
-unfolding base_with all_greatest message packets_of ranges_of delay_of arrive settle moments_of clocks_of local_stamp final_stamp holds_back deliver latency_at latency_of plain_bound checked
+unfolding base_with all_greatest message packets_of ranges_of delay_of arrive settle arrival_rank commit_rank no_order moments_of clocks_of local_stamp final_stamp holds_back deliver latency_at latency_of plain_bound checked
 no_point = refl
 
 bound_above : checked (all_greatest swapped 6 (Bound ∷ [])) ≡ Err (refused.BoundLeaf 0 12)
-unfolding swapped all_greatest message packets_of ranges_of delay_of arrive settle moments_of clocks_of local_stamp final_stamp holds_back deliver latency_at latency_of plain_bound checked
+unfolding swapped all_greatest message packets_of ranges_of delay_of arrive settle arrival_rank commit_rank no_order moments_of clocks_of local_stamp final_stamp holds_back deliver latency_at latency_of plain_bound checked
 bound_above = refl
 
 one_point : checked (all_greatest (base_with 1 2) 4 (Point ∷ [])) ≡ Ok 4
-unfolding base_with all_greatest message packets_of ranges_of delay_of arrive settle moments_of clocks_of local_stamp final_stamp holds_back deliver latency_at latency_of plain_bound checked
+unfolding base_with all_greatest message packets_of ranges_of delay_of arrive settle arrival_rank commit_rank no_order moments_of clocks_of local_stamp final_stamp holds_back deliver latency_at latency_of plain_bound checked
 one_point = refl
 
 no_split_of_a_point : checked (all_greatest (base_with 1 2) 4 (Split 0 1 ∷ Point ∷ Point ∷ [])) ≡ Err (refused.Split 0)
-unfolding base_with all_greatest message packets_of ranges_of delay_of arrive settle moments_of clocks_of local_stamp final_stamp holds_back deliver latency_at latency_of plain_bound checked
+unfolding base_with all_greatest message packets_of ranges_of delay_of arrive settle arrival_rank commit_rank no_order moments_of clocks_of local_stamp final_stamp holds_back deliver latency_at latency_of plain_bound checked
 no_split_of_a_point = refl
 
 one_lead : checked (all_greatest (base_with 3 6) 12 (Lead 12 ∷ [])) ≡ Ok 12
-unfolding base_with all_greatest message packets_of ranges_of delay_of arrive settle moments_of clocks_of local_stamp final_stamp holds_back deliver latency_at latency_of leads_of sure_time is_led closes_by_leads checked
+unfolding base_with all_greatest message packets_of ranges_of delay_of arrive settle arrival_rank commit_rank no_order moments_of clocks_of local_stamp final_stamp holds_back deliver latency_at latency_of leads_of sure_time is_led closes_by_leads checked
 one_lead = refl
 
 -- a lead leaf is judged by the latency that it names
 lead_for_less : checked (all_greatest (base_with 3 6) 12 (Lead 11 ∷ [])) ≡ Err (refused.LeadLeaf 0)
-unfolding base_with all_greatest message packets_of ranges_of delay_of arrive settle moments_of clocks_of local_stamp final_stamp holds_back deliver latency_at latency_of leads_of sure_time is_led closes_by_leads checked
+unfolding base_with all_greatest message packets_of ranges_of delay_of arrive settle arrival_rank commit_rank no_order moments_of clocks_of local_stamp final_stamp holds_back deliver latency_at latency_of leads_of sure_time is_led closes_by_leads checked
 lead_for_less = refl
 
 lead_for_more : checked (all_greatest (base_with 3 6) 12 (Lead 13 ∷ [])) ≡ Err (refused.LeadLeaf 0)
-unfolding base_with all_greatest message packets_of ranges_of delay_of arrive settle moments_of clocks_of local_stamp final_stamp holds_back deliver latency_at latency_of leads_of sure_time is_led closes_by_leads checked
+unfolding base_with all_greatest message packets_of ranges_of delay_of arrive settle arrival_rank commit_rank no_order moments_of clocks_of local_stamp final_stamp holds_back deliver latency_at latency_of leads_of sure_time is_led closes_by_leads checked
 lead_for_more = refl
 
 leads_of_halves : checked (all_greatest (base_with 3 6) 12 (Split 7 2 ∷ Lead 11 ∷ Lead 12 ∷ [])) ≡ Ok 12
-unfolding base_with all_greatest message packets_of ranges_of delay_of arrive settle moments_of clocks_of local_stamp final_stamp holds_back deliver latency_at latency_of leads_of sure_time is_led closes_by_leads checked
+unfolding base_with all_greatest message packets_of ranges_of delay_of arrive settle arrival_rank commit_rank no_order moments_of clocks_of local_stamp final_stamp holds_back deliver latency_at latency_of leads_of sure_time is_led closes_by_leads checked
 leads_of_halves = refl
 
 leads_turned : checked (all_greatest (base_with 3 6) 12 (Split 7 2 ∷ Lead 12 ∷ Lead 11 ∷ [])) ≡ Err (refused.LeadLeaf 2)
-unfolding base_with all_greatest message packets_of ranges_of delay_of arrive settle moments_of clocks_of local_stamp final_stamp holds_back deliver latency_at latency_of leads_of sure_time is_led closes_by_leads checked
+unfolding base_with all_greatest message packets_of ranges_of delay_of arrive settle arrival_rank commit_rank no_order moments_of clocks_of local_stamp final_stamp holds_back deliver latency_at latency_of leads_of sure_time is_led closes_by_leads checked
 leads_turned = refl
 
 lead_of_swapped : checked (all_greatest swapped 6 (Lead 6 ∷ [])) ≡ Ok 6
-unfolding swapped all_greatest message packets_of ranges_of delay_of arrive settle moments_of clocks_of local_stamp final_stamp holds_back deliver latency_at latency_of leads_of sure_time is_led closes_by_leads checked
+unfolding swapped all_greatest message packets_of ranges_of delay_of arrive settle arrival_rank commit_rank no_order moments_of clocks_of local_stamp final_stamp holds_back deliver latency_at latency_of leads_of sure_time is_led closes_by_leads checked
 lead_of_swapped = refl
+
+-- in real time the same, but that no point and no stamp bound closes a box
+in_real_time : Scenario → Scenario
+in_real_time plan = record plan { time = Real }
+
+real_lead : checked (all_greatest (in_real_time (base_with 3 6)) 12 (Lead 12 ∷ [])) ≡ Ok 12
+unfolding in_real_time base_with all_greatest message packets_of ranges_of delay_of arrive settle arrival_rank commit_rank no_order moments_of clocks_of local_stamp final_stamp holds_back deliver latency_at latency_of leads_of sure_time is_led closes_by_leads checked
+real_lead = refl
+
+no_real_point : checked (all_greatest (in_real_time (base_with 1 2)) 4 (Point ∷ [])) ≡ Err (refused.PointLeaf 0)
+unfolding in_real_time base_with all_greatest message packets_of ranges_of delay_of arrive settle arrival_rank commit_rank no_order moments_of clocks_of local_stamp final_stamp holds_back deliver latency_at latency_of plain_bound checked
+no_real_point = refl
+
+-- t and x come to b in one tick, and y comes to a in the tick of t's commit there
+ties : Scenario
+ties = record {
+  time = Real;
+  tick = None;
+  delay = 1;
+  groups = codes "a" ∷ codes "b" ∷ [];
+  links = [];
+  multicasts = message (codes "t") Client (0 ∷ 1 ∷ []) 0 ∷ message (codes "x") Client (1 ∷ []) 0
+      ∷ message (codes "y") (Group 0) (0 ∷ 1 ∷ []) 2 ∷ [];
+  target_message = 0;
+  target_group = 0;
+}
+
+-- the certificate with these ranks and one bound leaf
+with_ranks : List ℕ → ℕ → Certificate
+with_ranks ranks latency = record {
+  scenario = ties;
+  latency = latency;
+  schedule = record { delays = replicate 8 1; order = order_of ties ranks };
+  nodes = Bound ∷ [];
+}
+
+-- where t comes to b after x, y delays it
+late_at_b : checked (with_ranks (0 ∷ 0 ∷ 1 ∷ 0 ∷ 0 ∷ 0 ∷ 0 ∷ 0 ∷ 0 ∷ 0 ∷ []) 4) ≡ Ok 4
+unfolding with_ranks ties message marks_of packets_of ranges_of delay_of arrive settle arrival_rank commit_rank no_order moments_of clocks_of local_stamp final_stamp holds_back deliver latency_at latency_of plain_bound checked
+late_at_b = refl
+
+first_at_b : checked (with_ranks [] 4) ≡ Err (refused.Latency 2)
+unfolding with_ranks ties message marks_of packets_of ranges_of delay_of arrive settle arrival_rank commit_rank no_order moments_of clocks_of local_stamp final_stamp holds_back deliver latency_at latency_of plain_bound checked
+first_at_b = refl

@@ -1,6 +1,8 @@
 -- What checking a certificate answers: its latency if it is valid, and else its first fault.
-use Rattle.std.specs.Prelude.{ℕ, ◌+◌, ◌==◌, nat_le, Bool, ◌&&◌, if◌then◌else◌, List, [], ◌∷◌, ◌++◌, Option, Some, None, Result, Ok, Err}
+use Rattle.std.specs.Prelude.{true, false, ℕ, ◌+◌, ◌==◌, nat_le, Bool, ◌&&◌, if◌then◌else◌, List, [], ◌∷◌, ◌++◌, Option, Some, None, Result, Ok, Err}
 use Rattle.std.specs.Option.{option_or}
+use Rattle.convoy_scenario.specs.declared.time.Time.{Time}
+use Rattle.convoy_scenario.specs.declared.time.Time.TheVariants.{Ticks, Real}
 use Rattle.convoy_scenario.specs.Scenario.{Scenario}
 use Rattle.convoy_sim.specs.Delivery.{latency_of}
 use Rattle.convoy_intervals.specs.Boxes.{Box, can_split, is_point, root_of, greatest_of}
@@ -18,6 +20,11 @@ use Rattle.convoy_checker.specs.Trees.{boxes_below}
 abbrev pub fault_unless : Bool → Refused → Option Refused
 fault_unless holds fault = if holds then None else Some fault
 
+-- whether time goes in whole ticks
+abbrev pub in_ticks : Time → Bool
+in_ticks Ticks = true
+in_ticks Real = false
+
 -- The fault of a node over its box, if it has one. The arguments: the scenario, the latency of the certificate, the
 -- number of the node, from 0, the node, and its box. The tests say what the statements of `Leaves` say: that `can_split`
 -- and `is_point` do is a law of `convoy_intervals` (`tests_decide`).
@@ -26,9 +33,9 @@ node_fault scenario latency number (Split packet at) box = fault_unless (can_spl
 node_fault scenario latency number Bound box =
     let bound = plain_bound scenario box in fault_unless (nat_le bound latency) (refused.BoundLeaf number bound)
 node_fault scenario latency number Point box =
-    fault_unless (is_point box && nat_le (latency_of scenario (greatest_of box)) latency) (refused.PointLeaf number)
+    fault_unless (in_ticks scenario.time && (is_point box && nat_le (latency_of scenario (greatest_of box)) latency)) (refused.PointLeaf number)
 node_fault scenario latency number Stamp box =
-    let bound = stamp_bound scenario box in fault_unless (nat_le bound latency) (refused.StampLeaf number bound)
+    let bound = stamp_bound scenario box in fault_unless (in_ticks scenario.time && nat_le bound latency) (refused.StampLeaf number bound)
 node_fault scenario latency number (Lead named) box =
     fault_unless (nat_le named latency && closes_by_leads scenario box named) (refused.LeadLeaf number)
 
@@ -50,7 +57,7 @@ verdict certificate (Some fault) = Err fault
 -- tree.
 unfoldable pub checked : Certificate → Result ℕ Refused
 checked certificate =
-    let simulated = latency_of certificate.scenario certificate.delays in
+    let simulated = latency_of certificate.scenario certificate.schedule in
     let root = root_of certificate.scenario in
     if simulated == certificate.latency
     then verdict certificate (first_fault certificate.scenario certificate.latency 0 (root ∷ []) certificate.nodes)

@@ -3,6 +3,8 @@
 use Rattle.std.specs.Prelude.{◌≡◌, ◌↔◌, ℕ, ◌≤◌, List, ◌∷◌, Ok}
 use Rattle.convoy_scenario.specs.Scenario.{Scenario}
 use Rattle.convoy_scenario.specs.WellFormed.{IsScenario}
+use Rattle.convoy_packets.specs.Assignment.{Schedule}
+use Rattle.convoy_packets.specs.Order.{IsOrder}
 use Rattle.convoy_sim.specs.Delivery.{latency_of}
 use Rattle.convoy_certificate.specs.Certificate.{Certificate, IsCertificate}
 use Rattle.convoy_certificate.specs.declared.node.Node.{Node}
@@ -13,15 +15,16 @@ use Rattle.convoy_checker.specs.Leaves.{ClosesByBound, ClosesByLeads, ClosesByPo
 use Rattle.convoy_checker.specs.Validity.{AreHalfTrees, IsTree, IsTreeOver, IsValid}
 use Rattle.convoy_sim.specs.Greatest.{IsGreatest, IsUpper}
 
--- this way of closing boxes is sound: if it closes a box for a latency, no member of the box has a greater latency
+-- this way of closing boxes is sound: if it closes a box for a latency, no member of the box, with any order of the scenario's ties, has a greater latency
 abbrev pub Covers : (Scenario → ℕ → Box → Type 0) → Type 0
 Covers Closes =
-    (scenario : Scenario) (latency : ℕ) (box : Box) (delays : List ℕ)
+    (scenario : Scenario) (latency : ℕ) (box : Box) (schedule : Schedule)
     → IsScenario scenario
     → IsBox scenario box
     → Closes scenario latency box
-    → IsIn box delays
-    → latency_of scenario delays ≤ latency
+    → IsIn box schedule
+    → IsOrder scenario schedule.order
+    → latency_of scenario schedule ≤ latency
 
 -- closing by the plain bound is sound
 abbrev pub BoundLeavesCover : Type 0

@@ -1,5 +1,6 @@
 -- What each kind of leaf, and a split, says of its box, for the latency that the certificate states.
-use Rattle.std.specs.Prelude.{ℕ, ◌≤◌, IsTrue}
+use Rattle.std.specs.Prelude.{◌≡◌, ℕ, ◌≤◌, IsTrue}
+use Rattle.convoy_scenario.specs.declared.time.Time.TheVariants.{Ticks}
 use Rattle.convoy_scenario.specs.Scenario.{Scenario}
 use Rattle.convoy_sim.specs.Delivery.{latency_of}
 use Rattle.convoy_certificate.specs.declared.node.Node.{Node}
@@ -13,13 +14,13 @@ use Rattle.convoy_stamps.specs.StampBounds.{stamp_bound}
 abbrev pub ClosesByBound : Scenario → ℕ → Box → Type 0
 ClosesByBound scenario latency box = plain_bound scenario box ≤ latency
 
--- the box has one member, under which the latency is at most the stated one
+-- in whole ticks the box has one member, under which the latency is at most the stated one; in real time a point of delays is closed so by no latency, since its ties may fall in any order
 abbrev pub ClosesByPoint : Scenario → ℕ → Box → Type 0
-ClosesByPoint scenario latency box = IsPoint box × (latency_of scenario (greatest_of box) ≤ latency)
+ClosesByPoint scenario latency box = (scenario.time ≡ Ticks) × IsPoint box × (latency_of scenario (greatest_of box) ≤ latency)
 
--- the stamp bound of the box is at most the stated latency
+-- in whole ticks the stamp bound of the box is at most the stated latency
 abbrev pub ClosesByStamps : Scenario → ℕ → Box → Type 0
-ClosesByStamps scenario latency box = stamp_bound scenario box ≤ latency
+ClosesByStamps scenario latency box = (scenario.time ≡ Ticks) × (stamp_bound scenario box ≤ latency)
 
 -- leads close the box for the latency
 abbrev pub ClosesByLeads : Scenario → ℕ → Box → Type 0

@@ -27,5 +27,5 @@ pub record AreHalfTrees (scenario : Scenario) (latency : ℕ) (box : Box) (packe
 -- The certificate's schedule has the stated latency, and the certificate's nodes are a tree over the root box, each node
 -- right for that latency. That no other schedule has a greater one is not said here: it follows (`ValidIsGreatest`).
 pub record IsValid (certificate : Certificate) : Type 0 where
-  pub latency : latency_of certificate.scenario certificate.delays ≡ certificate.latency
+  pub latency : latency_of certificate.scenario certificate.schedule ≡ certificate.latency
   pub tree : IsTree certificate.scenario certificate.latency certificate.nodes

@@ -3,7 +3,7 @@ ghost use Rattle.convoy_scenario.specs.Memory.{IsUnlessMemory};
 ghost use Rattle.convoy_sim.specs.Delivery.{latency_of};
 ghost use Rattle.convoy_intervals.specs.Boxes.{IsBox, root_of, greatest_of, is_point};
 ghost use Rattle.convoy_certificate.specs.Certificate.{IsCertificate};
-ghost use Rattle.convoy_checker.specs.Checks.{checked, first_fault, node_fault};
+ghost use Rattle.convoy_checker.specs.Checks.{checked, first_fault, in_ticks, node_fault};
 ghost use Rattle.convoy_checker.specs.Validity.{IsValid};
 ghost use Rattle.convoy_sim.specs.Greatest.{IsGreatest};
 
@@ -16,6 +16,7 @@ use convoy_intervals::laws::halves_are_boxes;
 use convoy_intervals::{DelayBox, bound};
 use convoy_leads::closes_by_leads;
 use convoy_packets::Instance;
+use convoy_scenario::Time;
 use convoy_stamps::stamp_bound;
 use std::alloc::{AllocError, Global};
 
@@ -51,7 +52,7 @@ fn check_all(alloc: Global, certificate: &Certificate) -> Result<Accepted, Refus
 {
     let instance = certificate.instance();
     let latency = certificate.latency();
-    let simulated = convoy_sim::latency(instance, certificate.delays());
+    let simulated = convoy_sim::latency(instance, certificate.schedule());
     if simulated != latency {
         return Err(Refused::Latency(simulated));
     }
@@ -118,7 +119,10 @@ fn node_fault(
         ),
         Node::Stamp => {
             let bound = stamp_bound(alloc, instance, delay_box)?;
-            (bound <= latency, Refused::StampLeaf(number, bound))
+            (
+                in_ticks(instance) && bound <= latency,
+                Refused::StampLeaf(number, bound),
+            )
         }
         Node::Lead { latency: named } => (
             named <= latency && closes_by_leads(alloc, instance, delay_box, named)?,
@@ -128,11 +132,19 @@ fn node_fault(
     Ok((!holds).then_some(fault))
 }
 
-/// Whether the box has one member, whose latency is at most that.
+/// Whether time goes in whole ticks.
+fn in_ticks(instance: &Instance) -> bool
+    ensures { result ≡ in_ticks instance.now.time }
+{
+    instance.time() == Time::Ticks
+}
+
+/// Whether the box has one member, whose latency is at most that; in real time it has more, since ties
+/// fall in any order.
 fn is_within(instance: &Instance, latency: u32, delay_box: &DelayBox) -> bool
     requires inside { IsBox instance.now delay_box.now }
-    ensures { result ≡ (is_point delay_box.now
-        && nat_le (latency_of instance.now (greatest_of delay_box.now)) latency) }
+    ensures { result ≡ (in_ticks instance.now.time && (is_point delay_box.now
+        && nat_le (latency_of instance.now (greatest_of delay_box.now)) latency)) }
 {
-    delay_box.is_point() && delay_box.greatest_latency(instance) <= latency
+    in_ticks(instance) && delay_box.is_point() && delay_box.greatest_latency(instance) <= latency
 }

@@ -6,21 +6,21 @@ ghost use Rattle.convoy_checker.specs.Laws.{LeadLeavesCover, TreesCover};
 ghost use Rattle.convoy_checker.specs.Laws.{SplitIsTwoTrees, ValidIsGreatest, CheckedIsValid};
 
 use convoy_intervals::laws::{
-    greatest_is_member, halves_are_boxes, halves_partition, plain_bound_holds,
-    point_has_one_member, root_holds_all, root_is_box,
+    greatest_is_member, halves_are_boxes, halves_partition, members_are_assignments,
+    plain_bound_holds, point_has_one_member, root_holds_all, root_is_box,
 };
 use convoy_leads::laws::leads_hold;
 use convoy_stamps::laws::stamp_bound_holds;
 
 /// Where a box is closed by its plain bound, no member of it has a greater latency than the stated
-/// one.
+/// one, in whatever order ties fall.
 pub fn bound_leaves_cover()
     ensures { BoundLeavesCover }
 {
     plain_bound_holds();
 }
 
-/// Where a box is closed as a point, no member of it has a greater latency than the stated one.
+/// Where a box is closed as a point, in whole ticks, no member of it has a greater latency than the stated one.
 pub fn point_leaves_cover()
     ensures { PointLeavesCover }
 {
@@ -28,7 +28,7 @@ pub fn point_leaves_cover()
     point_has_one_member();
 }
 
-/// Where a box is closed by its stamp bound, no member of it has a greater latency than the stated
+/// Where a box is closed by its stamp bound, in whole ticks, no member of it has a greater latency than the stated
 /// one.
 pub fn stamp_leaves_cover()
     ensures { StampLeavesCover }
@@ -41,6 +41,7 @@ pub fn lead_leaves_cover()
     ensures { LeadLeavesCover }
 {
     leads_hold();
+    members_are_assignments();
 }
 
 /// Nodes over one box that begin with a split are that split, a tree over the lower half and a tree

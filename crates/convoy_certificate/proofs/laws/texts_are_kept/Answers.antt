@@ -11,5 +11,7 @@ returns c =
       number_lines = c.number_lines.ensures;
       texts = c.lines_of_texts.ensures;
       scenarios = c.scenarios_are_their_lines.ensures;
+      no_ranks = c.no_ranks_give_fixed_order.ensures;
+      lists = c.lists_are_their_orders.ensures;
     } in
     certificate_takes grounds

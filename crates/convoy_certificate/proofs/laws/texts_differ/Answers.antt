@@ -14,5 +14,11 @@ returns c =
       texts = c.lines_of_texts.ensures;
       scenario_lines = c.scenario_lines_are_lines.ensures;
       scenarios = c.scenarios_are_their_lines.ensures;
+      orders = record {
+        none = c.no_ranks_give_fixed_order.ensures;
+        again = c.orders_are_their_lists.ensures;
+        one_each = c.ranks_are_one_each.ensures;
+        decided = c.fixed_order_is_decided.ensures;
+      };
     } in
     is_unique grounds

@@ -5,6 +5,6 @@ use Rattle.convoy_certificate.proofs.reading.read_all.Goals as goal
 
 pub new-certificate-requires-clause-assigned : goal.new-certificate-requires-clause-assigned
 new-certificate-requires-clause-assigned c =
-    rw (c.from_vec.ensures)
-    (assigned c.in_ok-instance.instance c.in_ok-delays.delays.items c.ranges-2.result.now c.deref.result.now c.are_within.result
-    (c.ranges-2.ensures.value ∙ ap (λ (t : PacketTable). t.ranges) c.table.ensures.value) c.deref.ensures.value c.are_within.ensures c.if-not-are_within.false)
+    rw (c.with_order-schedule.ensures)
+    (assigned c.in_ok-instance.instance c.in_ok-delays.delays.items c.in_ok-order.order c.ranges-2.result.now c.deref.result.now c.are_within.result
+    (c.ranges-2.ensures.value ∙ ap (λ (t : PacketTable). t.ranges) c.table.ensures.value) c.deref.ensures.value c.are_within.ensures c.if-not-are_within.false (rw c.scenario-2.ensures.value at c.in_ok-order.ensures.lawful))

@@ -7,6 +7,8 @@ use Rattle.convoy_certificate.specs.declared.certificate.TheConstants.{MOST_LEAD
 use Rattle.convoy_certificate.specs.declared.node.Node.{Node}
 use Rattle.convoy_certificate.specs.Reading.{are_too_many, leads_with}
 use Rattle.convoy_certificate.proofs.NodeLaws.{neither}
+use Rattle.convoy_scenario_lines.specs.Laws.{time_of}
+use Rattle.convoy_certificate.specs.Text.{lines_version}
 use Rattle.convoy_certificate.specs.Certificate.{IsNode}
 use Rattle.convoy_certificate.proofs.Nodes.{node_at, faulty, too_many, goes_on, done, falls, no_node}
 use Rattle.convoy_certificate.proofs.reading.read_nodes.Goals as goal
@@ -33,7 +35,7 @@ loop-nodes-preserved c =
     record {
       so_far = rw (c.in_ok-push.ensures.items, c.in_ok-push.ensures.len, c.leads_with-leads.ensures) next;
       few = rw c.leads_with-leads.ensures (ltb-false MOST_LEADS (leads_with c.loop-nodes.leads c.in-Some.node) (neither (vec_len c.loop-nodes.nodes == MOST_NODES) _ within).1);
-      lawful = rw c.in_ok-push.ensures.items (All-push IsNode c.loop-nodes.nodes.items c.in-Some.node c.loop-nodes.invariant.lawful (subst (λ (o : Option Node). IfSome o IsNode) c.in-Some.is c.in_ok-node.ensures.lawful));
+      lawful = rw c.in_ok-push.ensures.items (All-push (IsNode (time_of (lines_version c.args.version))) c.loop-nodes.nodes.items c.in-Some.node c.loop-nodes.invariant.lawful (subst (λ (o : Option Node). IfSome o (IsNode (time_of (lines_version c.args.version)))) c.in-Some.is c.in_ok-node.ensures.lawful));
     }
 
 pub returns-clause-value : goal.returns-clause-value

@@ -7,5 +7,5 @@ use Rattle.convoy_certificate.proofs.writing.text_of.Goals as goal
 
 pub returns : goal.returns
 returns c =
-    in_pieces c.args.certificate.now _ _ _ _ c.scenario.ensures c.latency.ensures (c.as_slice.ensures ∙ c.delays.ensures.value) c.nodes.ensures.value _ _ _ _ _ _
+    in_pieces c.args.certificate.now _ _ _ _ c.scenario-scenario.ensures c.latency.ensures c.schedule.ensures.value c.nodes.ensures.value _ _ _ _ _ _
     (c.in_ok-text.ensures.items ∙ c.version_line.ensures ∙ ap (λ (v : Version). ended (version_line v)) c.version.ensures) c.in_ok-write_lines.ensures.ok c.in_ok-push_number_line.ensures c.in_ok-push_schedule.ensures c.in_ok-push_nodes.ensures c.in_ok-extend_from_slice.ensures.items

@@ -5,7 +5,7 @@ use Rattle.convoy_checker.proofs.Covering.{Grounds, IsCovered, trees_cover}
 use Rattle.convoy_checker.proofs.laws.trees_cover.Goals as goal
 
 pub returns : goal.returns
-returns c plan latency nodes lawful tree delays assigned =
+returns c plan latency nodes lawful tree schedule assigned =
     let grounds : Grounds = record {
       halves = c.halves_are_boxes.ensures;
       part = c.halves_partition.ensures;
@@ -17,4 +17,5 @@ returns c plan latency nodes lawful tree delays assigned =
     let root = root_of plan in
     let is_box = All-cons (IsBox plan) root [] (c.root_is_box.ensures plan lawful) (All-nil (IsBox plan)) in
     let covered = All-head (IsCovered plan latency) root [] (trees_cover grounds plan lawful latency (root ∷ []) nodes is_box tree) in
-    covered.at delays ((c.root_holds_all.ensures plan delays).0 assigned)
+    let member = (c.root_holds_all.ensures plan schedule).0 assigned in
+    covered.at schedule member.0 member.1
