@@ -26,8 +26,8 @@ pub IsSearched-better : (bounds : Bounds) (plan : Scenario) (best better : ℕ) 
 IsSearched-better bounds plan best better (Split packet at) box above right =
     record { part = right.part; known = right.known; open_box = right.open_box; tried = right.tried; passed = omega (arith, right.passed) }
 IsSearched-better bounds plan best better Bound box above right = omega arith
-IsSearched-better bounds plan best better Point box above right = (right.0, omega (arith, right.1))
-IsSearched-better bounds plan best better Stamp box above right = (right.0, omega (arith, right.1))
+IsSearched-better bounds plan best better Point box above right = (right.0, right.1, omega (arith, right.2))
+IsSearched-better bounds plan best better Stamp box above right = (right.0, (right.1.0, omega (arith, right.1.1)))
 IsSearched-better bounds plan best better (Lead known) box above right = (right.0, omega (arith, right.1), right.2)
 
 pub IsOfFront-better : (bounds : Bounds) (plan : Scenario) (best better : ℕ) (node : FrontNode) (box : Box) → best ≤ better → IsOfFront bounds plan best node box → IsOfFront bounds plan better node box
@@ -47,7 +47,7 @@ AreFronts-filled bounds plan best branch front over before after boxes fronts =
 pub AreFronts-turned : (bounds : Bounds) (plan : Scenario) (best : ℕ) (branch : Box) (turn : Turn) → IsTurn bounds plan branch best turn → AreFronts bounds plan best (branch ∷ []) (front_after turn)
 AreFronts-turned bounds plan best branch (Closed (Split packet at)) turn = absurd turn
 AreFronts-turned bounds plan best branch (Closed Bound) turn = (turn, tt)
-AreFronts-turned bounds plan best branch (Closed Point) turn = ((turn.1, turn.0.tried), tt)
+AreFronts-turned bounds plan best branch (Closed Point) turn = ((turn.1, turn.2, turn.0.tried), tt)
 AreFronts-turned bounds plan best branch (Closed Stamp) turn = ((turn.asked, turn.stamps), tt)
 AreFronts-turned bounds plan best branch (Closed (Lead known)) turn =
     ((turn.1.asked, omega (arith, turn.0), subst (λ (n : ℕ). ClosesByLeads plan n branch) (sym turn.0) turn.1.leads), tt)
@@ -146,9 +146,9 @@ HasTree-front bounds plan best upper (Spent (Split packet at) ∷ nodes) (box �
 HasTree-front bounds plan best upper (Spent Bound ∷ nodes) (box ∷ boxes) above closed tree =
     HasTree-cons plan upper Bound box boxes (omega (arith, tree.0)) (HasTree-front bounds plan best upper nodes boxes above closed tree.1)
 HasTree-front bounds plan best upper (Spent Point ∷ nodes) (box ∷ boxes) above closed tree =
-    HasTree-cons plan upper Point box boxes (tree.0.0, omega (arith, tree.0.1)) (HasTree-front bounds plan best upper nodes boxes above closed tree.1)
+    HasTree-cons plan upper Point box boxes (tree.0.0, tree.0.1, omega (arith, tree.0.2)) (HasTree-front bounds plan best upper nodes boxes above closed tree.1)
 HasTree-front bounds plan best upper (Spent Stamp ∷ nodes) (box ∷ boxes) above closed tree =
-    HasTree-cons plan upper Stamp box boxes (omega (arith, tree.0.1)) (HasTree-front bounds plan best upper nodes boxes above closed tree.1)
+    HasTree-cons plan upper Stamp box boxes (tree.0.1.0, omega (arith, tree.0.1.1)) (HasTree-front bounds plan best upper nodes boxes above closed tree.1)
 HasTree-front bounds plan best upper (Spent (Lead known) ∷ nodes) (box ∷ boxes) above closed tree =
     HasTree-cons plan upper (Lead known) box boxes (omega (arith, tree.0.1), tree.0.2) (HasTree-front bounds plan best upper nodes boxes above closed tree.1)
 HasTree-front bounds plan best upper (Left branch ∷ nodes) (box ∷ boxes) above closed tree =

@@ -5,6 +5,8 @@ use Rattle.std.proofs.Common.{arith, refl, sym, subst}
 use Rattle.std.proofs.lemmas.Bool.Decides.{nat_tests}
 use Rattle.std.proofs.lemmas.List.Elements.{All-nil, All-cons, All-weaker}
 use Rattle.convoy_scenario.specs.Scenario.{Scenario}
+use Rattle.convoy_scenario.specs.declared.time.Time.{Time}
+use Rattle.convoy_scenario.specs.declared.time.Time.TheVariants.{Ticks, Real}
 use Rattle.convoy_branch.specs.declared.bounds.Bounds.{Bounds}
 use Rattle.convoy_branch.specs.declared.bounds.Bounds.TheVariants as bounds_of
 use Rattle.convoy_scenario.specs.WellFormed.{IsScenario}
@@ -12,11 +14,11 @@ use Rattle.convoy_certificate.specs.declared.node.Node.TheVariants.{Bound, Stamp
 use Rattle.convoy_sim.specs.Times.{greatest}
 use Rattle.convoy_intervals.specs.Bounds.{plain_bound}
 use Rattle.convoy_intervals.specs.Boxes.{Box, root_of}
-use Rattle.convoy_stamps.specs.StampBounds.{stamp_bound}
 use Rattle.convoy_leads.specs.Closing.{closes_by_leads}
 use Rattle.convoy_checker.specs.Laws.{TreesCover}
 use Rattle.convoy_sim.specs.Greatest.{IsUpper}
 use Rattle.convoy_branch.specs.Fronts.{IsFront, left_in}
+use Rattle.convoy_branch.specs.SearchBounds.{bound_in, least_bound}
 use Rattle.convoy_branch.specs.Uppers.{IsClosedWithin, IsRaised, IsUpperOf}
 use Rattle.convoy_branch.proofs.FrontTrees.{HasLeaf, HasTree-front}
 
@@ -39,28 +41,35 @@ each_le bound start (box ∷ boxes) =
 
 -- ---- Each box that is left has a leaf
 
-leaf_of_closed : (plan : Scenario) (upper latency : ℕ) (box : Box) (stamps : Bool) → latency ≤ upper → nat_le (stamp_bound plan box) latency ≡ stamps → (stamps || closes_by_leads plan box latency) ≡ true → HasLeaf plan upper box
+leaf_in : (plan : Scenario) (upper : ℕ) (box : Box) (time : Time) → plan.time ≡ time → bound_in time plan box ≤ upper → HasLeaf plan upper box
+leaf_in plan upper box Ticks is within = record { leaf = Stamp; last = refl; right = (is, within) }
+leaf_in plan upper box Real is within = record { leaf = Bound; last = refl; right = within }
+
+leaf_within : (plan : Scenario) (upper : ℕ) (box : Box) → least_bound plan box ≤ upper → HasLeaf plan upper box
+leaf_within plan upper box within = leaf_in plan upper box plan.time refl within
+
+leaf_of_closed : (plan : Scenario) (upper latency : ℕ) (box : Box) (stamps : Bool) → latency ≤ upper → nat_le (least_bound plan box) latency ≡ stamps → (stamps || closes_by_leads plan box latency) ≡ true → HasLeaf plan upper box
 leaf_of_closed plan upper latency box true few is closes =
-    let within : stamp_bound plan box ≤ latency = grind (arith, nat_tests, is) in
-    record { leaf = Stamp; last = refl; right = omega (arith, within, few) }
+    let within : least_bound plan box ≤ latency = grind (arith, nat_tests, is) in
+    leaf_within plan upper box (omega (arith, within, few))
 leaf_of_closed plan upper latency box false few is closes =
     record { leaf = Lead latency; last = refl; right = (few, closes) }
 
 closed_within : (plan : Scenario) (upper : ℕ) (box : Box) → IsClosedWithin plan upper box → HasLeaf plan upper box
 closed_within plan upper box closed =
-    leaf_of_closed plan upper closed.latency box (nat_le (stamp_bound plan box) closed.latency) closed.few refl closed.closes
+    leaf_of_closed plan upper closed.latency box (nat_le (least_bound plan box) closed.latency) closed.few refl closed.closes
 
 leaves_left : (bounds : Bounds) (plan : Scenario) (best upper : ℕ) (boxes : List Box) → IsUpperOf bounds plan best boxes upper → All (HasLeaf plan upper) boxes
 leaves_left bounds_of.Plain plan best upper boxes is =
     subst (λ (n : ℕ). All (HasLeaf plan n) boxes) (sym is) (All-weaker (λ box. plain_bound plan box ≤ greatest (best ∷ map (plain_bound plan) boxes)) (HasLeaf plan (greatest (best ∷ map (plain_bound plan) boxes))) (λ box within. record { leaf = Bound; last = refl; right = within }) boxes (each_le (plain_bound plan) (max 0 best) boxes))
 leaves_left bounds_of.Stamp plan best upper boxes is =
-    subst (λ (n : ℕ). All (HasLeaf plan n) boxes) (sym is) (All-weaker (λ box. stamp_bound plan box ≤ greatest (best ∷ map (stamp_bound plan) boxes)) (HasLeaf plan (greatest (best ∷ map (stamp_bound plan) boxes))) (λ box within. record { leaf = Stamp; last = refl; right = within }) boxes (each_le (stamp_bound plan) (max 0 best) boxes))
+    subst (λ (n : ℕ). All (HasLeaf plan n) boxes) (sym is) (All-weaker (λ box. least_bound plan box ≤ greatest (best ∷ map (least_bound plan) boxes)) (HasLeaf plan (greatest (best ∷ map (least_bound plan) boxes))) (λ box within. leaf_within plan (greatest (best ∷ map (least_bound plan) boxes)) box within) boxes (each_le (least_bound plan) (max 0 best) boxes))
 leaves_left bounds_of.Lead plan best upper boxes is =
     All-weaker (IsClosedWithin plan upper) (HasLeaf plan upper) (λ box closed. closed_within plan upper box closed) boxes is.closed
 
 above_best : (bounds : Bounds) (plan : Scenario) (best upper : ℕ) (boxes : List Box) → IsUpperOf bounds plan best boxes upper → best ≤ upper
 above_best bounds_of.Plain plan best upper boxes is = omega (arith, is, start_le (max 0 best) (map (plain_bound plan) boxes))
-above_best bounds_of.Stamp plan best upper boxes is = omega (arith, is, start_le (max 0 best) (map (stamp_bound plan) boxes))
+above_best bounds_of.Stamp plan best upper boxes is = omega (arith, is, start_le (max 0 best) (map (least_bound plan) boxes))
 above_best bounds_of.Lead plan best upper boxes is = is.above
 
 -- with these leaves the front is a tree that is right for the upper bound
@@ -86,10 +95,10 @@ pub IsUpperOf-cons : (bounds : Bounds) (plan : Scenario) (best raised : ℕ) (bo
 IsUpperOf-cons bounds_of.Plain plan best raised box boxes upper is rest =
     omega (arith, rest, raised_fold best raised (plain_bound plan box) (map (plain_bound plan) boxes) is)
 IsUpperOf-cons bounds_of.Stamp plan best raised box boxes upper is rest =
-    omega (arith, rest, raised_fold best raised (stamp_bound plan box) (map (stamp_bound plan) boxes) is)
+    omega (arith, rest, raised_fold best raised (least_bound plan box) (map (least_bound plan) boxes) is)
 IsUpperOf-cons bounds_of.Lead plan best raised box boxes upper is rest =
     let here : IsClosedWithin plan upper box = record { latency = raised; few = rest.above; closes = is.closes } in
-    let most : fold max (max 0 raised) (map (stamp_bound plan) boxes) ≤ fold max (max (max 0 best) (stamp_bound plan box)) (map (stamp_bound plan) boxes) = fold_le (max 0 raised) (max (max 0 best) (stamp_bound plan box)) (map (stamp_bound plan) boxes) (omega (arith, is.within)) in
+    let most : fold max (max 0 raised) (map (least_bound plan) boxes) ≤ fold max (max (max 0 best) (least_bound plan box)) (map (least_bound plan) boxes) = fold_le (max 0 raised) (max (max 0 best) (least_bound plan box)) (map (least_bound plan) boxes) (omega (arith, is.within)) in
     record {
       above = omega (arith, is.above, rest.above);
       closed = All-cons (IsClosedWithin plan upper) box boxes here rest.closed;

@@ -4,6 +4,7 @@ pub mod FrontCounts
 pub mod Readable
 pub mod BetterRecords
 pub mod SplitNodes
+pub mod FixedOrders
 pub mod SearchSteps
 pub mod SearchOutcomes
 pub mod LeftBounds

@@ -1,15 +1,16 @@
 -- What a search answers at its end.
 use Rattle.std.specs.Prelude.{◌≡◌, ◌≢◌, ℕ, ◌≤◌, ◌<◌, Bool, false, List, [], ◌∷◌, ◌++◌, length, map, reverse}
-use Rattle.std.specs.List.{list_any, sum}
-use Rattle.std.proofs.Common.{arith, refl, sym, ap, subst, ◌∙◌, length-append}
+use Rattle.std.specs.List.{Any, list_any, sum}
+use Rattle.std.proofs.Common.{arith, refl, sym, ap, subst, ◌∙◌, inl, inr, length-append}
 use Rattle.std.proofs.lemmas.List.{map_push}
+use Rattle.std.proofs.lemmas.List.Quantifiers.{Any-push}
 use Rattle.convoy_scenario.specs.Scenario.{Scenario}
 use Rattle.convoy_branch.specs.declared.bounds.Bounds.{Bounds}
 use Rattle.convoy_branch.specs.declared.bounds.Bounds.TheVariants.{Plain, Lead}
 use Rattle.convoy_branch.specs.SearchBounds.{most_nodes}
 use Rattle.convoy_branch.specs.Uppers.{IsUpperOf}
 use Rattle.convoy_scenario.specs.WellFormed.{IsScenario}
-use Rattle.convoy_packets.specs.Assignment.{IsAssignment}
+use Rattle.convoy_packets.specs.Assignment.{IsAssignment, Schedule}
 use Rattle.convoy_sim.specs.Delivery.{latency_of}
 use Rattle.convoy_sim.specs.Record.{Record, IsAttained}
 use Rattle.convoy_certificate.specs.Certificate.{Certificate}
@@ -25,24 +26,25 @@ use Rattle.convoy_branch.specs.declared.search.Work.TheVariants.{Branch}
 use Rattle.convoy_branch.specs.Fronts.{AreFronts, FrontNode, Left, Spent, IsFront, left_in}
 use Rattle.convoy_branch.specs.Laws.{FrontsBound}
 use Rattle.convoy_branch.specs.Outcomes.{AreTicketsByWorker, IsProved, IsOpen}
-use Rattle.convoy_branch.specs.Searching.{IsSearching, front_of, front_nodes}
+use Rattle.convoy_branch.specs.Searching.{HasEndedAt, IsSearching, front_of, front_nodes}
+use Rattle.convoy_branch.specs.Steps.{IsRealPoint}
 use Rattle.convoy_branch.proofs.FrontTrees.{AreTrees-spent, no_leads-spent, no_stamps-spent}
 use Rattle.convoy_branch.proofs.Readable.{AreReadable-spent}
 use Rattle.convoy_branch.proofs.FrontCounts.{spent_in-spent, left_in-append, left_in-append_spent}
 
 -- the schedule of the best record is an assignment of the scenario, and has its latency there
-pub best_assigned : (plan : Scenario) (best : Record) → best.scenario ≡ plan → IsAttained best → IsAssignment plan best.delays
+pub best_assigned : (plan : Scenario) (best : Record) → best.scenario ≡ plan → IsAttained best → IsAssignment plan best.schedule
 best_assigned plan best scenario attained =
-    subst (λ (p : Scenario). IsAssignment p best.delays) scenario attained.assignment
+    subst (λ (p : Scenario). IsAssignment p best.schedule) scenario attained.assignment
 
-best_latency : (plan : Scenario) (best : Record) → best.scenario ≡ plan → IsAttained best → latency_of plan best.delays ≡ best.latency
+best_latency : (plan : Scenario) (best : Record) → best.scenario ≡ plan → IsAttained best → latency_of plan best.schedule ≡ best.latency
 best_latency plan best scenario attained =
-    ap (λ (p : Scenario). latency_of p best.delays) (sym scenario) ∙ sym attained.latency
+    ap (λ (p : Scenario). latency_of p best.schedule) (sym scenario) ∙ sym attained.latency
 
 -- with no work left the nodes are the tree of a valid certificate
 abbrev certificate_of : Scenario → Record → List Node → Certificate
 certificate_of plan best nodes =
-    record { scenario = plan; latency = best.latency; delays = best.delays; nodes = reverse nodes }
+    record { scenario = plan; latency = best.latency; schedule = best.schedule; nodes = reverse nodes }
 
 valid : (bounds : Bounds) (plan : Scenario) (best : Record) (nodes : List Node) (tickets : ℕ) → IsAttained best → IsSearching bounds plan best [] nodes tickets → IsValid (certificate_of plan best nodes)
 valid bounds plan best nodes tickets attained searching = record {
@@ -75,7 +77,7 @@ IsProved-certificate bounds plan best nodes tickets limit by_worker cover lawful
       of_scenario = refl;
       valid = is_valid;
       greatest = record {
-        reached = (best.delays, best_assigned plan best searching.of_scenario attained, best_latency plan best searching.of_scenario attained);
+        reached = (best.schedule, best_assigned plan best searching.of_scenario attained, best_latency plan best searching.of_scenario attained);
         upper = cover plan best.latency (reverse nodes) lawful is_valid.tree;
       };
       nodes = spent;
@@ -86,8 +88,8 @@ IsProved-certificate bounds plan best nodes tickets limit by_worker cover lawful
       shares = one_share tickets by_worker workers;
     }
 
-pub IsProved-done : (bounds : Bounds) (plan : Scenario) (best : Record) (nodes : List Node) (tickets limit latency : ℕ) (delays : List ℕ) (scenario : Scenario) (turned : List Node) (certificate : Certificate) (by_worker : List ℕ) → TreesCover → IsScenario plan → IsAttained best → IsSearching bounds plan best [] nodes tickets → certificate ≡ record { scenario = scenario; latency = latency; delays = delays; nodes = turned } → scenario ≡ plan → latency ≡ best.latency → delays ≡ best.delays → turned ≡ reverse nodes → by_worker ≡ tickets ∷ [] → tickets ≤ limit → IsProved bounds plan 1 limit certificate tickets by_worker
-IsProved-done bounds plan best nodes tickets limit latency delays scenario turned certificate by_worker cover lawful attained searching is same_scenario same_latency same_delays same_nodes workers few =
+pub IsProved-done : (bounds : Bounds) (plan : Scenario) (best : Record) (nodes : List Node) (tickets limit latency : ℕ) (schedule : Schedule) (scenario : Scenario) (turned : List Node) (certificate : Certificate) (by_worker : List ℕ) → TreesCover → IsScenario plan → IsAttained best → IsSearching bounds plan best [] nodes tickets → certificate ≡ record { scenario = scenario; latency = latency; schedule = schedule; nodes = turned } → scenario ≡ plan → latency ≡ best.latency → schedule ≡ best.schedule → turned ≡ reverse nodes → by_worker ≡ tickets ∷ [] → tickets ≤ limit → IsProved bounds plan 1 limit certificate tickets by_worker
+IsProved-done bounds plan best nodes tickets limit latency schedule scenario turned certificate by_worker cover lawful attained searching is same_scenario same_latency same_delays same_nodes workers few =
     let whole : certificate ≡ certificate_of plan best nodes = cc in
     subst (λ (c : Certificate). IsProved bounds plan 1 limit c tickets by_worker) (sym whole) (IsProved-certificate bounds plan best nodes tickets limit by_worker cover lawful attained searching workers few)
 
@@ -95,10 +97,13 @@ IsProved-done bounds plan best nodes tickets limit latency delays scenario turne
 left : (work : List Work) (branch : Tracked) (tried : Bool) (nodes : List Node) → left_in (front_nodes (work ++ Branch branch tried ∷ []) nodes) ≡ left_in (map front_of (work ++ Branch branch tried ∷ []))
 left work branch tried nodes = left_in-append_spent (map front_of (work ++ Branch branch tried ∷ [])) (reverse nodes)
 
+last_of : (work : List Work) (branch : Tracked) (tried : Bool) → left_in (map front_of (work ++ Branch branch tried ∷ [])) ≡ left_in (map front_of work) ++ branch.delay_box ∷ []
+last_of work branch tried =
+    ap (λ (front : List FrontNode). left_in front) (map_push front_of work (Branch branch tried)) ∙ left_in-append (map front_of work) (Left branch.delay_box ∷ [])
+
 some_left : (work : List Work) (branch : Tracked) (tried : Bool) (nodes : List Node) → 0 < length (left_in (front_nodes (work ++ Branch branch tried ∷ []) nodes))
 some_left work branch tried nodes =
-    let last : left_in (map front_of (work ++ Branch branch tried ∷ [])) ≡ left_in (map front_of work) ++ branch.delay_box ∷ [] = ap (λ (front : List FrontNode). left_in front) (map_push front_of work (Branch branch tried)) ∙ left_in-append (map front_of work) (Left branch.delay_box ∷ []) in
-    omega (arith, ap length (left work branch tried nodes ∙ last), length-append (left_in (map front_of work)) (branch.delay_box ∷ []))
+    omega (arith, ap length (left work branch tried nodes ∙ last_of work branch tried), length-append (left_in (map front_of work)) (branch.delay_box ∷ []))
 
 front_left : (bounds : Bounds) (plan : Scenario) (best : Record) (work pushed : List Work) (branch : Tracked) (tried : Bool) (nodes : List Node) (tickets latency upper : ℕ) → IsAttained best → IsSearching bounds plan best (work ++ Branch branch tried ∷ []) nodes tickets → pushed ≡ work ++ Branch branch tried ∷ [] → latency ≡ best.latency → IsUpperOf bounds plan latency (left_in (map front_of pushed)) upper → IsFront bounds plan best.latency upper tickets
 front_left bounds plan best work pushed branch tried nodes tickets latency upper attained searching pushed_is latency_is upper_is =
@@ -109,19 +114,31 @@ front_left bounds plan best work pushed branch tried nodes tickets latency upper
       tree = searching.tree;
       spent = searching.spent;
       left = some_left work branch tried nodes;
-      reached = (best.delays, best_assigned plan best searching.of_scenario attained, best_latency plan best searching.of_scenario attained);
+      reached = (best.schedule, best_assigned plan best searching.of_scenario attained, best_latency plan best searching.of_scenario attained);
       least = searching.least;
       upper_is = subst (λ (bs : List Box). IsUpperOf bounds plan best.latency bs upper) same over_best;
     }
 
-pub IsOpen-left : (bounds : Bounds) (plan : Scenario) (best : Record) (work pushed : List Work) (branch : Tracked) (tried : Bool) (nodes : List Node) (tickets latency upper : ℕ) (by_worker : List ℕ) → FrontsBound → IsScenario plan → IsAttained best → IsSearching bounds plan best (work ++ Branch branch tried ∷ []) nodes tickets → pushed ≡ work ++ Branch branch tried ∷ [] → latency ≡ best.latency → IsUpperOf bounds plan latency (left_in (map front_of pushed)) upper → by_worker ≡ tickets ∷ [] → IsOpen bounds plan 1 tickets best upper tickets by_worker
-IsOpen-left bounds plan best work pushed branch tried nodes tickets latency upper by_worker bound lawful attained searching pushed_is latency_is upper_is workers =
+-- the box before which a search has ended is the last that is left
+last_left : (plan : Scenario) (work : List Work) (branch : Tracked) (tried : Bool) (nodes : List Node) → IsRealPoint plan branch.delay_box → Any (IsRealPoint plan) (left_in (front_nodes (work ++ Branch branch tried ∷ []) nodes))
+last_left plan work branch tried nodes point =
+    let same : left_in (front_nodes (work ++ Branch branch tried ∷ []) nodes) ≡ left_in (map front_of work) ++ branch.delay_box ∷ [] = left work branch tried nodes ∙ last_of work branch tried in
+    subst (λ (bs : List Box). Any (IsRealPoint plan) bs) (sym same) (Any-push (IsRealPoint plan) (left_in (map front_of work)) branch.delay_box point)
+
+pub IsOpen-left : (bounds : Bounds) (plan : Scenario) (best : Record) (work pushed : List Work) (branch : Tracked) (tried : Bool) (nodes : List Node) (tickets limit latency upper : ℕ) (by_worker : List ℕ) → FrontsBound → IsScenario plan → IsAttained best → IsSearching bounds plan best (work ++ Branch branch tried ∷ []) nodes tickets → HasEndedAt plan tickets branch.delay_box limit → pushed ≡ work ++ Branch branch tried ∷ [] → latency ≡ best.latency → IsUpperOf bounds plan latency (left_in (map front_of pushed)) upper → by_worker ≡ tickets ∷ [] → IsOpen bounds plan 1 limit best upper tickets by_worker
+unfolding front_left
+IsOpen-left bounds plan best work pushed branch tried nodes tickets limit latency upper by_worker bound lawful attained searching ended pushed_is latency_is upper_is workers =
     let front = front_left bounds plan best work pushed branch tried nodes tickets latency upper attained searching pushed_is latency_is upper_is in
     record {
       of_scenario = searching.of_scenario;
       reached = front.reached;
       none_greater = bound bounds plan best.latency upper tickets lawful front;
+      front = record {
+        tickets = tickets;
+        front = front;
+        few = ended.few;
+        all = elim ended.all [ inl spent ↦ inl spent | inr point ↦ inr (last_left plan work branch tried nodes point) ];
+      };
       all = refl;
-      front = front;
       shares = one_share tickets by_worker workers;
     }

@@ -1,5 +1,5 @@
 -- How far a search has come after each of its steps.
-use Rattle.std.specs.Prelude.{◌≡◌, ℕ, ◌+◌, ◌≤◌, Bool, true, false, List, [], ◌∷◌, ◌++◌, length, map, reverse, Some, unwrap_or}
+use Rattle.std.specs.Prelude.{◌≡◌, ℕ, ◌+◌, ◌≤◌, Bool, true, false, List, [], ◌∷◌, ◌++◌, length, map, reverse, Option, Some, unwrap_or}
 use Rattle.std.specs.List.{All}
 use Rattle.std.proofs.Common.{arith, refl, sym, ap, subst, ◌∙◌, append_assoc}
 use Rattle.std.proofs.lemmas.List.{map_push, reverse-append, length_push}
@@ -7,23 +7,25 @@ use Rattle.std.proofs.lemmas.Bool.{false≢true}
 use Rattle.std.proofs.lemmas.List.Elements.{All-pop, All-push, All-weaker}
 use Rattle.convoy_scenario.specs.Scenario.{Scenario}
 use Rattle.convoy_branch.specs.declared.bounds.Bounds.{Bounds}
-use Rattle.convoy_packets.specs.Table.{IsTable, PacketTable, table_of}
+use Rattle.convoy_packets.specs.Table.{IsTable, table_of}
+use Rattle.convoy_packets.specs.Assignment.{Schedule}
 use Rattle.convoy_sim.specs.Delivery.{latency_of}
 use Rattle.convoy_sim.specs.Record.{Record}
 use Rattle.convoy_certificate.specs.Certificate.{IsNode}
 use Rattle.convoy_certificate.specs.declared.node.Node.{Node}
 use Rattle.convoy_certificate.specs.declared.node.Node.TheVariants.{Split}
 use Rattle.convoy_intervals.specs.Boxes.{Box, IsBox, greatest_of, lower_half, root_of, upper_half}
-use Rattle.convoy_intervals.specs.Tracked.{Tracked}
+use Rattle.convoy_intervals.specs.Tracked.{Tracked, tracked_of}
 use Rattle.convoy_intervals.specs.Laws.{HalvesAreBoxes, UpperKeepsGreatest}
+use Rattle.convoy_branch.specs.declared.search.Search.{Search}
 use Rattle.convoy_branch.specs.declared.search.Work.{Work}
 use Rattle.convoy_branch.specs.declared.search.Work.TheVariants.{Branch, Write}
-use Rattle.convoy_branch.specs.declared.step.Step.{Step}
+use Rattle.convoy_branch.specs.declared.step.Fate.TheVariants.{Stays}
 use Rattle.convoy_branch.specs.declared.step.Turn.{Turn}
 use Rattle.convoy_branch.specs.declared.step.Turn.TheVariants.{Closed, Halves}
 use Rattle.convoy_branch.specs.Fronts.{AreFronts, FrontNode, Spent, Left, front_after, spent_in}
-use Rattle.convoy_branch.specs.Steps.{IsStep, IsTurn}
-use Rattle.convoy_branch.specs.Searching.{IsSearching, IsWork, front_of, front_nodes, work_after, nodes_after}
+use Rattle.convoy_branch.specs.Steps.{IsFate, IsTurn, found_in, known_after}
+use Rattle.convoy_branch.specs.Searching.{HasStayed, HasTurned, IsSearching, IsWork, front_of, front_nodes, work_after, nodes_after}
 use Rattle.convoy_branch.proofs.FrontTrees.{AreFronts-better, AreFronts-filled, AreFronts-turned}
 use Rattle.convoy_branch.proofs.FrontCounts.{spent_in-turned}
 use Rattle.convoy_branch.proofs.BetterRecords.{IsNoWorse-found}
@@ -83,7 +85,7 @@ IsSearching-written bounds plan best work nodes tickets node searching =
       tree = front.0;
       spent = front.1;
       all_work = parts.0;
-      all_nodes = All-push IsNode nodes node searching.all_nodes parts.1;
+      all_nodes = All-push (IsNode plan.time) nodes node searching.all_nodes parts.1;
     }
 
 -- the same by what the program makes of its two lists
@@ -104,9 +106,9 @@ front_turned work nodes (Closed node) = front-written work node nodes
 front_turned work nodes (Halves packet at lower upper) =
     front-halved work (Write (Split packet at)) (Branch lower false) (Branch upper true) (done nodes)
 
-nodes_turned : (bounds : Bounds) (plan : Scenario) (known : ℕ) (nodes : List Node) (box : Box) (turn : Turn) → IsTurn bounds plan box known turn → All IsNode nodes → All IsNode (nodes_after nodes turn)
+nodes_turned : (bounds : Bounds) (plan : Scenario) (known : ℕ) (nodes : List Node) (box : Box) (turn : Turn) → IsTurn bounds plan box known turn → All (IsNode plan.time) nodes → All (IsNode plan.time) (nodes_after nodes turn)
 nodes_turned bounds plan known nodes box (Closed node) turn all =
-    All-push IsNode nodes node all (leaf_node bounds plan known box node turn)
+    All-push (IsNode plan.time) nodes node all (leaf_node bounds plan known box node turn)
 nodes_turned bounds plan known nodes box (Halves packet at lower upper) turn all = all
 
 -- the halves of a box wait to be taken up: both are boxes of the scenario, and the greatest delays of the upper one were tried
@@ -120,7 +122,7 @@ halves_wait bounds plan known packet at box lower upper are_boxes keeps is_box t
     let low : lower.delay_box ≡ lower_half box packet at = ap (λ (t : Tracked). t.delay_box) turn.2 in
     let high : upper.delay_box ≡ upper_half box packet at = ap (λ (t : Tracked). t.delay_box) turn.3 in
     let same : greatest_of upper.delay_box ≡ greatest_of box = ap (λ (b : Box). greatest_of b) high ∙ keeps box packet at in
-    let tried : latency_of plan (greatest_of upper.delay_box) ≤ known = subst (λ (ds : List ℕ). latency_of plan ds ≤ known) (sym same) turn.0.tried in
+    let tried : latency_of plan (greatest_of upper.delay_box) ≤ known = subst (λ (s : Schedule). latency_of plan s ≤ known) (sym same) turn.0.tried in
     record {
       low = (subst (λ (b : Box). IsBox plan b) (sym low) halves.0, λ told. absurd (false≢true told), ap (λ (t : Tracked). t.scenario) turn.2);
       high = (subst (λ (b : Box). IsBox plan b) (sym high) halves.1, λ told. tried, ap (λ (t : Tracked). t.scenario) turn.3);
@@ -153,13 +155,19 @@ turned bounds plan best work nodes tickets branch tried turn are_boxes keeps tab
       all_nodes = nodes_turned bounds plan best.latency nodes branch.delay_box turn is searching.all_nodes;
     }
 
--- a step over the box
-pub IsSearching-step : (bounds : Bounds) (plan : Scenario) (best : Record) (work : List Work) (nodes : List Node) (tickets : ℕ) (branch : Tracked) (tried : Bool) (step : Step) → HalvesAreBoxes → UpperKeepsGreatest → IsTable (table_of plan) → IsStep bounds plan branch.delay_box best.latency step → IsSearching bounds plan best (work ++ Branch branch tried ∷ []) nodes tickets → IsSearching bounds plan (unwrap_or step.found best) (work_after work step.turn) (nodes_after nodes step.turn) (tickets + 1)
-IsSearching-step bounds plan best work nodes tickets branch tried step are_boxes keeps table is searching =
-    let next = unwrap_or step.found best in
-    let no_worse = IsNoWorse-found bounds plan best branch.delay_box step.found searching.of_scenario is.found in
-    let turn : IsTurn bounds plan branch.delay_box next.latency step.turn = subst (λ (n : ℕ). IsTurn bounds plan branch.delay_box n step.turn) no_worse.known is.turn in
-    turned bounds plan next work nodes tickets branch tried step.turn are_boxes keeps table turn (better bounds plan best next (work ++ Branch branch tried ∷ []) nodes tickets no_worse.scenario no_worse.above searching)
+-- the search with the record that a step has found
+found : (bounds : Bounds) (plan : Scenario) (best : Record) (work : List Work) (nodes : List Node) (tickets : ℕ) (box : Box) (noted : Option Record) → noted ≡ found_in bounds plan box best.latency → IsSearching bounds plan best work nodes tickets → IsSearching bounds plan (unwrap_or noted best) work nodes tickets
+found bounds plan best work nodes tickets box noted is searching =
+    let no_worse = IsNoWorse-found bounds plan best box noted searching.of_scenario is in
+    better bounds plan best (unwrap_or noted best) work nodes tickets no_worse.scenario no_worse.above searching
+
+-- a step that spends a ticket for the box
+IsSearching-step : (bounds : Bounds) (plan : Scenario) (best : Record) (work : List Work) (nodes : List Node) (tickets : ℕ) (branch : Tracked) (tried : Bool) (noted : Option Record) (turn : Turn) → HalvesAreBoxes → UpperKeepsGreatest → IsTable (table_of plan) → noted ≡ found_in bounds plan branch.delay_box best.latency → IsTurn bounds plan branch.delay_box (known_after best.latency noted) turn → IsSearching bounds plan best (work ++ Branch branch tried ∷ []) nodes tickets → IsSearching bounds plan (unwrap_or noted best) (work_after work turn) (nodes_after nodes turn) (tickets + 1)
+IsSearching-step bounds plan best work nodes tickets branch tried noted turn are_boxes keeps table is_found is searching =
+    let next = unwrap_or noted best in
+    let no_worse = IsNoWorse-found bounds plan best branch.delay_box noted searching.of_scenario is_found in
+    let turn_is : IsTurn bounds plan branch.delay_box next.latency turn = subst (λ (n : ℕ). IsTurn bounds plan branch.delay_box n turn) no_worse.known is in
+    turned bounds plan next work nodes tickets branch tried turn are_boxes keeps table turn_is (found bounds plan best (work ++ Branch branch tried ∷ []) nodes tickets branch.delay_box noted is_found searching)
 
 -- a turn adds three pieces of work at most
 pub length-work_after : (work : List Work) (turn : Turn) → length (work_after work turn) ≤ length work + 3
@@ -168,15 +176,30 @@ length-work_after work (Halves packet at lower upper) =
     omega (arith, length_push ((work ++ Write (Split packet at) ∷ []) ++ Branch lower false ∷ []) (Branch upper true), length_push (work ++ Write (Split packet at) ∷ []) (Branch lower false), length_push work (Write (Split packet at)))
 
 -- the same by what the program makes of its parts
-pub IsSearching-taken : (bounds : Bounds) (plan : Scenario) (best next : Record) (work new : List Work) (nodes written : List Node) (tickets seen : ℕ) (branch : Tracked) (tried : Bool) (table : PacketTable) (step : Step) → HalvesAreBoxes → UpperKeepsGreatest → table ≡ table_of plan → IsTable table → seen ≡ best.latency → IsStep bounds plan branch.delay_box seen step → next ≡ unwrap_or step.found best → new ≡ work_after work step.turn → written ≡ nodes_after nodes step.turn → IsSearching bounds plan best (work ++ Branch branch tried ∷ []) nodes tickets → IsSearching bounds plan next new written (tickets + 1)
-IsSearching-taken bounds plan best next work new nodes written tickets seen branch tried table step are_boxes keeps packets lawful seen_is is next_is new_is written_is searching =
-    let lawful' : IsTable (table_of plan) = subst (λ (t : PacketTable). IsTable t) packets lawful in
-    let is' : IsStep bounds plan branch.delay_box best.latency step = subst (λ (n : ℕ). IsStep bounds plan branch.delay_box n step) seen_is is in
-    rw (next_is, new_is, written_is) (IsSearching-step bounds plan best work nodes tickets branch tried step are_boxes keeps lawful' is' searching)
+pub HasTurned-taken : (bounds : Bounds) (plan : Scenario) (old new : Search) (seen : ℕ) (branch : Tracked) (tried : Bool) (noted : Option Record) (turn : Turn) → HalvesAreBoxes → UpperKeepsGreatest → IsTable (table_of plan) → seen ≡ old.best.latency → noted ≡ found_in bounds plan branch.delay_box seen → IsTurn bounds plan branch.delay_box (known_after seen noted) turn → new.best ≡ unwrap_or noted old.best → new.work.items ≡ work_after old.work.items turn → new.nodes.items ≡ nodes_after old.nodes.items turn → new.tickets ≡ old.tickets + 1 → IsSearching bounds plan old.best (old.work.items ++ Branch branch tried ∷ []) old.nodes.items old.tickets → HasTurned bounds plan old new
+HasTurned-taken bounds plan old new seen branch tried noted turn are_boxes keeps table seen_is found_is is best_is work_is nodes_is tickets_is searching =
+    let found_is' : noted ≡ found_in bounds plan branch.delay_box old.best.latency = found_is ∙ ap (λ (n : ℕ). found_in bounds plan branch.delay_box n) seen_is in
+    let is' : IsTurn bounds plan branch.delay_box (known_after old.best.latency noted) turn = subst (λ (n : ℕ). IsTurn bounds plan branch.delay_box (known_after n noted) turn) seen_is is in
+    record {
+      searching = rw (best_is, work_is, nodes_is, tickets_is) (IsSearching-step bounds plan old.best old.work.items old.nodes.items old.tickets branch tried noted turn are_boxes keeps table found_is' is' searching);
+      ticket = tickets_is;
+      few = omega (arith, ap length work_is, length-work_after old.work.items turn);
+    }
 
--- the best record after a step is no worse than before
-pub best_no_worse : (bounds : Bounds) (plan : Scenario) (best next : Record) (seen : ℕ) (box : Box) (step : Step) → best.scenario ≡ plan → seen ≡ best.latency → IsStep bounds plan box seen step → next ≡ unwrap_or step.found best → best.latency ≤ next.latency
-best_no_worse bounds plan best next seen box step scenario seen_is is next_is =
-    let is' : IsStep bounds plan box best.latency step = subst (λ (n : ℕ). IsStep bounds plan box n step) seen_is is in
-    let no_worse = IsNoWorse-found bounds plan best box step.found scenario is'.found in
-    rw next_is no_worse.above
+-- a box of a search is of its scenario
+next_of_scenario : (bounds : Bounds) (plan : Scenario) (best : Record) (work : List Work) (nodes : List Node) (tickets : ℕ) (branch : Tracked) (tried : Bool) → IsSearching bounds plan best (work ++ Branch branch tried ∷ []) nodes tickets → branch ≡ tracked_of plan branch.delay_box
+next_of_scenario bounds plan best work nodes tickets branch tried searching =
+    let parts = All-front (IsWork plan best.latency) work (Branch branch tried) searching.all_work in
+    ap (λ (s : Scenario). tracked_of s branch.delay_box) parts.1.2
+
+pub HasStayed-taken : (bounds : Bounds) (plan : Scenario) (old new : Search) (seen : ℕ) (branch left : Tracked) (tried : Bool) (noted : Option Record) → seen ≡ old.best.latency → noted ≡ found_in bounds plan branch.delay_box seen → IsFate bounds plan branch.delay_box (known_after seen noted) (Stays left) → new ≡ record old { best = unwrap_or noted old.best } → IsSearching bounds plan old.best (old.work.items ++ Branch branch tried ∷ []) old.nodes.items old.tickets → HasStayed bounds plan old new tried left
+HasStayed-taken bounds plan old new seen branch left tried noted seen_is found_is is new_is searching =
+    let found_is' : noted ≡ found_in bounds plan branch.delay_box old.best.latency = found_is ∙ ap (λ (n : ℕ). found_in bounds plan branch.delay_box n) seen_is in
+    let same : left ≡ branch = is.2 ∙ sym (next_of_scenario bounds plan old.best old.work.items old.nodes.items old.tickets branch tried searching) in
+    let here : HasStayed bounds plan old (record old { best = unwrap_or noted old.best }) tried branch = record {
+      searching = found bounds plan old.best (old.work.items ++ Branch branch tried ∷ []) old.nodes.items old.tickets branch.delay_box noted found_is' searching;
+      point = is.1;
+      same = refl;
+    } in
+    let moved : HasStayed bounds plan old (record old { best = unwrap_or noted old.best }) tried left = subst (λ (b : Tracked). HasStayed bounds plan old (record old { best = unwrap_or noted old.best }) tried b) (sym same) here in
+    subst (λ (s : Search). HasStayed bounds plan old s tried left) (sym new_is) moved

@@ -4,6 +4,8 @@ use Rattle.std.proofs.Common.{arith, ap, sym, subst, ◌∙◌}
 use Rattle.std.proofs.lemmas.Bool.{false≢true}
 use Rattle.std.proofs.lemmas.Bool.Decides.{nat_tests}
 use Rattle.convoy_scenario.specs.Scenario.{Scenario}
+use Rattle.convoy_scenario.specs.declared.time.Time.{Time}
+use Rattle.convoy_scenario.specs.declared.time.Time.TheVariants.{Ticks, Real}
 use Rattle.convoy_certificate.specs.declared.node.Node.{Node}
 use Rattle.convoy_certificate.specs.declared.node.Node.TheVariants as nodes
 use Rattle.convoy_branch.specs.declared.bounds.Bounds.{Bounds}
@@ -14,7 +16,8 @@ use Rattle.convoy_intervals.specs.Boxes.{Box, greatest_of}
 use Rattle.convoy_stamps.specs.StampBounds.{stamp_bound}
 use Rattle.convoy_leads.specs.Closing.{closes_by_leads}
 use Rattle.convoy_branch.specs.Looks.{IsLook}
-use Rattle.convoy_branch.specs.SearchBounds.{closes_for, further_leaf, leaf_for}
+use Rattle.convoy_branch.specs.SearchBounds.{bound_in, closes_for, further_leaf, leaf_for, least_bound}
+use Rattle.convoy_checker.specs.Leaves.{ClosesByStamps}
 use Rattle.convoy_branch.specs.Steps.{IsTurn}
 use Rattle.convoy_sim.specs.Delivery.{latency_of}
 use Rattle.convoy_sim.specs.Record.{attained_by}
@@ -39,31 +42,49 @@ abbrev IsLeafFor : Bounds → Scenario → Box → ℕ → Option Node → Type 
 IsLeafFor bounds plan box known None = closes_for bounds plan box known ≡ false
 IsLeafFor bounds plan box known (Some node) = IsTurn bounds plan box known (Closed node) × (closes_for bounds plan box known ≡ true)
 
-module _ (plan : Scenario) (box : Box) (known : ℕ) (small : known < 2 ^ 32) (least : stamp_bound plan box ≤ plain_bound plan box) where
+-- the bound of a search that asks for stamp bounds is no greater than the plain one
+least_in : (plan : Scenario) (box : Box) (time : Time) → stamp_bound plan box ≤ plain_bound plan box → bound_in time plan box ≤ plain_bound plan box
+least_in plan box Ticks least = least
+least_in plan box Real least = omega arith
+
+pub least_at_most_plain : (plan : Scenario) (box : Box) → stamp_bound plan box ≤ plain_bound plan box → least_bound plan box ≤ plain_bound plan box
+least_at_most_plain plan box least = least_in plan box plan.time least
+
+-- where it is less, it is a stamp bound in whole ticks
+stamps_in : (plan : Scenario) (box : Box) (known : ℕ) (time : Time) → plan.time ≡ time → bound_in time plan box ≤ known → known < plain_bound plan box → ClosesByStamps plan known box
+stamps_in plan box known Ticks is within above = (is, within)
+stamps_in plan box known Real is within above = absurd (omega (arith, within, above))
+
+module _ (plan : Scenario) (box : Box) (known : ℕ) (small : known < 2 ^ 32) (least : least_bound plan box ≤ plain_bound plan box) where
+  by_stamp_bound : nat_le (least_bound plan box) known ≡ true → known < plain_bound plan box → ClosesByStamps plan known box
+  by_stamp_bound is above =
+      let within : least_bound plan box ≤ known = grind (arith, nat_tests, is) in
+      stamps_in plan box known plan.time refl within above
+
   closes_by_plain : (bounds : Bounds) → plain_bound plan box ≤ known → closes_for bounds plan box known ≡ true
   closes_by_plain Plain within = grind (arith, nat_tests, within)
   closes_by_plain Stamp within = grind (arith, nat_tests, within, least)
   closes_by_plain Lead within =
-      let stamps : nat_le (stamp_bound plan box) known ≡ true = grind (arith, nat_tests, within, least) in
+      let stamps : nat_le (least_bound plan box) known ≡ true = grind (arith, nat_tests, within, least) in
       ap (λ (b : Bool). b || closes_by_leads plan box known) stamps
 
-  by_stamps : (stamps : Bool) → nat_le (stamp_bound plan box) known ≡ stamps → known < plain_bound plan box → IsLeafFor Stamp plan box known (if stamps then Some nodes.Stamp else None)
+  by_stamps : (stamps : Bool) → nat_le (least_bound plan box) known ≡ stamps → known < plain_bound plan box → IsLeafFor Stamp plan box known (if stamps then Some nodes.Stamp else None)
   by_stamps true is above =
-      (record { asked = stamp_is_not_plain; plain = above; stamps = grind (arith, nat_tests, is) }, is)
+      (record { asked = stamp_is_not_plain; plain = above; stamps = by_stamp_bound is above }, is)
   by_stamps false is above = is
 
-  by_leads : (stamps leads : Bool) → nat_le (stamp_bound plan box) known ≡ stamps → closes_by_leads plan box known ≡ leads → known < plain_bound plan box → IsLeafFor Lead plan box known (if stamps then Some nodes.Stamp else if leads then Some (nodes.Lead known) else None)
+  by_leads : (stamps leads : Bool) → nat_le (least_bound plan box) known ≡ stamps → closes_by_leads plan box known ≡ leads → known < plain_bound plan box → IsLeafFor Lead plan box known (if stamps then Some nodes.Stamp else if leads then Some (nodes.Lead known) else None)
   by_leads true leads is closed above =
-      (record { asked = lead_is_not_plain; plain = above; stamps = grind (arith, nat_tests, is) }, ap (λ (b : Bool). b || closes_by_leads plan box known) is)
+      (record { asked = lead_is_not_plain; plain = above; stamps = by_stamp_bound is above }, ap (λ (b : Bool). b || closes_by_leads plan box known) is)
   by_leads false true is closed above =
-      let stamps : known < stamp_bound plan box = grind (arith, nat_tests, is) in
-      ((refl, record { asked = refl; stamps = stamps; leads = closed; named = small }), ap (λ (b : Bool). b || closes_by_leads plan box known) is ∙ closed)
+      let bound : known < least_bound plan box = grind (arith, nat_tests, is) in
+      ((refl, record { asked = refl; bound = bound; leads = closed; named = small }), ap (λ (b : Bool). b || closes_by_leads plan box known) is ∙ closed)
   by_leads false false is closed above = ap (λ (b : Bool). b || closes_by_leads plan box known) is ∙ closed
 
   by_further : (bounds : Bounds) → known < plain_bound plan box → IsLeafFor bounds plan box known (further_leaf bounds plan box known)
   by_further Plain above = grind (arith, nat_tests, above)
-  by_further Stamp above = by_stamps (nat_le (stamp_bound plan box) known) refl above
-  by_further Lead above = by_leads (nat_le (stamp_bound plan box) known) (closes_by_leads plan box known) refl refl above
+  by_further Stamp above = by_stamps (nat_le (least_bound plan box) known) refl above
+  by_further Lead above = by_leads (nat_le (least_bound plan box) known) (closes_by_leads plan box known) refl refl above
 
   by_plain : (bounds : Bounds) (plain : Bool) → nat_le (plain_bound plan box) known ≡ plain → IsLeafFor bounds plan box known (if plain then Some nodes.Bound else further_leaf bounds plan box known)
   by_plain bounds true is =
@@ -76,12 +97,12 @@ module _ (plan : Scenario) (box : Box) (known : ℕ) (small : known < 2 ^ 32) (l
 -- the leaf closes the box
 pub turn_of_leaf : (bounds : Bounds) (plan : Scenario) (box : Box) (known : ℕ) (leaf : Option Node) (node : Node) → known < 2 ^ 32 → stamp_bound plan box ≤ plain_bound plan box → leaf ≡ leaf_for bounds plan box known → leaf ≡ Some node → IsTurn bounds plan box known (Closed node)
 turn_of_leaf bounds plan box known leaf node small least is some =
-    (subst (λ (l : Option Node). IsLeafFor bounds plan box known l) (sym is ∙ some) (IsLeafFor-first plan box known small least bounds)).0
+    (subst (λ (l : Option Node). IsLeafFor bounds plan box known l) (sym is ∙ some) (IsLeafFor-first plan box known small (least_at_most_plain plan box least) bounds)).0
 
 -- with no leaf the box stays open
 pub open_without : (bounds : Bounds) (plan : Scenario) (box : Box) (known : ℕ) (leaf : Option Node) → known < 2 ^ 32 → stamp_bound plan box ≤ plain_bound plan box → leaf ≡ leaf_for bounds plan box known → leaf ≡ None → closes_for bounds plan box known ≡ false
 open_without bounds plan box known leaf small least is none =
-    subst (λ (l : Option Node). IsLeafFor bounds plan box known l) (sym is ∙ none) (IsLeafFor-first plan box known small least bounds)
+    subst (λ (l : Option Node). IsLeafFor bounds plan box known l) (sym is ∙ none) (IsLeafFor-first plan box known small (least_at_most_plain plan box least) bounds)
 
 closed_since : (bounds : Bounds) (plan : Scenario) (box : Box) (known : ℕ) (leaf : Option Node) → is_some leaf ≡ true → IsLeafFor bounds plan box known leaf → closes_for bounds plan box known ≡ true
 closed_since bounds plan box known None some is = absurd (false≢true some)
@@ -92,7 +113,7 @@ closed_since bounds plan box known (Some node) some is = is.1
 -- a box that is closed at once
 pub look_closed : (bounds : Bounds) (plan : Scenario) (box : Box) (seen : ℕ) (leaf : Option Node) → seen < 2 ^ 32 → stamp_bound plan box ≤ plain_bound plan box → leaf ≡ leaf_for bounds plan box seen → is_some leaf ≡ true → IsLook bounds plan box seen (record { found = None; leaf = leaf })
 look_closed bounds plan box seen leaf small least is some =
-    let closes : closes_for bounds plan box seen ≡ true = closed_since bounds plan box seen leaf some (subst (λ (l : Option Node). IsLeafFor bounds plan box seen l) (sym is) (IsLeafFor-first plan box seen small least bounds)) in
+    let closes : closes_for bounds plan box seen ≡ true = closed_since bounds plan box seen leaf some (subst (λ (l : Option Node). IsLeafFor bounds plan box seen l) (sym is) (IsLeafFor-first plan box seen small (least_at_most_plain plan box least) bounds)) in
     let rest = nat_le (latency_of plan (greatest_of box)) seen in
     record {
       found = sym (ap (λ (b : Bool). if b || rest then None else Some (attained_by plan (greatest_of box))) closes);

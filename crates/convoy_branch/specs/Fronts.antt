@@ -1,6 +1,6 @@
 -- The front of a search: how far its tree has come.
-use Rattle.std.specs.Prelude.{◌≡◌, ◌≢◌, ℕ, ◌≤◌, ◌<◌, false, List, [], ◌∷◌, length}
-use Rattle.std.specs.List.{filter_map}
+use Rattle.std.specs.Prelude.{◌≡◌, ◌≢◌, ◌⊎◌, ℕ, ◌≤◌, ◌<◌, false, List, [], ◌∷◌, length}
+use Rattle.std.specs.List.{Any, filter_map}
 use Rattle.std.specs.Prelude.{Option, Some, None}
 use Rattle.convoy_scenario.specs.Scenario.{Scenario}
 use Rattle.convoy_packets.specs.Assignment.{ranges_of}
@@ -17,6 +17,7 @@ use Rattle.convoy_checker.specs.Leaves.{ClosesByBound, ClosesByLeads, ClosesByPo
 use Rattle.convoy_checker.specs.Trees.{AreTrees, boxes_below}
 use Rattle.convoy_sim.specs.Greatest.{IsReached}
 use Rattle.convoy_branch.specs.SearchBounds.{closes_for}
+use Rattle.convoy_branch.specs.Steps.{IsRealPoint}
 use Rattle.convoy_branch.specs.Uppers.{IsUpperOf}
 
 -- a node of a front: one of the tree, for which a ticket was spent, or a box that is left to be searched
@@ -87,3 +88,10 @@ pub record IsFront (bounds : Bounds) (scenario : Scenario) (best upper tickets :
   pub least : latency_of scenario (least_of (ranges_of scenario)) ≤ best
   -- the upper bound is that of the best latency and of the boxes that are left
   pub upper_is : IsUpperOf bounds scenario best (left_in nodes) upper
+
+-- The front of a search that has stopped with boxes left, where at most `limit` tickets may be spent: all of them were, or else in real time one of the boxes is a point, for which none is spent.
+pub record HasStopped (bounds : Bounds) (scenario : Scenario) (best upper limit : ℕ) : Type 0 where
+  pub tickets : ℕ
+  pub front : IsFront bounds scenario best upper tickets
+  pub few : tickets ≤ limit
+  pub all : (tickets ≡ limit) ⊎ Any (IsRealPoint scenario) (left_in front.nodes)

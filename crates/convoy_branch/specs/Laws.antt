@@ -3,6 +3,7 @@ use Rattle.std.specs.Prelude.{◌≡◌, ◌≢◌, ℕ, ◌≤◌, false, List,
 use Rattle.std.specs.List.{All, list_any}
 use Rattle.convoy_scenario.specs.Scenario.{Scenario}
 use Rattle.convoy_scenario.specs.WellFormed.{IsScenario}
+use Rattle.convoy_scenario.specs.declared.time.Time.TheVariants.{Ticks}
 use Rattle.convoy_packets.specs.Table.{IsTable, table_of}
 use Rattle.convoy_sim.specs.Greatest.{IsUpper}
 use Rattle.convoy_certificate.specs.Certificate.{IsNode}
@@ -13,7 +14,7 @@ use Rattle.convoy_checker.specs.Validity.{IsTree}
 use Rattle.convoy_branch.specs.declared.bounds.Bounds.{Bounds}
 use Rattle.convoy_branch.specs.declared.bounds.Bounds.TheVariants.{Plain, Lead}
 use Rattle.convoy_branch.specs.declared.step.Turn.{Turn}
-use Rattle.convoy_branch.specs.Fronts.{AreFronts, FrontNode, Left, IsFront, front_after, left_in, spent_in}
+use Rattle.convoy_branch.specs.Fronts.{AreFronts, FrontNode, HasStopped, Left, IsFront, front_after, left_in, spent_in}
 use Rattle.convoy_branch.specs.SearchBounds.{most_nodes}
 use Rattle.convoy_branch.specs.Steps.{IsTurn}
 use Rattle.convoy_branch.specs.Uppers.{IsRaised, IsUpperOf}
@@ -21,6 +22,13 @@ use Rattle.convoy_branch.specs.Uppers.{IsRaised, IsUpperOf}
 -- no assignment has a latency above the upper bound of a front
 abbrev pub FrontsBound : Type 0
 FrontsBound = (bounds : Bounds) (scenario : Scenario) (best upper tickets : ℕ) → IsScenario scenario → IsFront bounds scenario best upper tickets → IsUpper scenario upper
+
+-- in whole ticks a search that stops with boxes left has spent all tickets
+abbrev pub TicksSpendAll : Type 0
+TicksSpendAll =
+    (bounds : Bounds) (scenario : Scenario) (best upper limit : ℕ) (stopped : HasStopped bounds scenario best upper limit)
+    → scenario.time ≡ Ticks
+    → stopped.tickets ≡ limit
 
 -- fronts over some boxes and then fronts over others are fronts over all of them
 abbrev pub FrontsAppend : Type 0
@@ -60,7 +68,7 @@ TurnsAreNodes =
     → IsTable (table_of scenario)
     → IsBox scenario branch
     → IsTurn bounds scenario branch best turn
-    → All IsNode (spent_in (front_after turn))
+    → All (IsNode scenario.time) (spent_in (front_after turn))
 
 -- with no box left a front is a tree that closes the root
 abbrev pub WholeFrontsAreTrees : Type 0

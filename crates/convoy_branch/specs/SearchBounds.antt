@@ -1,6 +1,8 @@
 -- The boxes that a search closes for a latency, by their bounds or by leads.
 use Rattle.std.specs.Prelude.{ℕ, nat_le, Bool, ◌||◌, if◌then◌else◌, Option, Some, None}
 use Rattle.convoy_scenario.specs.Scenario.{Scenario}
+use Rattle.convoy_scenario.specs.declared.time.Time.{Time}
+use Rattle.convoy_scenario.specs.declared.time.Time.TheVariants.{Ticks, Real}
 use Rattle.convoy_certificate.specs.declared.certificate.TheConstants.{MOST_LEADS, MOST_NODES}
 use Rattle.convoy_certificate.specs.declared.node.Node.{Node}
 use Rattle.convoy_certificate.specs.declared.node.Node.TheVariants as nodes
@@ -11,18 +13,26 @@ use Rattle.convoy_leads.specs.Closing.{closes_by_leads}
 use Rattle.convoy_branch.specs.declared.bounds.Bounds.{Bounds}
 use Rattle.convoy_branch.specs.declared.bounds.Bounds.TheVariants.{Plain, Stamp, Lead}
 
+-- the bound of the box in a search that asks for stamp bounds: in real time stamps bound nothing, and it is the plain one
+abbrev pub bound_in : Time → Scenario → Box → ℕ
+bound_in Ticks scenario box = stamp_bound scenario box
+bound_in Real scenario box = plain_bound scenario box
+
+abbrev pub least_bound : Scenario → Box → ℕ
+least_bound scenario box = bound_in scenario.time scenario box
+
 -- whether a search closes the box for a latency: its bound is at most that, or, in a search by leads, these close it
 abbrev pub closes_for : Bounds → Scenario → Box → ℕ → Bool
 closes_for Plain scenario box latency = nat_le (plain_bound scenario box) latency
-closes_for Stamp scenario box latency = nat_le (stamp_bound scenario box) latency
-closes_for Lead scenario box latency = nat_le (stamp_bound scenario box) latency || closes_by_leads scenario box latency
+closes_for Stamp scenario box latency = nat_le (least_bound scenario box) latency
+closes_for Lead scenario box latency = nat_le (least_bound scenario box) latency || closes_by_leads scenario box latency
 
 -- the leaf with which it does so where the plain bound is above the latency
 abbrev pub further_leaf : Bounds → Scenario → Box → ℕ → Option Node
 further_leaf Plain scenario box latency = None
-further_leaf Stamp scenario box latency = if nat_le (stamp_bound scenario box) latency then Some nodes.Stamp else None
+further_leaf Stamp scenario box latency = if nat_le (least_bound scenario box) latency then Some nodes.Stamp else None
 further_leaf Lead scenario box latency =
-    if nat_le (stamp_bound scenario box) latency then Some nodes.Stamp
+    if nat_le (least_bound scenario box) latency then Some nodes.Stamp
     else if closes_by_leads scenario box latency then Some (nodes.Lead latency)
     else None
 

@@ -1,5 +1,5 @@
 -- Where a search stands, between two boxes that it takes up.
-use Rattle.std.specs.Prelude.{◌≡◌, ℕ, ◌≤◌, true, false, List, [], ◌∷◌, ◌++◌, length, map, reverse}
+use Rattle.std.specs.Prelude.{◌≡◌, ◌⊎◌, ℕ, ◌+◌, ◌≤◌, Bool, true, false, List, [], ◌∷◌, ◌++◌, length, map, reverse}
 use Rattle.std.specs.List.{All}
 use Rattle.convoy_scenario.specs.Scenario.{Scenario}
 use Rattle.convoy_packets.specs.Assignment.{ranges_of}
@@ -9,14 +9,16 @@ use Rattle.convoy_sim.specs.Record.{Record}
 use Rattle.convoy_certificate.specs.Certificate.{IsNode}
 use Rattle.convoy_certificate.specs.declared.node.Node.{Node}
 use Rattle.convoy_certificate.specs.declared.node.Node.TheVariants.{Split}
-use Rattle.convoy_intervals.specs.Boxes.{IsBox, root_of}
+use Rattle.convoy_intervals.specs.Boxes.{Box, IsBox, root_of}
+use Rattle.convoy_intervals.specs.Tracked.{Tracked}
 use Rattle.convoy_branch.specs.declared.bounds.Bounds.{Bounds}
+use Rattle.convoy_branch.specs.declared.search.Search.{Search}
 use Rattle.convoy_branch.specs.declared.search.Work.{Work}
 use Rattle.convoy_branch.specs.declared.search.Work.TheVariants.{Branch, Write}
 use Rattle.convoy_branch.specs.declared.step.Turn.{Turn}
 use Rattle.convoy_branch.specs.declared.step.Turn.TheVariants.{Closed, Halves}
 use Rattle.convoy_branch.specs.Fronts.{AreFronts, FrontNode, Spent, Left, spent_in}
-use Rattle.convoy_branch.specs.Steps.{IsTriedIf}
+use Rattle.convoy_branch.specs.Steps.{IsRealPoint, IsTriedIf}
 use Rattle.convoy_branch.specs.Uppers.{IsRaised}
 
 -- the node of the front that a piece of work stands for
@@ -32,7 +34,7 @@ front_nodes work nodes = map front_of work ++ map Spent (reverse nodes)
 abbrev pub IsWork : Scenario → ℕ → Work → Type 0
 IsWork scenario best (Branch branch tried) =
     IsBox scenario branch.delay_box × IsTriedIf scenario branch.delay_box tried best × (branch.scenario ≡ scenario)
-IsWork scenario best (Write node) = IsNode node
+IsWork scenario best (Write node) = IsNode scenario.time node
 
 -- The search by those bounds has come to this: its best record, the work that is left, the nodes that are written, and the tickets that were spent.
 pub record IsSearching (bounds : Bounds) (scenario : Scenario) (best : Record) (work : List Work) (nodes : List Node) (tickets : ℕ) : Type 0 where
@@ -42,7 +44,24 @@ pub record IsSearching (bounds : Bounds) (scenario : Scenario) (best : Record) (
   pub tree : AreFronts bounds scenario best.latency (root_of scenario ∷ []) (front_nodes work nodes)
   pub spent : length (spent_in (front_nodes work nodes)) ≡ tickets
   pub all_work : All (IsWork scenario best.latency) work
-  pub all_nodes : All IsNode nodes
+  pub all_nodes : All (IsNode scenario.time) nodes
+
+-- a search has spent a ticket for the box that was next
+pub record HasTurned (bounds : Bounds) (scenario : Scenario) (old new : Search) : Type 0 where
+  pub searching : IsSearching bounds scenario new.best new.work.items new.nodes.items new.tickets
+  pub ticket : new.tickets ≡ old.tickets + 1
+  pub few : length new.work.items ≤ length old.work.items + 3
+
+-- the box that was next is a point in real time, and still is next
+pub record HasStayed (bounds : Bounds) (scenario : Scenario) (old new : Search) (tried : Bool) (branch : Tracked) : Type 0 where
+  pub searching : IsSearching bounds scenario new.best (new.work.items ++ Branch branch tried ∷ []) new.nodes.items new.tickets
+  pub point : IsRealPoint scenario branch.delay_box
+  pub same : new.tickets ≡ old.tickets
+
+-- a search ends before that box: it has spent all tickets, or the box is a point in real time
+pub record HasEndedAt (scenario : Scenario) (tickets : ℕ) (box : Box) (limit : ℕ) : Type 0 where
+  pub few : tickets ≤ limit
+  pub all : (tickets ≡ limit) ⊎ IsRealPoint scenario box
 
 -- the work that is left, and the nodes that are written, after a turn; the upper half has the greatest delays of the box, which were tried
 abbrev pub work_after : List Work → Turn → List Work

@@ -1,6 +1,7 @@
 -- A step of a search: what it does with one box, where the latency of the best record is known.
-use Rattle.std.specs.Prelude.{◌≡◌, ◌≢◌, ℕ, ◌≤◌, ◌<◌, ◌^◌, nat_le, Bool, false, IsTrue, ◌||◌, if◌then◌else◌, Option, Some, None}
+use Rattle.std.specs.Prelude.{◌≡◌, ◌≢◌, ℕ, ◌≤◌, ◌<◌, ◌^◌, nat_le, Bool, true, false, IsTrue, IsFalse, ◌||◌, if◌then◌else◌, Option, Some, None, IfSome}
 use Rattle.convoy_scenario.specs.Scenario.{Scenario}
+use Rattle.convoy_scenario.specs.declared.time.Time.TheVariants.{Ticks, Real}
 use Rattle.convoy_sim.specs.Delivery.{latency_of}
 use Rattle.convoy_sim.specs.Record.{Record, attained_by}
 use Rattle.convoy_certificate.specs.declared.node.Node.TheVariants as nodes
@@ -9,14 +10,16 @@ use Rattle.convoy_intervals.specs.Boxes.{IsPoint, lower_half, upper_half, greate
 use Rattle.convoy_intervals.specs.Boxes.{CanSplit}
 use Rattle.convoy_intervals.specs.Tracked.{tracked_of}
 use Rattle.convoy_checker.specs.Leaves.{ClosesByBound, ClosesByLeads, ClosesByStamps}
-use Rattle.convoy_stamps.specs.StampBounds.{stamp_bound}
 use Rattle.convoy_intervals.specs.Boxes.{Box}
 use Rattle.convoy_branch.specs.declared.bounds.Bounds.{Bounds}
 use Rattle.convoy_branch.specs.declared.bounds.Bounds.TheVariants as bounds_of
+use Rattle.convoy_branch.specs.declared.prospect.Prospect.{Prospect}
 use Rattle.convoy_branch.specs.declared.step.Step.{Step}
+use Rattle.convoy_branch.specs.declared.step.Fate.{Fate}
+use Rattle.convoy_branch.specs.declared.step.Fate.TheVariants.{Turned, Stays}
 use Rattle.convoy_branch.specs.declared.step.Turn.{Turn}
 use Rattle.convoy_branch.specs.declared.step.Turn.TheVariants.{Closed, Halves}
-use Rattle.convoy_branch.specs.SearchBounds.{closes_for}
+use Rattle.convoy_branch.specs.SearchBounds.{closes_for, least_bound}
 
 -- The record of the greatest delays of the box, where their latency is above the one seen. Where the search closes the box at once, no schedule is tried.
 abbrev pub found_in : Bounds → Scenario → Box → ℕ → Option Record
@@ -45,19 +48,19 @@ pub record NeedsStamps (bounds : Bounds) (scenario : Scenario) (box : Box) (know
   pub plain : known < plain_bound scenario box
   pub stamps : ClosesByStamps scenario known box
 
--- the search goes by leads, which close the box where its stamp bound, and so its plain one, does not; a node may name the latency
+-- the search goes by leads, which close the box where its bound does not; a node may name the latency
 pub record NeedsLeads (bounds : Bounds) (scenario : Scenario) (box : Box) (known : ℕ) : Type 0 where
   pub asked : bounds ≡ bounds_of.Lead
-  pub stamps : known < stamp_bound scenario box
+  pub bound : known < least_bound scenario box
   pub leads : ClosesByLeads scenario known box
   pub named : known < 2 ^ 32
 
--- what becomes of the box: a leaf that closes it for the latency known, and a point only where nothing else does, or else its halves
+-- what becomes of a box for which a ticket is spent: a leaf that closes it for the latency known, and a point, in whole ticks, only where nothing else does, or else its halves
 abbrev pub IsTurn : Bounds → Scenario → Box → ℕ → Turn → Type 0
 IsTurn bounds scenario box known (Closed nodes.Bound) = ClosesByBound scenario known box
 IsTurn bounds scenario box known (Closed nodes.Stamp) = NeedsStamps bounds scenario box known
 IsTurn bounds scenario box known (Closed (nodes.Lead latency)) = (latency ≡ known) × NeedsLeads bounds scenario box known
-IsTurn bounds scenario box known (Closed nodes.Point) = StaysOpen bounds scenario box known × IsPoint box
+IsTurn bounds scenario box known (Closed nodes.Point) = StaysOpen bounds scenario box known × (scenario.time ≡ Ticks) × IsPoint box
 IsTurn bounds scenario box known (Closed (nodes.Split packet at)) = ⊥
 IsTurn bounds scenario box known (Halves packet at lower upper) =
     StaysOpen bounds scenario box known
@@ -65,7 +68,30 @@ IsTurn bounds scenario box known (Halves packet at lower upper) =
     × (lower ≡ tracked_of scenario (lower_half box packet at))
     × (upper ≡ tracked_of scenario (upper_half box packet at))
 
+-- the box is a point in real time: there is a run for each order of its ties, so that no leaf closes it as a point
+pub record IsRealPoint (scenario : Scenario) (box : Box) : Type 0 where
+  pub real : scenario.time ≡ Real
+  pub point : IsPoint box
+
+-- the turn of the box; or else it is a point in real time that the search does not close, and stays as it is
+abbrev pub IsFate : Bounds → Scenario → Box → ℕ → Fate → Type 0
+IsFate bounds scenario box known (Turned turn) = IsTurn bounds scenario box known turn
+IsFate bounds scenario box known (Stays left) =
+    StaysOpen bounds scenario box known × IsRealPoint scenario box × (left ≡ tracked_of scenario box)
+
 -- a step over the box, where a record of that latency was seen
 pub record IsStep (bounds : Bounds) (scenario : Scenario) (box : Box) (seen : ℕ) (step : Step) : Type 0 where
   pub found : step.found ≡ found_in bounds scenario box seen
-  pub turn : IsTurn bounds scenario box (known_after seen step.found) step.turn
+  pub fate : IsFate bounds scenario box (known_after seen step.found) step.fate
+
+-- a step makes a turn of the box, where that latency is known: if the box is a point in real time, the search closes it
+abbrev pub CanTurn : Bounds → Scenario → Box → ℕ → Type 0
+CanTurn bounds scenario box known = IsRealPoint scenario box → closes_for bounds scenario box known ≡ true
+
+-- what is known of the box before a ticket is spent for it, where a record of that latency was seen
+pub record IsProspect (bounds : Bounds) (scenario : Scenario) (box : Box) (seen : ℕ) (prospect : Prospect) : Type 0 where
+  pub found : IfSome prospect.found (λ found. found ≡ attained_by scenario (greatest_of box))
+  pub known : prospect.known ≡ known_after seen prospect.found
+  pub above : seen ≤ prospect.known
+  pub turns : IsTrue prospect.turns → CanTurn bounds scenario box prospect.known
+  pub stays : IsFalse prospect.turns → IsRealPoint scenario box

@@ -1,16 +1,17 @@
 ghost use Rattle.std.specs.Prelude.{◌≡◌, ◌≤◌, IfOk};
-ghost use Rattle.convoy_stamps.specs.StampBounds.{stamp_bound};
-ghost use Rattle.convoy_branch.specs.SearchBounds.{further_leaf, leaf_for, most_nodes};
+ghost use Rattle.convoy_branch.specs.SearchBounds.{further_leaf, leaf_for, least_bound, most_nodes};
 ghost use Rattle.convoy_branch.specs.Uppers.{IsRaised, IsRaisedByLeads};
 
 use convoy_certificate::{MOST_LEADS, MOST_NODES, Node};
 use convoy_intervals::Tracked;
 use convoy_leads::closes_by_leads;
 use convoy_packets::Instance;
+use convoy_scenario::Time;
 use convoy_stamps::stamp_bound_of;
 use std::alloc::{AllocError, Global};
 
-/// By what a search closes boxes (docs/PROTOCOL.md).
+/// By what a search closes boxes (docs/PROTOCOL.md). In real time no stamp bound is asked for, and
+/// the plain one counts in its place.
 #[derive(Clone, Copy, Debug, PartialEq, Eq)]
 pub enum Bounds {
     /// By plain bounds alone.
@@ -69,7 +70,7 @@ impl Bounds {
         if self == Bounds::Plain {
             return Ok(None);
         }
-        if stamp_bound_of(alloc, instance, branch)? <= latency {
+        if least_bound(alloc, instance, branch)? <= latency {
             return Ok(Some(Node::Stamp));
         }
         if self == Bounds::Lead && closes_by_leads(alloc, instance, branch.delay_box(), latency)? {
@@ -94,17 +95,29 @@ impl Bounds {
     {
         match self {
             Bounds::Plain => Ok(upper.max(branch.bound())),
-            Bounds::Stamp => Ok(upper.max(stamp_bound_of(alloc, instance, branch)?)),
+            Bounds::Stamp => Ok(upper.max(least_bound(alloc, instance, branch)?)),
             Bounds::Lead => {
-                let bound = stamp_bound_of(alloc, instance, branch)?;
+                let bound = least_bound(alloc, instance, branch)?;
                 raised_by_leads(alloc, instance, branch, upper, bound)
             }
         }
     }
 }
 
-/// What leads raise an upper bound to, in ticks, where a box is left whose stamp bound is known: the
-/// ticks between the upper bound and that are halved until one is left.
+/// The bound of a box in a search that asks for stamp bounds, in ticks: its stamp bound, or in real
+/// time the plain one. The error is that memory ran out.
+fn least_bound(alloc: Global, instance: &Instance, branch: &Tracked) -> Result<u32, AllocError>
+    requires of_scenario { branch.now.scenario ≡ instance.now }
+    ensures { IfOk result (λ bound. bound ≡ least_bound instance.now branch.now.delay_box) }
+{
+    match instance.time() {
+        Time::Ticks => stamp_bound_of(alloc, instance, branch),
+        Time::Real => Ok(branch.bound()),
+    }
+}
+
+/// What leads raise an upper bound to, in ticks, where a box is left whose bound is known: the ticks
+/// between the upper bound and that are halved until one is left.
 fn raised_by_leads(
     alloc: Global,
     instance: &Instance,
@@ -113,7 +126,7 @@ fn raised_by_leads(
     bound: u32,
 ) -> Result<u32, AllocError>
     requires of_scenario { branch.now.scenario ≡ instance.now }
-    requires bound { bound ≡ stamp_bound instance.now branch.now.delay_box }
+    requires bound { bound ≡ least_bound instance.now branch.now.delay_box }
     ensures { IfOk result
         (λ raised. IsRaisedByLeads instance.now branch.now.delay_box upper raised) }
 {

@@ -3,7 +3,7 @@
 
 ghost use Rattle.convoy_branch.specs.Laws.{FrontsAppend, FrontsBetter, FrontsBound, FrontsFilled};
 ghost use Rattle.convoy_branch.specs.Laws.{OnlyLeadsHaveLeadLeaves, PlainFrontsHaveNoStamps};
-ghost use Rattle.convoy_branch.specs.Laws.{TurnsAreFronts, TurnsAreNodes};
+ghost use Rattle.convoy_branch.specs.Laws.{TicksSpendAll, TurnsAreFronts, TurnsAreNodes};
 ghost use Rattle.convoy_branch.specs.Laws.{UppersBegin, UppersRaised};
 ghost use Rattle.convoy_branch.specs.Laws.{WholeFrontsAreReadable, WholeFrontsAreTrees};
 
@@ -15,6 +15,11 @@ pub fn fronts_bound()
 {
     trees_cover();
 }
+
+/// In whole ticks a search that stops with boxes left has spent all its tickets.
+pub fn ticks_spend_all()
+    ensures { TicksSpendAll }
+{}
 
 /// Fronts over some boxes and then fronts over others are fronts over all of them.
 pub fn fronts_append()

@@ -8,8 +8,9 @@ pub use options::{
     DEFAULT_LIMIT, DEFAULT_SIMULATIONS, MOST_SIMULATIONS, MOST_TICKETS, Options, Ways,
 };
 pub use outcome::Outcome;
+pub use prospect::{Prospect, prospect_of};
 pub use search::{search_alone, search_alone_from};
-pub use step::{Step, Turn, step_branch};
+pub use step::{Fate, Step, Turn, step_branch};
 pub use ways::{PLAIN_TICKETS, lead_share, plain_share, search_both_ways};
 
 mod bounds;
@@ -17,6 +18,7 @@ mod gate;
 pub mod laws;
 mod options;
 mod outcome;
+mod prospect;
 mod search;
 mod step;
 mod ways;

@@ -12,9 +12,9 @@ pub enum Outcome {
         tickets: u64,
         by_worker: Vec<u64>,
     },
-    /// The tickets ended with boxes left. The greatest latency is that of `best` or more, and at
-    /// most `upper`, in ticks. As many tickets as may be were spent, `tickets` in all, and
-    /// `by_worker` has how many of them each worker drew, as above.
+    /// Boxes are left. The greatest latency is that of `best` or more, and at most `upper`, in ticks.
+    /// As many tickets as may be were spent, or in real time one of the boxes left is a point.
+    /// `tickets` were spent in all, and `by_worker` has how many of them each worker drew, as above.
     Open {
         best: Record,
         upper: u32,

@@ -1,5 +1,5 @@
 ghost use Rattle.std.specs.Prelude.{◌≡◌, ℕ, ◌+◌, ◌<◌, ◌≤◌, [], ◌∷◌, ◌++◌, length, map};
-ghost use Rattle.std.specs.Prelude.{IfOk, OnOk, unwrap_or};
+ghost use Rattle.std.specs.Prelude.{IfNone, IfOk, IfSome, OnOk, unwrap_or};
 ghost use Rattle.std.specs.List.{All};
 ghost use Rattle.convoy_scenario.specs.WellFormed.{IsScenario};
 ghost use Rattle.convoy_packets.specs.Assignment.{ranges_of};
@@ -8,31 +8,33 @@ ghost use Rattle.convoy_sim.specs.Delivery.{latency_of};
 ghost use Rattle.convoy_branch.specs.declared.bounds.Bounds.{Bounds};
 ghost use Rattle.convoy_branch.specs.Fronts.{left_in};
 ghost use Rattle.convoy_branch.specs.Outcomes.{IsOutcome, best_of};
-ghost use Rattle.convoy_branch.specs.Searching.{IsSearching, IsWork, front_of};
-ghost use Rattle.convoy_branch.specs.Searching.{work_after, nodes_after, IsRaisedOver};
+ghost use Rattle.convoy_branch.specs.Searching.{HasEndedAt, HasStayed, HasTurned, IsSearching, IsWork};
+ghost use Rattle.convoy_branch.specs.Searching.{IsRaisedOver, front_of, nodes_after, work_after};
 ghost use Rattle.convoy_branch.specs.Uppers.{IsUpperOf};
 
 use super::bounds::Bounds;
 use super::gate::{Gate, NoGate};
 use super::laws::{fronts_bound, uppers_begin, uppers_raised};
 use super::outcome::Outcome;
-use super::step::{Turn, step_branch};
+use super::step::{Fate, Turn, step_branch};
 use convoy_certificate::{Certificate, Node};
 use convoy_checker::laws::trees_cover;
 use convoy_intervals::Tracked;
 use convoy_intervals::laws::{halves_are_boxes, upper_keeps_greatest};
-use convoy_packets::{Delays, Instance};
+use convoy_packets::laws::fixed_order_is_order;
+use convoy_packets::{Instance, Schedule};
 use convoy_sim::Record;
 use std::alloc::{AllocError, Global};
 
 /// Searches for the greatest latency of a scenario with one worker, by branch and bound
 /// (docs/PROTOCOL.md). It starts from the record of the least delays, takes up the upper half of
-/// each split first, and spends a ticket for each box that it takes up, at most `limit` of them. Boxes
-/// are closed by those bounds: by plain ones no node of the certificate is a stamp leaf, and only by leads
-/// is one a lead leaf, which names the latency that was known where it closed its box.
+/// each split first, and spends a ticket for each box that it closes or splits, at most `limit` of them.
+/// Boxes are closed by those bounds: by plain ones no node of the certificate is a stamp leaf, and only
+/// by leads is one a lead leaf, which names the latency that was known where it closed its box.
 ///
-/// `Outcome::Open` is the answer only where a box is left when all tickets are spent. The error is
-/// that memory ran out.
+/// `Outcome::Open` is the answer only where a box is left when all tickets are spent, or in real time
+/// where one of the boxes left is a point: the search ends at a point that it does not close, since it
+/// can't close the root then. The error is that memory ran out.
 pub fn search_alone(
     alloc: Global,
     instance: &Instance,
@@ -41,8 +43,9 @@ pub fn search_alone(
 ) -> Result<Outcome, AllocError>
     ensures { IfOk result (λ outcome. IsOutcome bounds instance.now 1 limit outcome) }
 {
-    let delays = Delays::least(alloc, instance.table())?;
-    let opening = Record::of(instance, delays);
+    fixed_order_is_order();
+    let schedule = Schedule::least(alloc, instance.table())?;
+    let opening = Record::of(instance, schedule);
     search_alone_from(alloc, instance, opening, limit, bounds, &NoGate)
 }
 
@@ -69,7 +72,9 @@ pub fn search_alone_from<G: Gate>(
             Work::Write(node) => search.nodes.push(node)?,
             Work::Branch { branch, tried } if search.tickets < limit => {
                 gate.before_branch(0, search.tickets + 1);
-                search.take_up(alloc, instance, branch, tried, bounds)?;
+                if let Some(branch) = search.take_up(alloc, instance, branch, tried, bounds)? {
+                    return search.into_open(alloc, instance, branch, tried, bounds);
+                }
             }
             Work::Branch { branch, tried } => {
                 return search.into_open(alloc, instance, branch, tried, bounds);
@@ -98,7 +103,7 @@ struct Search {
     work: Vec<Work>,
     /// The nodes of the tree that are done, from the last one back.
     nodes: Vec<Node>,
-    /// How many boxes were taken up.
+    /// How many boxes were closed or split.
     tickets: u64,
 }
 
@@ -127,7 +132,7 @@ impl Search {
         })
     }
 
-    /// Spends a ticket for a box.
+    /// Spends a ticket for a box, or gives the box back if it stays.
     fn take_up(
         &mut self,
         alloc: Global,
@@ -135,17 +140,17 @@ impl Search {
         branch: Tracked,
         tried: bool,
         bounds: Bounds,
-    ) -> Result<(), AllocError>
+    ) -> Result<Option<Tracked>, AllocError>
         requires lawful { IsTable (table_of instance.now) }
         requires searching { IsSearching bounds instance.now self.old.best
             (self.old.work.items ++ Work.Branch branch tried ∷ []) self.old.nodes.items
             self.old.tickets }
         requires ticket { self.old.tickets < u64.MAX }
-        ensures searching { OnOk result (IsSearching bounds instance.now self.new.best
-            self.new.work.items self.new.nodes.items (self.old.tickets + 1)) }
+        ensures turned { IfOk result (λ left. IfNone left
+            (HasTurned bounds instance.now self.old self.new)) }
+        ensures stays { IfOk result (λ left. IfSome left
+            (HasStayed bounds instance.now self.old self.new tried)) }
         ensures best { OnOk result (self.old.best.latency ≤ self.new.best.latency) }
-        ensures ticket { OnOk result (self.new.tickets ≡ self.old.tickets + 1) }
-        ensures few { OnOk result (length self.new.work.items ≤ length self.old.work.items + 3) }
     {
         halves_are_boxes();
         upper_keeps_greatest();
@@ -154,10 +159,15 @@ impl Search {
             Ok(step) => step,
             Err((_, error)) => return Err(error),
         };
-        self.tickets += 1;
         self.note(step.found);
-        self.follow(step.turn)?;
-        Ok(())
+        match step.fate {
+            Fate::Turned(turn) => {
+                self.tickets += 1;
+                self.follow(turn)?;
+                Ok(None)
+            }
+            Fate::Stays(branch) => Ok(Some(branch)),
+        }
     }
 
     /// Keeps the record that a step has found.
@@ -216,15 +226,15 @@ impl Search {
         let mut nodes = self.nodes;
         nodes.reverse();
         let latency = self.best.latency();
-        let delays = self.best.delays().copy()?;
+        let schedule = self.best.schedule().copy()?;
         Ok(Outcome::Proved {
-            certificate: Certificate::new(instance.copy(alloc)?, latency, delays, nodes),
+            certificate: Certificate::new(instance.copy(alloc)?, latency, schedule, nodes),
             tickets: self.tickets,
             by_worker: Vec::from_slice(alloc, &[self.tickets])?,
         })
     }
 
-    /// The outcome of a search that has no ticket left for a box.
+    /// The outcome of a search that has no ticket left for a box, or for which the box stays.
     fn into_open(
         mut self,
         alloc: Global,
@@ -235,7 +245,8 @@ impl Search {
     ) -> Result<Outcome, AllocError>
         requires searching { IsSearching bounds instance.now self.best
             (self.work.items ++ Work.Branch branch tried ∷ []) self.nodes.items self.tickets }
-        ensures value { IfOk result (λ outcome. IsOutcome bounds instance.now 1 self.tickets outcome) }
+        ensures value { (limit : ℕ) → HasEndedAt instance.now self.tickets branch.delay_box limit
+            → IfOk result (λ outcome. IsOutcome bounds instance.now 1 limit outcome) }
         ensures best { IfOk result (λ outcome. best_of outcome ≡ self.best.latency) }
     {
         fronts_bound();

@@ -6,14 +6,16 @@ ghost use Rattle.convoy_sim.specs.Record.{attained_by};
 ghost use Rattle.convoy_intervals.specs.Boxes.{IsBox, IsPoint, greatest_of};
 ghost use Rattle.convoy_intervals.specs.Boxes.{CanSplit};
 ghost use Rattle.convoy_branch.specs.declared.bounds.Bounds.{Bounds};
-ghost use Rattle.convoy_branch.specs.Steps.{IsStep, IsTriedIf, IsTurn, StaysOpen};
+ghost use Rattle.convoy_branch.specs.Steps.{IsFate, IsStep, IsTriedIf, StaysOpen};
 ghost use Rattle.convoy_branch.specs.Looks.{IsLook};
 
 use super::bounds::Bounds;
 use convoy_certificate::Node;
 use convoy_intervals::laws::members_are_assignments;
 use convoy_intervals::{DelayBox, Tracked};
+use convoy_packets::laws::fixed_order_is_order;
 use convoy_packets::{Instance, PacketTable};
+use convoy_scenario::Time;
 use convoy_sim::Record;
 use convoy_stamps::laws::stamp_bound_at_most_plain;
 use std::alloc::{AllocError, Global};
@@ -24,10 +26,20 @@ pub struct Step {
     /// A record of a greater latency than was seen, if the greatest delays of the box have one.
     pub found: Option<Record>,
     /// What becomes of the box.
-    pub turn: Turn,
+    pub fate: Fate,
 }
 
 /// What becomes of a box that is taken up.
+#[derive(Drop)]
+pub enum Fate {
+    /// It is closed or split, for which a ticket is spent.
+    Turned(Turn),
+    /// It can't be: it has one delay for each packet, and in real time a run for each order of ties.
+    /// It stays left as it was, and no ticket is spent.
+    Stays(Tracked),
+}
+
+/// What becomes of a box for which a ticket is spent.
 #[derive(Drop)]
 pub enum Turn {
     /// No member has a greater latency than is known: the leaf that says why, never a split.
@@ -49,8 +61,9 @@ pub enum Turn {
 /// The box is closed for `seen` if a bound of it is at most that: the plain one, or else, where the
 /// search asks for it, the stamp bound; or else, where it goes by leads, if these close it. Else the
 /// schedule of its greatest delays is simulated, unless it was tried, and a latency above `seen` is
-/// found; then the box is closed for that, or where it has one member, and else is split
-/// (docs/PROTOCOL.md). Where memory runs out the box comes back as it was.
+/// found; then the box is closed for that, or in whole ticks where it has one member, and else is
+/// split; in real time a box of one delay for each packet stays (docs/PROTOCOL.md). Where memory runs
+/// out the box comes back as it was.
 pub fn step_branch(
     alloc: Global,
     instance: &Instance,
@@ -69,28 +82,28 @@ pub fn step_branch(
         Ok(look) => look,
         Err(error) => return Err((branch, error)),
     };
-    let turn = match look.leaf {
-        Some(leaf) => Turn::Closed(leaf),
-        None => open_turn(instance, branch)?,
+    let fate = match look.leaf {
+        Some(leaf) => Fate::Turned(Turn::Closed(leaf)),
+        None => open_fate(instance, branch)?,
     };
     Ok(Step {
         found: look.found,
-        turn,
+        fate,
     })
 }
 
 /// What a look at a box shows.
 #[derive(Drop)]
-struct Look {
+pub(crate) struct Look {
     /// A record of a greater latency than was seen.
-    found: Option<Record>,
+    pub found: Option<Record>,
     /// The leaf that closes the box for the latency that is known then.
-    leaf: Option<Node>,
+    pub leaf: Option<Node>,
 }
 
 /// Asks whether the box is closed for the latency seen, in ticks, then for that of its greatest
 /// delays, and then whether it is closed for that if it is greater.
-fn look_at(
+pub(crate) fn look_at(
     alloc: Global,
     instance: &Instance,
     branch: &Tracked,
@@ -131,36 +144,52 @@ fn try_greatest(
 ) -> Result<Option<Record>, AllocError>
     requires of_scenario { branch.now.scenario ≡ instance.now }
     requires known { IsTriedIf instance.now branch.now.delay_box tried seen }
-    ensures { let delays = greatest_of branch.now.delay_box in IfOk result (λ found. found
-        ≡ (if nat_le (latency_of instance.now delays) seen
-        then None else Some (attained_by instance.now delays))) }
+    ensures { let schedule = greatest_of branch.now.delay_box in IfOk result (λ found. found
+        ≡ (if nat_le (latency_of instance.now schedule) seen
+        then None else Some (attained_by instance.now schedule))) }
 {
     if tried || branch.greatest_latency(instance) <= seen {
         return Ok(None);
     }
+    fixed_order_is_order();
     members_are_assignments();
-    let delays = branch.delay_box().greatest(alloc)?;
-    Ok(Some(Record::of(instance, delays)))
+    let schedule = branch.delay_box().greatest(alloc)?;
+    Ok(Some(Record::of(instance, schedule)))
 }
 
-/// What becomes of a box that is not closed: a leaf where it has one member, and else its halves. Where memory runs out the box comes back as it was.
-fn open_turn(instance: &Instance, branch: Tracked) -> Result<Turn, (Tracked, AllocError)>
+/// What becomes of a box that no bound closes, nor leads: its halves, where it can be split. Where
+/// memory runs out the box comes back as it was.
+fn open_fate(instance: &Instance, branch: Tracked) -> Result<Fate, (Tracked, AllocError)>
     requires of_scenario { branch.scenario ≡ instance.now }
     ensures value { (bounds : Bounds) (known : ℕ) → StaysOpen bounds instance.now branch.delay_box known
-        → IfOk result (λ turn. IsTurn bounds instance.now branch.delay_box known turn) }
+        → IfOk result (λ fate. IsFate bounds instance.now branch.delay_box known fate) }
     ensures back { IfErr result (λ refused. refused.0 ≡ branch) }
 {
     match place_to_split(instance.table(), branch.delay_box()) {
-        None => Ok(Turn::Closed(Node::Point)),
+        None => Ok(point_fate(instance, branch)),
         Some((packet, at)) => {
             let (lower, upper) = branch.halves(instance, usize::from(packet), at)?;
-            Ok(Turn::Halves {
+            Ok(Fate::Turned(Turn::Halves {
                 packet,
                 at,
                 lower,
                 upper,
-            })
+            }))
         }
+    }
+}
+
+/// What becomes of such a box that can't be split: in whole ticks it has one member, which was tried,
+/// and is closed; in real time it stays.
+fn point_fate(instance: &Instance, branch: Tracked) -> Fate
+    requires of_scenario { branch.scenario ≡ instance.now }
+    requires point { IsPoint branch.delay_box }
+    ensures { (bounds : Bounds) (known : ℕ) → StaysOpen bounds instance.now branch.delay_box known
+        → IsFate bounds instance.now branch.delay_box known result }
+{
+    match instance.time() {
+        Time::Ticks => Fate::Turned(Turn::Closed(Node::Point)),
+        Time::Real => Fate::Stays(branch),
     }
 }
 

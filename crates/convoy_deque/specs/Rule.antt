@@ -1,8 +1,9 @@
 -- The rule of the deque, which holds between any two steps, and what each step tells.
-use Rattle.std.specs.Prelude.{◌≡◌, ℕ, ◌+◌, ◌-◌, ◌<◌, List, [], ◌∷◌, ◌++◌, Bool, true, false, length}
+use Rattle.std.specs.Prelude.{◌≡◌, ℕ, ◌+◌, ◌-◌, ◌<◌, List, [], ◌∷◌, ◌++◌, Bool, true, false, length, None}
 use Rattle.std.specs.List.{All, sum_by}
 use mathlib.Core.Option.{some}
 use lib.ListN.{get_elem?}
+use Rattle.convoy_scenario.specs.declared.time.Time.TheVariants.{Ticks}
 use Rattle.convoy_shares.specs.Shares.{once_below}
 use Rattle.convoy_scenario.specs.Scenario.{Scenario}
 use Rattle.convoy_intervals.specs.Boxes.{Box}
@@ -12,7 +13,7 @@ use Rattle.convoy_deque.specs.Tasks.{whole_share, tasks_at, AreAllTaken, IsOf, I
 
 -- no scenario, until the first branch is put
 abbrev pub no_scenario : Scenario
-no_scenario = record { delay = 0; groups = []; links = []; multicasts = []; target_message = 0; target_group = 0 }
+no_scenario = record { time = Ticks; tick = None; delay = 0; groups = []; links = []; multicasts = []; target_message = 0; target_group = 0 }
 
 -- the view of the owner of a new deque
 abbrev pub opener : View

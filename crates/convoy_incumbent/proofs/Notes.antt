@@ -35,12 +35,13 @@ best_append board ps qs (Some a) (Some b) r x y is =
     is
 
 -- the pair of a note is that of the word that it makes
-pub pair_of_word : (note : Where Record) (pair : Pair) (word : ℕ) → word ≡ pair.latency * places + pair.place → pair.latency ≡ note.value.latency → pair.place ≡ note.index → note.index < places → pair_in word ≡ pair_of note
-pair_of_word note pair word is latency place small =
-    let within : pair.place < 4294967296 = omega arith in
-    let first : word / 4294967296 ≡ note.value.latency = ap (λ k. k / 4294967296) is ∙ div-mul-add pair.latency 4294967296 pair.place within ∙ latency in
-    let second : word % 4294967296 ≡ note.index = ap (λ k. k % 4294967296) is ∙ mod-mul-add pair.latency 4294967296 pair.place within ∙ place in
-    λ i. record { latency = first i; place = second i }
+pub pair_of_word : (note : Where Record) (pair : Pair) (word : ℕ) → word ≡ pair.latency * places + pair.place → pair ≡ pair_of note → pair.place < places → pair_in word ≡ pair_of note
+pair_of_word note pair word is same small =
+    let within : pair.place < 4294967296 = small in
+    let first : word / 4294967296 ≡ pair.latency = ap (λ k. k / 4294967296) is ∙ div-mul-add pair.latency 4294967296 pair.place within in
+    let second : word % 4294967296 ≡ pair.place = ap (λ k. k % 4294967296) is ∙ mod-mul-add pair.latency 4294967296 pair.place within in
+    let own : pair_in word ≡ pair = λ i. record { latency = first i; place = second i } in
+    own ∙ same
 
 -- a note whose pair is put beside the others
 pub best_put : (board : BoardId) (ps : List Pair) (best : Option (Where Record)) (note : Where Record) (word : ℕ) (r : Option (Where Record)) → pair_in word ≡ pair_of note → IsBest board ps best → IsNoteOf board note → IsBetterOf best (Some note) r → IsBest board (ps ++ pair_in word ∷ []) r
@@ -70,4 +71,4 @@ least_is_told seen seen' found word top pairs pairs' note pair is same_seen same
     subst (λ n. (seen' ≤ latency_in n) × NoneAbove (latency_in n) (pairs' ++ pair_of note ∷ [])) (sym is) (subst (λ n. n ≤ latency_in (max found word)) same_seen le, shown)
 
 pub reached_by : (a : Record) (plan : Scenario) (n : ℕ) → IsAttained a → a.scenario ≡ plan → n ≡ a.latency → IsReached plan n
-reached_by a plan n right is same = (a.delays, subst (λ (p : Scenario). IsAssignment p a.delays) is right.assignment, ap (λ (p : Scenario). latency_of p a.delays) (sym is) ∙ sym right.latency ∙ sym same)
+reached_by a plan n right is same = (a.schedule, subst (λ (p : Scenario). IsAssignment p a.schedule) is right.assignment, ap (λ (p : Scenario). latency_of p a.schedule) (sym is) ∙ sym right.latency ∙ sym same)

@@ -1,5 +1,5 @@
 -- What contracts see of a board, of a hand and of a note.
-use Rattle.std.specs.Prelude.{◌≡◌, ℕ, ◌≤◌, ◌⊎◌, List, [], Option, Some, None}
+use Rattle.std.specs.Prelude.{◌≡◌, ℕ, ◌≤◌, ◌⊎◌, min, List, [], Option, Some, None}
 use Rattle.std.specs.List.{All, Contains}
 use Rattle.atomic_table.specs.Seated.{TableId}
 use Rattle.boxcar.specs.Table.{Shelves, Where, Shows}
@@ -29,13 +29,17 @@ pub record Holding : Type 0 where
 abbrev pub places : ℕ
 places = 4294967296
 
+-- the last place that a word can name
+abbrev pub last_place : ℕ
+last_place = 4294967295
+
 -- the note is of a record that lies in this board's table
 abbrev pub IsNoteOf : BoardId → Where Record → Type 0
 IsNoteOf board note = Shows board.records note × (note.value.scenario ≡ board.scenario)
 
--- the pair that a note puts
+-- the pair that a note puts: the place of its record, or the last one that a word can name where it is past that
 abbrev pub pair_of : Where Record → Pair
-pair_of note = record { latency = note.value.latency; place = note.index }
+pair_of note = record { latency = note.value.latency; place = min note.index last_place }
 
 -- no pair has a greater latency
 abbrev pub NoneAbove : ℕ → List Pair → Type 0

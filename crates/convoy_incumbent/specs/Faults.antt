@@ -1,17 +1,9 @@
 -- What comes back with a fault, and where it comes.
 use Rattle.std.specs.Prelude.{◌≡◌, ◌≢◌}
-use Rattle.convoy_sim.specs.Record.{Record}
 use Rattle.convoy_shares.specs.Shares.{whole}
 use Rattle.convoy_incumbent.specs.Boards.{BoardId, Holding}
-use Rattle.convoy_incumbent.specs.declared.fault.NoteFault.{NoteFault}
-use Rattle.convoy_incumbent.specs.declared.fault.NoteFault.TheVariants.{Memory as NoMemory, PlaceTooLarge}
 use Rattle.convoy_incumbent.specs.declared.fault.CloseFault.{CloseFault}
 use Rattle.convoy_incumbent.specs.declared.fault.CloseFault.TheVariants.{HandsOut, Memory}
-
--- where memory runs out, the record comes back
-abbrev pub GivesBack : Record → NoteFault → Type 0
-GivesBack attained (NoMemory back) = back ≡ attained
-GivesBack attained (PlaceTooLarge late) = Unit {0}
 
 -- board and hand come back; hands are out only where the hand has not the whole share
 abbrev pub GiveBack : BoardId → Holding → CloseFault → Type 0

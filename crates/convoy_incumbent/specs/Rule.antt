@@ -1,7 +1,8 @@
 -- The rule of the board's word, which holds between any two steps, and what each step tells. A word is a latency times 2^32, and a place.
-use Rattle.std.specs.Prelude.{◌≡◌, ℕ, ◌+◌, ◌-◌, ◌/◌, ◌%◌, ◌<◌, ◌≤◌, max, List, [], ◌∷◌, ◌++◌}
+use Rattle.std.specs.Prelude.{◌≡◌, ℕ, ◌+◌, ◌-◌, ◌/◌, ◌%◌, ◌<◌, ◌≤◌, max, List, [], ◌∷◌, ◌++◌, None}
 use Rattle.std.specs.List.{All, Any, Contains, sum_by}
 use Rattle.atomic_table.specs.Table.{State, Me, Step}
+use Rattle.convoy_scenario.specs.declared.time.Time.TheVariants.{Ticks}
 use Rattle.convoy_scenario.specs.Scenario.{Scenario}
 use Rattle.convoy_sim.specs.Greatest.{IsReached}
 use Rattle.convoy_shares.specs.Shares.{whole}
@@ -26,7 +27,7 @@ first_view store = record { store = store; seen = store.first.latency; pairs = s
 abbrev pub no_store : Store
 no_store = record {
   records = record { tag = []; buckets = [] };
-  scenario = record { marker = record {}; value = record { delay = 0; groups = []; links = []; multicasts = []; target_message = 0; target_group = 0 } };
+  scenario = record { marker = record {}; value = record { time = Ticks; tick = None; delay = 0; groups = []; links = []; multicasts = []; target_message = 0; target_group = 0 } };
   first = record { latency = 0; place = 0 };
 }
 

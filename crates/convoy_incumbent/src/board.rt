@@ -6,9 +6,9 @@ ghost use Rattle.convoy_sim.specs.Greatest.{IsReached};
 ghost use Rattle.convoy_sim.specs.Record.{IsAttained};
 ghost use Rattle.convoy_shares.specs.Shares.{whole};
 ghost use Rattle.convoy_incumbent.specs.Boards.{pair_of, IsGreatestOf, IsNoteOf, NoneAbove};
-ghost use Rattle.convoy_incumbent.specs.Faults.{GiveBack, GivesBack};
+ghost use Rattle.convoy_incumbent.specs.Faults.{GiveBack};
 
-use super::fault::{BoardFault, CloseFault, NoteFault};
+use super::fault::CloseFault;
 use super::noted::{Noted, PLACES, better_of};
 use super::rule::{Halve, KeepsGreatest, Look, Publish, Store, View, Weigh};
 use atomic_table::{Seat, Table};
@@ -74,13 +74,9 @@ impl Model for Hand {
 
 impl Board {
     /// A board with its first record, and its one hand, which has put that record's pair and has the
-    /// whole share, 4,294,967,296. The board is of the record's scenario. Where it fails, the record
-    /// comes back.
-    pub fn open<R: Wait>(
-        rt: &R,
-        alloc: Global,
-        first: Record,
-    ) -> Result<(Board, Hand), (Record, BoardFault)>
+    /// whole share, 4,294,967,296. The board is of the record's scenario. Where memory ran out the
+    /// record comes back.
+    pub fn open<R: Wait>(rt: &R, alloc: Global, first: Record) -> Result<(Board, Hand), Record>
         ensures board { IfOk result (λ opened. opened.0.scenario ≡ first.scenario) }
         ensures hand { IfOk result (λ opened. (place : ℕ) × (opened.1 ≡ record {
           board = opened.0;
@@ -88,24 +84,18 @@ impl Board {
           pairs = record { latency = first.latency; place = place } ∷ [];
           share = whole;
         })) }
-        ensures err { IfErr result (λ refused. refused.0 ≡ first) }
+        ensures err { IfErr result (λ back. back ≡ first) }
     {
         let Ok(spare) = first.copy() else {
-            return Err((first, BoardFault::Memory));
+            return Err(first);
         };
         let Ok(records) = boxcar::Vec::new(alloc) else {
-            return Err((first, BoardFault::Memory));
+            return Err(first);
         };
         let latency = first.latency();
         let scenario = first.scenario();
-        let pushed = match records.push_shown(rt, first) {
-            Ok(pushed) => pushed,
-            Err(first) => return Err((first, BoardFault::Memory)),
-        };
-        let noted = match Noted::of(pushed, latency) {
-            Ok(noted) => noted,
-            Err(late) => return Err((spare, BoardFault::PlaceTooLarge(late))),
-        };
+        let pushed = records.push_shown(rt, first)?;
+        let noted = Noted::of(pushed, latency);
         let first = noted.pair();
         let word = first.word();
         let store = Store {
@@ -114,7 +104,7 @@ impl Board {
             first,
         };
         let Ok((table, seat)) = Table::of_words(alloc, &[word], &store) else {
-            return Err((spare, BoardFault::Memory));
+            return Err(spare);
         };
         let hand = Hand {
             seat,
@@ -125,21 +115,15 @@ impl Board {
     }
 
     /// Puts a record of the board's scenario into the board's table, from where it can be published.
-    /// Where memory ran out the record comes back. Where its place is 4,294,967,296 or more, which
-    /// the board's word can't name, the record stays in the table, and its place comes back.
-    pub fn note<R: Wait>(&self, rt: &R, found: Record) -> Result<Noted, NoteFault>
+    /// Where memory ran out the record comes back.
+    pub fn note<R: Wait>(&self, rt: &R, found: Record) -> Result<Noted, Record>
         requires { found.scenario ≡ self.now.scenario }
         ensures noted { IfOk result (λ noted. IsNoteOf self.now noted × (noted.value ≡ found)) }
-        ensures err { IfErr result (λ fault. GivesBack found fault) }
+        ensures err { IfErr result (λ back. back ≡ found) }
     {
         let latency = found.latency();
-        match self.store.records.push_shown(rt, found) {
-            Ok(pushed) => match Noted::of(pushed, latency) {
-                Ok(noted) => Ok(noted),
-                Err(late) => Err(NoteFault::PlaceTooLarge(late)),
-            },
-            Err(found) => Err(NoteFault::Memory(found)),
-        }
+        let pushed = self.store.records.push_shown(rt, found)?;
+        Ok(Noted::of(pushed, latency))
     }
 
     /// The greatest latency that was published before, in ticks, by whichever hand.

@@ -4,8 +4,8 @@
 
 pub use board::{Board, Hand};
 pub use convoy_shares::ShareTooSmall;
-pub use fault::{BoardFault, CloseFault, NoteFault};
-pub use noted::{Late, Noted};
+pub use fault::CloseFault;
+pub use noted::Noted;
 
 mod board;
 mod fault;

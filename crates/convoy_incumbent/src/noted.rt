@@ -1,9 +1,9 @@
 //! Records that lie in a board's table.
 
-ghost use Rattle.std.specs.Prelude.{◌≡◌, ◌+◌, ◌*◌, ◌<◌, ◌≤◌, IfOk};
+ghost use Rattle.std.specs.Prelude.{◌≡◌, ◌+◌, ◌*◌, ◌<◌};
 ghost use Rattle.boxcar.specs.Table.{Shows};
 ghost use Rattle.convoy_sim.specs.Record.{IsAttained};
-ghost use Rattle.convoy_incumbent.specs.Boards.{IsBetterOf, places};
+ghost use Rattle.convoy_incumbent.specs.Boards.{IsBetterOf, pair_of, places};
 
 use super::rule::Pair;
 use boxcar::Pushed;
@@ -13,6 +13,9 @@ use std::marker::Model;
 
 /// The number of places that a word can name: a word is a latency times this, and a place.
 pub(crate) const PLACES: u64 = 4_294_967_296;
+
+/// The last place that a word can name. Records that lie past it go by this place too.
+const LAST_PLACE: u64 = 4_294_967_295;
 
 impl Pair {
     /// The word that the pair is.
@@ -32,42 +35,15 @@ pub struct Noted {
 }
 
 impl Model for Noted {
-    ghost use Rattle.std.specs.Prelude.{◌≡◌, ◌<◌};
+    ghost use Rattle.std.specs.Prelude.{◌≡◌};
     ghost use Rattle.boxcar.specs.Table.{Where};
     ghost use Rattle.convoy_sim.specs.Record.{Record, IsAttained};
-    ghost use Rattle.convoy_incumbent.specs.Boards.{places};
 
     ghost Value = { Where Record };
 
     ghost view = { λ n. n.pushed };
 
-    ghost invariant = { λ n. (n.latency ≡ n.pushed.value.latency)
-        × IsAttained n.pushed.value
-        × (n.pushed.index < places) };
-}
-
-/// A record that lies in a board's table past the last place that a word can name.
-#[derive(Drop)]
-pub struct Late {
-    pushed: Pushed<Record>,
-    ghost is_late: { places ≤ pushed.index },
-}
-
-impl Late {
-    /// The record's place in the table, which is at least 4,294,967,296.
-    pub fn place(&self) -> u64
-        ensures { places ≤ result }
-    {
-        self.pushed.index() as u64
-    }
-}
-
-impl fmt::Debug for Late {
-    fn fmt<W: fmt::Write>(&self, f: &mut fmt::Formatter<W>) -> fmt::Result {
-        f.debug_struct("Late")
-            .field("place", &self.place())
-            .finish_non_exhaustive()
-    }
+    ghost invariant = { λ n. (n.latency ≡ n.pushed.value.latency) × IsAttained n.pushed.value };
 }
 
 impl fmt::Debug for Noted {
@@ -79,28 +55,24 @@ impl fmt::Debug for Noted {
 }
 
 impl Noted {
-    /// The note of a record that was pushed, with its latency, or its token where the place is too
-    /// large.
-    pub(crate) fn of(pushed: Pushed<Record>, latency: u32) -> Result<Noted, Late>
+    /// The note of a record that was pushed, with its latency.
+    pub(crate) fn of(pushed: Pushed<Record>, latency: u32) -> Noted
         requires latency { latency ≡ pushed.value.latency }
         requires attained { IsAttained pushed.value }
-        ensures { IfOk result (λ noted. noted ≡ pushed) }
+        ensures { result ≡ pushed }
     {
-        if pushed.index() as u64 >= PLACES {
-            return Err(Late { pushed });
-        }
-        Ok(Noted { pushed, latency })
+        Noted { pushed, latency }
     }
 
     /// The pair that the note puts.
     pub(crate) fn pair(&self) -> Pair
-        ensures latency { result.latency ≡ self.now.value.latency }
-        ensures place { (result.place ≡ self.now.index) × (self.now.index < places) }
+        ensures pair { result ≡ pair_of self.now }
+        ensures place { result.place < places }
         ensures attained { IsAttained self.now.value }
     {
         Pair {
             latency: self.latency,
-            place: self.pushed.index() as u64,
+            place: (self.pushed.index() as u64).min(LAST_PLACE),
         }
     }
 

@@ -11,6 +11,7 @@ use Rattle.convoy_scenario.specs.Scenario.{Scenario}
 use Rattle.convoy_scenario.specs.WellFormed.{IsScenario}
 use Rattle.convoy_packets.specs.Assignment.{Schedule, IsAssignment, ranges_of}
 use Rattle.convoy_packets.specs.Table.{least_of}
+use Rattle.convoy_packets.specs.Order.{IsOrder}
 use Rattle.convoy_sim.specs.Delivery.{latency_of}
 use Rattle.convoy_sim.specs.Record.{Record, IsAttained, attained_by}
 use Rattle.convoy_intervals.specs.Boxes.{Box, CanSplit, IsBox, IsIn, root_of, lower_half, upper_half}
@@ -44,7 +45,7 @@ pub record IsWorker (latency : ℕ) (worker : Worker) : Type 0 where
 
 -- the schedule is in a branch that is left
 abbrev pub IsLeftWith : Schedule → Branch → Type 0
-IsLeftWith delays branch = IsTrue (is_left branch.state) × IsIn branch.delay_box delays
+IsLeftWith schedule branch = IsTrue (is_left branch.state) × IsIn branch.delay_box schedule
 
 -- how many branches are done
 abbrev pub done_in : List Branch → ℕ
@@ -57,7 +58,7 @@ pub record IsSound (plan : Scenario) (core : Core) : Type 0 where
   pub workers : length core.workers ≡ WORKERS
   pub each : All (IsWorker core.best.latency) core.workers
   pub boxes : All (λ branch. IsBox plan branch.delay_box) core.branches
-  pub covered : (delays : Schedule) → IsAssignment plan delays → (latency_of plan delays ≤ core.best.latency) ⊎ IsLeftIn delays core.branches
+  pub covered : (schedule : Schedule) → IsAssignment plan schedule → (latency_of plan schedule ≤ core.best.latency) ⊎ IsLeftIn schedule core.branches
   pub spent : done_in core.branches ≡ tickets_spent core
 
 -- how many tickets an event spends
@@ -175,9 +176,9 @@ boxes_after plan core (Close worker branch) halves allowed boxes =
     turned_are_boxes plan core.branches branch states.Closed (close_told plan core worker branch allowed).is_open.within boxes
 
 -- a schedule that is left stays left where its branch is given or taken
-left_turned : (delays : Schedule) (branches : List Branch) (number : ℕ) (state : BranchState) → number < length branches → is_left state ≡ true → IsLeftIn delays branches → IsLeftIn delays (turned branches number state)
-left_turned delays branches number state within left is =
-    let P = IsLeftWith delays in
+left_turned : (schedule : Schedule) (branches : List Branch) (number : ℕ) (state : BranchState) → number < length branches → is_left state ≡ true → IsLeftIn schedule branches → IsLeftIn schedule (turned branches number state)
+left_turned schedule branches number state within left is =
+    let P = IsLeftWith schedule in
     let next : Branch = record (branch_at branches number) { state = state } in
     elim (Any-set_cases P branches number next (record { delay_box = []; state = states.Closed }) is) [
       | inl here ↦ any-set P branches number next within (left, here.1)
@@ -185,18 +186,18 @@ left_turned delays branches number state within left is =
     ]
 
 -- where its branch is split, it is in one of the halves
-left_split : (delays : Schedule) (worker : ℕ) (branches : List Branch) (number packet at : ℕ) → HalvesPartition → CanSplit (branch_at branches number).delay_box packet at → IsLeftIn delays branches → IsLeftIn delays (branches_after branches (Split worker number packet at))
-left_split delays worker branches number packet at partition part is =
-    let P = IsLeftWith delays in
+left_split : (schedule : Schedule) (worker : ℕ) (branches : List Branch) (number packet at : ℕ) → HalvesPartition → CanSplit (branch_at branches number).delay_box packet at → IsLeftIn schedule branches → IsLeftIn schedule (branches_after branches (Split worker number packet at))
+left_split schedule worker branches number packet at partition part is =
+    let P = IsLeftWith schedule in
     let box = (branch_at branches number).delay_box in
     let next : Branch = record (branch_at branches number) { state = states.Split } in
     let first = turned branches number states.Split in
     let halves = halves_taken worker box packet at in
     let lower = taken worker (lower_half box packet at) in
     let upper = taken worker (upper_half box packet at) in
-    let parts = partition box packet at delays part in
+    let parts = partition box packet at schedule part in
     elim (Any-set_cases P branches number next (record { delay_box = []; state = states.Closed }) is) [
-      | inl here ↦ Any-append_right P first halves (elim (cases_lt at (slice_index_or delays packet 0)) [
+      | inl here ↦ Any-append_right P first halves (elim (cases_lt at (slice_index_or schedule.delays packet 0)) [
         | inl above ↦ (1, upper, omega arith, refl, (refl, parts.1.1 (here.1, above)))
         | inr within ↦ (0, lower, omega arith, refl, (refl, parts.0.1 (here.1, within)))
       ])
@@ -204,36 +205,36 @@ left_split delays worker branches number packet at partition part is =
     ]
 
 -- where its branch is closed, it is no slower than what the worker has seen
-left_closed : (plan : Scenario) (delays : Schedule) (branches : List Branch) (number best : ℕ) → (IsIn (branch_at branches number).delay_box delays → latency_of plan delays ≤ best) → IsLeftIn delays branches → (latency_of plan delays ≤ best) ⊎ IsLeftIn delays (turned branches number states.Closed)
-left_closed plan delays branches number best covers is =
-    let P = IsLeftWith delays in
+left_closed : (plan : Scenario) (schedule : Schedule) (branches : List Branch) (number best : ℕ) → (IsIn (branch_at branches number).delay_box schedule → latency_of plan schedule ≤ best) → IsLeftIn schedule branches → (latency_of plan schedule ≤ best) ⊎ IsLeftIn schedule (turned branches number states.Closed)
+left_closed plan schedule branches number best covers is =
+    let P = IsLeftWith schedule in
     let next : Branch = record (branch_at branches number) { state = states.Closed } in
     elim (Any-set_cases P branches number next (record { delay_box = []; state = states.Closed }) is) [
       | inl here ↦ inl (covers here.1)
       | inr rest ↦ inr rest
     ]
 
-covered_after : (plan : Scenario) (core : Core) (event : Event) (delays : Schedule) → Grounds → IsScenario plan → IsSound plan core → allows plan core event ≡ true → worker_of event < WORKERS → core.best.latency ≤ (best_after core.best event).latency → IsLeftIn delays core.branches → (latency_of plan delays ≤ (best_after core.best event).latency) ⊎ IsLeftIn delays (branches_after core.branches event)
-covered_after plan core (Look worker) delays grounds lawful sound allowed known above is = inr is
-covered_after plan core (Publish worker found) delays grounds lawful sound allowed known above is = inr is
-covered_after plan core (Draw worker) delays grounds lawful sound allowed known above is = inr is
-covered_after plan core (Put worker branch) delays grounds lawful sound allowed known above is =
+covered_after : (plan : Scenario) (core : Core) (event : Event) (schedule : Schedule) → Grounds → IsScenario plan → IsOrder plan schedule.order → IsSound plan core → allows plan core event ≡ true → worker_of event < WORKERS → core.best.latency ≤ (best_after core.best event).latency → IsLeftIn schedule core.branches → (latency_of plan schedule ≤ (best_after core.best event).latency) ⊎ IsLeftIn schedule (branches_after core.branches event)
+covered_after plan core (Look worker) schedule grounds lawful order sound allowed known above is = inr is
+covered_after plan core (Publish worker found) schedule grounds lawful order sound allowed known above is = inr is
+covered_after plan core (Draw worker) schedule grounds lawful order sound allowed known above is = inr is
+covered_after plan core (Put worker branch) schedule grounds lawful order sound allowed known above is =
     let told = held_is_open worker core.branches branch allowed in
-    inr (left_turned delays core.branches branch states.Free told.within refl is)
-covered_after plan core (Take worker branch) delays grounds lawful sound allowed known above is =
+    inr (left_turned schedule core.branches branch states.Free told.within refl is)
+covered_after plan core (Take worker branch) schedule grounds lawful order sound allowed known above is =
     let told = free_is_open core.branches branch allowed in
-    inr (left_turned delays core.branches branch (states.Taken worker) told.within refl is)
-covered_after plan core (Split worker branch packet at) delays grounds lawful sound allowed known above is =
+    inr (left_turned schedule core.branches branch (states.Taken worker) told.within refl is)
+covered_after plan core (Split worker branch packet at) schedule grounds lawful order sound allowed known above is =
     let told = split_told plan core worker branch packet at allowed in
-    inr (left_split delays worker core.branches branch packet at grounds.part told.part is)
-covered_after plan core (Close worker branch) delays grounds lawful sound allowed known above is =
+    inr (left_split schedule worker core.branches branch packet at grounds.part told.part is)
+covered_after plan core (Close worker branch) schedule grounds lawful order sound allowed known above is =
     let told = close_told plan core worker branch allowed in
     let doer = worker_at core.workers worker in
     let box = (branch_at core.branches branch).delay_box in
     let Boxed : Branch → Type 0 = λ b. IsBox plan b.delay_box in
     let inside : IsBox plan box = All-get_or Boxed core.branches branch (record { delay_box = []; state = states.Closed }) told.is_open.within sound.boxes in
     let seen : IsWorker core.best.latency doer = All-get_or (IsWorker core.best.latency) core.workers worker (record { seen = 0; drawn = 0; spent = 0 }) (omega (arith, known, sound.workers)) sound.each in
-    left_closed plan delays core.branches branch core.best.latency (λ member. omega (arith, seen.seen, closed_covers plan doer.seen box delays grounds.bound grounds.point lawful inside told.closed member)) is
+    left_closed plan schedule core.branches branch core.best.latency (λ member. omega (arith, seen.seen, closed_covers plan doer.seen box schedule grounds.bound grounds.point lawful inside told.closed member order)) is
 
 -- ---- The whole state
 
@@ -249,7 +250,7 @@ IsSound-start plan grounds lawful attained =
       workers = length-replicate WORKERS worker;
       each = All-replicate (IsWorker best.latency) WORKERS worker (record { seen = omega arith; spent = omega arith });
       boxes = All-cons Boxed root [] (grounds.root plan lawful) (All-nil Boxed);
-      covered = λ delays is. inr (0, root, omega arith, refl, (refl, (grounds.all plan delays).0 is));
+      covered = λ schedule is. inr (0, root, omega arith, refl, (refl, ((grounds.all plan schedule).0 is).0));
       spent = refl;
     }
 
@@ -271,9 +272,9 @@ IsSound-after plan core event grounds lawful of_event is_found known allowed sou
       workers = length-set core.workers (worker_of event) next ∙ sound.workers;
       each = All-set (IsWorker best.latency) core.workers (worker_of event) next (worker_is_kept plan core best.latency event allowed above here) others;
       boxes = boxes_after plan core event grounds.halves allowed sound.boxes;
-      covered = λ delays is. elim (sound.covered delays is) [
+      covered = λ schedule is. elim (sound.covered schedule is) [
         | inl low ↦ inl (omega (arith, low))
-        | inr left ↦ covered_after plan core event delays grounds lawful sound allowed known above left
+        | inr left ↦ covered_after plan core event schedule grounds lawful is.order sound allowed known above left
       ];
       spent = omega (arith, done-branches_after plan core event allowed, sound.spent, spent_by best.latency before event, sum_by-set weight core.workers (worker_of event) next no_worker within);
     }

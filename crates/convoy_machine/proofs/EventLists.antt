@@ -8,7 +8,7 @@ use Rattle.std.proofs.lemmas.List.Elements.{All-get_or, All-head, All-replicate,
 use Rattle.std.proofs.lemmas.List.Sums.{get_or-le-sum_by, sum_by-cons, sum_by_more}
 use Rattle.convoy_scenario.specs.Scenario.{Scenario}
 use Rattle.convoy_scenario.specs.WellFormed.{IsScenario}
-use Rattle.convoy_packets.specs.Assignment.{IsAssignment}
+use Rattle.convoy_packets.specs.Assignment.{IsAssignment, Schedule}
 use Rattle.convoy_sim.specs.Delivery.{latency_of}
 use Rattle.convoy_sim.specs.Greatest.{IsGreatest}
 use Rattle.convoy_sim.specs.Record.{IsAttained}
@@ -116,8 +116,8 @@ spent-le-drawn latency (worker ∷ workers) each =
     omega (arith, first.spent, rest, sum_by-cons (λ (w : Worker). w.spent) worker workers, sum_by-cons (λ (w : Worker). w.drawn) worker workers)
 
 -- a branch that is left counts
-left_counts : (delays : List ℕ) (branches : List Branch) → IsLeftIn delays branches → count_by (λ branch. is_left branch.state) branches ≡ 0 → ⊥
-left_counts delays branches is none =
+left_counts : (schedule : Schedule) (branches : List Branch) → IsLeftIn schedule branches → count_by (λ branch. is_left branch.state) branches ≡ 0 → ⊥
+left_counts schedule branches is none =
     let weight : Branch → ℕ = λ branch. flag (is_left branch.state) in
     let at : weight (get_or branches is.0 is.1) ≡ 1 = ap weight is.3 ∙ ap flag is.4.0 in
     omega (arith, at, none, get_or-le-sum_by weight branches is.0 is.1 is.2)
@@ -130,10 +130,10 @@ IsReplayed-end plan events place core past reached =
       attained = sound.attained;
       covered = sound.covered;
       greatest = λ none. record {
-        reached = subst (λ (scenario : Scenario). (delays : List ℕ) × IsAssignment scenario delays × (latency_of scenario delays ≡ core.best.latency)) sound.of_scenario (core.best.delays, sound.attained.assignment, sym sound.attained.latency);
-        upper = λ delays is. elim (sound.covered delays is) [
+        reached = subst (λ (scenario : Scenario). (schedule : Schedule) × IsAssignment scenario schedule × (latency_of scenario schedule ≡ core.best.latency)) sound.of_scenario (core.best.schedule, sound.attained.assignment, sym sound.attained.latency);
+        upper = λ schedule is. elim (sound.covered schedule is) [
           | inl low ↦ low
-          | inr left ↦ absurd (left_counts delays core.branches left none)
+          | inr left ↦ absurd (left_counts schedule core.branches left none)
         ];
       };
       once = λ branch. subst (λ (es : List Event). count_by (ends branch) es ≡ flag (stands is_done core.branches branch)) (take_all place events past) (reached.once branch);

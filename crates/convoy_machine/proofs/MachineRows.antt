@@ -1,13 +1,16 @@
 -- Worked rows of the machine, computed from the definitions alone: of the base scenario.
-use Rattle.std.proofs.Common.{◌≡◌, ℕ, List, [], ◌∷◌, replicate, refl, codes}
+use Rattle.std.proofs.Common.{◌≡◌, ℕ, List, [], ◌∷◌, replicate, refl, codes, None}
 use Rattle.std.specs.Prelude.{Result, Ok, Err}
 use Rattle.convoy_scenario.specs.declared.sender.Sender.{Sender}
 use Rattle.convoy_scenario.specs.declared.sender.Sender.TheVariants.{Client, Group}
 use Rattle.convoy_scenario.specs.Scenario.{Message, Scenario}
+use Rattle.convoy_scenario.specs.declared.time.Time.{Time}
+use Rattle.convoy_scenario.specs.declared.time.Time.TheVariants.{Ticks, Real}
+use Rattle.convoy_packets.specs.Order.{no_order}
 use Rattle.convoy_packets.specs.Packets.{packets_of}
-use Rattle.convoy_packets.specs.Assignment.{delay_of, ranges_of}
+use Rattle.convoy_packets.specs.Assignment.{delay_of, in_fixed_order, ranges_of}
 use Rattle.convoy_sim.specs.Times.{arrive, settle}
-use Rattle.convoy_sim.specs.Moments.{moments_of}
+use Rattle.convoy_sim.specs.Moments.{arrival_rank, commit_rank, moments_of}
 use Rattle.convoy_sim.specs.Stamps.{clocks_of, local_stamp, final_stamp}
 use Rattle.convoy_sim.specs.Delivery.{holds_back, deliver, latency_at, latency_of}
 use Rattle.convoy_sim.specs.Record.{Record, attained_by}
@@ -23,8 +26,10 @@ message : List ℕ → Sender → List ℕ → Message
 message name sender destinations =
     record { name = name; sender = sender; destinations = destinations; at = 0 }
 
-base : Scenario
-base = record {
+base_in : Time → Scenario
+base_in time = record {
+  time = time;
+  tick = None;
   delay = 3;
   groups = codes "a" ∷ codes "b" ∷ [];
   links = [];
@@ -34,9 +39,12 @@ base = record {
   target_group = 0;
 }
 
+base : Scenario
+base = base_in Ticks
+
 -- the record of eight delays 3, whose latency is 12
 threes : Record
-threes = attained_by base (replicate 8 3)
+threes = attained_by base (in_fixed_order (replicate 8 3))
 
 -- the best latency, how many branches are left, and the tickets that workers 0 and 1 have spent
 told : Result Core ReplayFault → Result (List ℕ) ReplayFault
@@ -45,42 +53,65 @@ told (Ok core) =
 told (Err fault) = Err fault
 
 closed_by_what_was_published : told (replayed base (Draw 0 ∷ Publish 0 threes ∷ Close 0 0 ∷ [])) ≡ Ok (12 ∷ 0 ∷ 1 ∷ 0 ∷ [])
-unfolding told threes base message packets_of ranges_of delay_of arrive settle moments_of clocks_of local_stamp final_stamp holds_back deliver latency_at latency_of plain_bound replayed
+unfolding told threes base base_in message packets_of ranges_of delay_of arrive settle arrival_rank commit_rank no_order moments_of clocks_of local_stamp final_stamp holds_back deliver latency_at latency_of plain_bound replayed
 closed_by_what_was_published = refl
 
 closed_too_soon : told (replayed base (Draw 0 ∷ Close 0 0 ∷ [])) ≡ Err (Unlawful 1)
-unfolding told threes base message packets_of ranges_of delay_of arrive settle moments_of clocks_of local_stamp final_stamp holds_back deliver latency_at latency_of plain_bound replayed
+unfolding told threes base base_in message packets_of ranges_of delay_of arrive settle arrival_rank commit_rank no_order moments_of clocks_of local_stamp final_stamp holds_back deliver latency_at latency_of plain_bound replayed
 closed_too_soon = refl
 
 closed_without_ticket : told (replayed base (Publish 0 threes ∷ Close 0 0 ∷ [])) ≡ Err (Unlawful 1)
-unfolding told threes base message packets_of ranges_of delay_of arrive settle moments_of clocks_of local_stamp final_stamp holds_back deliver latency_at latency_of plain_bound replayed
+unfolding told threes base base_in message packets_of ranges_of delay_of arrive settle arrival_rank commit_rank no_order moments_of clocks_of local_stamp final_stamp holds_back deliver latency_at latency_of plain_bound replayed
 closed_without_ticket = refl
 
 closed_unseen : told (replayed base (Publish 1 threes ∷ Draw 0 ∷ Close 0 0 ∷ [])) ≡ Err (Unlawful 2)
-unfolding told threes base message packets_of ranges_of delay_of arrive settle moments_of clocks_of local_stamp final_stamp holds_back deliver latency_at latency_of plain_bound replayed
+unfolding told threes base base_in message packets_of ranges_of delay_of arrive settle arrival_rank commit_rank no_order moments_of clocks_of local_stamp final_stamp holds_back deliver latency_at latency_of plain_bound replayed
 closed_unseen = refl
 
 closed_once_seen : told (replayed base (Publish 1 threes ∷ Look 0 ∷ Draw 0 ∷ Close 0 0 ∷ [])) ≡ Ok (12 ∷ 0 ∷ 1 ∷ 0 ∷ [])
-unfolding told threes base message packets_of ranges_of delay_of arrive settle moments_of clocks_of local_stamp final_stamp holds_back deliver latency_at latency_of plain_bound replayed
+unfolding told threes base base_in message packets_of ranges_of delay_of arrive settle arrival_rank commit_rank no_order moments_of clocks_of local_stamp final_stamp holds_back deliver latency_at latency_of plain_bound replayed
 closed_once_seen = refl
 
 shared : told (replayed base (Draw 0 ∷ Split 0 0 4 1 ∷ Put 0 1 ∷ Take 1 1 ∷ Publish 0 threes ∷ Look 1 ∷ Draw 1 ∷ Close 1 1 ∷ Draw 0 ∷ Close 0 2 ∷ [])) ≡ Ok (12 ∷ 0 ∷ 2 ∷ 1 ∷ [])
-unfolding told threes base message packets_of ranges_of delay_of arrive settle moments_of clocks_of local_stamp final_stamp holds_back deliver latency_at latency_of plain_bound replayed
+unfolding told threes base base_in message packets_of ranges_of delay_of arrive settle arrival_rank commit_rank no_order moments_of clocks_of local_stamp final_stamp holds_back deliver latency_at latency_of plain_bound replayed
 shared = refl
 
 shared_unseen : told (replayed base (Draw 0 ∷ Split 0 0 4 1 ∷ Put 0 1 ∷ Take 1 1 ∷ Publish 0 threes ∷ Draw 1 ∷ Close 1 1 ∷ Draw 0 ∷ Close 0 2 ∷ [])) ≡ Err (Unlawful 6)
-unfolding told threes base message packets_of ranges_of delay_of arrive settle moments_of clocks_of local_stamp final_stamp holds_back deliver latency_at latency_of plain_bound replayed
+unfolding told threes base base_in message packets_of ranges_of delay_of arrive settle arrival_rank commit_rank no_order moments_of clocks_of local_stamp final_stamp holds_back deliver latency_at latency_of plain_bound replayed
 shared_unseen = refl
 
 -- a worker past the last one, a branch that is not there, and a branch that was closed
 no_such_worker : told (replayed base (Draw 15 ∷ Draw 16 ∷ [])) ≡ Err (Unlawful 1)
-unfolding told threes base message packets_of ranges_of delay_of arrive settle moments_of clocks_of local_stamp final_stamp holds_back deliver latency_at latency_of plain_bound replayed
+unfolding told threes base base_in message packets_of ranges_of delay_of arrive settle arrival_rank commit_rank no_order moments_of clocks_of local_stamp final_stamp holds_back deliver latency_at latency_of plain_bound replayed
 no_such_worker = refl
 
 no_such_branch : told (replayed base (Draw 0 ∷ Put 0 1 ∷ [])) ≡ Err (Unlawful 1)
-unfolding told threes base message packets_of ranges_of delay_of arrive settle moments_of clocks_of local_stamp final_stamp holds_back deliver latency_at latency_of plain_bound replayed
+unfolding told threes base base_in message packets_of ranges_of delay_of arrive settle arrival_rank commit_rank no_order moments_of clocks_of local_stamp final_stamp holds_back deliver latency_at latency_of plain_bound replayed
 no_such_branch = refl
 
 closed_twice : told (replayed base (Draw 0 ∷ Draw 0 ∷ Publish 0 threes ∷ Close 0 0 ∷ Close 0 0 ∷ [])) ≡ Err (Unlawful 4)
-unfolding told threes base message packets_of ranges_of delay_of arrive settle moments_of clocks_of local_stamp final_stamp holds_back deliver latency_at latency_of plain_bound replayed
+unfolding told threes base base_in message packets_of ranges_of delay_of arrive settle arrival_rank commit_rank no_order moments_of clocks_of local_stamp final_stamp holds_back deliver latency_at latency_of plain_bound replayed
 closed_twice = refl
+
+-- Both messages go from clients to both groups, and each packet takes one tick: so the root is a point. The second comes as the first, the target, is committed: the bound is 3 ticks, and the latency 2.
+met_in : Time → Scenario
+met_in time = record {
+  time = time;
+  tick = None;
+  delay = 1;
+  groups = codes "a" ∷ codes "b" ∷ [];
+  links = [];
+  multicasts = message (codes "t") Client (0 ∷ 1 ∷ [])
+      ∷ record { name = codes "n"; sender = Client; destinations = 0 ∷ 1 ∷ []; at = 1 } ∷ [];
+  target_message = 0;
+  target_group = 0;
+}
+
+closed_as_point : told (replayed (met_in Ticks) (Draw 0 ∷ Close 0 0 ∷ [])) ≡ Ok (2 ∷ 0 ∷ 1 ∷ 0 ∷ [])
+unfolding told met_in message packets_of ranges_of delay_of arrive settle arrival_rank commit_rank no_order moments_of clocks_of local_stamp final_stamp holds_back deliver latency_at latency_of plain_bound replayed
+closed_as_point = refl
+
+-- in real time the point has more runs than one
+not_closed_as_point : told (replayed (met_in Real) (Draw 0 ∷ Close 0 0 ∷ [])) ≡ Err (Unlawful 1)
+unfolding told met_in message packets_of ranges_of delay_of arrive settle arrival_rank commit_rank no_order moments_of clocks_of local_stamp final_stamp holds_back deliver latency_at latency_of plain_bound replayed
+not_closed_as_point = refl

@@ -2,6 +2,8 @@
 use Rattle.std.specs.Prelude.{ℕ, ◌+◌, ◌<◌, ◌==◌, nat_le, nat_lt, Bool, true, false, ◌&&◌, ◌||◌, if◌then◌else◌, List, [], ◌∷◌, ◌++◌, length, replicate, slice_get, slice_index_or, slice_set, Result, Ok, Err}
 use Rattle.std.specs.Option.{option_map_or}
 use Rattle.convoy_scenario.specs.Scenario.{Scenario}
+use Rattle.convoy_scenario.specs.declared.time.Time.{Time}
+use Rattle.convoy_scenario.specs.declared.time.Time.TheVariants.{Ticks, Real}
 use Rattle.convoy_packets.specs.Assignment.{ranges_of}
 use Rattle.convoy_packets.specs.Table.{least_of}
 use Rattle.convoy_sim.specs.Delivery.{latency_of}
@@ -79,11 +81,16 @@ stands test branches number = option_map_or (λ branch. test branch.state) (slic
 abbrev pub has_ticket : Worker → Bool
 has_ticket worker = nat_lt worker.spent worker.drawn
 
--- whether the bound of the box, or the latency of its only member, is at most that latency
+-- whether time goes in whole ticks
+abbrev pub in_ticks : Time → Bool
+in_ticks Ticks = true
+in_ticks Real = false
+
+-- whether the bound of the box, or in whole ticks the latency of its only member, is at most that latency
 abbrev pub closes : Scenario → ℕ → Box → Bool
 closes scenario latency box =
     nat_le (plain_bound scenario box) latency
-    || (is_point box && nat_le (latency_of scenario (greatest_of box)) latency)
+    || (in_ticks scenario.time && is_point box && nat_le (latency_of scenario (greatest_of box)) latency)
 
 -- whether the state allows the event, where there is a worker of its number
 abbrev pub allows : Scenario → Core → Event → Bool

@@ -31,7 +31,7 @@ left_of core = count_by (λ branch. is_left branch.state) core.branches
 
 -- the schedule is a member of a branch that is left
 abbrev pub IsLeftIn : Schedule → List Branch → Type 0
-IsLeftIn delays branches = Any (λ branch. IsTrue (is_left branch.state) × IsIn branch.delay_box delays) branches
+IsLeftIn schedule branches = Any (λ branch. IsTrue (is_left branch.state) × IsIn branch.delay_box schedule) branches
 
 -- whether a branch was split or closed
 abbrev pub is_done : BranchState → Bool
@@ -56,7 +56,7 @@ pub record IsReplayed (scenario : Scenario) (events : List Event) (core : Core) 
   pub of_scenario : core.best.scenario ≡ scenario
   pub attained : IsAttained core.best
   -- no assignment is lost: it is in a branch that is left, or is no slower than the best record
-  pub covered : (delays : Schedule) → IsAssignment scenario delays → (latency_of scenario delays ≤ core.best.latency) ⊎ IsLeftIn delays core.branches
+  pub covered : (schedule : Schedule) → IsAssignment scenario schedule → (latency_of scenario schedule ≤ core.best.latency) ⊎ IsLeftIn schedule core.branches
   -- where no branch is left, the best latency is the greatest
   pub greatest : left_of core ≡ 0 → IsGreatest scenario core.best.latency
   -- each branch was split or closed once at most, and at the end of its search

@@ -8,7 +8,7 @@ ghost use Rattle.convoy_scenario.specs.Scenario.{Scenario};
 ghost use Rattle.convoy_sim.specs.Record.{IsAttained};
 ghost use Rattle.convoy_intervals.specs.Boxes.{CanSplit, IsBox, lower_half, upper_half};
 ghost use Rattle.convoy_machine.specs.Machine.{after, allows, best_after, branch_at, branches_after};
-ghost use Rattle.convoy_machine.specs.Machine.{closes, is_free, is_lawful, taken, HasBranch};
+ghost use Rattle.convoy_machine.specs.Machine.{closes, in_ticks, is_free, is_lawful, taken, HasBranch};
 ghost use Rattle.convoy_machine.specs.Machine.{is_with, stands, start, worker_after, worker_at};
 ghost use Rattle.convoy_machine.specs.Machine.{worker_of};
 ghost use Rattle.convoy_machine.specs.Replays.{IsFound, left_of};
@@ -16,8 +16,9 @@ ghost use Rattle.convoy_machine.specs.Replays.{IsFound, left_of};
 use super::event::Event;
 use super::parts::{Branch, BranchState, WORKERS, Worker};
 use convoy_intervals::{DelayBox, bound};
-use convoy_packets::{Delays, Instance};
-use convoy_scenario::Scenario;
+use convoy_packets::laws::least_is_assignment;
+use convoy_packets::{Instance, Schedule};
+use convoy_scenario::{Scenario, Time};
 use convoy_sim::Record;
 use std::alloc::{AllocError, Global};
 use std::marker::Model;
@@ -90,7 +91,9 @@ impl Core {
         ensures value { IfOk result (λ core. core ≡ start instance.now) }
         ensures attained { IfOk result (λ core. IsAttained core.best) }
     {
-        let best = Record::of(instance, Delays::least(alloc, instance.table())?);
+        least_is_assignment();
+        let _delay = instance.delay();
+        let best = Record::of(instance, Schedule::least(alloc, instance.table())?);
         let worker = Worker {
             seen: best.latency(),
             drawn: 0,
@@ -256,12 +259,21 @@ fn halves_of(delay_box: &DelayBox, packet: u16, at: u16) -> Result<(DelayBox, De
     }
 }
 
-/// Whether the bound of the box, or the latency of its only member, is at most that latency, in
-/// ticks.
+/// Whether the bound of the box, or in whole ticks the latency of its only member, is at most that
+/// latency, in ticks.
 fn closes(instance: &Instance, latency: u32, delay_box: &DelayBox) -> bool
     requires inside { IsBox instance.now delay_box.now }
     ensures { result ≡ closes instance.now latency delay_box.now }
 {
     bound(instance, delay_box) <= latency
-        || delay_box.is_point() && delay_box.greatest_latency(instance) <= latency
+        || in_ticks(instance)
+            && delay_box.is_point()
+            && delay_box.greatest_latency(instance) <= latency
+}
+
+/// Whether time goes in whole ticks.
+fn in_ticks(instance: &Instance) -> bool
+    ensures { result ≡ in_ticks instance.now.time }
+{
+    matches!(instance.time(), Time::Ticks)
 }

@@ -1,7 +1,8 @@
 -- The end of a search: what the owner has once all trees are one, and once board and ledger are closed.
 use Rattle.std.specs.Prelude.{◌≡◌, ℕ, ◌+◌, ◌-◌, ◌≤◌, List, [], ◌∷◌, length}
-use Rattle.std.specs.List.{sum}
+use Rattle.std.specs.List.{All, sum}
 use Rattle.std.proofs.Common.{arith, refl, ap, sym, subst, ◌∙◌, inl, inr}
+use Rattle.std.proofs.lemmas.List.Elements.{All-nil}
 use Rattle.convoy_sim.specs.Record.{IsAttained}
 use Rattle.convoy_intervals.specs.Boxes.{Box}
 use Rattle.convoy_incumbent.specs.Boards.{BoardId, Holding}
@@ -9,6 +10,7 @@ use Rattle.convoy_shares.specs.Shares.{whole}
 use Rattle.convoy_ledger.specs.Tickets.{LedgerId, Account, HasAll}
 use Rattle.convoy_branch.specs.Fronts.{left_in}
 use Rattle.convoy_branch.specs.Laws.{FrontsBetter}
+use Rattle.convoy_branch.specs.Steps.{IsRealPoint}
 use Rattle.convoy_deque.specs.Tasks.{AreAllTaken, DequeId}
 use Rattle.convoy_share.specs.declared.ending.Ended.{Ended}
 use Rattle.convoy_share.specs.declared.means.Means.{Means}
@@ -33,7 +35,7 @@ can_fill shared before worker count is all count_is =
 
 pub IsFinishing-start : (shared : Common) (put : List Box) (means : Means) (done rest : List Piece) (slots : List (List Piece)) → done ≡ [] → IsFilling shared.bounds shared.scenario means.hand.seen (drawn means) put done rest slots → IsFinishing shared put means done rest slots
 IsFinishing-start shared put means done rest slots none filling =
-    record { filling = filling; left = inl (ap (λ (ps : List Piece). left_in (front put ps)) none) }
+    record { filling = filling; left = inl (subst (λ (ps : List Piece). All (IsRealPoint shared.scenario) (left_in (front put ps))) (sym none) (All-nil (IsRealPoint shared.scenario))) }
 
 -- all places are filled, and what was left is searched as far as there are tickets
 pub IsEnded-finished : (shared : Common) (before worker : OwnerWorker) (after : Means) (done : List Piece) (slots : List (List Piece)) (ended : Ended) → StaysOwner shared before worker → IsLater worker.means after → drawn worker.means ≤ drawn after → IsFinishing shared worker.end.put after done [] slots → ended.hand ≡ after.hand → ended.clerk ≡ after.clerk → ended.pieces.items ≡ done → ended.drawn_by_thieves.items ≡ worker.drawn_by_thieves.items → IsEnded shared before.means.hand.share before.means.clerk.share (length before.drawn_by_thieves.items) before.means.hand.seen ended
@@ -56,7 +58,7 @@ IsEnded-finished shared before worker after done slots ended is later more finis
         filling = subst (λ (ps : List Piece). IsFilling shared.bounds shared.scenario ended.hand.seen (length ended.clerk.tickets) worker.end.put ps [] slots) (sym pieces) at_tickets;
       };
       left = elim finished.left [
-        | inl none ↦ inl (ap (λ (ps : List Piece). left_in (front worker.end.put ps)) pieces ∙ none)
+        | inl points ↦ inl (subst (λ (ps : List Piece). All (IsRealPoint shared.scenario) (left_in (front worker.end.put ps))) (sym pieces) points)
         | inr all ↦ inr (ap (λ (a : Account). a.done) clerk ∙ all)
       ];
     }
@@ -97,7 +99,7 @@ IsClosed-ended better shared joined least ended closed board ledger board_is led
         filling = subst (λ (ps : List Piece). IsFilling shared.bounds plan latency closed.tickets put ps [] slots) (sym pieces) at_tickets;
       };
       left = elim is.left [
-        | inl none ↦ inl (ap (λ (ps : List Piece). left_in (front put ps)) pieces ∙ none)
+        | inl points ↦ inl (subst (λ (ps : List Piece). All (IsRealPoint plan) (left_in (front put ps))) (sym pieces) points)
         | inr done ↦ inr (all.done done ∙ most)
       ];
     }

@@ -28,7 +28,7 @@ spent_nodes put (Todo branch tried ∷ pieces) = spent_nodes put pieces
 spent_nodes put (Pushed number ∷ pieces) = spent_nodes put pieces
 
 -- all pieces are done: their nodes are all that were spent
-whole : (bounds : Bounds) (scenario : Scenario) (seen tickets : ℕ) (put : List Box) (done : List Piece) (slots : List (List Piece)) → IsFilling bounds scenario seen tickets put done [] slots → AreTreesOf bounds scenario seen put (root_of scenario ∷ []) done × (spent done ≡ tickets)
+pub whole : (bounds : Bounds) (scenario : Scenario) (seen tickets : ℕ) (put : List Box) (done : List Piece) (slots : List (List Piece)) → IsFilling bounds scenario seen tickets put done [] slots → AreTreesOf bounds scenario seen put (root_of scenario ∷ []) done × (spent done ≡ tickets)
 whole bounds scenario seen tickets put done slots filling =
     let same = append-nil done in
     let none = none_spent bounds scenario seen put slots filling.each_slot (λ x. omega (arith, filling.once x)) in (
@@ -46,7 +46,7 @@ IsTree-filled trees bounds scenario seen tickets put done slots none filling =
     (subst (λ (ns : List Node). IsTree scenario seen ns) (spent_nodes put done) (trees bounds scenario seen (front put done) none all.0), all.1)
 
 -- with boxes left it is a front
-pub IsFront-filled : (bounds : Bounds) (scenario : Scenario) (seen tickets upper : ℕ) (put : List Box) (done : List Piece) (slots : List (List Piece)) → 0 < length (left_in (front put done)) → IsReached scenario seen → latency_of scenario (least_of (ranges_of scenario)) ≤ seen → IsUpperOf bounds scenario seen (left_in (front put done)) upper → IsFilling bounds scenario seen tickets put done [] slots → IsFront bounds scenario seen upper tickets
+unfoldable pub IsFront-filled : (bounds : Bounds) (scenario : Scenario) (seen tickets upper : ℕ) (put : List Box) (done : List Piece) (slots : List (List Piece)) → 0 < length (left_in (front put done)) → IsReached scenario seen → latency_of scenario (least_of (ranges_of scenario)) ≤ seen → IsUpperOf bounds scenario seen (left_in (front put done)) upper → IsFilling bounds scenario seen tickets put done [] slots → IsFront bounds scenario seen upper tickets
 IsFront-filled bounds scenario seen tickets upper put done slots left reached least upper_is filling =
     let all = whole bounds scenario seen tickets put done slots filling in
     record {

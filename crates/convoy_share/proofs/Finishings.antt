@@ -2,13 +2,15 @@
 use Rattle.std.specs.Prelude.{◌≡◌, ℕ, List, [], ◌∷◌, ◌++◌, Bool}
 use Rattle.std.proofs.Common.{ap, sym, subst, ◌∙◌, inl, inr}
 use Rattle.std.proofs.lemmas.List.{map-append}
-use Rattle.std.proofs.lemmas.List.Elements.{All-head, filter_map-append}
+use Rattle.std.specs.List.{All}
+use Rattle.std.proofs.lemmas.List.Elements.{All-append, All-head, filter_map-append}
 use Rattle.convoy_scenario.specs.Scenario.{Scenario}
 use Rattle.convoy_intervals.specs.Boxes.{Box}
 use Rattle.convoy_intervals.specs.Tracked.{Tracked}
 use Rattle.convoy_branch.specs.declared.bounds.Bounds.{Bounds}
 use Rattle.convoy_branch.specs.Fronts.{FrontNode, left_box, left_in}
 use Rattle.convoy_branch.specs.Laws.{FrontsBetter}
+use Rattle.convoy_branch.specs.Steps.{IsRealPoint}
 use Rattle.convoy_share.specs.declared.means.Means.{Means}
 use Rattle.convoy_share.specs.declared.piece.Piece.{Piece}
 use Rattle.convoy_share.specs.declared.piece.Piece.TheVariants.{Todo}
@@ -26,7 +28,7 @@ left_append put done pieces =
     ap (λ (ns : List FrontNode). left_in ns) (map-append (front_of put) done pieces) ∙ filter_map-append left_box (front put done) (front put pieces)
 
 -- the branch that is next is searched, and its tree settled
-pub IsFinishing-searched : (better : FrontsBetter) (shared : Common) (put : List Box) (before after : Means) (done rest : List Piece) (slots : List (List Piece)) (branch : Tracked) (tried : Bool) (pieces : List Piece) → IsGrown shared.bounds shared.scenario before after [] [] 0 (branch.delay_box ∷ []) pieces → IsLeftAtEnd after pieces → IsFinishing shared put before done (Todo branch tried ∷ rest) slots → IsFinishing shared put after (done ++ pieces) rest slots
+pub IsFinishing-searched : (better : FrontsBetter) (shared : Common) (put : List Box) (before after : Means) (done rest : List Piece) (slots : List (List Piece)) (branch : Tracked) (tried : Bool) (pieces : List Piece) → IsGrown shared.bounds shared.scenario before after [] [] 0 (branch.delay_box ∷ []) pieces → IsLeftAtEnd shared.scenario after pieces → IsFinishing shared put before done (Todo branch tried ∷ rest) slots → IsFinishing shared put after (done ++ pieces) rest slots
 IsFinishing-searched better shared put before after done rest slots branch tried pieces grown left is =
     let bounds = shared.bounds in
     let plan = shared.scenario in
@@ -37,8 +39,11 @@ IsFinishing-searched better shared put before after done rest slots branch tried
     record {
       filling = subst (λ (n : ℕ). IsFilling bounds plan seen n put (done ++ pieces) rest slots) (sym grown.spent) next;
       left = elim is.left [
-        | inl before_none ↦ elim left [
-          | inl here_none ↦ inl (left_append put done pieces ∙ ap (λ (bs : List Box). bs ++ left_in (front put pieces)) before_none ∙ left_boxes_in put pieces none ∙ here_none)
+        | inl points ↦ elim left [
+          | inl here ↦ (
+              let P = IsRealPoint plan in
+              let more : All P (left_in (front put pieces)) = subst (λ (bs : List Box). All P bs) (sym (left_boxes_in put pieces none)) here in
+              inl (subst (λ (bs : List Box). All P bs) (sym (left_append put done pieces)) (All-append P (left_in (front put done)) (left_in (front put pieces)) points more)))
           | inr ended ↦ inr ended
         ]
         | inr ended ↦ inr (grown.later.done ended)
@@ -50,7 +55,7 @@ pub IsFinishing-next : (shared : Common) (put : List Box) (means : Means) (done 
 IsFinishing-next shared put means done done' rest rest' slots slots' same filling is = record {
   filling = filling;
   left = elim is.left [
-    | inl none ↦ inl (same ∙ none)
+    | inl points ↦ inl (subst (λ (bs : List Box). All (IsRealPoint shared.scenario) bs) (sym same) points)
     | inr all ↦ inr all
   ];
 }

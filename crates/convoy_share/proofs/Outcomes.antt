@@ -1,6 +1,6 @@
 -- What a whole tree says: a valid certificate, or a front.
 use Rattle.std.specs.Prelude.{◌≡◌, ℕ, ◌≤◌, ◌<◌, true, false, List, [], ◌∷◌, length}
-use Rattle.std.specs.List.{All, list_any}
+use Rattle.std.specs.List.{All, Any, list_any}
 use Rattle.std.proofs.Common.{arith, refl, ap, sym, subst, ◌∙◌, inl, inr}
 use Rattle.std.proofs.lemmas.List.Elements.{All-nil, All-cons, All-head, All-tail}
 use Rattle.convoy_scenario.specs.Scenario.{Scenario}
@@ -23,6 +23,7 @@ use Rattle.convoy_branch.specs.Uppers.{IsUpperOf}
 use Rattle.convoy_branch.specs.Fronts.{left_in}
 use Rattle.convoy_branch.specs.Laws.{FrontsBound, OnlyLeadsHaveLeadLeaves, PlainFrontsHaveNoStamps, WholeFrontsAreReadable, WholeFrontsAreTrees}
 use Rattle.convoy_branch.specs.Outcomes.{IsProved, IsOpen}
+use Rattle.convoy_branch.specs.Steps.{IsRealPoint}
 use Rattle.convoy_share.specs.declared.piece.Piece.{Piece}
 use Rattle.convoy_share.specs.declared.piece.Piece.TheVariants.{Done, Todo, Pushed}
 use Rattle.convoy_share.specs.declared.searching.Closed.{Closed}
@@ -50,54 +51,54 @@ some_left (Todo branch tried ∷ pieces) some = omega arith
 some_left (Pushed number ∷ pieces) some = some_left pieces some
 
 -- the nodes may stand in a certificate
-nodes_right : (scenario : Scenario) (seen : ℕ) (put : List Box) (pieces : List Piece) → All (IsPiece scenario seen put) pieces → All IsNode (nodes_in pieces)
-nodes_right scenario seen put [] each = All-nil IsNode
+nodes_right : (scenario : Scenario) (seen : ℕ) (put : List Box) (pieces : List Piece) → All (IsPiece scenario seen put) pieces → All (IsNode scenario.time) (nodes_in pieces)
+nodes_right scenario seen put [] each = All-nil (IsNode scenario.time)
 nodes_right scenario seen put (Done node ∷ pieces) each =
     let P = IsPiece scenario seen put in
-    All-cons IsNode node (nodes_in pieces) (All-head P (Done node) pieces each) (nodes_right scenario seen put pieces (All-tail P (Done node) pieces each))
+    All-cons (IsNode scenario.time) node (nodes_in pieces) (All-head P (Done node) pieces each) (nodes_right scenario seen put pieces (All-tail P (Done node) pieces each))
 nodes_right scenario seen put (Todo branch tried ∷ pieces) each =
     nodes_right scenario seen put pieces (All-tail (IsPiece scenario seen put) (Todo branch tried) pieces each)
 nodes_right scenario seen put (Pushed number ∷ pieces) each =
     nodes_right scenario seen put pieces (All-tail (IsPiece scenario seen put) (Pushed number) pieces each)
 
-pub nodes_closed : (bounds : Bounds) (scenario : Scenario) (workers limit : ℕ) (closed : Closed) → IsClosed bounds scenario workers limit closed → All IsNode (nodes_in closed.pieces.items)
+pub nodes_closed : (bounds : Bounds) (scenario : Scenario) (workers limit : ℕ) (closed : Closed) → IsClosed bounds scenario workers limit closed → All (IsNode scenario.time) (nodes_in closed.pieces.items)
 nodes_closed bounds scenario workers limit closed is =
     nodes_right scenario closed.best.latency is.whole.put closed.pieces.items is.whole.filling.each_done
 
 -- the schedule of the best record is an assignment of the scenario, and has its latency there
-pub best_assigned : (scenario : Scenario) (best : Record) → best.scenario ≡ scenario → IsAttained best → IsAssignment scenario best.delays
+pub best_assigned : (scenario : Scenario) (best : Record) → best.scenario ≡ scenario → IsAttained best → IsAssignment scenario best.schedule
 best_assigned scenario best same attained =
-    subst (λ (s : Scenario). IsAssignment s best.delays) same attained.assignment
+    subst (λ (s : Scenario). IsAssignment s best.schedule) same attained.assignment
 
-best_latency : (scenario : Scenario) (best : Record) → best.scenario ≡ scenario → IsAttained best → latency_of scenario best.delays ≡ best.latency
+best_latency : (scenario : Scenario) (best : Record) → best.scenario ≡ scenario → IsAttained best → latency_of scenario best.schedule ≡ best.latency
 best_latency scenario best same attained =
-    ap (λ (s : Scenario). latency_of s best.delays) (sym same) ∙ sym attained.latency
+    ap (λ (s : Scenario). latency_of s best.schedule) (sym same) ∙ sym attained.latency
 
 best_lawful : (scenario : Scenario) (best : Record) → best.scenario ≡ scenario → IsAttained best → IsScenario scenario
 best_lawful scenario best same attained = subst (λ (s : Scenario). IsScenario s) same attained.scenario
 
 best_reached : (scenario : Scenario) (best : Record) → best.scenario ≡ scenario → IsAttained best → IsReached scenario best.latency
 best_reached scenario best same attained =
-    (best.delays, best_assigned scenario best same attained, best_latency scenario best same attained)
+    (best.schedule, best_assigned scenario best same attained, best_latency scenario best same attained)
 
 abbrev pub certificate_with : Scenario → ℕ → Schedule → List Node → Certificate
-certificate_with scenario latency delays nodes =
-    record { scenario = scenario; latency = latency; delays = delays; nodes = nodes }
+certificate_with scenario latency schedule nodes =
+    record { scenario = scenario; latency = latency; schedule = schedule; nodes = nodes }
 
 -- a certificate of equal parts is the same
-pub certificate_is : {scenario scenario' : Scenario} {latency latency' : ℕ} {delays delays' : Schedule} {nodes nodes' : List Node} → scenario ≡ scenario' → latency ≡ latency' → delays ≡ delays' → nodes ≡ nodes' → certificate_with scenario latency delays nodes ≡ certificate_with scenario' latency' delays' nodes'
-certificate_is {scenario} {scenario'} {latency} {latency'} {delays} {delays'} {nodes} {nodes'} same_scenario same_latency same_delays same_nodes =
-    ap (λ (s : Scenario). certificate_with s latency delays nodes) same_scenario
-    ∙ ap (λ (n : ℕ). certificate_with scenario' n delays nodes) same_latency
+pub certificate_is : {scenario scenario' : Scenario} {latency latency' : ℕ} {schedule schedule' : Schedule} {nodes nodes' : List Node} → scenario ≡ scenario' → latency ≡ latency' → schedule ≡ schedule' → nodes ≡ nodes' → certificate_with scenario latency schedule nodes ≡ certificate_with scenario' latency' schedule' nodes'
+certificate_is {scenario} {scenario'} {latency} {latency'} {schedule} {schedule'} {nodes} {nodes'} same_scenario same_latency same_delays same_nodes =
+    ap (λ (s : Scenario). certificate_with s latency schedule nodes) same_scenario
+    ∙ ap (λ (n : ℕ). certificate_with scenario' n schedule nodes) same_latency
     ∙ ap (λ (ds : Schedule). certificate_with scenario' latency' ds nodes) same_delays
-    ∙ ap (λ (ns : List Node). certificate_with scenario' latency' delays' ns) same_nodes
+    ∙ ap (λ (ns : List Node). certificate_with scenario' latency' schedule' ns) same_nodes
 
 -- no box is left: the tree is that of a valid certificate
 abbrev certificate_of : Scenario → Closed → Certificate
 certificate_of scenario closed = record {
   scenario = scenario;
   latency = closed.best.latency;
-  delays = closed.best.delays;
+  schedule = closed.best.schedule;
   nodes = nodes_in closed.pieces.items;
 }
 
@@ -126,12 +127,18 @@ IsProved-certificate trees cover no_stamps no_leads reads bounds scenario worker
       shares = is.shares;
     }
 
-pub IsProved-closed : (trees : WholeFrontsAreTrees) (cover : TreesCover) (no_stamps : PlainFrontsHaveNoStamps) (no_leads : OnlyLeadsHaveLeadLeaves) (reads : WholeFrontsAreReadable) (bounds : Bounds) (scenario : Scenario) (workers limit : ℕ) (closed : Closed) (certificate : Certificate) → list_any is_left closed.pieces.items ≡ false → certificate ≡ record { scenario = scenario; latency = closed.best.latency; delays = closed.best.delays; nodes = nodes_in closed.pieces.items } → IsClosed bounds scenario workers limit closed → IsProved bounds scenario workers limit certificate closed.tickets closed.by_worker.items
+pub IsProved-closed : (trees : WholeFrontsAreTrees) (cover : TreesCover) (no_stamps : PlainFrontsHaveNoStamps) (no_leads : OnlyLeadsHaveLeadLeaves) (reads : WholeFrontsAreReadable) (bounds : Bounds) (scenario : Scenario) (workers limit : ℕ) (closed : Closed) (certificate : Certificate) → list_any is_left closed.pieces.items ≡ false → certificate ≡ record { scenario = scenario; latency = closed.best.latency; schedule = closed.best.schedule; nodes = nodes_in closed.pieces.items } → IsClosed bounds scenario workers limit closed → IsProved bounds scenario workers limit certificate closed.tickets closed.by_worker.items
 IsProved-closed trees cover no_stamps no_leads reads bounds scenario workers limit closed certificate none same is =
     subst (λ (c : Certificate). IsProved bounds scenario workers limit c closed.tickets closed.by_worker.items) (sym same) (IsProved-certificate trees cover no_stamps no_leads reads bounds scenario workers limit closed none is)
 
--- a box is left: all tickets were drawn, and the tree is a front
+-- where all elements meet something and there are some, one does
+some_of : {X : Type 0} (P : X → Type 0) (xs : List X) → 0 < length xs → All P xs → Any P xs
+some_of P [] some all = absurd (omega arith)
+some_of P (x ∷ xs) some all = (0, x, omega arith, refl, All-head P x xs all)
+
+-- a box is left: all tickets were drawn, or it is a point in real time, and the tree is a front
 pub IsOpen-closed : (bound : FrontsBound) (bounds : Bounds) (scenario : Scenario) (workers limit upper : ℕ) (closed : Closed) → list_any is_left closed.pieces.items ≡ true → latency_of scenario (least_of (ranges_of scenario)) ≤ closed.best.latency → IsUpperOf bounds scenario closed.best.latency (left_boxes closed.pieces.items) upper → IsClosed bounds scenario workers limit closed → IsOpen bounds scenario workers limit closed.best upper closed.tickets closed.by_worker.items
+unfolding IsFront-filled
 IsOpen-closed bound bounds scenario workers limit upper closed some least upper_is is =
     let best = closed.best in
     let pieces = closed.pieces.items in
@@ -146,10 +153,15 @@ IsOpen-closed bound bounds scenario workers limit upper closed some least upper_
       of_scenario = is.of_scenario;
       reached = reached;
       none_greater = bound bounds scenario best.latency upper closed.tickets (best_lawful scenario best is.of_scenario is.attained) open_front;
-      all = elim is.left [
-        | inl none ↦ absurd (omega (arith, left, ap length none))
-        | inr all ↦ all
-      ];
-      front = open_front;
+      front = record {
+        tickets = closed.tickets;
+        front = open_front;
+        few = is.few;
+        all = elim is.left [
+          | inl points ↦ inr (some_of (IsRealPoint scenario) (left_in (front put pieces)) left points)
+          | inr all ↦ inl all
+        ];
+      };
+      all = refl;
       shares = is.shares;
     }

@@ -1,12 +1,13 @@
 -- What all workers have brought, and what a search has come to.
 use Rattle.std.specs.Prelude.{◌≡◌, ◌⊎◌, ℕ, ◌≤◌, List, [], true, length}
-use Rattle.std.specs.List.{sum}
+use Rattle.std.specs.List.{All, sum}
 use Rattle.convoy_scenario.specs.Scenario.{Scenario}
 use Rattle.convoy_sim.specs.Record.{IsAttained}
 use Rattle.convoy_intervals.specs.Boxes.{Box}
 use Rattle.convoy_branch.specs.declared.bounds.Bounds.{Bounds}
 use Rattle.convoy_branch.specs.Fronts.{left_in}
 use Rattle.convoy_branch.specs.Outcomes.{AreTicketsByWorker}
+use Rattle.convoy_branch.specs.Steps.{IsRealPoint}
 use Rattle.convoy_share.specs.declared.ending.Ended.{Ended}
 use Rattle.convoy_share.specs.declared.piece.Piece.{Piece}
 use Rattle.convoy_share.specs.declared.searching.Closed.{Closed}
@@ -20,7 +21,7 @@ pub record IsWhole (bounds : Bounds) (scenario : Scenario) (seen tickets : ℕ) 
   pub slots : List (List Piece)
   pub filling : IsFilling bounds scenario seen tickets put pieces [] slots
 
--- what the owner and so many thieves have brought, with those shares of board and ledger; a latency no less than that one was seen, and a box is left only where all tickets were drawn
+-- what the owner and so many thieves have brought, with those shares of board and ledger; a latency no less than that one was seen, and unless all tickets were drawn, only points in real time are left
 pub record IsEnded (shared : Common) (hand clerk joined least : ℕ) (ended : Ended) : Type 0 where
   pub board_is : ended.hand.board ≡ shared.board
   pub ledger_is : ended.clerk.ledger ≡ shared.ledger
@@ -30,7 +31,7 @@ pub record IsEnded (shared : Common) (hand clerk joined least : ℕ) (ended : En
   pub joined_is : length ended.drawn_by_thieves.items ≡ joined
   pub theirs : sum ended.drawn_by_thieves.items ≤ length ended.clerk.tickets
   pub whole : IsWhole shared.bounds shared.scenario ended.hand.seen (length ended.clerk.tickets) ended.pieces.items
-  pub left : (left_in (front whole.put ended.pieces.items) ≡ []) ⊎ (ended.clerk.done ≡ true)
+  pub left : All (IsRealPoint shared.scenario) (left_in (front whole.put ended.pieces.items)) ⊎ (ended.clerk.done ≡ true)
 
 -- what a search has come to
 pub record IsClosed (bounds : Bounds) (scenario : Scenario) (workers limit : ℕ) (closed : Closed) : Type 0 where
@@ -39,4 +40,4 @@ pub record IsClosed (bounds : Bounds) (scenario : Scenario) (workers limit : ℕ
   pub few : closed.tickets ≤ limit
   pub shares : AreTicketsByWorker workers closed.tickets closed.by_worker.items
   pub whole : IsWhole bounds scenario closed.best.latency closed.tickets closed.pieces.items
-  pub left : (left_in (front whole.put closed.pieces.items) ≡ []) ⊎ (closed.tickets ≡ limit)
+  pub left : All (IsRealPoint scenario) (left_in (front whole.put closed.pieces.items)) ⊎ (closed.tickets ≡ limit)

@@ -1,7 +1,9 @@
 -- How far the owner has come with the trees of all workers, once every thief was joined.
-use Rattle.std.specs.Prelude.{◌≡◌, ◌⊎◌, List, [], true}
+use Rattle.std.specs.Prelude.{◌≡◌, ◌⊎◌, List, true}
+use Rattle.std.specs.List.{All}
 use Rattle.convoy_intervals.specs.Boxes.{Box}
 use Rattle.convoy_branch.specs.Fronts.{left_in}
+use Rattle.convoy_branch.specs.Steps.{IsRealPoint}
 use Rattle.convoy_share.specs.declared.means.Means.{Means}
 use Rattle.convoy_share.specs.declared.piece.Piece.{Piece}
 use Rattle.convoy_share.specs.Common.{Common}
@@ -9,7 +11,7 @@ use Rattle.convoy_share.specs.Filling.{IsFilling}
 use Rattle.convoy_share.specs.Means.{drawn}
 use Rattle.convoy_share.specs.Pieces.{front}
 
--- the trees are being filled, and a box is left among what is done only where all tickets were drawn
+-- the trees are being filled, and unless all tickets were drawn, only points in real time are left among what is done
 pub record IsFinishing (shared : Common) (put : List Box) (means : Means) (done rest : List Piece) (slots : List (List Piece)) : Type 0 where
   pub filling : IsFilling shared.bounds shared.scenario means.hand.seen (drawn means) put done rest slots
-  pub left : (left_in (front put done) ≡ []) ⊎ (means.clerk.done ≡ true)
+  pub left : All (IsRealPoint shared.scenario) (left_in (front put done)) ⊎ (means.clerk.done ≡ true)

@@ -1,9 +1,11 @@
 -- What a worker looks, publishes and draws with, from step to step.
-use Rattle.std.specs.Prelude.{◌≡◌, ◌⊎◌, ℕ, ◌+◌, ◌≤◌, List, [], false, true, length}
+use Rattle.std.specs.Prelude.{◌≡◌, ◌⊎◌, ℕ, ◌+◌, ◌≤◌, List, false, true, length}
+use Rattle.std.specs.List.{All}
 use Rattle.convoy_scenario.specs.Scenario.{Scenario}
 use Rattle.convoy_intervals.specs.Boxes.{Box}
 use Rattle.convoy_intervals.specs.Tracked.{Tracked}
 use Rattle.convoy_branch.specs.declared.bounds.Bounds.{Bounds}
+use Rattle.convoy_branch.specs.Steps.{IsRealPoint}
 use Rattle.convoy_share.specs.declared.means.Means.{Means}
 use Rattle.convoy_share.specs.declared.means.TakenUp.{TakenUp}
 use Rattle.convoy_share.specs.declared.means.TakenUp.TheVariants.{Turned, Left}
@@ -25,12 +27,12 @@ pub record IsLater (before after : Means) : Type 0 where
 abbrev pub drawn : Means → ℕ
 drawn means = length means.clerk.tickets
 
--- what becomes of a branch that is taken up: a ticket is spent for its turn, or there was none and it is left
+-- what becomes of a branch that is taken up: a ticket is spent for its turn; or it is left, since there was none, or since it is a point in real time
 abbrev pub IsSpentFor : Bounds → Scenario → ℕ → Tracked → Means → Means → TakenUp → Type 0
 IsSpentFor bounds scenario most branch before after (Turned turn) =
     (drawn after ≡ drawn before + 1) × (drawn after ≤ most) × (before.clerk.done ≡ false) × IsTurned bounds scenario after.hand.seen branch.delay_box turn
 IsSpentFor bounds scenario most branch before after (Left left) =
-    (left ≡ branch) × (drawn after ≡ drawn before) × (after.clerk.done ≡ true)
+    (left ≡ branch) × (drawn after ≡ drawn before) × ((after.clerk.done ≡ true) ⊎ IsRealPoint scenario branch.delay_box)
 
 pub record IsTakenUp (bounds : Bounds) (scenario : Scenario) (most : ℕ) (branch : Tracked) (before after : Means) (taken : TakenUp) : Type 0 where
   pub later : IsLater before after
@@ -43,6 +45,6 @@ pub record IsGrown (bounds : Bounds) (scenario : Scenario) (before after : Means
   pub spent : drawn after ≡ drawn before + tickets
   pub way : IsUnderWay bounds scenario after.hand.seen first put low boxes pieces tickets
 
--- a branch is left among the pieces only where all tickets were drawn
-abbrev pub IsLeftAtEnd : Means → List Piece → Type 0
-IsLeftAtEnd means pieces = (left_boxes pieces ≡ []) ⊎ (means.clerk.done ≡ true)
+-- unless all tickets were drawn, only points in real time are left among the pieces
+abbrev pub IsLeftAtEnd : Scenario → Means → List Piece → Type 0
+IsLeftAtEnd scenario means pieces = All (IsRealPoint scenario) (left_boxes pieces) ⊎ (means.clerk.done ≡ true)

@@ -6,7 +6,6 @@ ghost use Rattle.convoy_share.specs.Common.{common_of};
 ghost use Rattle.convoy_share.specs.Ended.{IsEnded};
 ghost use Rattle.convoy_share.specs.Workers.{StaysOwner};
 
-use super::fault::SearchFault;
 use super::filling::Filling;
 use super::finishing::search_left;
 use super::means::Means;
@@ -71,7 +70,7 @@ pub(crate) fn finish<R: Wait, G: Gate>(
     gate: &G,
     shared: &Shared,
     mut worker: OwnerWorker,
-) -> Result<Ended, SearchFault>
+) -> Result<Ended, AllocError>
     requires owner { StaysOwner (common_of shared.now) worker worker }
     requires share { worker.end.share ≡ whole_share }
     ensures { IfOk result (λ ended. IsEnded (common_of shared.now) worker.means.hand.share

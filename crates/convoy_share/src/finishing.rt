@@ -6,7 +6,6 @@ ghost use Rattle.convoy_share.specs.Common.{common_of};
 ghost use Rattle.convoy_share.specs.Finishing.{IsFinishing};
 ghost use Rattle.convoy_share.specs.Means.{IsLater, drawn};
 
-use super::fault::SearchFault;
 use super::filling::Filling;
 use super::halves::Keeps;
 use super::means::Means;
@@ -14,6 +13,7 @@ use super::shared::Shared;
 use super::worker::search_branch;
 use convoy_branch::Gate;
 use convoy_branch::laws::fronts_better;
+use std::alloc::AllocError;
 use std::sync::Wait;
 
 /// Fills every place, and searches what is left as far as there are tickets.
@@ -23,7 +23,7 @@ pub(crate) fn search_left<R: Wait, G: Gate>(
     shared: &Shared,
     means: &mut Means,
     filling: &mut Filling,
-) -> Result<(), SearchFault>
+) -> Result<(), AllocError>
     requires hand { means.old.hand.board ≡ shared.now.board.now }
     requires clerk { means.old.clerk.ledger ≡ shared.now.ledger.now }
     requires filling { (put : List Box) × IsFinishing (common_of shared.now) put means.old filling.old.done.items

@@ -1,6 +1,6 @@
 //! How the owner takes in what the thieves bring.
 
-ghost use Rattle.std.specs.Prelude.{◌≡◌, ◌+◌, ℕ, OnOk};
+ghost use Rattle.std.specs.Prelude.{◌≡◌, ◌+◌, ℕ, [], ◌∷◌, ◌++◌, length, OnOk};
 ghost use Rattle.convoy_deque.specs.Tasks.{DequeId};
 ghost use Rattle.convoy_share.specs.Common.{common_of};
 ghost use Rattle.convoy_share.specs.Workers.{IsOwner, IsThief};
@@ -24,7 +24,10 @@ pub(crate) fn gather(
     requires clerk { owner.old.means.clerk.ledger ≡ shared.now.ledger.now }
     requires other_clerk { thief.means.clerk.ledger ≡ shared.now.ledger.now }
     requires deque { thief.end.deque ≡ owner.old.end.deque }
-    ensures { (deque : DequeId) (hand clerk share joined least hand_too clerk_too : ℕ)
+    // Of the tickets of each worker this one is told how many it drew.
+    ensures drawn { OnOk result (owner.new.drawn_by_thieves.items
+        ≡ owner.old.drawn_by_thieves.items ++ length thief.means.clerk.tickets ∷ []) }
+    ensures owner { (deque : DequeId) (hand clerk share joined least hand_too clerk_too : ℕ)
         → IsOwner (common_of shared.now) deque hand clerk share joined least owner.old
         → IsThief (common_of shared.now) deque hand_too clerk_too thief
         → OnOk result (IsOwner (common_of shared.now) deque (hand + hand_too) (clerk + clerk_too) (share + 1)

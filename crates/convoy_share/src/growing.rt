@@ -96,6 +96,8 @@ impl Growing {
         ensures pieces { OnOk result (pieces_in self.new
             ≡ self.old.work.items ++ Piece.Todo branch tried ∷ reverse self.old.written.items) }
         ensures few { OnOk result (self.new.work.items ≡ self.old.work.items) }
+        ensures left { OnOk result (left_boxes (reverse self.new.written.items)
+            ≡ branch.delay_box ∷ left_boxes (reverse self.old.written.items)) }
     {
         self.written.push(Settled::left(alloc, branch, tried)?)?;
         Ok(())

@@ -2,13 +2,11 @@
 #![tactic(auto)]
 
 pub use convoy_branch::{Gate, NoGate};
-pub use fault::SearchFault;
 pub use piece::Piece;
 pub use searching::{search, search_from};
 pub use ways::search_both_ways;
 
 mod ending;
-mod fault;
 mod filling;
 mod finishing;
 mod gathering;

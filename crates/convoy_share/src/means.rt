@@ -1,20 +1,19 @@
 //! What a worker looks, publishes and draws with, and how it takes up a branch.
 
-ghost use Rattle.std.specs.Prelude.{◌≡◌, ◌≤◌, ◌+◌, false, true, length, IfOk, IfSome, OnOk};
+ghost use Rattle.std.specs.Prelude.{◌≡◌, ◌≤◌, ◌+◌, false, true, length, IfNone, IfOk, IfSome, OnOk};
 ghost use Rattle.std.specs.Bool.{OnFalse, OnTrue};
-ghost use Rattle.convoy_branch.specs.Steps.{known_after, IsTriedIf};
+ghost use Rattle.convoy_branch.specs.Steps.{CanTurn, IsRealPoint, IsTriedIf, IsTurn, found_in, known_after};
 ghost use Rattle.convoy_share.specs.Means.{IsTakenUp};
 
-use super::fault::SearchFault;
 use super::shared::Shared;
 use convoy_branch::laws::{fronts_better, turns_are_fronts, turns_are_nodes};
-use convoy_branch::{Gate, Step, Turn, step_branch};
+use convoy_branch::{Fate, Gate, Step, Turn, prospect_of, step_branch};
 use convoy_incumbent::{Board, Hand};
 use convoy_intervals::Tracked;
 use convoy_intervals::laws::upper_keeps_greatest;
 use convoy_ledger::{Clerk, Ledger};
 use convoy_sim::Record;
-use std::alloc::Global;
+use std::alloc::{AllocError, Global};
 use std::sync::Wait;
 
 /// What a worker looks and publishes with, and what it draws with, beside its number and how many
@@ -47,11 +46,12 @@ impl Means {
 pub(crate) enum TakenUp {
     /// A ticket was spent for it.
     Turned(Turn),
-    /// There was no ticket left.
+    /// There was no ticket left, or the branch is a point in real time that nothing closes.
     Left(Tracked),
 }
 
-/// Takes up a branch: looks, draws a ticket, and does the step where there was one.
+/// Takes up a branch: looks, draws a ticket if the step would spend it, and does the step where there
+/// was one.
 pub(crate) fn take_up<R: Wait, G: Gate>(
     rt: &R,
     gate: &G,
@@ -59,7 +59,7 @@ pub(crate) fn take_up<R: Wait, G: Gate>(
     means: &mut Means,
     branch: Tracked,
     tried: bool,
-) -> Result<TakenUp, SearchFault>
+) -> Result<TakenUp, AllocError>
     requires hand { means.old.hand.board ≡ shared.now.board.now }
     requires clerk { means.old.clerk.ledger ≡ shared.now.ledger.now }
     requires of_scenario { branch.scenario ≡ shared.now.instance.now }
@@ -76,21 +76,79 @@ pub(crate) fn take_up<R: Wait, G: Gate>(
     means.taken_up = means.taken_up.saturating_add(1);
     gate.before_branch(means.worker, means.taken_up);
     let seen = shared.board.look(&mut means.hand);
+    let hand = &mut means.hand;
+    let Some(known) = known_for_step(rt, shared, hand, &branch, tried, seen)? else {
+        return Ok(TakenUp::Left(branch));
+    };
     if !has_drawn(shared.ledger, &mut means.clerk) {
         return Ok(TakenUp::Left(branch));
     }
+    let (found, turn) = step_of(shared, branch, tried, known)?;
+    publish_found(rt, shared.board, &mut means.hand, found)?;
+    Ok(TakenUp::Turned(turn))
+}
+
+/// The latency with which a step is done, in ticks, if that closes or splits the branch; a record that
+/// shows on the way is published. None where the branch is a point in real time that nothing closes.
+fn known_for_step<R: Wait>(
+    rt: &R,
+    shared: &Shared,
+    hand: &mut Hand,
+    branch: &Tracked,
+    tried: bool,
+    seen: u32,
+) -> Result<Option<u32>, AllocError>
+    requires hand { hand.old.board ≡ shared.now.board.now }
+    requires of_scenario { branch.now.scenario ≡ shared.now.instance.now }
+    requires known { IsTriedIf shared.now.instance.now branch.now.delay_box tried seen }
+    requires seen { seen ≡ hand.old.seen }
+    ensures same { (hand.new.board ≡ shared.now.board.now) × (hand.new.share ≡ hand.old.share) }
+    ensures seen { OnOk result (hand.old.seen ≤ hand.new.seen) }
+    ensures turns { IfOk result (λ known. IfSome known (λ known. (seen ≤ known)
+        × (known ≤ hand.new.seen)
+        × CanTurn shared.now.bounds shared.now.instance.now branch.now.delay_box known)) }
+    ensures stays { IfOk result
+        (λ known. IfNone known (IsRealPoint shared.now.instance.now branch.now.delay_box)) }
+{
     let Shared {
         alloc,
         instance,
         bounds,
         ..
     } = *shared;
-    match step_branch(alloc, instance, branch, tried, seen, bounds) {
-        Ok(Step { found, turn }) => {
-            publish_found(rt, shared.board, &mut means.hand, found)?;
-            Ok(TakenUp::Turned(turn))
-        }
-        Err(_) => Err(SearchFault::Memory),
+    let prospect = prospect_of(alloc, instance, branch, tried, seen, bounds)?;
+    publish_found(rt, shared.board, hand, prospect.found)?;
+    Ok(prospect.turns.then_some(prospect.known))
+}
+
+/// The step over a branch, where it closes or splits it: what was found, and the turn.
+fn step_of(
+    shared: &Shared,
+    branch: Tracked,
+    tried: bool,
+    known: u32,
+) -> Result<(Option<Record>, Turn), AllocError>
+    requires of_scenario { branch.scenario ≡ shared.now.instance.now }
+    requires known { IsTriedIf shared.now.instance.now branch.delay_box tried known }
+    requires turns { CanTurn shared.now.bounds shared.now.instance.now branch.delay_box known }
+    ensures found { IfOk result (λ made. made.0
+        ≡ found_in shared.now.bounds shared.now.instance.now branch.delay_box known) }
+    ensures turn { IfOk result (λ made. IsTurn shared.now.bounds shared.now.instance.now
+        branch.delay_box (known_after known made.0) made.1) }
+{
+    let Shared {
+        alloc,
+        instance,
+        bounds,
+        ..
+    } = *shared;
+    let Ok(step) = step_branch(alloc, instance, branch, tried, known, bounds) else {
+        return Err(AllocError);
+    };
+    let Step { found, fate } = step;
+    match fate {
+        Fate::Turned(turn) => Ok((found, turn)),
+        Fate::Stays(_) => unreachable!(),
     }
 }
 
@@ -113,7 +171,7 @@ fn publish_found<R: Wait>(
     board: &Board,
     hand: &mut Hand,
     found: Option<Record>,
-) -> Result<(), SearchFault>
+) -> Result<(), AllocError>
     requires hand { hand.old.board ≡ board.now }
     requires found { IfSome found (λ r. r.scenario ≡ board.now.scenario) }
     ensures same { (hand.new.board ≡ board.now) × (hand.new.share ≡ hand.old.share) }
@@ -127,19 +185,16 @@ fn publish_found<R: Wait>(
 }
 
 /// Notes and publishes a record.
-fn publish<R: Wait>(
-    rt: &R,
-    board: &Board,
-    hand: &mut Hand,
-    found: Record,
-) -> Result<(), SearchFault>
+fn publish<R: Wait>(rt: &R, board: &Board, hand: &mut Hand, found: Record) -> Result<(), AllocError>
     requires hand { hand.old.board ≡ board.now }
     requires found { found.scenario ≡ board.now.scenario }
     ensures same { (hand.new.board ≡ board.now) × (hand.new.share ≡ hand.old.share) }
     ensures seen { OnOk result ((hand.old.seen ≤ hand.new.seen)
         × (found.latency ≤ hand.new.seen)) }
 {
-    let noted = board.note(rt, found)?;
+    let Ok(noted) = board.note(rt, found) else {
+        return Err(AllocError);
+    };
     board.publish(hand, noted);
     Ok(())
 }

@@ -4,7 +4,6 @@ ghost use Rattle.std.specs.Prelude.{◌≡◌, IfOk, OnOk};
 ghost use Rattle.convoy_share.specs.Common.{common_of};
 ghost use Rattle.convoy_share.specs.Workers.{StaysOwner};
 
-use super::fault::SearchFault;
 use super::means::Means;
 use super::shared::Shared;
 use super::tree::{Tree, keep};
@@ -12,6 +11,7 @@ use super::worker::search_branch;
 use convoy_branch::Gate;
 use convoy_branch::laws::fronts_better;
 use convoy_deque::Owner;
+use std::alloc::AllocError;
 use std::sync::Wait;
 use std::sync::atomic::Ordering;
 
@@ -33,7 +33,7 @@ fn work_once<R: Wait, G: Gate>(
     gate: &G,
     shared: &Shared,
     worker: &mut OwnerWorker,
-) -> Result<bool, SearchFault>
+) -> Result<bool, AllocError>
     requires { StaysOwner (common_of shared.now) worker.old worker.old }
     ensures { OnOk result (StaysOwner (common_of shared.now) worker.old worker.new) }
 {
@@ -64,7 +64,7 @@ pub(crate) fn work<R: Wait, G: Gate>(
     gate: &G,
     shared: &Shared,
     mut worker: OwnerWorker,
-) -> Result<OwnerWorker, SearchFault>
+) -> Result<OwnerWorker, AllocError>
     requires { StaysOwner (common_of shared.now) worker worker }
     ensures { IfOk result (λ w. StaysOwner (common_of shared.now) worker w) }
 {

@@ -6,12 +6,12 @@ ghost use Rattle.std.specs.Thread.{IsSync};
 ghost use Rattle.convoy_share.specs.Common.{common_by, common_of};
 ghost use Rattle.convoy_share.specs.Workers.{HasJoined, IsThiefOf, StaysOwner, StaysThief};
 
-use super::fault::SearchFault;
 use super::gathering::gather;
 use super::owner::{OwnerWorker, work};
 use super::shared::Shared;
 use super::thief::{ThiefWorker, rob};
 use convoy_branch::Gate;
+use std::alloc::AllocError;
 use std::sync::Wait;
 use std::sync::atomic::Ordering;
 use std::thread::{Threads, join};
@@ -24,7 +24,7 @@ pub(crate) fn run<R: Threads + Wait + Sync, G: Gate + Sync>(
     shared: &Shared,
     owner: OwnerWorker,
     mut thieves: Vec<ThiefWorker>,
-) -> Result<OwnerWorker, SearchFault>
+) -> Result<OwnerWorker, AllocError>
     requires owner { StaysOwner (common_of shared.now) owner owner }
     requires thieves { All (IsThiefOf (common_of shared.now) owner.end.deque) thieves.items }
     ensures { IfOk result (λ w. HasJoined (common_of shared.now) owner thieves.items w) }
@@ -47,7 +47,7 @@ pub(crate) fn run<R: Threads + Wait + Sync, G: Gate + Sync>(
     } = *shared;
     let (robbed, worked) = join(
         rt,
-        move || -> Result<ThiefWorker, SearchFault>
+        move || -> Result<ThiefWorker, AllocError>
             requires board { board.now.scenario ≡ instance.now }
             requires thief { let common = common_by bounds instance.now board.now ledger.now in StaysThief common thief thief }
             ensures { let common = common_by bounds instance.entry.now board.entry.now
@@ -65,7 +65,7 @@ pub(crate) fn run<R: Threads + Wait + Sync, G: Gate + Sync>(
             };
             rob(rt, gate, &shared, thief)
         },
-        move || -> Result<OwnerWorker, SearchFault>
+        move || -> Result<OwnerWorker, AllocError>
             requires sync { IsSync R.row }
             requires board { board.now.scenario ≡ instance.now }
             requires owner { let common = common_by bounds instance.now board.now ledger.now in StaysOwner common owner owner }

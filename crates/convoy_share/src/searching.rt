@@ -1,6 +1,6 @@
 //! The search of several workers.
 
-ghost use Rattle.std.specs.Prelude.{◌≡◌, ℕ, ◌-◌, ◌+◌, ◌≤◌, [], false, true, length, IfOk};
+ghost use Rattle.std.specs.Prelude.{◌≡◌, ℕ, ◌-◌, ◌+◌, ◌≤◌, [], ◌∷◌, false, true, length, IfOk};
 ghost use Rattle.std.specs.List.{list_any, sum};
 ghost use Rattle.convoy_shares.specs.declared.shares.TheConstants.{MOST_WORKERS};
 ghost use Rattle.convoy_packets.specs.Assignment.{ranges_of};
@@ -14,7 +14,6 @@ ghost use Rattle.convoy_share.specs.Ended.{IsClosed, IsEnded};
 ghost use Rattle.convoy_share.specs.Pieces.{is_left};
 
 use super::ending::{Ended, finish};
-use super::fault::SearchFault;
 use super::opening::open_workers;
 use super::piece::Settled;
 use super::running::run;
@@ -29,7 +28,8 @@ use convoy_certificate::Certificate;
 use convoy_checker::laws::trees_cover;
 use convoy_incumbent::{Board, CloseFault, Hand};
 use convoy_ledger::{Clerk, Ledger};
-use convoy_packets::{Delays, Instance};
+use convoy_packets::laws::least_is_assignment;
+use convoy_packets::{Instance, Schedule};
 use convoy_sim::Record;
 use std::alloc::{AllocError, Global};
 use std::sync::Wait;
@@ -42,8 +42,8 @@ use std::thread::Threads;
 /// are closed by those bounds. Where a thread can't be started, its worker runs after the others. One
 /// worker searches alone, as [`convoy_branch::search_alone`] does.
 ///
-/// The errors are that memory ran out, and that more records were found than the board can name. Each
-/// comes after all threads have ended; of several the one of the worker of the least number.
+/// The only error is that memory ran out, for any worker or for the outcome. It comes after all threads
+/// have ended.
 pub fn search<R: Threads + Wait + Sync, G: Gate + Sync>(
     rt: &R,
     alloc: Global,
@@ -52,22 +52,22 @@ pub fn search<R: Threads + Wait + Sync, G: Gate + Sync>(
     limit: u64,
     bounds: Bounds,
     gate: &G,
-) -> Result<Outcome, SearchFault>
+) -> Result<Outcome, AllocError>
     requires workers { (1 ≤ workers) × (workers ≤ MOST_WORKERS) }
     requires tickets { (1 ≤ limit) × (limit ≤ most_tickets) }
     ensures { IfOk result (λ outcome. IsOutcome bounds instance.now workers limit outcome) }
 {
-    let delays = Delays::least(alloc, instance.table())?;
-    let opening = Record::of(instance, delays);
+    least_is_assignment();
+    let _delay = instance.delay();
+    let schedule = Schedule::least(alloc, instance.table())?;
+    let opening = Record::of(instance, schedule);
     search_from(rt, alloc, instance, opening, workers, limit, bounds, gate)
 }
 
 /// The search of [`search`] from an opening record of the scenario. Its latency is at least that of the
 /// least delays, and the latency that the search finds is at least that of the record.
 ///
-/// The errors are those of [`search`]: `Memory` where memory ran out, for any worker or for the
-/// outcome, and `PlaceTooLarge` where several workers found a record whose place is 4,294,967,296
-/// or more, which the board's word can't name.
+/// The only error is that memory ran out, for any worker or for the outcome.
 pub fn search_from<'a, R: Threads + Wait + Sync, G: Gate + Sync>(
     rt: &R,
     alloc: Global,
@@ -77,7 +77,7 @@ pub fn search_from<'a, R: Threads + Wait + Sync, G: Gate + Sync>(
     limit: u64,
     bounds: Bounds,
     gate: &G,
-) -> Result<Outcome, SearchFault>
+) -> Result<Outcome, AllocError>
     requires of_scenario { opening.scenario ≡ instance.now }
     requires least { latency_of instance.now (least_of (ranges_of instance.now)) ≤ opening.latency }
     requires workers { (1 ≤ workers) × (workers ≤ MOST_WORKERS) }
@@ -86,14 +86,10 @@ pub fn search_from<'a, R: Threads + Wait + Sync, G: Gate + Sync>(
     ensures opened { IfOk result (λ outcome. opening.latency ≤ best_of outcome) }
 {
     if workers == 1 {
-        let outcome = convoy_branch::search_alone_from(
-            alloc, instance, opening, limit, bounds, gate,
-        )?;
-        return Ok(outcome);
+        return convoy_branch::search_alone_from(alloc, instance, opening, limit, bounds, gate);
     }
-    let (board, hand) = match Board::open(rt, alloc, opening) {
-        Ok(opened) => opened,
-        Err((_, fault)) => return Err(fault.into()),
+    let Ok((board, hand)) = Board::open(rt, alloc, opening) else {
+        return Err(AllocError);
     };
     let (ledger, clerk) = Ledger::open(alloc, limit)?;
     let begun = AtomicBool::new(false);
@@ -110,7 +106,7 @@ pub fn search_from<'a, R: Threads + Wait + Sync, G: Gate + Sync>(
     };
     let brought = search_together(rt, gate, &shared, hand, clerk)?;
     let closed = close(alloc, board, ledger, brought)?;
-    Ok(closed.into_outcome(alloc, instance, bounds)?)
+    closed.into_outcome(alloc, instance, bounds)
 }
 
 /// Runs all workers, and puts together what they bring.
@@ -120,7 +116,7 @@ fn search_together<R: Threads + Wait + Sync, G: Gate + Sync>(
     shared: &Shared,
     hand: Hand,
     clerk: Clerk,
-) -> Result<Ended, SearchFault>
+) -> Result<Ended, AllocError>
     requires workers { (1 ≤ shared.now.workers) × (shared.now.workers ≤ MOST_WORKERS) }
     requires hand { (hand.board ≡ shared.now.board.now) × (hand.share ≡ whole) }
     requires clerk { (clerk.ledger ≡ shared.now.ledger.now) × (clerk.share ≡ whole) }
@@ -147,7 +143,7 @@ pub(crate) struct Closed {
 }
 
 /// Ends board and ledger, of which all workers' shares are back.
-fn close(alloc: Global, board: Board, ledger: Ledger, ended: Ended) -> Result<Closed, SearchFault>
+fn close(alloc: Global, board: Board, ledger: Ledger, ended: Ended) -> Result<Closed, AllocError>
     requires hand { (ended.hand.board ≡ board) × (ended.hand.share ≡ whole) }
     requires clerk { (ended.clerk.ledger ≡ ledger) × (ended.clerk.share ≡ whole) }
     requires theirs { sum ended.drawn_by_thieves.items ≤ length ended.clerk.tickets }
@@ -171,7 +167,7 @@ fn close(alloc: Global, board: Board, ledger: Ledger, ended: Ended) -> Result<Cl
     let by_worker = tickets_by_worker(alloc, tickets, &drawn_by_thieves)?;
     let best = match board.close(hand) {
         Ok(best) => best,
-        Err(CloseFault::Memory(_, _)) => return Err(SearchFault::Memory),
+        Err(CloseFault::Memory(_, _)) => return Err(AllocError),
         Err(CloseFault::HandsOut(_, _)) => unreachable!(),
     };
     Ok(Closed {
@@ -186,8 +182,9 @@ fn close(alloc: Global, board: Board, ledger: Ledger, ended: Ended) -> Result<Cl
 /// owner drew the others.
 fn tickets_by_worker(alloc: Global, tickets: u64, thieves: &[u64]) -> Result<Vec<u64>, AllocError>
     requires { sum thieves.now ≤ tickets }
-    ensures count { IfOk result (λ shares. length shares.items ≡ length thieves.now + 1) }
-    ensures all { IfOk result (λ shares. sum shares.items ≡ tickets) }
+    ensures each { IfOk result (λ drawn. drawn.items ≡ (tickets - sum thieves.now) ∷ thieves.now) }
+    ensures count { IfOk result (λ drawn. length drawn.items ≡ length thieves.now + 1) }
+    ensures all { IfOk result (λ drawn. sum drawn.items ≡ tickets) }
 {
     let theirs = thieves.iter().sum::<u64>();
     let mut by_worker = Vec::new(alloc);
@@ -240,9 +237,9 @@ impl Closed {
         whole_fronts_are_trees();
         let nodes = nodes_of(alloc, &self.pieces)?;
         let latency = self.best.latency();
-        let delays = self.best.delays().copy()?;
+        let schedule = self.best.schedule().copy()?;
         Ok(Outcome::Proved {
-            certificate: Certificate::new(instance.copy(alloc)?, latency, delays, nodes),
+            certificate: Certificate::new(instance.copy(alloc)?, latency, schedule, nodes),
             tickets: self.tickets,
             by_worker: self.by_worker,
         })

@@ -4,7 +4,6 @@ ghost use Rattle.std.specs.Prelude.{◌≡◌, IfOk, OnOk};
 ghost use Rattle.convoy_share.specs.Common.{common_of};
 ghost use Rattle.convoy_share.specs.Workers.{StaysThief};
 
-use super::fault::SearchFault;
 use super::halves::Keeps;
 use super::means::Means;
 use super::shared::Shared;
@@ -14,6 +13,7 @@ use convoy_branch::Gate;
 use convoy_branch::laws::fronts_better;
 use convoy_deque::Thief;
 use crossbeam_deque::Steal;
+use std::alloc::AllocError;
 use std::sync::Wait;
 use std::sync::atomic::Ordering;
 use std::thread;
@@ -34,7 +34,7 @@ fn rob_once<R: Wait, G: Gate>(
     gate: &G,
     shared: &Shared,
     worker: &mut ThiefWorker,
-) -> Result<bool, SearchFault>
+) -> Result<bool, AllocError>
     requires { StaysThief (common_of shared.now) worker.old worker.old }
     ensures { OnOk result (StaysThief (common_of shared.now) worker.old worker.new) }
 {
@@ -66,7 +66,7 @@ pub(crate) fn rob<R: Wait, G: Gate>(
     gate: &G,
     shared: &Shared,
     mut worker: ThiefWorker,
-) -> Result<ThiefWorker, SearchFault>
+) -> Result<ThiefWorker, AllocError>
     requires { StaysThief (common_of shared.now) worker worker }
     ensures { IfOk result (λ w. StaysThief (common_of shared.now) worker w) }
 {

@@ -9,12 +9,11 @@ ghost use Rattle.convoy_branch.specs.BothWays.{IsOutcomeBothWays};
 ghost use Rattle.convoy_branch.specs.Outcomes.{best_of};
 ghost use Rattle.convoy_ledger.specs.Tickets.{most_tickets};
 
-use super::fault::SearchFault;
 use super::searching::search_from;
 use convoy_branch::{Bounds, Gate, Outcome, lead_share, plain_share};
 use convoy_packets::Instance;
 use convoy_sim::Record;
-use std::alloc::Global;
+use std::alloc::{AllocError, Global};
 use std::sync::Wait;
 use std::thread::Threads;
 
@@ -22,7 +21,7 @@ use std::thread::Threads;
 /// [`convoy_branch::search_both_ways`] does, where each of the two searches is one as [`search_from`]
 /// makes. The gate is told of the second search before its threads start.
 ///
-/// The errors are those of [`search_from`], in either search.
+/// The only error is that memory ran out, in either search.
 pub fn search_both_ways<R: Threads + Wait + Sync, G: Gate + Sync>(
     rt: &R,
     alloc: Global,
@@ -31,7 +30,7 @@ pub fn search_both_ways<R: Threads + Wait + Sync, G: Gate + Sync>(
     workers: u32,
     limit: u64,
     gate: &G,
-) -> Result<Outcome, SearchFault>
+) -> Result<Outcome, AllocError>
     requires of_scenario { opening.scenario ≡ instance.now }
     requires least { latency_of instance.now (least_of (ranges_of instance.now)) ≤ opening.latency }
     requires workers { (1 ≤ workers) × (workers ≤ MOST_WORKERS) }

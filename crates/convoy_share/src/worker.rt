@@ -7,7 +7,6 @@ ghost use Rattle.convoy_branch.specs.Steps.{IsTriedIf};
 ghost use Rattle.convoy_share.specs.Growing.{pieces_in};
 ghost use Rattle.convoy_share.specs.Means.{IsGrown, IsLeftAtEnd, drawn};
 
-use super::fault::SearchFault;
 use super::growing::Growing;
 use super::halves::Halves;
 use super::means::{Means, TakenUp, take_up};
@@ -16,6 +15,7 @@ use super::shared::Shared;
 use convoy_branch::laws::fronts_better;
 use convoy_branch::{Gate, Turn};
 use convoy_intervals::Tracked;
+use std::alloc::AllocError;
 use std::sync::Wait;
 
 /// Takes up the branch that is next in a tree.
@@ -28,7 +28,7 @@ fn advance<R: Wait, G: Gate, H: Halves>(
     growing: &mut Growing,
     branch: Tracked,
     tried: bool,
-) -> Result<(), SearchFault>
+) -> Result<(), AllocError>
     requires hand { means.old.hand.board ≡ shared.now.board.now }
     requires clerk { means.old.clerk.ledger ≡ shared.now.ledger.now }
     requires halves { H.takes (H.fixed halves.old) shared.now.instance.now }
@@ -40,8 +40,9 @@ fn advance<R: Wait, G: Gate, H: Halves>(
         (growing.old.work.items ++ Piece.Todo branch tried ∷ reverse growing.old.written.items)
         → OnOk result (IsGrown shared.now.bounds shared.now.instance.now before means.new first (H.put halves.new) low
         boxes (pieces_in growing.new)) }
-    ensures left { IsLeftAtEnd means.old (reverse growing.old.written.items)
-        → OnOk result (IsLeftAtEnd means.new (reverse growing.new.written.items)) }
+    ensures left { IsLeftAtEnd shared.now.instance.now means.old (reverse growing.old.written.items)
+        → OnOk result (IsLeftAtEnd shared.now.instance.now means.new
+        (reverse growing.new.written.items)) }
     ensures board { OnOk result (means.new.hand.board ≡ shared.now.board.now) }
     ensures ledger { OnOk result (means.new.clerk.ledger ≡ shared.now.ledger.now) }
     ensures fixed { OnOk result (H.fixed halves.new ≡ H.fixed halves.old) }
@@ -69,7 +70,7 @@ fn advance<R: Wait, G: Gate, H: Halves>(
 }
 
 /// Searches a branch as far as there are tickets: the upper half of each split first, and then what
-/// became of the lower half. The pieces of its tree are answered from the last one back.
+/// became of the lower half. A point in real time that nothing closes stays left. The pieces of its tree are answered from the last one back.
 pub(crate) fn search_branch<R: Wait, G: Gate, H: Halves>(
     rt: &R,
     gate: &G,
@@ -78,7 +79,7 @@ pub(crate) fn search_branch<R: Wait, G: Gate, H: Halves>(
     halves: &mut H,
     branch: Tracked,
     tried: bool,
-) -> Result<Vec<Settled>, SearchFault>
+) -> Result<Vec<Settled>, AllocError>
     requires hand { means.old.hand.board ≡ shared.now.board.now }
     requires clerk { means.old.clerk.ledger ≡ shared.now.ledger.now }
     requires halves { H.takes (H.fixed halves.old) shared.now.instance.now }
@@ -87,7 +88,8 @@ pub(crate) fn search_branch<R: Wait, G: Gate, H: Halves>(
     ensures grown { (low : ℕ) → low ≤ length (H.put halves.old) → IfOk result (λ pieces.
         IsGrown shared.now.bounds shared.now.instance.now means.old means.new (H.put halves.old) (H.put halves.new) low
         (branch.delay_box ∷ []) (reverse pieces.items)) }
-    ensures left { IfOk result (λ pieces. IsLeftAtEnd means.new (reverse pieces.items)) }
+    ensures left { IfOk result (λ pieces.
+        IsLeftAtEnd shared.now.instance.now means.new (reverse pieces.items)) }
     ensures fixed { OnOk result (H.fixed halves.new ≡ H.fixed halves.old) }
 {
     let mut growing = Growing::of(shared.alloc, branch, tried)?;

@@ -1,4 +1,4 @@
-use Rattle.std.proofs.Common.{ap, arith}
+use Rattle.std.proofs.Common.{ap, arith, inl, inr}
 use Rattle.convoy_sim.specs.Record.{Record}
 use Rattle.convoy_branch.proofs.SearchSteps.{IsSearching-popped}
 use Rattle.convoy_branch.proofs.search.search_alone_from.Goals as goal
@@ -16,6 +16,16 @@ loop-work-preserved-in-Continue-branch-2 g c = record {
   few = c.loop-work.invariant.few;
   opened = c.loop-work.invariant.opened;
 }
+
+pub returns-in-Some-2-clause-value : goal.returns-in-Some-2-clause-value
+returns-in-Some-2-clause-value g c =
+    let stays = rw c.in-Some-2.is at c.in_ok-branch-in-Branch.ensures.stays in
+    c.into_open.ensures.value c.args.limit (record { few = omega (arith, c.loop-work.invariant.few, stays.same); all = inr stays.point })
+
+pub returns-in-Branch-2-clause-value : goal.returns-in-Branch-2-clause-value
+returns-in-Branch-2-clause-value g c =
+    let few = c.loop-work.invariant.few in
+    c.into_open-in-Branch-2.ensures.value c.args.limit (record { few = few; all = inl (omega (arith, few, c.if-search-limit.false)) })
 
 pub returns-clause-value : goal.returns-clause-value
 returns-clause-value g c = c.into_proved.ensures.value c.args.limit c.loop-work.invariant.few

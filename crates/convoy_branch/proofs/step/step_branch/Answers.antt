@@ -2,7 +2,7 @@ use Rattle.std.proofs.Common.{refl}
 use Rattle.convoy_branch.specs.Steps.{known_after}
 use Rattle.convoy_branch.proofs.Tries.{open_without, turn_of_leaf}
 use Rattle.convoy_branch.proofs.step.step_branch.Goals as goal
-use Rattle.convoy_branch.proofs.step.step_branch.Goals.{in-Some, in-None+in_ok-turn-in-None}
+use Rattle.convoy_branch.proofs.step.step_branch.Goals.{in-Some, in-None+in_ok-fate-in-None}
 
 pub returns-clause-value : goal.returns-clause-value
 returns-clause-value c =
@@ -15,8 +15,8 @@ returns-clause-value c =
     let least = c.stamp_bound_at_most_plain.ensures plan box in
     record {
       found = shows.found;
-      turn = elim c.match-look.branch [
-        | in-Some w ↦ rw w.turn-is (turn_of_leaf bounds plan box known look.leaf w.in-Some.leaf shows.named least shows.leaf w.in-Some.is)
-        | in-None+in_ok-turn-in-None w ↦ rw w.turn-is (w.in_ok-turn-in-None.ensures.value bounds known (record { not_closed = open_without bounds plan box known look.leaf shows.named least shows.leaf w.in-None.is; tried = shows.tried w.in-None.is }))
+      fate = elim c.match-look.branch [
+        | in-Some w ↦ rw w.fate-is (turn_of_leaf bounds plan box known look.leaf w.in-Some.leaf shows.named least shows.leaf w.in-Some.is)
+        | in-None+in_ok-fate-in-None w ↦ rw w.fate-is (w.in_ok-fate-in-None.ensures.value bounds known (record { not_closed = open_without bounds plan box known look.leaf shows.named least shows.leaf w.in-None.is; tried = shows.tried w.in-None.is }))
       ];
     }

@@ -42,4 +42,4 @@ returns g t c =
     let robbed : StaysThief common thief c.in_ok-thief.thief = search (rules, c.join-robbed.ensures.first, c.in_ok-thief.was) in
     let here : IsThief common owner.end.deque thief.means.hand.share thief.means.clerk.share c.in_ok-thief.thief = subst (λ d. IsThief common d thief.means.hand.share thief.means.clerk.share c.in_ok-thief.thief) parts.1.deque_is robbed in
     let worked : HasJoined common owner rest c.in_ok-joined.joined = search (rules, c.join-robbed.ensures.second, c.in_ok-joined.was) in
-    joined_more common owner c.gather.new.owner c.args.thieves.items rest thief c.in-Some.ensures.items (c.in_ok-gather.ensures owner.end.deque (owner.means.hand.share + hand_shares rest) (owner.means.clerk.share + clerk_shares rest) (owner.end.share + length rest) (length owner.drawn_by_thieves.items + length rest) owner.means.hand.seen thief.means.hand.share thief.means.clerk.share worked here)
+    joined_more common owner c.gather.new.owner c.args.thieves.items rest thief c.in-Some.ensures.items (c.in_ok-gather.ensures.owner owner.end.deque (owner.means.hand.share + hand_shares rest) (owner.means.clerk.share + clerk_shares rest) (owner.end.share + length rest) (length owner.drawn_by_thieves.items + length rest) owner.means.hand.seen thief.means.hand.share thief.means.clerk.share worked here)

@@ -14,7 +14,7 @@ fetch_max-found-requires c =
     let told = c.pair.ensures in
     let note = c.args.noted in
     let word = c.word-word.result in
-    let pair = pair_of_word note c.pair.result word c.word-word.ensures told.latency told.place.0 told.place.1 in
+    let pair = pair_of_word note c.pair.result word c.word-word.ensures told.pair told.place in
     let plan = c.hand.inside.seat.me.0.store.scenario.value in
     let same = c.requires.noted.1 ∙ sym (ap (λ (id : BoardId). id.scenario) mine) in (
       ap (λ (id : BoardId). id.table) (mine ∙ sym c.self.view_is),
@@ -30,7 +30,7 @@ invariant_of-hand c =
     let told = c.pair.ensures in
     let note = c.args.noted in
     let word = c.word-word.result in
-    let pair = pair_of_word note c.pair.result word c.word-word.ensures told.latency told.place.0 told.place.1 in
+    let pair = pair_of_word note c.pair.result word c.word-word.ensures told.pair told.place in
     let new = subst (λ id. IsNoteOf id note) (sym mine) c.requires.noted in
     let found = c.fetch_max-found.ensures in
     let better = subst (λ best. IsBetterOf best (Some note) c.better_of.result) c.take-best.ensures.value c.better_of.ensures in
@@ -45,7 +45,7 @@ returns-clause-least c =
     let told = c.pair.ensures in
     let note = c.args.noted in
     let word = c.word-word.result in
-    let pair = pair_of_word note c.pair.result word c.word-word.ensures told.latency told.place.0 told.place.1 in
+    let pair = pair_of_word note c.pair.result word c.word-word.ensures told.pair told.place in
     let found = c.fetch_max-found.ensures in
     least_is_told seat.me.0.seen c.args.hand.now.seen c.fetch_max-found.result word c.max.result seat.me.0.pairs c.args.hand.now.pairs note pair c.max.ensures
     (ap (λ (holding : Holding). holding.seen) c.hand.view_is)

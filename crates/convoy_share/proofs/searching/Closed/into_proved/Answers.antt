@@ -1,5 +1,6 @@
 use Rattle.std.proofs.Common.{ap, sym, subst, ◌∙◌, List}
 use Rattle.std.specs.List.{All}
+use Rattle.convoy_scenario.specs.Scenario.{Scenario}
 use Rattle.convoy_certificate.specs.Certificate.{IsNode}
 use Rattle.convoy_certificate.specs.declared.node.Node.{Node}
 use Rattle.convoy_share.specs.declared.piece.Piece.{Piece}
@@ -10,10 +11,12 @@ use Rattle.convoy_share.proofs.searching.Closed.into_proved.Goals as goal
 pub new-requires-clause-nodes : goal.new-requires-clause-nodes
 new-requires-clause-nodes c =
     let nodes = c.in_ok-nodes.ensures ∙ ap (λ (ps : List Piece). nodes_in ps) c.deref.ensures.value in
-    subst (λ (ns : List Node). All IsNode ns) (sym nodes) (nodes_closed c.args.bounds c.args.instance.now c.requires.closed.0 c.requires.closed.1 c.args.self c.requires.closed.2)
+    let of_plan = nodes_closed c.args.bounds c.args.instance.now c.requires.closed.0 c.requires.closed.1 c.args.self c.requires.closed.2 in
+    let of_copy = subst (λ (s : Scenario). All (IsNode s.time) (nodes_in c.args.self.pieces.items)) (sym c.in_ok-copy.ensures) of_plan in
+    subst (λ (ns : List Node). All (IsNode c.in_ok-copy.field-0.time) ns) (sym nodes) of_copy
 
 pub returns-clause-value : goal.returns-clause-value
 returns-clause-value c workers limit is =
     let nodes = c.in_ok-nodes.ensures ∙ ap (λ (ps : List Piece). nodes_in ps) c.deref.ensures.value in
-    let same = certificate_is c.in_ok-copy.ensures c.latency-latency.ensures.value (c.in_ok-delays.ensures ∙ c.delays.ensures.value) nodes in
+    let same = certificate_is c.in_ok-copy.ensures c.latency-latency.ensures.value (c.in_ok-schedule.ensures ∙ c.schedule.ensures.value) nodes in
     IsProved-closed c.whole_fronts_are_trees.ensures c.trees_cover.ensures c.plain_fronts_have_no_stamps.ensures c.only_leads_have_lead_leaves.ensures c.whole_fronts_are_readable.ensures c.args.bounds c.args.instance.now workers limit c.args.self c.new.result c.requires.none (c.new.ensures ∙ same) is
