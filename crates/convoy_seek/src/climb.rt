@@ -1,20 +1,31 @@
+ghost use Rattle.std.specs.Prelude.{◌≤◌};
+ghost use Rattle.convoy_packets.specs.Assignment.{IsWithin};
+
+use crate::chance::Chance;
+use crate::meeting::meeting_delay;
 use crate::pattern::Pattern;
 use crate::seeker::Seeker;
 use crate::sweep::Sweep;
-use convoy_packets::{Instance, PacketTable};
+use crate::ties::{flip_ranks, is_real};
+use convoy_packets::laws::fixed_order_is_order;
+use convoy_packets::{Instance, Order, Packet, PacketTable, Schedule};
 use std::alloc::{AllocError, Global};
 
-/// How many steps without a better score end a climb.
+/// How many steps without a better score end a climb in whole ticks.
 const PATIENCE: u32 = 300;
+
+/// The same in real time, where there are more ways to go on.
+const PATIENCE_IN_REAL_TIME: u32 = 1_300;
 
 impl Seeker {
     ghost use Rattle.std.specs.Prelude.{◌≡◌, ◌<◌, length};
     ghost use Rattle.convoy_packets.specs.Assignment.{AreWithin};
     ghost use Rattle.convoy_packets.specs.Table.{table_of};
-    ghost use Rattle.convoy_seek.specs.Seeking.{IsSeeking, GoesOn};
+    ghost use Rattle.convoy_seek.specs.Seeking.{GoesOn, HasChanged, HasDelaysOf, IsSeeking};
 
-    /// Climbs from a pattern: changes a few packets of the schedule that is kept by chance, and keeps
-    /// what has no lesser score, until many changes in a row have found no greater one.
+    /// Climbs from a pattern with ties in the fixed order: changes a few packets of the schedule that is
+    /// kept by chance, or in real time ranks of its moments, and keeps what has no lesser score, until
+    /// many changes in a row have found no greater one.
     pub fn climb(
         &mut self,
         alloc: Global,
@@ -26,14 +37,17 @@ impl Seeker {
         requires left { 0 < self.old.left }
         ensures goes_on { GoesOn instance.now self.old self.new }
     {
+        fixed_order_is_order();
         start.lay(instance, &mut self.tried);
-        let mut score = self.weigh(alloc, instance)?;
+        self.tried.set_order(Order::none());
+        let mut score = self.weigh(alloc, instance, start.rival())?;
         self.kept.copy_from(&self.tried);
+        let patience = patience_of(instance);
         let mut stale = 0;
-        while stale < PATIENCE && self.may_go_on() {
+        while stale < patience && self.may_go_on() {
             self.tried.copy_from(&self.kept);
-            self.change(instance.table());
-            let next = self.weigh(alloc, instance)?;
+            self.change(alloc, instance)?;
+            let next = self.weigh(alloc, instance, start.rival())?;
             stale = if next > score { 0 } else { stale + 1 };
             if next >= score {
                 score = next;
@@ -43,51 +57,88 @@ impl Seeker {
         Ok(())
     }
 
-    /// Changes the schedule that is tried: in one case of four by a sweep, else in one to three packets.
-    fn change(&mut self, table: &PacketTable)
-        requires some { 0 < length table.now.packets }
-        requires within { AreWithin table.now.ranges self.old.tried }
-        ensures within { AreWithin table.now.ranges self.new.tried }
-        ensures best { self.new.best ≡ self.old.best }
-        ensures kept { self.new.kept ≡ self.old.kept }
-        ensures left { self.new.left ≡ self.old.left }
+    /// Changes the schedule that is tried: in real time in one case of five ranks of its moments, and
+    /// else delays.
+    fn change(&mut self, alloc: Global, instance: &Instance) -> Result<(), AllocError>
+        requires some { 0 < length (table_of instance.now).packets }
+        requires seeking { IsSeeking instance.now self.old }
+        ensures { HasChanged instance.now self.old self.new }
+    {
+        if is_real(instance) && self.chance.below(5) == 0 {
+            return flip_ranks(alloc, instance, &mut self.tried, &mut self.chance);
+        }
+        self.change_delays(instance);
+        Ok(())
+    }
+
+    /// Changes delays: in one case of four by a sweep, else those of one to three packets.
+    fn change_delays(&mut self, instance: &Instance)
+        requires some { 0 < length (table_of instance.now).packets }
+        requires within { AreWithin (table_of instance.now).ranges self.old.tried.delays }
+        ensures { HasDelaysOf (table_of instance.now).ranges self.old self.new }
     {
         if self.chance.below(4) == 0 {
-            self.sweep(table);
+            self.sweep(instance.table());
         } else {
             let more = self.chance.below(3);
             for _ in 0..more + 1 {
-                self.change_packet(table);
+                self.change_packet(instance);
             }
         }
     }
 
     /// Gives a packet by chance another delay by chance.
     #[tactic(auto, using(crate::proofs::Schedules::length_within))]
-    fn change_packet(&mut self, table: &PacketTable)
-        requires some { 0 < length table.now.packets }
-        requires within { AreWithin table.now.ranges self.old.tried }
-        ensures within { AreWithin table.now.ranges self.new.tried }
-        ensures best { self.new.best ≡ self.old.best }
-        ensures kept { self.new.kept ≡ self.old.kept }
-        ensures left { self.new.left ≡ self.old.left }
+    fn change_packet(&mut self, instance: &Instance)
+        requires some { 0 < length (table_of instance.now).packets }
+        requires within { AreWithin (table_of instance.now).ranges self.old.tried.delays }
+        ensures { HasDelaysOf (table_of instance.now).ranges self.old self.new }
     {
+        let table = instance.table();
         let i = self.chance.below(table.len());
-        let delay = self.chance.delay(table.range(i));
+        let (packet, range) = (table.packet(i), table.range(i));
+        let delay = other_delay(instance, &self.tried, packet, range, &mut self.chance);
         self.tried.set(i, delay);
     }
 
     /// Gives many packets of a message the same end of their ranges.
     fn sweep(&mut self, table: &PacketTable)
         requires some { 0 < length table.now.packets }
-        requires within { AreWithin table.now.ranges self.old.tried }
-        ensures within { AreWithin table.now.ranges self.new.tried }
-        ensures best { self.new.best ≡ self.old.best }
-        ensures kept { self.new.kept ≡ self.old.kept }
-        ensures left { self.new.left ≡ self.old.left }
+        requires within { AreWithin table.now.ranges self.old.tried.delays }
+        ensures { HasDelaysOf table.now.ranges self.old self.new }
     {
         let first = self.chance.below(table.len());
         let sweep = Sweep::over(table.packet(first), &mut self.chance);
         sweep.change(table, &mut self.tried);
     }
+}
+
+/// How many steps without a better score end a climb.
+fn patience_of(instance: &Instance) -> u32 {
+    if is_real(instance) {
+        PATIENCE_IN_REAL_TIME
+    } else {
+        PATIENCE
+    }
+}
+
+/// Another delay of a packet by chance, in ticks: in real time every second time one by which two
+/// moments meet, if there is one.
+fn other_delay(
+    instance: &Instance,
+    schedule: &Schedule,
+    packet: Packet,
+    range: (u16, u16),
+    chance: &mut Chance,
+) -> u16
+    requires { range.0 ≤ range.1 }
+    ensures { IsWithin range result }
+{
+    if is_real(instance)
+        && chance.below(2) == 0
+        && let Some(delay) = meeting_delay(instance, schedule, packet, range, chance)
+    {
+        return delay;
+    }
+    chance.delay(range)
 }

@@ -6,9 +6,15 @@ pub use seeking::seek;
 
 mod chance;
 mod climb;
+mod comings;
+mod meeting;
 mod pattern;
+mod pruning;
+mod rival;
 mod score;
 mod seeker;
 mod seeking;
 mod starts;
 mod sweep;
+mod ties;
+mod times;

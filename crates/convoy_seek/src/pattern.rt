@@ -1,7 +1,9 @@
 ghost use Rattle.std.specs.Prelude.{◌≤◌};
 ghost use Rattle.convoy_packets.specs.Assignment.{IsAssignment, IsWithin};
 
-use convoy_packets::{Delays, Instance, Packet};
+use crate::chance::Chance;
+use crate::comings::Comings;
+use convoy_packets::{Instance, Packet, Schedule};
 use convoy_scenario::Scenario;
 
 /// An end of the range of a packet.
@@ -12,7 +14,7 @@ pub enum End {
 }
 
 impl End {
-    /// The least end for an even number, else the greatest.
+    /// The greatest end for an even number, else the least.
     pub fn numbered(number: usize) -> End {
         if number % 2 == 0 {
             End::Most
@@ -76,32 +78,46 @@ pub struct Pattern {
 }
 
 impl Pattern {
-    /// How many patterns there are for a rival that comes after a delay of a range, in ticks.
-    pub fn count(least: u16, most: u16) -> usize {
-        (usize::from(most.saturating_sub(least)) + 1) * CHOICES
+    /// How many patterns are tried for a rival.
+    pub fn count(comings: &Comings) -> usize {
+        comings.count() * CHOICES
     }
 
-    /// The pattern of a rival with a number, where `least` is the least delay after which it comes,
-    /// in ticks: all choices for that delay stand before those for the next one.
-    pub fn numbered(rival: usize, least: u16, number: usize) -> Pattern {
-        let more = (number / CHOICES).min(usize::from(u16::MAX - least)) as u16;
+    /// The pattern of a rival with a number, where the rival comes after those delays: all choices
+    /// for one delay stand before those for the next one.
+    pub fn numbered(rival: usize, comings: &Comings, number: usize) -> Pattern {
         Pattern {
             rival,
-            coming: least + more,
+            coming: comings.delay(number / CHOICES),
             ends: Ends::numbered(number % CHOICES),
         }
     }
 
-    /// Makes a schedule that of the pattern.
+    /// The rival that is to hold the target back.
+    pub fn rival(&self) -> usize {
+        self.rival
+    }
+
+    /// A pattern of the same rival by chance, where the rival comes after those delays or others
+    /// between them.
+    pub fn varied(&self, comings: &Comings, chance: &mut Chance) -> Pattern {
+        Pattern {
+            rival: self.rival,
+            coming: chance.delay(comings.range()),
+            ends: Ends::numbered(chance.below(CHOICES)),
+        }
+    }
+
+    /// Gives a schedule the delays of the pattern.
     #[tactic(auto, using(crate::proofs::Schedules::length_within))]
-    pub fn lay(&self, instance: &Instance, delays: &mut Delays)
-        requires { IsAssignment instance.now delays.old }
-        ensures { IsAssignment instance.now delays.new }
+    pub fn lay(&self, instance: &Instance, schedule: &mut Schedule)
+        requires { IsAssignment instance.now schedule.old }
+        ensures { IsAssignment instance.now schedule.new }
     {
         let (scenario, table) = (instance.scenario(), instance.table());
         for i in 0..table.len() {
             let delay = self.delay(scenario, table.packet(i), table.range(i));
-            delays.set(i, delay);
+            schedule.set(i, delay);
         }
     }
 

@@ -4,46 +4,30 @@ use convoy_sim::Run;
 /// What it costs a rival to come one tick after the commit of the target, in ticks gained.
 const PRICE_OF_A_TICK: i64 = 10;
 
-/// How good a schedule is to climb from: by its latency, and then by how near a rival is to holding
-/// the target back for longer.
+/// How good a schedule is to climb from: how near a rival is to holding the target back for long.
 #[derive(Clone, Copy, PartialEq, Eq, PartialOrd, Ord)]
 pub struct Score {
-    latency: u32,
     nearness: i64,
 }
 
 impl Score {
-    /// Less than the score of any run.
-    pub const LEAST: Score = Score {
-        latency: 0,
-        nearness: i64::MIN,
-    };
+    /// The least score of all.
+    pub const LEAST: Score = Score { nearness: i64::MIN };
 
-    /// The score of a run of a scenario.
-    pub fn of(scenario: &Scenario, run: &Run) -> Score {
-        let mut nearness = i64::MIN;
-        for rival in 0..scenario.message_count() {
-            if let Some(near) = nearness_of(scenario, run, rival) {
-                nearness = nearness.max(near);
-            }
-        }
+    /// The score of a run of a scenario, by one rival.
+    pub fn of(scenario: &Scenario, run: &Run, rival: usize) -> Score {
         Score {
-            latency: run.latency(),
-            nearness,
+            nearness: nearness_of(scenario, run, rival).unwrap_or(i64::MIN),
         }
     }
 }
 
-/// How near a rival is to holding the target back for longer than now: the ticks that this would
-/// add, less a price for each tick that it comes after the commit of the target, and for what its
-/// stamp exceeds that of the target by. None where it would add nothing.
+/// How near a rival is to holding the target back for long: the tick at which it is committed, less a
+/// price for each tick that it comes after the commit of the target, and for what its stamp exceeds that
+/// of the target by. None where it does not go to the target's group.
 fn nearness_of(scenario: &Scenario, run: &Run, rival: usize) -> Option<i64> {
     let (target, group) = (scenario.target_message(), scenario.target_group());
-    let delivered = run.delivered(target, group)?;
-    let added = run.committed(rival, group)?.checked_sub(delivered)?;
-    if added == 0 {
-        return None;
-    }
+    let committed = run.committed(rival, group)?;
     let came = run.proposed(rival, group)?;
     let late = came.tick.saturating_sub(run.committed(target, group)?);
     let last = run.final_stamp(target)?;
@@ -57,5 +41,5 @@ fn nearness_of(scenario: &Scenario, run: &Run, rival: usize) -> Option<i64> {
         .time
         .saturating_sub(free)
         .min(u64::from(u32::MAX));
-    Some(i64::from(added) - PRICE_OF_A_TICK * i64::from(late) - excess as i64)
+    Some(i64::from(committed) - PRICE_OF_A_TICK * i64::from(late) - excess as i64)
 }

@@ -1,7 +1,8 @@
 use crate::chance::Chance;
+use crate::rival::Rival;
 use crate::score::Score;
-use convoy_packets::{Delays, Instance};
-use convoy_sim::{Record, simulate};
+use convoy_packets::{Instance, Schedule};
+use convoy_sim::{Record, Run, simulate};
 use std::alloc::{AllocError, Global};
 
 /// Where seeking stands.
@@ -10,9 +11,9 @@ pub struct Seeker {
     /// The record of the greatest latency that was seen.
     pub best: Record,
     /// The schedule from which a climb goes on.
-    pub kept: Delays,
+    pub kept: Schedule,
     /// The schedule that is simulated next.
-    pub tried: Delays,
+    pub tried: Schedule,
     /// How many simulations are left.
     pub left: u64,
     /// The latency that ends it, in ticks.
@@ -33,9 +34,14 @@ impl Seeker {
         self.left > 0 && self.best.latency() < self.until
     }
 
+    /// Whether a rival could hold the target back for longer than the best record does.
+    pub fn may_gain_by(&self, rival: Rival) -> bool {
+        u64::from(self.best.latency()) < rival.most
+    }
+
     /// Simulates the schedule that is tried, and keeps a record of it where its latency is greater
     /// than that of the best one.
-    pub fn weigh(&mut self, alloc: Global, instance: &Instance) -> Result<Score, AllocError>
+    pub fn simulate_tried(&mut self, alloc: Global, instance: &Instance) -> Result<Run, AllocError>
         requires seeking { IsSeeking instance.now self.old }
         requires left { 0 < self.old.left }
         ensures goes_on { GoesOn instance.now self.old self.new }
@@ -46,17 +52,34 @@ impl Seeker {
         if run.latency() > self.best.latency() {
             self.note(alloc, instance)?;
         }
-        Ok(Score::of(instance.scenario(), &run))
+        Ok(run)
     }
 
-    /// Makes the schedule that is tried the best record.
-    fn note(&mut self, alloc: Global, instance: &Instance) -> Result<(), AllocError>
+    /// Simulates the schedule that is tried, keeps a record of it likewise, and answers its score by a
+    /// rival.
+    pub fn weigh(
+        &mut self,
+        alloc: Global,
+        instance: &Instance,
+        rival: usize,
+    ) -> Result<Score, AllocError>
         requires seeking { IsSeeking instance.now self.old }
-        requires greater { self.old.best.latency < latency_of instance.now self.old.tried }
+        requires left { 0 < self.old.left }
+        ensures goes_on { GoesOn instance.now self.old self.new }
+        ensures left { self.new.left < self.old.left }
+    {
+        let run = self.simulate_tried(alloc, instance)?;
+        Ok(Score::of(instance.scenario(), &run, rival))
+    }
+
+    /// Makes the schedule that is tried the best record, than which it is no faster.
+    pub fn note(&mut self, alloc: Global, instance: &Instance) -> Result<(), AllocError>
+        requires seeking { IsSeeking instance.now self.old }
+        requires no_less { self.old.best.latency ≤ latency_of instance.now self.old.tried }
         ensures goes_on { GoesOn instance.now self.old self.new }
     {
-        let delays = self.tried.copy()?;
-        self.best = Record::of(instance, delays);
+        let schedule = self.tried.copy()?;
+        self.best = Record::of(instance, schedule);
         Ok(())
     }
 }

@@ -1,25 +1,37 @@
 ghost use Rattle.std.specs.Prelude.{◌<◌, length};
 
+use crate::chance::Chance;
+use crate::comings::Comings;
 use crate::pattern::Pattern;
+use crate::rival::{Rival, list_rivals};
 use crate::score::Score;
 use crate::seeker::Seeker;
+use crate::ties::is_real;
 use convoy_packets::Instance;
-use convoy_scenario::Scenario;
 use std::alloc::{AllocError, Global};
+
+/// A rival, with the pattern from which its first climb goes.
+#[derive(Clone, Copy)]
+struct Start {
+    rival: Rival,
+    pattern: Pattern,
+}
 
 impl Seeker {
     ghost use Rattle.std.specs.Prelude.{◌≡◌, ◌<◌, length};
     ghost use Rattle.convoy_seek.specs.Seeking.{IsSeeking, GoesOn};
 
-    /// Tries the schedule as it stands, and then all patterns, and climbs from the best pattern of
-    /// each rival in turn for as long as it may.
+    /// Tries the schedule as it stands, that of the greatest delays, and then patterns. Then it climbs
+    /// for as long as it may: in turn for each rival by which it may gain, from its best pattern, and in
+    /// real time after that from others of the rival.
     pub fn run(&mut self, alloc: Global, instance: &Instance) -> Result<(), AllocError>
         requires seeking { IsSeeking instance.now self.old }
         requires left { 0 < self.old.left }
         ensures goes_on { GoesOn instance.now self.old self.new }
     {
-        self.weigh(alloc, instance)?;
-        let starts = self.starts(alloc, instance)?;
+        self.simulate_tried(alloc, instance)?;
+        let rivals = list_rivals(alloc, instance, &self.tried)?;
+        let starts = self.starts(alloc, instance, &rivals)?;
         if instance.table().is_empty() || starts.is_empty() {
             return Ok(());
         }
@@ -27,46 +39,57 @@ impl Seeker {
             if !self.may_go_on() {
                 break;
             }
-            self.climb(alloc, instance, &starts[round % starts.len()])?;
+            let start = starts[round % starts.len()];
+            if self.may_gain_by(start.rival) {
+                let is_first = round < starts.len();
+                let pattern = start.pattern(instance, is_first, &mut self.chance);
+                self.climb(alloc, instance, &pattern)?;
+            }
         }
         Ok(())
     }
 
-    /// The best pattern of each rival.
-    fn starts(&mut self, alloc: Global, instance: &Instance) -> Result<Vec<Pattern>, AllocError>
+    /// A start for each of the rivals by which it may gain.
+    fn starts(
+        &mut self,
+        alloc: Global,
+        instance: &Instance,
+        rivals: &[Rival],
+    ) -> Result<Vec<Start>, AllocError>
         requires seeking { IsSeeking instance.now self.old }
         ensures goes_on { GoesOn instance.now self.old self.new }
     {
         let mut starts = Vec::new(alloc);
-        for rival in 0..instance.message_count() {
-            if is_rival(instance.scenario(), rival) {
-                let start = self.best_pattern(alloc, instance, rival)?;
-                starts.push(start)?;
+        for &rival in rivals {
+            if self.may_gain_by(rival) {
+                let pattern = self.best_pattern(alloc, instance, rival)?;
+                starts.push(Start { rival, pattern })?;
             }
         }
         Ok(starts)
     }
 
-    /// The pattern of a rival with the greatest score, the first where several have it.
+    /// The pattern of a rival with the greatest score, the first where several have it, among those that
+    /// are tried until it may gain no more by the rival.
     fn best_pattern(
         &mut self,
         alloc: Global,
         instance: &Instance,
-        rival: usize,
+        rival: Rival,
     ) -> Result<Pattern, AllocError>
         requires seeking { IsSeeking instance.now self.old }
         ensures goes_on { GoesOn instance.now self.old self.new }
     {
-        let (least, most) = coming_range(instance, rival);
-        let mut best = Pattern::numbered(rival, least, 0);
+        let comings = Comings::of(instance, rival.message);
+        let mut best = Pattern::numbered(rival.message, &comings, 0);
         let mut greatest = Score::LEAST;
-        for number in 0..Pattern::count(least, most) {
-            if !self.may_go_on() {
+        for number in 0..Pattern::count(&comings) {
+            if !self.may_go_on() || !self.may_gain_by(rival) {
                 break;
             }
-            let pattern = Pattern::numbered(rival, least, number);
+            let pattern = Pattern::numbered(rival.message, &comings, number);
             pattern.lay(instance, &mut self.tried);
-            let score = self.weigh(alloc, instance)?;
+            let score = self.weigh(alloc, instance, rival.message)?;
             if score > greatest {
                 best = pattern;
                 greatest = score;
@@ -76,28 +99,14 @@ impl Seeker {
     }
 }
 
-/// Whether a message could hold the target back: it is another one to the target's group.
-fn is_rival(scenario: &Scenario, message: usize) -> bool
-    requires { message < length scenario.now.multicasts }
-{
-    let group = scenario.target_group();
-    message != scenario.target_message()
-        && scenario.destinations(message).iter().any(|to| *to == group)
-}
-
-/// The least and the greatest delay after which a message arrives at the target's group, in ticks; 0
-/// and 0 where the group sends the message itself.
-fn coming_range(instance: &Instance, message: usize) -> (u16, u16) {
-    match instance
-        .table()
-        .multicast_to(message, instance.target_group())
-    {
-        Some(i) => instance
-            .table()
-            .ranges()
-            .get(usize::from(i))
-            .copied()
-            .unwrap_or((0, 0)),
-        None => (0, 0),
+impl Start {
+    /// The pattern from which a climb goes: the first time the best one of the rival; in real time after
+    /// that another one of the rival by chance.
+    fn pattern(&self, instance: &Instance, is_first: bool, chance: &mut Chance) -> Pattern {
+        if is_first || !is_real(instance) {
+            return self.pattern;
+        }
+        let comings = Comings::of(instance, self.rival.message);
+        self.pattern.varied(&comings, chance)
     }
 }

@@ -1,8 +1,9 @@
+ghost use Rattle.std.specs.Prelude.{◌≡◌};
 ghost use Rattle.convoy_packets.specs.Assignment.{AreWithin};
 
 use crate::chance::Chance;
 use crate::pattern::End;
-use convoy_packets::{Delays, Packet, PacketTable};
+use convoy_packets::{Packet, PacketTable, Schedule};
 
 /// Which packets of a message a sweep takes.
 #[derive(Clone, Copy, PartialEq, Eq)]
@@ -48,13 +49,14 @@ impl Sweep {
 
     /// Changes a schedule by the sweep.
     #[tactic(auto, using(crate::proofs::Schedules::length_within))]
-    pub fn change(&self, table: &PacketTable, delays: &mut Delays)
-        requires { AreWithin table.now.ranges delays.old }
-        ensures { AreWithin table.now.ranges delays.new }
+    pub fn change(&self, table: &PacketTable, schedule: &mut Schedule)
+        requires { AreWithin table.now.ranges schedule.old.delays }
+        ensures within { AreWithin table.now.ranges schedule.new.delays }
+        ensures order { schedule.new.order ≡ schedule.old.order }
     {
         for i in 0..table.len() {
             if self.takes(table.packet(i)) {
-                delays.set(i, self.end.of(table.range(i)));
+                schedule.set(i, self.end.of(table.range(i)));
             }
         }
     }
