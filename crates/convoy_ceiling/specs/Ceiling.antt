@@ -1,0 +1,100 @@
+-- The ceiling: a number that no latency exceeds, whatever traffic of a scenario's kinds of messages there is.
+use Rattle.std.specs.Prelude.{◌≡◌, ℕ, ◌+◌, ◌-◌, ◌*◌, ◌≤◌, ◌<◌, length, map, All, IsFalse, IsTrue, if◌then◌else◌}
+use Rattle.convoy_scenario.specs.declared.sender.Sender.{Sender}
+use Rattle.convoy_scenario.specs.declared.sender.Sender.TheVariants.{Group}
+use Rattle.convoy_scenario.specs.Scenario.{Message, Scenario, GoesTo, message_at, is_same_sender, is_sent_by, range_between}
+use Rattle.convoy_scenario.specs.WellFormed.{IsScenario}
+use Rattle.convoy_packets.specs.declared.packet.Packet.{Packet}
+use Rattle.convoy_packets.specs.Assignment.{Schedule, AreWithin, range_of, ranges_of, receiver_of, sender_of}
+use Rattle.convoy_packets.specs.Laws.{is_sent}
+use Rattle.convoy_sim.specs.Times.{greatest}
+use Rattle.convoy_sim.specs.Delivery.{addressed_to, latency_at}
+use Rattle.convoy_sim.specs.Greatest.{IsUpper}
+
+-- the least and the greatest delay from a sender to a group; what a group sends to itself takes no time
+abbrev pub delays_between : Scenario → Sender → ℕ → ℕ × ℕ
+delays_between scenario sender to = if is_same_sender sender (Group to) then (0, 0) else range_between scenario sender to
+
+-- the longest way from a sender to group h, and on to group g
+abbrev pub longest_by : Scenario → Sender → ℕ → ℕ → ℕ
+longest_by scenario sender g h = (delays_between scenario sender h).1 + (delays_between scenario (Group h) g).1
+
+-- the longest from the issue of message m to its commit at group g: the longest way by one of its destinations
+abbrev pub longest_to_commit : Scenario → ℕ → ℕ → ℕ
+longest_to_commit scenario m g = greatest (map (longest_by scenario (message_at scenario m).sender g) (message_at scenario m).destinations)
+
+-- the longest from the arrival of message m at group g to its commit there
+abbrev pub longest_from_arrival : Scenario → ℕ → ℕ → ℕ
+longest_from_arrival scenario g m = longest_to_commit scenario m g - (delays_between scenario (message_at scenario m).sender g).0
+
+-- the longest from the arrival of any message at group g to its commit there
+abbrev pub longest_after : Scenario → ℕ → ℕ
+longest_after scenario g = greatest (map (longest_from_arrival scenario g) (addressed_to scenario g))
+
+-- the ceiling of message m at group g: the longest to its commit there, and then to that of a message which has arrived there by then
+unfoldable pub ceiling_at : Scenario → ℕ → ℕ → ℕ
+ceiling_at scenario m g = longest_to_commit scenario m g + longest_after scenario g
+
+-- the ceiling of a scenario, that of its target
+unfoldable pub ceiling_of : Scenario → ℕ
+ceiling_of scenario = ceiling_at scenario scenario.target_message scenario.target_group
+
+-- a message is of the kind of another: it has the same sender and the same destinations
+pub record IsOfKind (kind message : Message) : Type 0 where
+  pub sender : message.sender ≡ kind.sender
+  pub destinations : message.destinations ≡ kind.destinations
+
+-- a message of the traffic is of the kind of some message of the scenario
+abbrev pub IsOfSomeKind : Scenario → Message → Type 0
+IsOfSomeKind scenario message = (n : ℕ) × (n < length scenario.multicasts) × IsOfKind (message_at scenario n) message
+
+-- traffic of a scenario's kinds of messages: as many groups, the same D and the same links, and messages of any number, issued at any ticks, each of the kind of some message of the scenario
+pub record IsTrafficOf (scenario traffic : Scenario) : Type 0 where
+  pub groups : length traffic.groups ≡ length scenario.groups
+  pub delay : traffic.delay ≡ scenario.delay
+  pub links : traffic.links ≡ scenario.links
+  pub kinds : All (IsOfSomeKind scenario) traffic.multicasts
+
+-- the range that the scenario's links give a packet of traffic
+abbrev pub range_by : Scenario → Scenario → Packet → ℕ × ℕ
+range_by scenario traffic packet = range_between scenario (sender_of traffic packet) (receiver_of packet)
+
+-- traffic of a scenario's kinds of messages in ticks so many times as fine: the range of each packet lies within so many times the one that the scenario's links give it
+pub record IsFinerTrafficOf (times : ℕ) (scenario traffic : Scenario) : Type 0 where
+  pub groups : length traffic.groups ≡ length scenario.groups
+  pub kinds : All (IsOfSomeKind scenario) traffic.multicasts
+  pub least : (packet : Packet) → IsTrue (is_sent traffic packet) → times * (range_by scenario traffic packet).0 ≤ (range_of traffic packet).0
+  pub most : (packet : Packet) → IsTrue (is_sent traffic packet) → (range_of traffic packet).1 ≤ times * (range_by scenario traffic packet).1
+
+-- in no traffic of the scenario's kinds of messages has a message of the kind of n a greater latency at group g, whatever the delays are in their ranges, and in whatever order ties fall
+abbrev pub IsUpperInTraffic : Scenario → ℕ → ℕ → ℕ → Type 0
+IsUpperInTraffic scenario n g latency =
+    (traffic : Scenario) (schedule : Schedule) → IsTrafficOf scenario traffic → AreWithin (ranges_of traffic) schedule.delays
+    → (m : ℕ) → IsOfKind (message_at scenario n) (message_at traffic m) → GoesTo traffic m g
+    → latency_at traffic schedule m g ≤ latency
+
+-- In no traffic of a scenario's kinds of messages is a latency above the ceiling.
+abbrev pub CeilingHolds : Type 0
+CeilingHolds = (scenario : Scenario) → IsScenario scenario → (n g : ℕ) → IsUpperInTraffic scenario n g (ceiling_at scenario n g)
+
+-- Nor is it in ticks that are a number of times as fine, in which the ceiling is as many times the number: so it holds whatever part of a tick times are.
+abbrev pub CeilingHoldsInFinerTicks : Type 0
+CeilingHoldsInFinerTicks =
+    (times : ℕ) (scenario traffic : Scenario) (schedule : Schedule)
+    → IsScenario scenario → IsFinerTrafficOf times scenario traffic → AreWithin (ranges_of traffic) schedule.delays
+    → (n m g : ℕ) → IsOfKind (message_at scenario n) (message_at traffic m) → GoesTo traffic m g
+    → latency_at traffic schedule m g ≤ times * ceiling_at scenario n g
+
+-- No latency of a scenario is above its ceiling.
+abbrev pub CeilingIsUpper : Type 0
+CeilingIsUpper = (scenario : Scenario) → IsScenario scenario → IsUpper scenario (ceiling_of scenario)
+
+-- No ceiling is above 4 D.
+abbrev pub CeilingWithinFourDelays : Type 0
+CeilingWithinFourDelays = (scenario : Scenario) → IsScenario scenario → (m g : ℕ) → ceiling_at scenario m g ≤ 4 * scenario.delay
+
+-- Where a group sends none of the messages that go to it, each ceiling at the group is below 4 D.
+abbrev pub CeilingBelowFourDelays : Type 0
+CeilingBelowFourDelays =
+    (scenario : Scenario) → IsScenario scenario → (g : ℕ) → ((n : ℕ) → GoesTo scenario n g → IsFalse (is_sent_by (message_at scenario n) g))
+    → (m : ℕ) → ceiling_at scenario m g < 4 * scenario.delay
