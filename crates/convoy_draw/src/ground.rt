@@ -1,5 +1,5 @@
 use super::mark::wait_mark;
-use super::scale::Stretch;
+use super::scale::{Scale, Stretch};
 use super::sheet::{AXIS, LEFT, Sheet, lane_of};
 use super::signs::WAIT_COLOR;
 use super::widths::width_of;
@@ -9,6 +9,9 @@ use std::alloc::{AllocError, Global};
 
 /// How wide a digit is.
 const DIGIT: u32 = 70;
+
+/// How wide the number of a tick is at most, with the gap after it.
+const WIDEST_NUMBER: u32 = 560;
 
 /// How far what stands beside the lanes is from the first tick.
 const ASIDE: u32 = 150;
@@ -40,7 +43,7 @@ fn write_ticks(sheet: &Sheet, text: &mut String) -> Result<(), AllocError> {
         text,
         "<g fill=\"#444444\" text-anchor=\"middle\" stroke-width=\"6\">\n<text x=\"{left}\" y=\"{AXIS}\" text-anchor=\"end\">tick</text>\n"
     )?;
-    let step = tick_step(sheet.scale.tick_width());
+    let step = tick_step(&sheet.scale);
     let mut free = 0;
     for stretch in sheet.scale.stretches() {
         free = write_numbers(sheet, stretch, step, free, text)?;
@@ -48,17 +51,26 @@ fn write_ticks(sheet: &Sheet, text: &mut String) -> Result<(), AllocError> {
     text.push_str("</g>\n")
 }
 
-/// How many ticks of that width there are from one number to the next, so that they have room.
-fn tick_step(width: u32) -> u32 {
+/// How many ticks there are from one number to the next, so that they have room. Where ticks are so
+/// narrow that there are 100 and more, the longest of all numbers has.
+fn tick_step(scale: &Scale) -> u32 {
     for step in [1, 2, 5, 10, 20, 50] {
-        if width.saturating_mul(step) >= 300 {
+        if scale.width_of(step) >= 300 {
             return step;
         }
     }
-    100
+    for step in [
+        100, 200, 500, 1_000, 2_000, 5_000, 10_000, 20_000, 50_000, 100_000, 200_000, 500_000,
+    ] {
+        if scale.width_of(step) >= WIDEST_NUMBER {
+            return step;
+        }
+    }
+    1_000_000
 }
 
-/// The numbers of a stretch, from a free place on; answers the place that is free after them.
+/// The numbers of a stretch, from a free place on: that of its first tick, and of each that a step goes
+/// into; answers the place that is free after them.
 fn write_numbers(
     sheet: &Sheet,
     stretch: &Stretch,
@@ -66,25 +78,27 @@ fn write_numbers(
     free: u32,
     text: &mut String,
 ) -> Result<u32, AllocError> {
-    let (top, bottom) = (AXIS + 60, sheet.bottom);
-    let mut free = free;
-    for tick in stretch.first..=stretch.last {
-        let x = sheet.scale.x_of(tick);
-        let half = number_width(tick) / 2;
-        if is_numbered(stretch, step, tick) && free <= x.saturating_sub(half) {
-            write!(
-                text,
-                "<text x=\"{x}\" y=\"{AXIS}\">{tick}</text><path d=\"M{x} {top}V{bottom}\" stroke=\"#dddddd\"/>\n"
-            )?;
-            free = x.saturating_add(half).saturating_add(DIGIT);
-        }
+    let step = step.max(1);
+    let mut free = write_number(sheet, stretch.first, free, text)?;
+    for steps in (stretch.first / step).saturating_add(1)..=stretch.last / step {
+        free = write_number(sheet, steps.saturating_mul(step), free, text)?;
     }
     Ok(free)
 }
 
-/// Whether a tick of a stretch is to have its number: the first one, and each that so many go into.
-fn is_numbered(stretch: &Stretch, step: u32, tick: u32) -> bool {
-    tick == stretch.first || tick % step.max(1) == 0
+/// The number of a tick, where it has room from a free place on; answers the place that is free after it.
+fn write_number(sheet: &Sheet, tick: u32, free: u32, text: &mut String) -> Result<u32, AllocError> {
+    let (top, bottom) = (AXIS + 60, sheet.bottom);
+    let x = sheet.scale.x_of(tick);
+    let half = number_width(tick) / 2;
+    if x.saturating_sub(half) < free {
+        return Ok(free);
+    }
+    write!(
+        text,
+        "<text x=\"{x}\" y=\"{AXIS}\">{tick}</text><path d=\"M{x} {top}V{bottom}\" stroke=\"#dddddd\"/>\n"
+    )?;
+    Ok(x.saturating_add(half).saturating_add(DIGIT))
 }
 
 /// How wide a number is.

@@ -1,16 +1,24 @@
 use super::sheet::{LEFT, RIGHT};
 use convoy_picture::Picture;
-use convoy_scenario::Scenario;
+use convoy_scenario::{Scenario, Time};
 use std::alloc::{AllocError, Global};
 
-/// How many ticks without anything under way are cut at least.
-const SHORTEST_CUT: u32 = 4;
+/// How many ticks without anything under way are not cut out.
+const LONGEST_IDLE: u32 = 4;
+
+/// In real time, time without anything under way is not cut out either where it is at most one of so many
+/// parts of the time in which something is.
+const IDLE_PARTS: u32 = 16;
 
 /// How wide a cut is drawn at most; all cuts together take half of the width at most.
 const WIDEST_CUT: u32 = 500;
 
 /// How wide a tick is drawn at most.
 const WIDEST_TICK: u32 = 700;
+
+/// How wide a tick is at least where all are equally wide, as in whole ticks they always are. Narrower ones
+/// fill the lanes, so that one may be wider by 1 than the next.
+const NARROWEST_TICK: u32 = 7;
 
 /// How far apart two messages are drawn in one tick at most.
 const WIDEST_SHIFT: u32 = 60;
@@ -28,10 +36,15 @@ pub(crate) struct Stretch {
 #[derive(Debug, Drop)]
 pub(crate) struct Scale {
     stretches: Vec<Stretch>,
-    /// How wide a tick is.
-    tick: u32,
-    /// How far apart the messages of two numbers that follow each other are in one tick.
-    shift: u32,
+    /// How many ticks the stretches have together.
+    ticks: u32,
+    /// How wide these are together.
+    width: u32,
+    /// The ticks in which something happens, in order.
+    moments: Vec<u32>,
+    time: Time,
+    /// How many messages have room side by side in a tick.
+    messages: u32,
 }
 
 impl Scale {
@@ -41,14 +54,19 @@ impl Scale {
         scenario: &Scenario,
         picture: &Picture,
     ) -> Result<Scale, AllocError> {
-        let stretches = busy_stretches(alloc, &busy_spans(alloc, scenario, picture)?)?;
+        let spans = busy_spans(alloc, scenario, picture)?;
+        let busy = ticks_of(&busy_stretches(alloc, &spans, 0)?);
+        let idle = longest_idle(scenario.time(), busy);
+        let stretches = busy_stretches(alloc, &spans, idle)?;
+        let ticks = ticks_of(&stretches).max(1);
         let cut = cut_width(stretches.len());
-        let tick = tick_width(&stretches, cut);
-        let messages = u32::try_from(scenario.message_count()).unwrap_or(1);
         let mut scale = Scale {
+            width: width_of_ticks(ticks, room_beside_cuts(stretches.len(), cut)),
             stretches,
-            tick,
-            shift: (tick / 2 / messages.max(1)).min(WIDEST_SHIFT),
+            ticks,
+            moments: moments_of(alloc, &spans)?,
+            time: scenario.time(),
+            messages: u32::try_from(scenario.message_count()).unwrap_or(1),
         };
         scale.lay_out(cut);
         Ok(scale)
@@ -56,11 +74,14 @@ impl Scale {
 
     /// Gives each stretch its place, one after the other, with cuts of that width between them.
     fn lay_out(&mut self, cut: u32) {
-        let tick = self.tick;
+        let (width, all) = (self.width, self.ticks);
         let mut left = LEFT;
         for stretch in &mut self.stretches {
+            let ticks = stretch.last.saturating_sub(stretch.first);
             stretch.left = left;
-            left = right_end(stretch, tick).saturating_add(cut);
+            left = left
+                .saturating_add(part_of(width, ticks, all))
+                .saturating_add(cut);
         }
     }
 
@@ -69,45 +90,84 @@ impl Scale {
         self.stretches.as_slice()
     }
 
-    /// How wide a tick is.
-    pub(crate) fn tick_width(&self) -> u32 {
-        self.tick
+    /// How wide so many ticks are.
+    pub(crate) fn width_of(&self, ticks: u32) -> u32 {
+        part_of(self.width, ticks, self.ticks)
     }
 
     /// Where a stretch ends.
     pub(crate) fn right_of(&self, stretch: &Stretch) -> u32 {
-        right_end(stretch, self.tick)
+        self.after(stretch, stretch.last)
     }
 
     /// Where a tick stands; the end of the sheet's lanes for one that is in no stretch.
     pub(crate) fn x_of(&self, tick: u32) -> u32 {
         for stretch in &self.stretches {
             if stretch.first <= tick && tick <= stretch.last {
-                return after(stretch.left, tick - stretch.first, self.tick);
+                return self.after(stretch, tick);
             }
         }
         RIGHT
     }
 
+    /// Where a tick of a stretch stands.
+    fn after(&self, stretch: &Stretch, tick: u32) -> u32 {
+        let ticks = tick.saturating_sub(stretch.first);
+        stretch.left.saturating_add(self.width_of(ticks))
+    }
+
     /// Where a message stands in a tick: what happens in one tick goes by the numbers of the messages.
     pub(crate) fn place(&self, tick: u32, message: usize) -> u32 {
         let number = u32::try_from(message).unwrap_or(0);
-        after(self.x_of(tick), number, self.shift)
+        let shift = (self.room_at(tick) / 2 / self.messages.max(1)).min(WIDEST_SHIFT);
+        self.x_of(tick).saturating_add(number.saturating_mul(shift))
+    }
+
+    /// How much room there is for what happens in a tick: all of a whole tick, and in real time what
+    /// there is up to the next tick in which something happens.
+    fn room_at(&self, tick: u32) -> u32 {
+        match self.time {
+            Time::Ticks => self.width_of(1),
+            Time::Real => match self.moments.iter().find(|moment| **moment > tick) {
+                Some(next) => self.x_of(*next).saturating_sub(self.x_of(tick)),
+                None => WIDEST_TICK,
+            },
+        }
     }
 }
 
-/// Where a stretch ends, with ticks of that width.
-fn right_end(stretch: &Stretch, tick: u32) -> u32 {
-    after(
-        stretch.left,
-        stretch.last.saturating_sub(stretch.first),
-        tick,
-    )
+/// How wide some of all ticks are, which are that wide together.
+fn part_of(width: u32, some: u32, all: u32) -> u32 {
+    let wide = u64::from(width).saturating_mul(u64::from(some)) / u64::from(all.max(1));
+    u32::try_from(wide).unwrap_or(u32::MAX)
 }
 
-/// So many steps of that width after a place.
-fn after(left: u32, steps: u32, width: u32) -> u32 {
-    left.saturating_add(steps.saturating_mul(width))
+/// How many ticks without anything under way are not cut out, where something is under way in so many.
+fn longest_idle(time: Time, busy: u32) -> u32 {
+    match time {
+        Time::Ticks => LONGEST_IDLE,
+        Time::Real => (busy / IDLE_PARTS).max(LONGEST_IDLE),
+    }
+}
+
+/// How many ticks the stretches have together.
+fn ticks_of(stretches: &[Stretch]) -> u32 {
+    let mut ticks: u32 = 0;
+    for stretch in stretches {
+        ticks = ticks.saturating_add(stretch.last.saturating_sub(stretch.first));
+    }
+    ticks
+}
+
+/// The first and the last ticks of these spans, in order.
+fn moments_of(alloc: Global, spans: &[(u32, u32)]) -> Result<Vec<u32>, AllocError> {
+    let mut moments = Vec::new(alloc);
+    for (first, last) in spans {
+        moments.push(*first)?;
+        moments.push(*last)?;
+    }
+    moments.sort()?;
+    Ok(moments)
 }
 
 /// From when to when something is under way, in the order of their first ticks: each packet, and each
@@ -135,13 +195,17 @@ fn flight_spans(alloc: Global, picture: &Picture) -> Result<Vec<(u32, u32)>, All
     Ok(spans)
 }
 
-/// The stretches of these spans, with no places yet.
-fn busy_stretches(alloc: Global, spans: &[(u32, u32)]) -> Result<Vec<Stretch>, AllocError> {
+/// The stretches of these spans, with no places yet: what is so long idle at most is no end of one.
+fn busy_stretches(
+    alloc: Global,
+    spans: &[(u32, u32)],
+    idle: u32,
+) -> Result<Vec<Stretch>, AllocError> {
     let mut stretches = Vec::new(alloc);
     let mut open: Option<Stretch> = None;
     for (first, last) in spans {
         open = match open {
-            Some(stretch) if *first <= stretch.last.saturating_add(SHORTEST_CUT) => Some(Stretch {
+            Some(stretch) if *first <= stretch.last.saturating_add(idle) => Some(Stretch {
                 last: stretch.last.max(*last),
                 ..stretch
             }),
@@ -163,19 +227,27 @@ fn busy_stretches(alloc: Global, spans: &[(u32, u32)]) -> Result<Vec<Stretch>, A
     Ok(stretches)
 }
 
-/// How wide a cut is between so many stretches.
-fn cut_width(stretches: usize) -> u32 {
-    let cuts = u32::try_from(stretches.saturating_sub(1)).unwrap_or(u32::MAX);
-    ((RIGHT - LEFT) / 2 / cuts.max(1)).min(WIDEST_CUT)
+/// How many cuts there are between so many stretches.
+fn cuts_between(stretches: usize) -> u32 {
+    u32::try_from(stretches.saturating_sub(1)).unwrap_or(u32::MAX)
 }
 
-/// How wide a tick is, so that the stretches and the cuts between them fill the lanes.
-fn tick_width(stretches: &[Stretch], cut: u32) -> u32 {
-    let mut ticks: u32 = 0;
-    let mut room = (RIGHT - LEFT).saturating_add(cut);
-    for stretch in stretches {
-        ticks = ticks.saturating_add(stretch.last.saturating_sub(stretch.first));
-        room = room.saturating_sub(cut);
+/// How wide a cut is between so many stretches.
+fn cut_width(stretches: usize) -> u32 {
+    ((RIGHT - LEFT) / 2 / cuts_between(stretches).max(1)).min(WIDEST_CUT)
+}
+
+/// How much of the width for lanes so many stretches have, with cuts of that width between them.
+fn room_beside_cuts(stretches: usize, cut: u32) -> u32 {
+    (RIGHT - LEFT).saturating_sub(cuts_between(stretches).saturating_mul(cut))
+}
+
+/// How wide so many ticks are together, so that they fill that room with the cuts between them.
+fn width_of_ticks(ticks: u32, room: u32) -> u32 {
+    let tick = (room / ticks.max(1)).min(WIDEST_TICK);
+    if tick >= NARROWEST_TICK {
+        ticks.saturating_mul(tick)
+    } else {
+        room
     }
-    (room / ticks.max(1)).clamp(1, WIDEST_TICK)
 }

@@ -1,5 +1,5 @@
 -- Looking for the first that passes a test, one after the other.
-use Rattle.std.proofs.Common.{◌≡◌, ℕ, suc, ◌+◌, ◌-◌, ◌<◌, Bool, true, false, Option, Some, None, cond, List, [], ◌∷◌, refl, ap, arith}
+use Rattle.std.proofs.Common.{◌≡◌, ℕ, suc, ◌+◌, ◌-◌, ◌<◌, Bool, true, false, Some, cond, ap, arith}
 use Rattle.std.specs.List.{find, range_with_len}
 
 -- the number passes: it is the first from there on

@@ -1,9 +1,11 @@
 -- The text of an explanation: why a schedule has its latency, of which a certificate shows that it is the greatest.
-use Rattle.std.specs.Prelude.{ℕ, ◌==◌, nat_lt, List, [], ◌∷◌, ◌++◌, Option, Some, None, codes, decimal, if◌then◌else◌}
+use Rattle.std.specs.Prelude.{ℕ, ◌*◌, ◌==◌, ◌&&◌, nat_lt, List, [], ◌∷◌, ◌++◌, Option, Some, None, codes, decimal, if◌then◌else◌}
 use Rattle.convoy_scenario.specs.declared.sender.Sender.{Sender}
 use Rattle.convoy_scenario.specs.declared.sender.Sender.TheVariants.{Client, Group}
 use Rattle.convoy_scenario.specs.Scenario.{Scenario, message_at, group_name_at}
+use Rattle.convoy_scenario.specs.Durations.{count_of, unit_of, unit_word}
 use Rattle.convoy_sim.specs.declared.timestamp.Timestamp.{Timestamp}
+use Rattle.convoy_explain.specs.Causes.{is_real}
 use Rattle.convoy_explain.specs.declared.explanation.Explanation.{Explanation}
 use Rattle.convoy_explain.specs.declared.explanation.Flight.{Flight}
 use Rattle.convoy_explain.specs.declared.explanation.Holder.{Holder}
@@ -38,14 +40,29 @@ sender_text scenario (Group g) = group_name_at scenario g
 unfoldable pub flight_text : Flight → List ℕ
 flight_text flight = codes ", packet " ++ (decimal flight.packet ++ (codes ", " ++ (decimal flight.delay ++ 32 ∷ tick_word flight.delay)))
 
+-- what follows a number of ticks, where the length of a tick is known: the same in the unit in which that is told
+unfoldable pub in_unit_text : Option ℕ → ℕ → List ℕ
+in_unit_text None ticks = []
+in_unit_text (Some length) ticks =
+    codes " (" ++ (decimal (ticks * count_of length) ++ 32 ∷ (unit_word (unit_of length) ++ codes ")"))
+
+-- a number of ticks, and the same in their unit where that is known: `12 ticks (600 us)`
+unfoldable pub ticks_text : Option ℕ → ℕ → List ℕ
+ticks_text length ticks = decimal ticks ++ 32 ∷ (tick_word ticks ++ in_unit_text length ticks)
+
 -- how late the target is, and when
 unfoldable pub latency_text : Scenario → Explanation → List ℕ
 latency_text scenario why =
     message_name_at scenario scenario.target_message
     ++ (codes " at " ++ (group_name_at scenario scenario.target_group
-    ++ (codes ": at worst " ++ (decimal why.latency ++ 32 ∷ (tick_word why.latency
+    ++ (codes ": at worst " ++ (ticks_text scenario.tick why.latency
     ++ (codes ", from its issue at tick " ++ (decimal (message_at scenario scenario.target_message).at
-    ++ (codes " to its delivery at tick " ++ (decimal why.delivered ++ 10 ∷ [])))))))))
+    ++ (codes " to its delivery at tick " ++ (decimal why.delivered ++ 10 ∷ []))))))))
+
+-- that the order of a tie gave the target its stamp: another message came to the group of that stamp in the same tick, and before it
+abbrev pub tied_text : Scenario → Option ℕ → List ℕ
+tied_text scenario None = []
+tied_text scenario (Some m) = codes ", after " ++ (message_name_at scenario m ++ codes " in a tie")
 
 -- when the target is committed at its group, and with which stamp
 unfoldable pub commit_text : Scenario → Explanation → List ℕ
@@ -54,7 +71,13 @@ commit_text scenario why =
     ++ (codes " at tick " ++ (decimal why.committed
     ++ (codes " with stamp " ++ (stamp_text scenario why.stamped.stamp
     ++ (codes ", given by " ++ (group_name_at scenario why.stamped.stamp.group
-    ++ (codes " at tick " ++ (decimal why.stamped.tick ++ 10 ∷ [])))))))))
+    ++ (codes " at tick " ++ (decimal why.stamped.tick
+    ++ (tied_text scenario why.tied ++ 10 ∷ []))))))))))
+
+-- that the order of a tie lets a message hold the target back: it came to the target's group in the tick in which the target is committed there, and before that
+abbrev pub tie_won_text : Scenario → Explanation → Holder → List ℕ
+tie_won_text scenario why holder =
+    if is_real scenario.time && (holder.proposal.tick == why.committed) then codes ", and before that commit in a tie" else []
 
 -- what holds the target back
 unfoldable pub holder_text : Scenario → Explanation → Option Holder → List ℕ
@@ -64,7 +87,8 @@ holder_text scenario why (Some holder) =
     ++ (codes ", which came to " ++ (group_name_at scenario scenario.target_group
     ++ (codes " at tick " ++ (decimal holder.proposal.tick
     ++ (codes " with stamp " ++ (stamp_text scenario holder.proposal.stamp
-    ++ (codes ", before " ++ (stamp_text scenario why.stamped.stamp ++ 10 ∷ [])))))))))
+    ++ (codes ", before " ++ (stamp_text scenario why.stamped.stamp
+    ++ (tie_won_text scenario why holder ++ 10 ∷ []))))))))))
 
 -- when the awaited message is committed
 unfoldable pub awaited_text : Scenario → LastProposal → List ℕ

@@ -38,5 +38,5 @@ packets_text scenario = flat_map (λ p. packet_line scenario p.0 p.1 None) (enum
 
 -- the lines of all packets with their delays in a schedule
 unfoldable pub scheduled_packets_text : Scenario → Schedule → List ℕ
-scheduled_packets_text scenario delays =
-    flat_map (λ p. packet_line scenario p.0 p.1 (Some (slice_index delays p.0))) (enumerate_from 0 (packets_of scenario))
+scheduled_packets_text scenario schedule =
+    flat_map (λ p. packet_line scenario p.0 p.1 (Some (slice_index schedule.delays p.0))) (enumerate_from 0 (packets_of scenario))

@@ -9,7 +9,7 @@ use Rattle.convoy_sim.specs.declared.run.Proposal.{Proposal}
 use Rattle.convoy_sim.specs.declared.timestamp.Timestamp.{Timestamp}
 use Rattle.convoy_sim.specs.Run.{Run, proposed_of, committed_of, delivered_of, final_stamp_of}
 use Rattle.convoy_sim.specs.Stamps.{is_less, no_stamp}
-use Rattle.convoy_explain.specs.Causes.{flight_in, holder_with}
+use Rattle.convoy_explain.specs.Causes.{flight_in, holder_with, is_real}
 use Rattle.convoy_explain.specs.declared.explanation.Explanation.{Explanation}
 use Rattle.convoy_explain.specs.declared.explanation.Holder.{Holder}
 use Rattle.convoy_explain.specs.declared.explanation.LastProposal.{LastProposal}
@@ -45,23 +45,23 @@ holder_told scenario run m g =
 
 -- the tick at which the proposal of group h for message n comes to group g
 abbrev pub propose_told : List Packet → Schedule → Run → ℕ → ℕ → ℕ → ℕ
-propose_told packets delays run n g h = (proposal_told run n h).tick + delay_in packets delays (Propose n h g)
+propose_told packets schedule run n g h = (proposal_told run n h).tick + delay_in packets schedule.delays (Propose n h g)
 
 -- the group whose proposal for message n comes last to group g
 unfoldable pub last_proposer_told : Scenario → List Packet → Schedule → Run → ℕ → ℕ → ℕ
-last_proposer_told scenario packets delays run n g =
-    unwrap_or (find (λ h. propose_told packets delays run n g h == committed_told run n g) (message_at scenario n).destinations) g
+last_proposer_told scenario packets schedule run n g =
+    unwrap_or (find (λ h. propose_told packets schedule run n g h == committed_told run n g) (message_at scenario n).destinations) g
 
 -- how the last proposal for message n comes to group g
 abbrev pub last_proposal_told : Scenario → List Packet → Schedule → Run → ℕ → ℕ → LastProposal
-last_proposal_told scenario packets delays run n g =
-    let h = last_proposer_told scenario packets delays run n g in
+last_proposal_told scenario packets schedule run n g =
+    let h = last_proposer_told scenario packets schedule run n g in
     record {
       message = n;
       from = h;
-      sent = flight_in packets delays (Multicast n h);
+      sent = flight_in packets schedule.delays (Multicast n h);
       proposal = proposal_told run n h;
-      answered = flight_in packets delays (Propose n h g);
+      answered = flight_in packets schedule.delays (Propose n h g);
       committed = committed_told run n g;
     }
 
@@ -76,18 +76,31 @@ stamped_told run m =
     let stamp = final_told run m in
     record { tick = (proposal_told run m stamp.group).tick; stamp = stamp }
 
+-- message n comes to group g in the tick in which message m does, and before it
+abbrev pub is_tied_before_told : Scenario → Run → ℕ → ℕ → ℕ → Bool
+is_tied_before_told scenario run m g n =
+    is_addressed (message_at scenario n) g
+    && ((proposal_told run n g).tick == (proposal_told run m g).tick)
+    && is_less (proposal_told run n g).stamp (proposal_told run m g).stamp
+
+-- the message that comes to group g in the tick in which message m does and before it
+unfoldable pub tied_before_told : Scenario → Run → ℕ → ℕ → Option ℕ
+tied_before_told scenario run m g =
+    if is_real scenario.time then find (is_tied_before_told scenario run m g) (message_numbers scenario) else None
+
 -- why message m is delivered at group g when it is
 abbrev pub explanation_told_at : Scenario → List Packet → Schedule → Run → ℕ → ℕ → Explanation
-explanation_told_at scenario packets delays run m g = record {
+explanation_told_at scenario packets schedule run m g = record {
   latency = run.latency;
   delivered = delivered_told run m g;
   committed = committed_told run m g;
   stamped = stamped_told run m;
+  tied = tied_before_told scenario run m (final_told run m).group;
   holder = holder_told_at scenario run m g;
-  last = last_proposal_told scenario packets delays run (unwrap_or (holder_told scenario run m g) m) g;
+  last = last_proposal_told scenario packets schedule run (unwrap_or (holder_told scenario run m g) m) g;
 }
 
 -- why the target of the scenario is delivered when it is
 unfoldable pub explanation_told : Scenario → List Packet → Schedule → Run → Explanation
-explanation_told scenario packets delays run =
-    explanation_told_at scenario packets delays run scenario.target_message scenario.target_group
+explanation_told scenario packets schedule run =
+    explanation_told_at scenario packets schedule run scenario.target_message scenario.target_group

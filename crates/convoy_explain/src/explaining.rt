@@ -4,16 +4,16 @@ ghost use Rattle.convoy_packets.specs.Table.{table_of};
 ghost use Rattle.convoy_packets.specs.declared.packet.Packet.TheVariants.{Multicast, Propose};
 ghost use Rattle.convoy_scenario.specs.Scenario.{message_at, is_addressed};
 ghost use Rattle.convoy_sim.specs.Run.{IsRunOf};
-ghost use Rattle.convoy_explain.specs.Causes.{explanation_of, flight_in};
+ghost use Rattle.convoy_explain.specs.Causes.{explanation_of, flight_in, is_real};
 ghost use Rattle.convoy_explain.specs.Told.{committed_told, delivered_told, explanation_told, final_told};
 ghost use Rattle.convoy_explain.specs.Told.{holder_told, holder_told_at, is_last_ahead_told};
 ghost use Rattle.convoy_explain.specs.Told.{last_proposal_told, last_proposer_told, propose_told};
-ghost use Rattle.convoy_explain.specs.Told.{proposal_told, stamped_told};
+ghost use Rattle.convoy_explain.specs.Told.{proposal_told, stamped_told, is_tied_before_told, tied_before_told};
 
 use super::explanation::{Explanation, Flight, Holder, LastProposal};
 use super::laws::{holders_hold, last_proposals_commit};
-use convoy_packets::{Delays, Instance, PacketTable};
-use convoy_scenario::Scenario;
+use convoy_packets::{Instance, PacketTable, Schedule};
+use convoy_scenario::{Scenario, Time};
 use convoy_sim::laws::{final_stamp_is_local, local_stamp_names_group};
 use convoy_sim::{Proposal, Run, Timestamp};
 
@@ -25,10 +25,10 @@ const NO_PROPOSAL: Proposal = Proposal {
 
 /// Why the target of an instance is delivered when it is, in its run under a schedule
 /// (docs/PROTOCOL.md).
-pub fn explain(instance: &Instance, delays: &Delays, run: &Run) -> Explanation
-    requires assignment { IsAssignment instance.now delays.now }
-    requires run { IsRunOf instance.now delays.now run.now }
-    ensures { result ≡ explanation_of instance.now delays.now }
+pub fn explain(instance: &Instance, schedule: &Schedule, run: &Run) -> Explanation
+    requires assignment { IsAssignment instance.now schedule.now }
+    requires run { IsRunOf instance.now schedule.now run.now }
+    ensures { result ≡ explanation_of instance.now schedule.now }
 {
     final_stamp_is_local();
     local_stamp_names_group();
@@ -36,27 +36,29 @@ pub fn explain(instance: &Instance, delays: &Delays, run: &Run) -> Explanation
     last_proposals_commit();
     // A scenario is well formed.
     let _groups = instance.group_count();
-    explain_told(instance, delays, run)
+    explain_told(instance, schedule, run)
 }
 
 /// As the run tells it.
 #[tactic(auto, unfolding(crate::specs::Told::explanation_told))]
-fn explain_told(instance: &Instance, delays: &Delays, run: &Run) -> Explanation
-    ensures { result ≡ explanation_told instance.now (table_of instance.now).packets delays.now run.now }
+fn explain_told(instance: &Instance, schedule: &Schedule, run: &Run) -> Explanation
+    ensures { result ≡ explanation_told instance.now (table_of instance.now).packets schedule.now run.now }
 {
     let (message, group) = (instance.target_message(), instance.target_group());
     let holder = holder(instance.scenario(), run, message, group);
     let awaited = holder.unwrap_or(message);
+    let giver = final_stamp(run, message).group;
     Explanation {
         latency: run.latency(),
         delivered: delivered(run, message, group),
         committed: committed(run, message, group),
         stamped: stamped(run, message),
+        tied: tied_before(instance.scenario(), run, message, giver),
         holder: holder.map(|message| Holder {
             message,
             proposal: proposal(run, message, group),
         }),
-        last: last_proposal(instance, delays, run, awaited, group),
+        last: last_proposal(instance, schedule, run, awaited, group),
     }
 }
 
@@ -90,6 +92,49 @@ fn is_last_ahead(scenario: &Scenario, run: &Run, message: usize, group: usize, o
         && committed(run, other, group) == delivered(run, message, group)
 }
 
+/// The message that comes to a group in the tick in which a message does, and before it, where time is
+/// real.
+#[tactic(auto, unfolding(crate::specs::Told::tied_before_told))]
+fn tied_before(scenario: &Scenario, run: &Run, message: usize, group: usize) -> Option<usize>
+    ensures { result ≡ tied_before_told scenario.now run.now message group }
+{
+    if !is_real(scenario.time()) {
+        return None;
+    }
+    for other in 0..scenario.message_count() {
+        if is_tied_before(scenario, run, message, group, other) {
+            return Some(other);
+        }
+    }
+    None
+}
+
+fn is_real(time: Time) -> bool
+    ensures { result ≡ is_real time }
+{
+    match time {
+        Time::Ticks => false,
+        Time::Real => true,
+    }
+}
+
+/// Whether another message comes to a group in the tick in which a message does, and before it.
+fn is_tied_before(
+    scenario: &Scenario,
+    run: &Run,
+    message: usize,
+    group: usize,
+    other: usize,
+) -> bool
+    requires { other < length scenario.now.multicasts }
+    ensures { result ≡ is_tied_before_told scenario.now run.now message group other }
+{
+    let (here, there) = (proposal(run, message, group), proposal(run, other, group));
+    is_addressed(scenario, other, group)
+        && there.tick == here.tick
+        && there.stamp.is_less(here.stamp)
+}
+
 /// Whether a message goes to a group.
 fn is_addressed(scenario: &Scenario, message: usize, group: usize) -> bool
     requires { message < length scenario.now.multicasts }
@@ -101,21 +146,21 @@ fn is_addressed(scenario: &Scenario, message: usize, group: usize) -> bool
 /// How the last proposal for a message comes to a group.
 fn last_proposal(
     instance: &Instance,
-    delays: &Delays,
+    schedule: &Schedule,
     run: &Run,
     message: usize,
     group: usize,
 ) -> LastProposal
     requires { message < length instance.now.multicasts }
-    ensures { result ≡ last_proposal_told instance.now (table_of instance.now).packets delays.now run.now message group }
+    ensures { result ≡ last_proposal_told instance.now (table_of instance.now).packets schedule.now run.now message group }
 {
-    let from = last_proposer(instance, delays, run, message, group);
+    let from = last_proposer(instance, schedule, run, message, group);
     LastProposal {
         message,
         from,
-        sent: sent(instance.table(), delays, message, from),
+        sent: sent(instance.table(), schedule, message, from),
         proposal: proposal(run, message, from),
-        answered: answered(instance.table(), delays, message, from, group),
+        answered: answered(instance.table(), schedule, message, from, group),
         committed: committed(run, message, group),
     }
 }
@@ -124,17 +169,17 @@ fn last_proposal(
 #[tactic(auto, unfolding(crate::specs::Told::last_proposer_told))]
 fn last_proposer(
     instance: &Instance,
-    delays: &Delays,
+    schedule: &Schedule,
     run: &Run,
     message: usize,
     group: usize,
 ) -> usize
     requires { message < length instance.now.multicasts }
-    ensures { result ≡ last_proposer_told instance.now (table_of instance.now).packets delays.now run.now message group }
+    ensures { result ≡ last_proposer_told instance.now (table_of instance.now).packets schedule.now run.now message group }
 {
     let table = instance.table();
     for from in instance.destinations(message) {
-        if comes_last(table, delays, run, message, group, *from) {
+        if comes_last(table, schedule, run, message, group, *from) {
             return *from;
         }
     }
@@ -144,41 +189,41 @@ fn last_proposer(
 /// Whether the proposal of a group for a message comes to another group as that one commits it.
 fn comes_last(
     table: &PacketTable,
-    delays: &Delays,
+    schedule: &Schedule,
     run: &Run,
     message: usize,
     group: usize,
     from: usize,
 ) -> bool
-    ensures { result ≡ (propose_told table.now.packets delays.now run.now message group from
+    ensures { result ≡ (propose_told table.now.packets schedule.now run.now message group from
         == committed_told run.now message group) }
 {
-    let delay = u64::from(table.propose_delay(delays, message, from, group));
+    let delay = u64::from(table.propose_delay(schedule, message, from, group));
     let tick = u64::from(proposal(run, message, from).tick) + delay;
     tick == u64::from(committed(run, message, group))
 }
 
 /// The message on its way to a group.
-fn sent(table: &PacketTable, delays: &Delays, message: usize, to: usize) -> Option<Flight>
-    ensures { result ≡ flight_in table.now.packets delays.now (Multicast message to) }
+fn sent(table: &PacketTable, schedule: &Schedule, message: usize, to: usize) -> Option<Flight>
+    ensures { result ≡ flight_in table.now.packets schedule.now.delays (Multicast message to) }
 {
     let packet = table.multicast_to(message, to)?;
-    let delay = table.multicast_delay(delays, message, to);
+    let delay = table.multicast_delay(schedule, message, to);
     Some(Flight { packet, delay })
 }
 
 /// The proposal of a group for the message on its way to a group.
 fn answered(
     table: &PacketTable,
-    delays: &Delays,
+    schedule: &Schedule,
     message: usize,
     from: usize,
     to: usize,
 ) -> Option<Flight>
-    ensures { result ≡ flight_in table.now.packets delays.now (Propose message from to) }
+    ensures { result ≡ flight_in table.now.packets schedule.now.delays (Propose message from to) }
 {
     let packet = table.propose(message, from, to)?;
-    let delay = table.propose_delay(delays, message, from, to);
+    let delay = table.propose_delay(schedule, message, from, to);
     Some(Flight { packet, delay })
 }
 

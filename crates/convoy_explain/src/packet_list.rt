@@ -8,7 +8,7 @@ ghost use Rattle.convoy_scenario.specs.Scenario.{message_at};
 
 use super::telling::{group_name, message_name};
 use convoy_packets::laws::delays_are_one_each;
-use convoy_packets::{Delays, Instance, Packet};
+use convoy_packets::{Instance, Packet, Schedule};
 use convoy_scenario::{Scenario, Sender};
 use std::alloc::{AllocError, Global};
 
@@ -34,14 +34,14 @@ pub fn write_packets(instance: &Instance, out: &mut Vec<u8>) -> Result<(), Alloc
 /// it was.
 pub fn write_scheduled_packets(
     instance: &Instance,
-    delays: &Delays,
+    schedule: &Schedule,
     out: &mut Vec<u8>,
 ) -> Result<(), AllocError>
-    requires assignment { IsAssignment instance.now delays.now }
-    ensures ok { OnOk result (out.new.items ≡ out.old.items ++ scheduled_packets_text instance.now delays.now) }
+    requires assignment { IsAssignment instance.now schedule.now }
+    ensures ok { OnOk result (out.new.items ≡ out.old.items ++ scheduled_packets_text instance.now schedule.now) }
     ensures err { OnErr result (out.new.items ≡ out.old.items) }
 {
-    let text = scheduled_text(*out.allocator(), instance, delays)?;
+    let text = scheduled_text(*out.allocator(), instance, schedule)?;
     out.extend_from_slice(&text)
 }
 
@@ -62,16 +62,16 @@ fn packets_text(alloc: Global, instance: &Instance) -> Result<Vec<u8>, AllocErro
 fn scheduled_text(
     alloc: Global,
     instance: &Instance,
-    delays: &Delays,
+    schedule: &Schedule,
 ) -> Result<Vec<u8>, AllocError>
-    requires assignment { IsAssignment instance.now delays.now }
-    ensures { IfOk result (λ text. text.items ≡ scheduled_packets_text instance.now delays.now) }
+    requires assignment { IsAssignment instance.now schedule.now }
+    ensures { IfOk result (λ text. text.items ≡ scheduled_packets_text instance.now schedule.now) }
 {
     delays_are_one_each();
     let (scenario, table) = (instance.scenario(), instance.table());
     let mut text = Vec::new(alloc);
     for i in 0..table.len() {
-        let delay = Some(delays.delay(i));
+        let delay = Some(schedule.delay(i));
         let line = packet_line(alloc, scenario, i, table.packet(i), table.range(i), delay)?;
         text.extend_from_slice(line.as_bytes())?;
     }

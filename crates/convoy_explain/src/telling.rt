@@ -3,11 +3,11 @@ ghost use Rattle.convoy_scenario.specs.Scenario.{group_name_at};
 ghost use Rattle.convoy_explain.specs.Explanations.{answered_text, awaited_text, commit_text, flight_text};
 ghost use Rattle.convoy_explain.specs.Explanations.{gap_after, holder_text, latency_text, message_name_at};
 ghost use Rattle.convoy_explain.specs.Explanations.{node_word, sender_text, sent_text, stamp_text, text_of};
-ghost use Rattle.convoy_explain.specs.Explanations.{tick_word, worst_text};
+ghost use Rattle.convoy_explain.specs.Explanations.{in_unit_text, tick_word, ticks_text, tie_won_text, tied_text, worst_text};
 ghost use Rattle.convoy_scenario.specs.Scenario.{message_at};
 
 use super::explanation::{Explanation, Flight, Holder, LastProposal};
-use convoy_scenario::{Scenario, Sender};
+use convoy_scenario::{Scenario, Sender, Time};
 use convoy_sim::Timestamp;
 use std::alloc::{AllocError, Global};
 
@@ -24,6 +24,10 @@ use std::alloc::{AllocError, Global};
 ///   tick N   GROUP proposes TIME.GROUP to GROUP, packet N, N ticks
 /// no schedule is worse: N nodes, checked
 /// ```
+///
+/// Where the length of a tick is known, the greatest latency is told in its unit, too, as `N ticks (N
+/// UNIT)`. Where time is real and the order of a tie gave the target its stamp, or lets the message hold
+/// it back, the line ends with that: `after MESSAGE in a tie`, `and before that commit in a tie`.
 ///
 /// The text says that no schedule is worse, which the certificate has to show: it is for a certificate
 /// that was checked. Where memory runs out the vector is as it was.
@@ -67,11 +71,11 @@ fn latency_line(alloc: Global, scenario: &Scenario, why: &Explanation) -> Result
 {
     let message = message_name(scenario, scenario.target_message());
     let group = group_name(scenario, scenario.target_group());
-    let ticks = tick_word(why.latency);
+    let latency = ticks_text(alloc, scenario, why.latency)?;
     let issue = scenario.issue_tick(scenario.target_message());
     format!(in alloc;
-        "{message} at {group}: at worst {} {ticks}, from its issue at tick {issue} to its delivery at tick {}\n",
-        why.latency, why.delivered,
+        "{message} at {group}: at worst {latency}, from its issue at tick {issue} to its delivery at tick {}\n",
+        why.delivered,
     )
 }
 
@@ -82,8 +86,9 @@ fn commit_line(alloc: Global, scenario: &Scenario, why: &Explanation) -> Result<
     let group = group_name(scenario, scenario.target_group());
     let stamp = stamp_text(alloc, scenario, why.stamped.stamp)?;
     let giver = group_name(scenario, why.stamped.stamp.group);
+    let tied = tied_text(alloc, scenario, why.tied)?;
     format!(in alloc;
-        "committed at {group} at tick {} with stamp {stamp}, given by {giver} at tick {}\n",
+        "committed at {group} at tick {} with stamp {stamp}, given by {giver} at tick {}{tied}\n",
         why.committed, why.stamped.tick,
     )
 }
@@ -114,8 +119,9 @@ fn held_line(
     let group = group_name(scenario, scenario.target_group());
     let stamp = stamp_text(alloc, scenario, holder.proposal.stamp)?;
     let last = stamp_text(alloc, scenario, why.stamped.stamp)?;
+    let won = tie_won_text(scenario, why, holder);
     format!(in alloc;
-        "held back by {message}, which came to {group} at tick {} with stamp {stamp}, before {last}\n",
+        "held back by {message}, which came to {group} at tick {} with stamp {stamp}, before {last}{won}\n",
         holder.proposal.tick,
     )
 }
@@ -228,6 +234,57 @@ fn worst_line(alloc: Global, nodes: usize) -> Result<String, AllocError>
 {
     let word = node_word(nodes);
     format!(in alloc; "no schedule is worse: {nodes} {word}, checked\n")
+}
+
+/// A number of ticks, and where the length of a tick is known the same in the unit in which that is told, as
+/// `12 ticks (600 us)`. Fails where memory runs out, and else never.
+#[tactic(auto, unfolding(crate::specs::Explanations::ticks_text))]
+pub fn ticks_text(alloc: Global, scenario: &Scenario, ticks: u32) -> Result<String, AllocError>
+    ensures { IfOk result (λ text. string_bytes text ≡ ticks_text scenario.now.tick ticks) }
+{
+    let word = tick_word(ticks);
+    let in_unit = in_unit_text(alloc, scenario, ticks)?;
+    format!(in alloc; "{ticks} {word}{in_unit}")
+}
+
+/// What follows a number of ticks, where the length of a tick is known.
+#[tactic(auto, unfolding(crate::specs::Explanations::in_unit_text))]
+fn in_unit_text(alloc: Global, scenario: &Scenario, ticks: u32) -> Result<String, AllocError>
+    ensures { IfOk result (λ text. string_bytes text ≡ in_unit_text scenario.now.tick ticks) }
+{
+    match scenario.tick() {
+        Some(tick) => {
+            let count = u64::from(ticks) * tick.count();
+            let unit = tick.unit().word();
+            format!(in alloc; " ({count} {unit})")
+        }
+        None => Ok(String::new(alloc)),
+    }
+}
+
+/// That another message came to the group of the target's stamp in the same tick, and before it.
+fn tied_text(alloc: Global, scenario: &Scenario, tied: Option<usize>) -> Result<String, AllocError>
+    ensures { IfOk result (λ text. string_bytes text ≡ tied_text scenario.now tied) }
+{
+    match tied {
+        Some(other) => {
+            let name = message_name(scenario, other);
+            format!(in alloc; ", after {name} in a tie")
+        }
+        None => Ok(String::new(alloc)),
+    }
+}
+
+/// That a message came to the target's group in the tick in which the target is committed there, and
+/// before that.
+fn tie_won_text(scenario: &Scenario, why: &Explanation, holder: &Holder) -> &'static str
+    ensures { result.now ≡ tie_won_text scenario.now why.now holder.now }
+{
+    if scenario.time() == Time::Real && holder.proposal.tick == why.committed {
+        ", and before that commit in a tie"
+    } else {
+        ""
+    }
 }
 
 /// A packet on its way.

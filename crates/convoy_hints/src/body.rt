@@ -10,8 +10,10 @@ pub(crate) struct Body<'a> {
     pub(crate) is_whole: bool,
     /// The stated latency.
     pub(crate) latency: u32,
-    /// The number of the line `latency`, from 1. The schedule follows, and then the nodes.
+    /// The number of the line `latency`, from 1. The schedule follows.
     pub(crate) latency_line: usize,
+    /// How many lines stand before the first node.
+    pub(crate) head: usize,
 }
 
 /// A line of a certificate, as a person finds it: `line 11, "s 0 1",`, or `line 11` alone.
@@ -50,27 +52,34 @@ impl<'a> Body<'a> {
         let latency_line = before.saturating_add(1);
         let latency = text.lines().nth(before)?.strip_prefix("latency ")?;
         let _schedule = text.lines().nth(latency_line)?;
+        let schedule_line = latency_line.saturating_add(1);
+        let head = if has_order(text.as_bytes()) {
+            schedule_line.saturating_add(1)
+        } else {
+            schedule_line
+        };
         Some(Body {
             text,
             is_whole,
             latency: latency.parse().ok()?,
             latency_line,
+            head,
         })
-    }
-
-    /// How many lines stand before the first node.
-    pub(crate) fn head(&self) -> usize {
-        self.latency_line.saturating_add(1)
     }
 
     /// The line of the node of that number, from 0.
     pub(crate) fn line_of(&self, node: usize) -> Line<'a> {
-        let before = self.head().saturating_add(node);
+        let before = self.head.saturating_add(node);
         Line {
             number: before.saturating_add(1),
             text: self.text.lines().nth(before),
         }
     }
+}
+
+/// Whether a certificate with that text has a line `order` after its schedule: it is of version 4.
+pub(crate) fn has_order(text: &[u8]) -> bool {
+    text.starts_with(b"convoy 4\n")
 }
 
 /// The packet that a line splits, and after how many ticks; None where it is no split.

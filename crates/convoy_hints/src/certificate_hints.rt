@@ -1,10 +1,12 @@
-use super::lines::{delays_of, scenario_in, sketch_of_lines};
+use super::body::has_order;
+use super::lines::{numbers_of, scenario_in, sketch_of_lines};
 use super::tree_hints::hint_for_refused;
 use convoy_certificate::{TextFault, read};
 use convoy_checker::{Refusal, Refused};
+use convoy_packets::Instance;
 use convoy_scenario::ScenarioFault;
 use convoy_scenario_hints::{
-    Quoted, hint_for_bytes, hint_for_damage, hint_for_schedule, hint_for_sketch,
+    Quoted, hint_for_bytes, hint_for_damage, hint_for_order, hint_for_schedule, hint_for_sketch,
     is_meant_as_certificate, is_meant_as_scenario, with_label,
 };
 use convoy_scenario_lines::Expected;
@@ -66,12 +68,12 @@ fn hint_for_other_text(alloc: Global, text: &[u8]) -> Result<String, AllocError>
     if is_meant_as_scenario(alloc, text) {
         return String::from_str(
             alloc,
-            "the input is a scenario, and a certificate is read here: convoy analyse < scenario.toml | convoy check",
+            "the input is a scenario, and a certificate is read here: convoy analyse scenario.toml | convoy check",
         );
     }
     String::from_str(
         alloc,
-        "the input does not begin as a certificate, with the line 'convoy 1', 'convoy 2' or 'convoy 3'",
+        "the input does not begin as a certificate, with one of the lines 'convoy 1' to 'convoy 4'",
     )
 }
 
@@ -95,7 +97,7 @@ fn hint_for_lines(
         }
         TextFault::Line(_, _) | TextFault::TreeCount | TextFault::Memory => Ok(None),
         TextFault::Scenario(fault) => hint_for_scenario_lines(alloc, words, fault),
-        TextFault::Schedule => hint_for_schedule_line(alloc, text),
+        TextFault::Schedule => hint_for_schedule_lines(alloc, text),
         TextFault::AfterEnd => Ok(Some(String::from_str(
             alloc,
             "something follows the line 'end': cut the text after that line",
@@ -147,15 +149,30 @@ fn hint_for_scenario_lines(
     hint_for_sketch(alloc, &sketch_of_lines(alloc, text)?, fault)
 }
 
-/// What is wrong with the schedule in a certificate.
-fn hint_for_schedule_line(alloc: Global, text: &[u8]) -> Result<Option<String>, AllocError> {
+/// What is wrong with the schedule in a certificate, or else with the order of its ties.
+fn hint_for_schedule_lines(alloc: Global, text: &[u8]) -> Result<Option<String>, AllocError> {
     let Some((scenario, mut reader)) = scenario_in(alloc, text) else {
         return Ok(None);
     };
     let _ = reader.line();
-    let delays = delays_of(alloc, reader.line().unwrap_or(b""))?;
-    hint_for_schedule(alloc, scenario, &delays)
+    let delays = numbers_of(alloc, reader.line().unwrap_or(b""))?;
+    let instance = Instance::of(alloc, scenario)?;
+    let hint = hint_for_schedule(alloc, &instance, &delays)?;
+    if hint.is_some() || !has_order(text) {
+        return Ok(hint);
+    }
+    let ranks = numbers_of(alloc, reader.line().unwrap_or(b""))?;
+    if let Some(hint) = hint_for_order(alloc, instance.scenario(), &ranks)? {
+        return Ok(Some(hint));
+    }
+    Ok(Some(String::from_str(
+        alloc,
+        "the ranks are all 0, and the line is to be 'order' alone",
+    )?))
 }
+
+/// The first lines of certificates.
+const VERSIONS: [&str; 4] = ["convoy 1", "convoy 2", "convoy 3", "convoy 4"];
 
 /// What is wrong with a line.
 fn hint_for_line(
@@ -164,7 +181,7 @@ fn hint_for_line(
     number: usize,
     expected: Expected,
 ) -> Result<String, AllocError> {
-    let form = form_of_line(expected);
+    let form = form_of_line(expected, has_order(text.as_bytes()));
     let Some(line) = line_at(text, number) else {
         return format!(in alloc;
             "the text ends before line {number}, which is to be {form}: a part of it is missing"
@@ -176,7 +193,7 @@ fn hint_for_line(
             "line {number}, {shown}, is not ended by byte 10: a part of the text is missing"
         );
     }
-    if expected == Expected::Convoy && ["convoy 1", "convoy 2", "convoy 3"].contains(&line) {
+    if expected == Expected::Convoy && VERSIONS.contains(&line) {
         return format!(in alloc;
             "line {number}, {shown}, is another version than the lines below need"
         );
@@ -204,10 +221,14 @@ fn flaw_of(line: &str) -> Option<&'static str> {
     }
 }
 
-/// The form of a line (docs/FORMATS.md, "Certificate text").
-fn form_of_line(expected: Expected) -> &'static str {
+/// The form of a line of a certificate, in real time or in whole ticks (docs/FORMATS.md, "Certificate
+/// text").
+fn form_of_line(expected: Expected, is_real: bool) -> &'static str {
     match expected {
-        Expected::Convoy => "'convoy 1', 'convoy 2' or 'convoy 3'",
+        Expected::Convoy => "one of 'convoy 1' to 'convoy 4'",
+        Expected::Time => "'time real'",
+        Expected::Tick =>
+            "'tick COUNT UNIT', in the greatest of the units s, ms, us and ns that divides it",
         Expected::Delay => "'delay D'",
         Expected::Groups => "'groups G ..'",
         Expected::Link =>
@@ -217,6 +238,8 @@ fn form_of_line(expected: Expected) -> &'static str {
         Expected::Target => "'target MESSAGE GROUP'",
         Expected::Latency => "'latency L'",
         Expected::Schedule => "'schedule C ..'",
+        Expected::Order => "'order R ..', or 'order' alone where all ranks are 0",
+        Expected::Node if is_real => "'s P A', 'b', 'c N' or 'end'",
         Expected::Node => "'s P A', 'b', 'p', 't', 'c N' or 'end'",
     }
 }

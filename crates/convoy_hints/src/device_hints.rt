@@ -1,10 +1,36 @@
 use convoy_certificate::{Form, form_of};
+use convoy_scenario_hints::Quoted;
 use std::alloc::{AllocError, Global};
 use std::io::Error;
 
 /// Why standard input could not be read, in one line `hint: ..`.
 pub fn hint_for_reading(alloc: Global, error: &Error) -> Result<String, AllocError> {
     format!(in alloc; "hint: standard input could not be read: {error}\n")
+}
+
+/// Why a file could not be opened or read, in one line `convoy: FILE: CAUSE`. It is no hint, but what went
+/// wrong.
+pub fn line_for_file(alloc: Global, file: &str, error: &Error) -> Result<String, AllocError> {
+    let told = format!(in alloc; "{error}")?;
+    let cause = cause_in(told.as_str());
+    if is_shown_whole(file) {
+        return format!(in alloc; "convoy: {file}: {cause}\n");
+    }
+    let name = Quoted(file);
+    format!(in alloc; "convoy: {name}: {cause}\n")
+}
+
+/// What the system says of an error, without its number.
+fn cause_in(told: &str) -> &str {
+    match told.split_once(" (os error ") {
+        Some((cause, _)) => cause,
+        None => told,
+    }
+}
+
+/// Whether the name of a file can stand in a line as it is.
+fn is_shown_whole(file: &str) -> bool {
+    !file.is_empty() && !file.chars().any(|character| character.is_control())
 }
 
 /// Why standard output could not be written, in one line `hint: ..`.

@@ -5,9 +5,14 @@
 
 pub use certificate_hints::hint_for_certificate;
 pub use convoy_scenario_hints::hint_for_scenario;
-pub use device_hints::{hint_for_jobs, hint_for_length, hint_for_reading, hint_for_writing};
+pub use device_hints::{
+    hint_for_jobs, hint_for_length, hint_for_reading, hint_for_writing, line_for_file,
+};
 pub use job_hints::hint_for_batch;
-pub use search_hints::{hint_for_both, hint_for_leads, hint_for_limit, hint_for_tickets};
+pub use search_hints::{
+    hint_for_both, hint_for_first, hint_for_leads, hint_for_limit, hint_for_real_time,
+    hint_for_tickets, is_in_real_time,
+};
 pub use word_hints::hint_for_words;
 
 mod body;

@@ -1,6 +1,6 @@
 use convoy_certificate::{Form, form_of};
 use convoy_lines::LineReader;
-use convoy_scenario::Scenario;
+use convoy_scenario::{Duration, Scenario, Time, TimeUnit};
 use convoy_scenario_hints::{Link, Multicast, Part, PartKind, Sketch};
 use convoy_scenario_lines::read_lines;
 use std::alloc::{AllocError, Global};
@@ -8,6 +8,8 @@ use std::alloc::{AllocError, Global};
 /// The scenario that stands in the lines of a certificate; what is not of its form is left out.
 pub(crate) fn sketch_of_lines(alloc: Global, text: &str) -> Result<Sketch<'_>, AllocError> {
     let mut sketch = Sketch {
+        time: Time::Ticks,
+        tick: None,
         delay: 0,
         groups: Vec::new(alloc),
         multicasts: Vec::new(alloc),
@@ -38,8 +40,8 @@ pub(crate) fn scenario_in(alloc: Global, text: &[u8]) -> Option<(Scenario, LineR
     Some((scenario, reader))
 }
 
-/// The delays in a line `schedule`; none where its bytes are not UTF-8.
-pub(crate) fn delays_of(alloc: Global, line: &[u8]) -> Result<Vec<i64>, AllocError> {
+/// The numbers in a line `schedule` or `order`; none where its bytes are not UTF-8.
+pub(crate) fn numbers_of(alloc: Global, line: &[u8]) -> Result<Vec<i64>, AllocError> {
     match std::str::from_utf8(line) {
         Ok(line) => line
             .split(' ')
@@ -58,6 +60,8 @@ fn add_line<'a>(
     words: &[&'a str],
 ) -> Result<(), AllocError> {
     match words {
+        ["time", word] => sketch.time = Time::named(word).unwrap_or(Time::Ticks),
+        ["tick", count, unit] => sketch.tick = length_of(count, unit),
         ["delay", delay] => sketch.delay = number_of(delay),
         ["groups", groups @ ..] => sketch.groups = Vec::from_slice(alloc, groups)?,
         ["link", sender, to, least, most] => {
@@ -96,6 +100,13 @@ fn part_at<'a>(kind: PartKind, place: usize, name: Option<&'a str>, line: usize)
         name,
         line: Some(line),
     }
+}
+
+/// The length of a tick that is so many of a unit; None where there is none such.
+fn length_of(count: &str, unit: &str) -> Option<Duration> {
+    let unit = TimeUnit::named(unit.as_bytes())?;
+    let count: u64 = count.parse().ok()?;
+    Duration::from_nanoseconds(count.checked_mul(unit.nanoseconds())?)
 }
 
 /// The sender that a word names; None is a client.

@@ -17,7 +17,7 @@ pub(crate) fn path_to(
     node: usize,
 ) -> Result<Vec<Half>, AllocError> {
     let mut path = Vec::new(alloc);
-    for line in body.text.lines().skip(body.head()).take(node) {
+    for line in body.text.lines().skip(body.head).take(node) {
         match split_of(line) {
             Some((packet, at)) => path.push(Half {
                 packet,

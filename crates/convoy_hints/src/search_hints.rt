@@ -1,5 +1,15 @@
+use convoy_scenario::Time;
 use convoy_scenario_hints::noun;
+use convoy_toml::read_toml;
 use std::alloc::{AllocError, Global};
+
+/// What an answer of `first` is, for a person who did not ask for it by that word, in one line `hint: ..`.
+pub fn hint_for_first(alloc: Global) -> Result<String, AllocError> {
+    String::from_str(
+        alloc,
+        "hint: this is one schedule alone, that of the least delays: 'convoy latency' finds the greatest latency\n",
+    )
+}
 
 /// What to do where a search by plain or stamp bounds alone, or both ways with no ticket for leads, did not
 /// end with that many tickets, in one line `hint: ..`: to go by leads.
@@ -45,6 +55,41 @@ pub fn hint_for_tickets(alloc: Global, tickets: u64, most: u64) -> Result<String
     }
     let rest = ", the most by leads: no latency is above the second number";
     hint_for_search(alloc, most, rest)
+}
+
+/// What to do where a search in real time did not end, that could spend so many tickets by plain or stamp
+/// bounds, and then so many by leads, of `most` that it may have by these, in one line `hint: ..`: to go by
+/// leads; to allow more tickets by leads, or where a point was left before they were spent to look for a
+/// slower schedule; or to rely on what is known.
+pub fn hint_for_real_time(
+    alloc: Global,
+    by_bounds: u64,
+    by_leads: u64,
+    most: u64,
+) -> Result<String, AllocError> {
+    let rest = if by_leads == 0 {
+        String::from_str(alloc, "with '--bounds lead' it mostly does")?
+    } else if by_leads < most {
+        let noun = noun(by_leads == 1, "ticket", "tickets");
+        let highest = by_bounds.saturating_add(most);
+        format!(in alloc;
+            "where it has spent its {by_leads} {noun} by leads, '--limit {highest}' allows the most; else more schedules, as with '--seek 1000000', may raise the first number"
+        )?
+    } else {
+        String::from_str(
+            alloc,
+            "no latency is above the second number, and more schedules, as with '--seek 1000000', may raise the first",
+        )?
+    };
+    format!(in alloc; "hint: the search in real time did not end: {rest}\n")
+}
+
+/// Whether a text is that of a scenario in real time. Not so where memory ran out.
+pub fn is_in_real_time(alloc: Global, text: &[u8]) -> bool {
+    match read_toml(alloc, text) {
+        Ok(input) => input.scenario.time() == Time::Real,
+        Err(_) => false,
+    }
 }
 
 /// The line for a search that did not end with that many tickets: those words, and then the rest.

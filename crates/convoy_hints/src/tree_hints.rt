@@ -37,7 +37,7 @@ pub(crate) fn hint_for_refused(
 fn hint_for_latency(alloc: Global, body: &Body<'_>, simulated: u32) -> Result<String, AllocError> {
     let stated = body.latency;
     let line = body.latency_line;
-    let next = body.head();
+    let next = line.saturating_add(1);
     format!(in alloc;
         "line {line} states the latency {stated}, and the schedule in line {next} has the latency {simulated}"
     )
@@ -112,8 +112,8 @@ fn hint_for_packet(
 /// it.
 fn hint_for_count(alloc: Global, body: &Body<'_>) -> Result<Option<String>, AllocError> {
     let mut open: usize = 1;
-    for (node, text) in body.text.lines().skip(body.head()).enumerate() {
-        let line = body.head().saturating_add(node).saturating_add(1);
+    for (node, text) in body.text.lines().skip(body.head).enumerate() {
+        let line = body.head.saturating_add(node).saturating_add(1);
         if text == "end" {
             let leaves = noun(open == 1, "leaf is", "leaves are");
             let hint = format!(in alloc;

@@ -15,22 +15,22 @@ use Rattle.convoy_picture.specs.declared.flight.Flight.{Flight}
 
 -- the tick at which a packet is sent: a message as it is issued, and a proposal as the message arrives at the group that proposes
 abbrev pub sent_at : Scenario → Schedule → Packet → Tick
-sent_at scenario delays (Multicast m g) = (message_at scenario m).at
-sent_at scenario delays (Propose m h g) = arrive scenario delays m h
+sent_at scenario schedule (Multicast m g) = (message_at scenario m).at
+sent_at scenario schedule (Propose m h g) = arrive scenario schedule m h
 
 -- a packet of that number on its way: it comes its delay after it is sent
 abbrev pub flight_of : Scenario → Schedule → ℕ → Packet → Flight
-flight_of scenario delays i packet = record {
+flight_of scenario schedule i packet = record {
   number = i;
   packet = packet;
   from = sender_of scenario packet;
-  sent = sent_at scenario delays packet;
-  arrival = sent_at scenario delays packet + delay_of scenario delays packet;
+  sent = sent_at scenario schedule packet;
+  arrival = sent_at scenario schedule packet + delay_of scenario schedule packet;
 }
 
 -- all packets on their way, in packet order
 abbrev pub flights_of : Scenario → Schedule → List Flight
-flights_of scenario delays = map (λ p. flight_of scenario delays p.0 p.1) (enumerate_from 0 (packets_of scenario))
+flights_of scenario schedule = map (λ p. flight_of scenario schedule p.0 p.1) (enumerate_from 0 (packets_of scenario))
 
 -- the flights, what happens at each group, and why the target is delivered when it is
 pub record Picture : Type 0 where
@@ -40,8 +40,8 @@ pub record Picture : Type 0 where
 
 -- the picture of the run that follows from a schedule
 abbrev pub picture_of : Scenario → Schedule → Picture
-picture_of scenario delays = record {
-  flights = flights_of scenario delays;
-  entries = timeline_of scenario delays;
-  why = explanation_of scenario delays;
+picture_of scenario schedule = record {
+  flights = flights_of scenario schedule;
+  entries = timeline_of scenario schedule;
+  why = explanation_of scenario schedule;
 }

@@ -7,16 +7,16 @@ use Rattle.convoy_packets.specs.declared.packet.Packet.TheVariants.{Multicast, P
 use Rattle.convoy_timeline.specs.declared.entry.Entry.{Entry}
 use Rattle.convoy_timeline.specs.declared.entry.EntryKind.{EntryKind}
 use Rattle.convoy_timeline.specs.declared.entry.EntryKind.TheVariants.{Propose, Commit, Deliver}
-use Rattle.convoy_explain.specs.Explanations.{message_name_at, sender_text, stamp_text, tick_word}
+use Rattle.convoy_explain.specs.Explanations.{message_name_at, sender_text, stamp_text, ticks_text}
 use Rattle.convoy_explain.specs.declared.explanation.Explanation.{Explanation}
 use Rattle.convoy_picture.specs.declared.flight.Flight.{Flight}
 
--- how late the target is at worst
+-- how late the target is at worst, and in the unit of a tick where its length is known
 unfoldable pub answer_text : Scenario → Explanation → List ℕ
 answer_text scenario why =
     message_name_at scenario scenario.target_message
     ++ (codes " at " ++ (group_name_at scenario scenario.target_group
-    ++ (codes ": at worst " ++ (decimal why.latency ++ 32 ∷ tick_word why.latency))))
+    ++ (codes ": at worst " ++ ticks_text scenario.tick why.latency)))
 
 -- what a packet brings
 abbrev pub load_text : Scenario → Packet → List ℕ

@@ -5,7 +5,7 @@ ghost use Rattle.convoy_packets.specs.declared.packet.Packet.TheVariants.{Multic
 ghost use Rattle.convoy_scenario.specs.Scenario.{message_at};
 ghost use Rattle.convoy_sim.specs.Times.{arrive};
 
-use convoy_packets::{Delays, Instance, Packet};
+use convoy_packets::{Instance, Packet, Schedule};
 use convoy_scenario::{GREATEST_AT, Scenario, Sender};
 
 /// A packet of a run on its way. Ticks are counted from the start of the run.
@@ -27,55 +27,55 @@ pub struct Flight {
 /// The packet of that number on its way, in the run of the scenario under a schedule.
 pub(crate) fn flight_of(
     instance: &Instance,
-    delays: &Delays,
+    schedule: &Schedule,
     number: usize,
     packet: Packet,
 ) -> Flight
-    ensures { result ≡ flight_of instance.now delays.now number packet }
+    ensures { result ≡ flight_of instance.now schedule.now number packet }
 {
-    let sent = sent_tick(instance, delays, packet);
+    let sent = sent_tick(instance, schedule, packet);
     Flight {
         number,
         packet,
         from: sender(instance.scenario(), packet),
         sent,
-        arrival: sent + delay(instance, delays, packet),
+        arrival: sent + delay(instance, schedule, packet),
     }
 }
 
 /// The tick at which a packet is sent.
-fn sent_tick(instance: &Instance, delays: &Delays, packet: Packet) -> u32
-    ensures value { result ≡ sent_at instance.now delays.now packet }
+fn sent_tick(instance: &Instance, schedule: &Schedule, packet: Packet) -> u32
+    ensures value { result ≡ sent_at instance.now schedule.now packet }
     ensures soon { result ≤ GREATEST_AT + u16.MAX }
 {
     match packet {
         Packet::Multicast { message, .. } => issue_tick(instance.scenario(), message),
-        Packet::Propose { message, from, .. } => arrival(instance, delays, message, from),
+        Packet::Propose { message, from, .. } => arrival(instance, schedule, message, from),
     }
 }
 
 /// The tick at which a message arrives at a group.
 #[tactic(auto, unfolding(convoy_sim::specs::Times::arrive, convoy_packets::specs::Assignment::delay_of))]
-fn arrival(instance: &Instance, delays: &Delays, message: usize, group: usize) -> u32
-    ensures tick { result ≡ arrive instance.now delays.now message group }
+fn arrival(instance: &Instance, schedule: &Schedule, message: usize, group: usize) -> u32
+    ensures tick { result ≡ arrive instance.now schedule.now message group }
     ensures soon { result ≤ GREATEST_AT + u16.MAX }
 {
-    let delay = instance.table().multicast_delay(delays, message, group);
+    let delay = instance.table().multicast_delay(schedule, message, group);
     issue_tick(instance.scenario(), message) + u32::from(delay)
 }
 
 /// The delay of a packet in a schedule, in ticks.
 #[tactic(auto, unfolding(convoy_packets::specs::Assignment::delay_of))]
-fn delay(instance: &Instance, delays: &Delays, packet: Packet) -> u32
-    ensures value { result ≡ delay_of instance.now delays.now packet }
+fn delay(instance: &Instance, schedule: &Schedule, packet: Packet) -> u32
+    ensures value { result ≡ delay_of instance.now schedule.now packet }
     ensures short { result ≤ u16.MAX }
 {
     match packet {
         Packet::Multicast { message, to } => {
-            u32::from(instance.table().multicast_delay(delays, message, to))
+            u32::from(instance.table().multicast_delay(schedule, message, to))
         }
         Packet::Propose { message, from, to } => {
-            u32::from(instance.table().propose_delay(delays, message, from, to))
+            u32::from(instance.table().propose_delay(schedule, message, from, to))
         }
     }
 }

@@ -5,7 +5,7 @@ ghost use Rattle.convoy_sim.specs.Run.{IsRunOf};
 
 use super::flight::{Flight, flight_of};
 use convoy_explain::{Explanation, explain};
-use convoy_packets::{Delays, Instance};
+use convoy_packets::{Instance, Schedule};
 use convoy_sim::Run;
 use convoy_timeline::{Entry, entries_of};
 use std::alloc::{AllocError, Global};
@@ -34,17 +34,17 @@ impl Picture {
     pub fn of(
         alloc: Global,
         instance: &Instance,
-        delays: &Delays,
+        schedule: &Schedule,
         run: &Run,
     ) -> Result<Picture, AllocError>
-        requires assignment { IsAssignment instance.now delays.now }
-        requires run { IsRunOf instance.now delays.now run.now }
-        ensures { IfOk result (λ picture. picture ≡ picture_of instance.now delays.now) }
+        requires assignment { IsAssignment instance.now schedule.now }
+        requires run { IsRunOf instance.now schedule.now run.now }
+        ensures { IfOk result (λ picture. picture ≡ picture_of instance.now schedule.now) }
     {
         Ok(Picture {
-            flights: list_flights(alloc, instance, delays)?,
+            flights: list_flights(alloc, instance, schedule)?,
             entries: entries_of(alloc, instance.scenario(), run)?,
-            why: explain(instance, delays, run),
+            why: explain(instance, schedule, run),
         })
     }
 
@@ -75,15 +75,15 @@ impl Picture {
 fn list_flights(
     alloc: Global,
     instance: &Instance,
-    delays: &Delays,
+    schedule: &Schedule,
 ) -> Result<Vec<Flight>, AllocError>
-    ensures { IfOk result (λ flights. flights.items ≡ flights_of instance.now delays.now) }
+    ensures { IfOk result (λ flights. flights.items ≡ flights_of instance.now schedule.now) }
 {
     let table = instance.table();
     let mut flights = Vec::with_capacity(alloc, table.len())?;
     for number in 0..table.len() {
         let packet = table.packet(number);
-        flights.push(flight_of(instance, delays, number, packet))?;
+        flights.push(flight_of(instance, schedule, number, packet))?;
     }
     Ok(flights)
 }

@@ -3,15 +3,15 @@ ghost use Rattle.convoy_picture.specs.Words.{answer_text, doing_text, entry_text
 ghost use Rattle.convoy_packets.specs.Assignment.{receiver_of};
 
 use super::flight::Flight;
-use super::words::{group_name, message_name, sender_name, stamp_text, tick_word};
-use convoy_explain::Explanation;
+use super::words::{group_name, message_name, sender_name, stamp_text};
+use convoy_explain::{Explanation, ticks_text};
 use convoy_packets::Packet;
 use convoy_scenario::Scenario;
 use convoy_timeline::{Entry, EntryKind};
 use std::alloc::{AllocError, Global};
 
-/// The answer: how late the target of the scenario is at worst, in ticks, by the explanation of a run
-/// (docs/FORMATS.md, "What `draw` writes"). Fails where memory runs out, and else never.
+/// The answer: how late the target of the scenario is at worst, in ticks, and in their unit where the
+/// length of a tick is known, by the explanation of a run (docs/FORMATS.md, "What `draw` writes"). Fails where memory runs out, and else never.
 #[tactic(auto, unfolding(crate::specs::Words::answer_text))]
 pub fn answer_words(
     alloc: Global,
@@ -22,8 +22,8 @@ pub fn answer_words(
 {
     let message = message_name(scenario, scenario.target_message());
     let group = group_name(scenario, scenario.target_group());
-    let word = tick_word(why.latency);
-    format!(in alloc; "{message} at {group}: at worst {} {word}", why.latency)
+    let latency = ticks_text(alloc, scenario, why.latency)?;
+    format!(in alloc; "{message} at {group}: at worst {latency}")
 }
 
 /// A packet on its way in a run of the scenario, in words: its number, what it brings, from where to

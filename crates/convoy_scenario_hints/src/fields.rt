@@ -2,6 +2,8 @@
 #[derive(Clone, Copy, Debug, PartialEq, Eq)]
 pub(crate) enum Kind {
     Integer,
+    /// A number of ticks, or where time is real a duration.
+    Time,
     Text,
     Texts,
     Integers,
@@ -19,11 +21,27 @@ pub(crate) struct Field {
     pub(crate) sample: &'static str,
 }
 
-/// The keys at the top that are asked for first.
+/// The key of how time goes, which is asked for before all others.
+pub(crate) const TIME: [Field; 1] = [Field {
+    key: "time",
+    kind: Kind::Text,
+    is_needed: false,
+    sample: "time = \"real\"",
+}];
+
+/// The key of how long a tick is, which is asked for next.
+pub(crate) const TICK: Field = Field {
+    key: "tick",
+    kind: Kind::Text,
+    is_needed: false,
+    sample: "tick = \"50 us\"",
+};
+
+/// The keys at the top that are asked for then.
 pub(crate) const HEAD: [Field; 3] = [
     Field {
         key: "delay",
-        kind: Kind::Integer,
+        kind: Kind::Time,
         is_needed: true,
         sample: "delay = 3",
     },
@@ -63,7 +81,7 @@ pub(crate) const MULTICAST_KEYS: [Field; 4] = [
     },
     Field {
         key: "at",
-        kind: Kind::Integer,
+        kind: Kind::Time,
         is_needed: true,
         sample: "at = 0",
     },
@@ -117,32 +135,43 @@ pub(crate) const LINK_KEYS: [Field; 4] = [
     },
     Field {
         key: "least",
-        kind: Kind::Integer,
+        kind: Kind::Time,
         is_needed: true,
         sample: "least = 1",
     },
     Field {
         key: "most",
-        kind: Kind::Integer,
+        kind: Kind::Time,
         is_needed: true,
         sample: "most = 2",
     },
 ];
 
-/// The key of the schedule.
-pub(crate) const SCHEDULE: [Field; 1] = [Field {
-    key: "schedule",
-    kind: Kind::Integers,
-    is_needed: false,
-    sample: "schedule = [1, 3, 1, 2]",
-}];
+/// The keys of the schedule, and of the order of its ties.
+pub(crate) const SCHEDULE: [Field; 2] = [
+    Field {
+        key: "schedule",
+        kind: Kind::Integers,
+        is_needed: false,
+        sample: "schedule = [1, 3, 1, 2]",
+    },
+    Field {
+        key: "order",
+        kind: Kind::Integers,
+        is_needed: false,
+        sample: "order = [0, 1, 0, 0]",
+    },
+];
 
 /// The words of the keys at the top.
-pub(crate) const TOP_WORDS: [&str; 6] = [
+pub(crate) const TOP_WORDS: [&str; 9] = [
+    "time",
+    "tick",
     "delay",
     "groups",
     "multicast",
     "target",
     "link",
     "schedule",
+    "order",
 ];

@@ -10,11 +10,12 @@ pub use inputs::{is_meant_as_certificate, is_meant_as_scenario};
 pub use part::{Part, PartKind};
 pub use quoting::Quoted;
 pub use scenario_hints::{hint_for_fault, hint_for_scenario, hint_for_sketch, with_label};
-pub use schedules::hint_for_schedule;
+pub use schedules::{hint_for_order, hint_for_schedule};
 pub use sketch::{Link, Multicast, Sketch};
 
 mod counting;
 mod damage;
+mod durations;
 mod fields;
 mod headers;
 mod inputs;
@@ -29,3 +30,4 @@ mod schedules;
 mod shape;
 mod sketch;
 mod spot;
+mod times;

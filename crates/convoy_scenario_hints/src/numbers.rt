@@ -1,5 +1,6 @@
-use super::sketch::Sketch;
-use convoy_scenario::{GREATEST_AT, GREATEST_DELAY, Limit, MOST_GROUPS, MOST_MULTICASTS};
+use super::durations::Length;
+use super::sketch::{Link, Sketch};
+use convoy_scenario::{Duration, GREATEST_AT, Limit, MOST_GROUPS, MOST_MULTICASTS};
 use std::alloc::{AllocError, Global};
 
 /// Which number is outside its limit, and what the limit is.
@@ -9,7 +10,7 @@ pub(crate) fn hint_for_limit(
     limit: Limit,
 ) -> Result<Option<String>, AllocError> {
     match limit {
-        Limit::Delay => Ok(Some(hint_for_delay(alloc, sketch.delay)?)),
+        Limit::Delay => Ok(Some(hint_for_delay(alloc, sketch)?)),
         Limit::Groups => {
             let count = sketch.groups.len();
             let hint = format!(in alloc;
@@ -26,19 +27,76 @@ pub(crate) fn hint_for_limit(
         }
         Limit::At => hint_for_at(alloc, sketch),
         Limit::Link => hint_for_range(alloc, sketch),
+        Limit::Tick => hint_for_long_tick(alloc, sketch.tick),
     }
 }
 
-fn hint_for_delay(alloc: Global, delay: i64) -> Result<String, AllocError> {
-    if delay > i64::from(GREATEST_DELAY) {
-        format!(in alloc;
-            "'delay' is {delay}, and may be 1 to {GREATEST_DELAY}: choose a larger tick, so that the greatest delay is at most {GREATEST_DELAY} ticks"
-        )
-    } else {
-        format!(in alloc;
-            "'delay' is {delay}, and may be 1 to {GREATEST_DELAY}: a packet takes at least a tick"
-        )
+fn hint_for_delay(alloc: Global, sketch: &Sketch<'_>) -> Result<String, AllocError> {
+    let (delay, greatest) = (sketch.delay, sketch.time.greatest_delay());
+    if delay <= i64::from(greatest) {
+        return format!(in alloc;
+            "'delay' is {delay}, and may be 1 to {greatest}: a packet takes at least a tick"
+        );
     }
+    match sketch
+        .tick
+        .and_then(|tick| larger_tick(delay, tick, greatest))
+    {
+        Some(larger) => hint_for_larger_tick(alloc, sketch, larger),
+        None => format!(in alloc;
+            "'delay' is {delay}, and may be 1 to {greatest}: choose a larger tick, so that the greatest delay is at most {greatest} ticks"
+        ),
+    }
+}
+
+/// That the greatest delay is too many ticks, and which tick would do.
+fn hint_for_larger_tick(
+    alloc: Global,
+    sketch: &Sketch<'_>,
+    larger: Duration,
+) -> Result<String, AllocError> {
+    let (delay, greatest) = (sketch.delay, sketch.time.greatest_delay());
+    let larger = Length(larger);
+    match sketch.tick {
+        Some(tick) => {
+            let tick = Length(tick);
+            format!(in alloc;
+                "'delay' is {delay} ticks of {tick}, and may be 1 to {greatest}: choose a larger tick, as 'tick = \"{larger}\"', and durations that are whole numbers of it"
+            )
+        }
+        None => format!(in alloc; "'delay' is {delay}, and may be 1 to {greatest}"),
+    }
+}
+
+/// A round tick, of which so many ticks are no more than the greatest delay: the least of 1, 2 or 5, with
+/// zeros behind it, nanoseconds.
+fn larger_tick(delay: i64, tick: Duration, greatest: u16) -> Option<Duration> {
+    let delay = u64::try_from(delay)
+        .ok()?
+        .saturating_mul(tick.nanoseconds());
+    let mut power: u64 = 1;
+    for _ in 0..16 {
+        for factor in [1, 2, 5] {
+            let length = power.saturating_mul(factor);
+            if length.saturating_mul(u64::from(greatest)) >= delay {
+                return Duration::from_nanoseconds(length);
+            }
+        }
+        power = power.saturating_mul(10);
+    }
+    None
+}
+
+/// That a tick is too great a number of its unit.
+fn hint_for_long_tick(alloc: Global, tick: Option<Duration>) -> Result<Option<String>, AllocError> {
+    let Some(tick) = tick else {
+        return Ok(None);
+    };
+    let tick = Length(tick);
+    let hint = format!(in alloc;
+        "a tick lasts {tick}, and may be at most 4294967295 of the greatest unit that divides it: round it"
+    )?;
+    Ok(Some(hint))
 }
 
 fn hint_for_at(alloc: Global, sketch: &Sketch<'_>) -> Result<Option<String>, AllocError> {
@@ -51,7 +109,15 @@ fn hint_for_at(alloc: Global, sketch: &Sketch<'_>) -> Result<Option<String>, All
     };
     let part = multicast.part;
     let at = multicast.at;
-    let hint = format!(in alloc; "'at' in {part} is {at}, and may be 0 to {GREATEST_AT}")?;
+    let hint = match sketch.tick {
+        Some(tick) => {
+            let tick = Length(tick);
+            format!(in alloc;
+                "'at' in {part} is {at} ticks of {tick}, and may be 0 to {GREATEST_AT}: choose a larger tick, or take the same from each 'at'"
+            )?
+        }
+        None => format!(in alloc; "'at' in {part} is {at}, and may be 0 to {GREATEST_AT}")?,
+    };
     Ok(Some(hint))
 }
 
@@ -63,9 +129,23 @@ fn hint_for_range(alloc: Global, sketch: &Sketch<'_>) -> Result<Option<String>, 
     else {
         return Ok(None);
     };
-    let part = link.part;
-    let least = link.least;
-    let most = link.most;
+    match sketch.tick {
+        Some(tick) if link.least == 0 => Ok(Some(hint_for_least(alloc, link, tick)?)),
+        _ => Ok(Some(hint_for_ends(alloc, link, delay)?)),
+    }
+}
+
+/// That a packet takes at least a tick.
+fn hint_for_least(alloc: Global, link: &Link<'_>, tick: Duration) -> Result<String, AllocError> {
+    let (part, tick) = (link.part, Length(tick));
+    format!(in alloc;
+        "'least' in {part} is 0, and a packet takes at least a tick, which lasts {tick}: write that, or a smaller tick and its length"
+    )
+}
+
+/// That the ends of a range are not 1 or more, in order, and at most D.
+fn hint_for_ends(alloc: Global, link: &Link<'_>, delay: i64) -> Result<String, AllocError> {
+    let (part, least, most) = (link.part, link.least, link.most);
     let what = if least < 1 {
         "'least' is to be 1 or more"
     } else if most < least {
@@ -73,8 +153,5 @@ fn hint_for_range(alloc: Global, sketch: &Sketch<'_>) -> Result<Option<String>, 
     } else {
         "'most' is to be at most 'delay'"
     };
-    let hint = format!(in alloc;
-        "{part} takes {least} to {most} ticks, where 'delay' is {delay}: {what}"
-    )?;
-    Ok(Some(hint))
+    format!(in alloc; "{part} takes {least} to {most} ticks, where 'delay' is {delay}: {what}")
 }

@@ -7,18 +7,20 @@ use super::references::{
     hint_for_double_destination, hint_for_link_to_itself, hint_for_no_destination,
     hint_for_target_not_addressed, hint_for_unknown_group, hint_for_unknown_target,
 };
-use super::schedules::hint_for_schedule;
+use super::schedules::{hint_for_order, hint_for_schedule};
 use super::shape::hint_for_shape;
 use super::sketch::{Sketch, sketch_of_table};
 use super::spot::spot_at;
+use super::times::hint_for_part_of_tick;
 use convoy_certificate::{Form, form_of};
+use convoy_packets::Instance;
 use convoy_scenario::ScenarioFault;
 use convoy_toml::{Input, read_toml};
 use std::alloc::{AllocError, Global};
 use toml::de::Error;
 
 /// What is wrong with the text of a scenario, in one line `hint: ..`: with the fault that it has, or
-/// else with its schedule. None where nothing is, or where nothing can be said beyond the fault.
+/// else with its schedule or the order of its ties. None where nothing is, or where nothing can be said beyond the fault.
 pub fn hint_for_scenario(alloc: Global, text: &[u8]) -> Result<Option<String>, AllocError> {
     let hint = match read_toml(alloc, text) {
         Ok(input) => hint_for_input(alloc, input)?,
@@ -42,11 +44,21 @@ pub fn hint_for_fault(
     }
 }
 
-/// What is wrong with the schedule of a scenario without a fault.
+/// What is wrong with the schedule of a scenario without a fault, or with the order of its ties.
 fn hint_for_input(alloc: Global, input: Input) -> Result<Option<String>, AllocError> {
-    let Input { scenario, schedule } = input;
-    match schedule {
-        Some(delays) => hint_for_schedule(alloc, scenario, &delays),
+    let Input {
+        scenario,
+        schedule,
+        order,
+    } = input;
+    let instance = Instance::of(alloc, scenario)?;
+    if let Some(delays) = schedule {
+        if let Some(hint) = hint_for_schedule(alloc, &instance, &delays)? {
+            return Ok(Some(hint));
+        }
+    }
+    match order {
+        Some(ranks) => hint_for_order(alloc, instance.scenario(), &ranks),
         None => Ok(None),
     }
 }
@@ -79,7 +91,7 @@ fn hint_for_given_certificate(alloc: Global, text: &[u8]) -> Result<String, Allo
         Form::Certificate(Some(_)) =>
             "the input is a certificate, and a scenario is read here: 'convoy check' reads certificates",
         Form::Certificate(None) | Form::Other =>
-            "the input begins as a certificate, but its first line is not 'convoy 1', 'convoy 2' or 'convoy 3'",
+            "the input begins as a certificate, but its first line is none of 'convoy 1' to 'convoy 4'",
     };
     String::from_str(alloc, hint)
 }
@@ -124,10 +136,11 @@ fn hint_for_table(
     let Ok(table) = toml::table_from_str(alloc, text) else {
         return Ok(None);
     };
-    if let ScenarioFault::Shape(_) = fault {
-        return hint_for_shape(alloc, text, &table);
+    match fault {
+        ScenarioFault::Shape(_) => hint_for_shape(alloc, text, &table),
+        ScenarioFault::NotWhole(_) => hint_for_part_of_tick(alloc, text, &table),
+        fault => hint_for_sketch(alloc, &sketch_of_table(alloc, text, &table)?, fault),
     }
-    hint_for_sketch(alloc, &sketch_of_table(alloc, text, &table)?, fault)
 }
 
 /// What is wrong with the numbers and the names of a scenario that has that fault, whichever text it is
@@ -148,6 +161,9 @@ pub fn hint_for_sketch(
         ScenarioFault::UnknownTarget => hint_for_unknown_target(alloc, sketch),
         ScenarioFault::TargetNotAddressed => hint_for_target_not_addressed(alloc, sketch),
         ScenarioFault::LinkToItself => hint_for_link_to_itself(alloc, sketch),
-        ScenarioFault::NotToml | ScenarioFault::Shape(_) | ScenarioFault::Memory => Ok(None),
+        ScenarioFault::NotToml
+        | ScenarioFault::Shape(_)
+        | ScenarioFault::NotWhole(_)
+        | ScenarioFault::Memory => Ok(None),
     }
 }

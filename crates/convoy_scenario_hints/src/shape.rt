@@ -1,10 +1,14 @@
+use super::durations::hint_for_duration;
 use super::fields::{
-    Field, HEAD, Kind, LINK_KEYS, LINKS, MULTICAST_KEYS, SCHEDULE, TARGET, TARGET_KEYS, TOP_WORDS,
+    Field, HEAD, Kind, LINK_KEYS, LINKS, MULTICAST_KEYS, SCHEDULE, TARGET, TARGET_KEYS, TICK, TIME,
+    TOP_WORDS,
 };
 use super::headers::header_line;
 use super::near::nearest;
 use super::part::{Part, PartKind};
 use super::quoting::{Quoted, Words};
+use super::times::{duration_in, hint_for_mixture, time_of_table};
+use convoy_scenario::{Duration, Time};
 use std::alloc::{AllocError, Global};
 use toml::value::Array;
 use toml::{Table, Value};
@@ -22,6 +26,15 @@ pub(crate) fn hint_for_shape(
         name: None,
         line: None,
     };
+    if let Some(hint) = hint_for_keys(alloc, table, &TIME, &top, table)? {
+        return Ok(Some(hint));
+    }
+    if let Some(hint) = hint_for_time(alloc, table)? {
+        return Ok(Some(hint));
+    }
+    if let Some(hint) = hint_for_tick(alloc, table, &top)? {
+        return Ok(Some(hint));
+    }
     if let Some(hint) = hint_for_keys(alloc, table, &HEAD, &top, table)? {
         return Ok(Some(hint));
     }
@@ -43,7 +56,60 @@ pub(crate) fn hint_for_shape(
     if let Some(hint) = hint_for_keys(alloc, table, &SCHEDULE, &top, table)? {
         return Ok(Some(hint));
     }
-    hint_for_unknown(alloc, table, &TOP_WORDS, &top)
+    match hint_for_unknown(alloc, table, &TOP_WORDS, &top)? {
+        Some(hint) => Ok(Some(hint)),
+        None => hint_for_mixture(alloc, text, table),
+    }
+}
+
+/// What is wrong with the length of a tick, where one is written.
+fn hint_for_tick(
+    alloc: Global,
+    table: &Table,
+    top: &Part<'_>,
+) -> Result<Option<String>, AllocError> {
+    let Some(value) = table.get("tick") else {
+        return Ok(None);
+    };
+    if time_of_table(table) == Time::Ticks {
+        return Ok(Some(String::from_str(
+            alloc,
+            "'tick' is the length of a tick where time is real: write 'time = \"real\"', or leave it out",
+        )?));
+    }
+    let Some(text) = value.as_str() else {
+        return Ok(Some(hint_for_kind(alloc, &TICK, value, top)?));
+    };
+    match Duration::read(text.as_bytes()) {
+        None => Ok(Some(hint_for_duration(alloc, "tick", top, text)?)),
+        Some(length) if length.nanoseconds() == 0 => Ok(Some(String::from_str(
+            alloc,
+            "'tick' is 0, and a tick lasts 1 ns or more",
+        )?)),
+        Some(_) => Ok(None),
+    }
+}
+
+/// What is wrong with the word for how time goes, where one is written.
+fn hint_for_time(alloc: Global, table: &Table) -> Result<Option<String>, AllocError> {
+    let Some(word) = table.get("time").and_then(Value::as_str) else {
+        return Ok(None);
+    };
+    if Time::named(word).is_some() {
+        return Ok(None);
+    }
+    let shown = Quoted(word);
+    let kinds = [Time::Ticks.word(), Time::Real.word()];
+    let hint = match nearest(alloc, word, &kinds)? {
+        Some(near) => {
+            let near = Quoted(near);
+            format!(in alloc; "'time' is {shown}: did you mean {near}?")?
+        }
+        None => format!(in alloc;
+            "'time' is {shown}: write 'time = \"real\"', or 'time = \"ticks\"', which is so without the key"
+        )?,
+    };
+    Ok(Some(hint))
 }
 
 /// What is wrong with the keys of the target.
@@ -127,9 +193,13 @@ fn hint_for_keys(
     part: &Part<'_>,
     top: &Table,
 ) -> Result<Option<String>, AllocError> {
+    let time = time_of_table(top);
     for field in fields {
         match table.get(field.key) {
-            Some(value) if is_of(value, field.kind) => {}
+            Some(value) if is_of(value, field.kind, time) => {}
+            Some(value) if field.kind == Kind::Time => {
+                return Ok(Some(hint_for_when(alloc, field, value, part, time)?));
+            }
             Some(value) => return Ok(Some(hint_for_kind(alloc, field, value, part)?)),
             None if field.is_needed => {
                 return Ok(Some(hint_for_absent(alloc, field, table, part, top)?));
@@ -140,10 +210,11 @@ fn hint_for_keys(
     Ok(None)
 }
 
-/// Whether the value is of that kind.
-fn is_of(value: &Value, kind: Kind) -> bool {
+/// Whether the value is of that kind, where time goes so.
+fn is_of(value: &Value, kind: Kind, time: Time) -> bool {
     match kind {
         Kind::Integer => value.is_integer(),
+        Kind::Time => value.is_integer() || (time == Time::Real && duration_in(value).is_some()),
         Kind::Text => value.is_str(),
         Kind::Table => value.is_table(),
         Kind::Texts => are_all(value, Kind::Text),
@@ -167,6 +238,27 @@ fn odd_item(items: &Array, kind: Kind) -> Option<&Value> {
         Kind::Text => !item.is_str(),
         _ => !item.is_table(),
     })
+}
+
+/// A time is neither a number of ticks nor, where time is real, a duration.
+fn hint_for_when(
+    alloc: Global,
+    field: &Field,
+    value: &Value,
+    part: &Part<'_>,
+    time: Time,
+) -> Result<String, AllocError> {
+    let key = field.key;
+    match (value.as_str(), time) {
+        (Some(text), Time::Real) => hint_for_duration(alloc, key, part, text),
+        (Some(text), Time::Ticks) if duration_in(value).is_some() => {
+            let shown = Quoted(text);
+            format!(in alloc;
+                "'{key}' in {part} is the duration {shown}, and time goes in whole ticks: write 'time = \"real\"' above the first header, or an integer"
+            )
+        }
+        _ => hint_for_kind(alloc, field, value, part),
+    }
 }
 
 /// A key is of another kind.
@@ -223,7 +315,7 @@ fn kind_of_items(kind: Kind) -> Kind {
 /// What a value of the kind is called.
 fn words_for(kind: Kind) -> &'static str {
     match kind {
-        Kind::Integer => "an integer",
+        Kind::Integer | Kind::Time => "an integer",
         Kind::Text => "a string",
         Kind::Texts => "an array of strings",
         Kind::Integers => "an array of integers",
@@ -257,7 +349,7 @@ fn hint_for_absent(
     if table.is_empty() && part.kind == PartKind::Scenario {
         return String::from_str(
             alloc,
-            "the input has no key: a scenario is read from standard input, as 'convoy latency < scenario.toml'",
+            "the input has no key: a scenario is read from a file, as by 'convoy latency scenario.toml', or from standard input",
         );
     }
     let words: Vec<&str> = table.keys().map(|word| word.as_str()).collect(alloc)?;

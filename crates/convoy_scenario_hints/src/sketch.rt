@@ -1,5 +1,7 @@
 use super::part::{Part, PartKind};
 use super::shape::part_of;
+use super::times::{spells_of_table, tick_of, ticks_at, time_of_table};
+use convoy_scenario::{Duration, Time};
 use std::alloc::{AllocError, Global};
 use toml::{Table, Value};
 
@@ -7,6 +9,10 @@ use toml::{Table, Value};
 /// are, so that a hint can tell which of them is wrong.
 #[derive(Drop)]
 pub struct Sketch<'a> {
+    /// Whether time goes in whole ticks, or is real.
+    pub time: Time,
+    /// The length of a tick, where it is known.
+    pub tick: Option<Duration>,
     /// The greatest delay, in ticks.
     pub delay: i64,
     /// The names of the groups, in their order.
@@ -58,11 +64,18 @@ pub(crate) fn sketch_of_table<'a>(
     table: &'a Table,
 ) -> Result<Sketch<'a>, AllocError> {
     let target = table.get("target").and_then(Value::as_table);
+    let tick = tick_of(table, &spells_of_table(alloc, text, table)?);
+    let length = match &tick {
+        Some(tick) => tick.nanoseconds(),
+        None => 0,
+    };
     Ok(Sketch {
-        delay: integer_at(table, "delay"),
+        time: time_of_table(table),
+        tick,
+        delay: ticks_at(table, "delay", length),
         groups: texts_of(alloc, array_at(table, "groups"))?,
-        multicasts: multicasts_of_table(alloc, text, table)?,
-        links: links_of_table(alloc, text, table)?,
+        multicasts: multicasts_of_table(alloc, text, table, length)?,
+        links: links_of_table(alloc, text, table, length)?,
         target_message: target
             .and_then(|inner| text_at(inner, "message"))
             .unwrap_or(""),
@@ -77,13 +90,14 @@ fn multicasts_of_table<'a>(
     alloc: Global,
     text: &str,
     table: &'a Table,
+    tick: u64,
 ) -> Result<Vec<Multicast<'a>>, AllocError> {
     let mut multicasts = Vec::new(alloc);
     let items = array_at(table, "multicast");
     for (place, item) in items.iter().enumerate() {
         if let Value::Table(inner) = item {
             let part = part_of(text, PartKind::Multicast, place, items.len(), inner);
-            multicasts.push(multicast_of_table(alloc, inner, part)?)?;
+            multicasts.push(multicast_of_table(alloc, inner, part, tick)?)?;
         }
     }
     Ok(multicasts)
@@ -94,13 +108,14 @@ fn links_of_table<'a>(
     alloc: Global,
     text: &str,
     table: &'a Table,
+    tick: u64,
 ) -> Result<Vec<Link<'a>>, AllocError> {
     let mut links = Vec::new(alloc);
     let items = array_at(table, "link");
     for (place, item) in items.iter().enumerate() {
         if let Value::Table(inner) = item {
             let part = part_of(text, PartKind::Link, place, items.len(), inner);
-            links.push(link_of_table(inner, part))?;
+            links.push(link_of_table(inner, part, tick))?;
         }
     }
     Ok(links)
@@ -110,32 +125,29 @@ fn multicast_of_table<'a>(
     alloc: Global,
     table: &'a Table,
     part: Part<'a>,
+    tick: u64,
 ) -> Result<Multicast<'a>, AllocError> {
     Ok(Multicast {
         part,
         name: text_at(table, "name").unwrap_or(""),
         sender: text_at(table, "from"),
         to: texts_of(alloc, array_at(table, "to"))?,
-        at: integer_at(table, "at"),
+        at: ticks_at(table, "at", tick),
     })
 }
 
-fn link_of_table<'a>(table: &'a Table, part: Part<'a>) -> Link<'a> {
+fn link_of_table<'a>(table: &'a Table, part: Part<'a>, tick: u64) -> Link<'a> {
     Link {
         part,
         sender: text_at(table, "from"),
         to: text_at(table, "to").unwrap_or(""),
-        least: integer_at(table, "least"),
-        most: integer_at(table, "most"),
+        least: ticks_at(table, "least", tick),
+        most: ticks_at(table, "most", tick),
     }
 }
 
 fn text_at<'a>(table: &'a Table, key: &str) -> Option<&'a str> {
     table.get(key).and_then(Value::as_str)
-}
-
-fn integer_at(table: &Table, key: &str) -> i64 {
-    table.get(key).and_then(Value::as_integer).unwrap_or(0)
 }
 
 /// The items of the array at a key; none where there is no array.

@@ -1,6 +1,6 @@
 use Rattle.std.proofs.Common.{◌∙◌, ◌<◌, length, sym}
 use Rattle.std.proofs.lemmas.Bool.{cond-false, ne_eqb}
-use Rattle.convoy_explain.specs.Told.{committed_told, delivered_told, holder_told, is_last_ahead_told}
+use Rattle.convoy_explain.specs.Told.{holder_told, is_last_ahead_told}
 use Rattle.convoy_explain.proofs.Finding.{find-after, find-here}
 use Rattle.convoy_explain.proofs.explaining.holder.Goals as goal
 

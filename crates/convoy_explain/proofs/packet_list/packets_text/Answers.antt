@@ -1,5 +1,4 @@
-use Rattle.std.proofs.Common.{◌≡◌, None, Some, map, refl, arith}
-use Rattle.std.specs.Prelude.{slice_index}
+use Rattle.std.proofs.Common.{◌≡◌, None, map, refl, arith}
 use Rattle.convoy_packets.specs.Assignment.{range_of, ranges_of}
 use Rattle.convoy_explain.specs.PacketLists.{packet_line, packets_text}
 use Rattle.convoy_explain.proofs.PacketLines.{none_left, one_more, range_at}

@@ -1,4 +1,4 @@
-use Rattle.std.proofs.Common.{◌≡◌, None, Some, map, refl, arith}
+use Rattle.std.proofs.Common.{◌≡◌, Some, map, refl, arith}
 use Rattle.std.specs.Prelude.{slice_index}
 use Rattle.convoy_packets.specs.Assignment.{range_of, ranges_of}
 use Rattle.convoy_explain.specs.PacketLists.{packet_line, scheduled_packets_text}
@@ -18,8 +18,8 @@ loop-i-preserved c =
     let told = rw c.scenario-scenario.ensures.value at c.in_ok-line.ensures in
     let line = rw c.delay.ensures at (told range) in
     rw (c.in_ok-extend_from_slice.ensures.items, c.as_bytes.ensures.value)
-    (one_more (λ p. packet_line c.args.instance.now p.0 p.1 (Some (slice_index c.args.delays.now p.0))) c.loop-i.text.items _ _ packets c.loop-i.i c.packet.result c.packet.ensures c.loop-i.invariant line)
+    (one_more (λ p. packet_line c.args.instance.now p.0 p.1 (Some (slice_index c.args.schedule.now.delays p.0))) c.loop-i.text.items _ _ packets c.loop-i.i c.packet.result c.packet.ensures c.loop-i.invariant line)
 
 pub returns : goal.returns
 returns c =
-    none_left (λ p. packet_line c.args.instance.now p.0 p.1 (Some (slice_index c.args.delays.now p.0))) c.loop-i.text.items _ c.table-table.result.now.packets c.loop-i.i (omega arith) c.loop-i.invariant
+    none_left (λ p. packet_line c.args.instance.now p.0 p.1 (Some (slice_index c.args.schedule.now.delays p.0))) c.loop-i.text.items _ c.table-table.result.now.packets c.loop-i.i (omega arith) c.loop-i.invariant

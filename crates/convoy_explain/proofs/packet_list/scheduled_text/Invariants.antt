@@ -7,5 +7,5 @@ use Rattle.convoy_explain.proofs.packet_list.scheduled_text.Given as goal
 -- the lines so far and those of the packets that are left are the lines of all packets
 abbrev pub invariant-loop-i : goal.invariant-loop-i
 invariant-loop-i l =
-    l.text.items ++ flat_map (λ p. packet_line l.instance p.0 p.1 (Some (slice_index l.delays p.0))) (enumerate_from l.i (drop l.i l.table.packets))
-    ≡ scheduled_packets_text l.instance l.delays
+    l.text.items ++ flat_map (λ p. packet_line l.instance p.0 p.1 (Some (slice_index l.schedule.delays p.0))) (enumerate_from l.i (drop l.i l.table.packets))
+    ≡ scheduled_packets_text l.instance l.schedule

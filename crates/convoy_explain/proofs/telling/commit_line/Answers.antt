@@ -7,4 +7,4 @@ pub returns : goal.returns
 unfolding commit_text digits
 returns c =
     let group = rw c.target_group.ensures.value at c.group_name-group.ensures in
-    simp (sym group, sym c.group_name-giver.ensures, sym c.in_ok-stamp.ensures) c.format.ensures.ok
+    simp (sym group, sym c.group_name-giver.ensures, sym c.in_ok-stamp.ensures, sym c.in_ok-tied.ensures) c.format.ensures.ok

@@ -9,4 +9,4 @@ returns c =
     let message = rw c.target_message.ensures.value at c.message_name-message.ensures in
     let group = rw c.target_group.ensures.value at c.group_name-group.ensures in
     let issue = rw c.target_message-2.ensures.value at c.issue_tick-issue.ensures.value in
-    simp (sym message, sym group, sym c.tick_word-ticks.ensures, sym issue, append_assoc) c.format.ensures.ok
+    simp (sym message, sym group, sym c.in_ok-latency.ensures, sym issue, append_assoc) c.format.ensures.ok

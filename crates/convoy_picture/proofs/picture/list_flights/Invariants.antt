@@ -6,5 +6,5 @@ use Rattle.convoy_picture.proofs.picture.list_flights.Given as goal
 -- the flights so far and those of the packets that are left are the flights of all packets
 abbrev pub invariant-loop-number : goal.invariant-loop-number
 invariant-loop-number l =
-    l.flights.items ++ map (λ p. flight_of l.instance l.delays p.0 p.1) (enumerate_from l.number (drop l.number l.table.packets))
-    ≡ flights_of l.instance l.delays
+    l.flights.items ++ map (λ p. flight_of l.instance l.schedule p.0 p.1) (enumerate_from l.number (drop l.number l.table.packets))
+    ≡ flights_of l.instance l.schedule
