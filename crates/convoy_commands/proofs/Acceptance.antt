@@ -1,8 +1,7 @@
 -- What is written for a scenario of which a search has ended, and what `check` answers for it.
-use Rattle.std.proofs.Common.{◌≡◌, ◌≢◌, ◌≤◌, ◌++◌, ◌∙◌, ℕ, List, Vec, length, Ok, false, inl, inr, refl, sym, ap, arith}
+use Rattle.std.proofs.Common.{◌≡◌, ◌≢◌, ◌≤◌, ◌++◌, ◌∙◌, ℕ, List, Vec, length, None, Ok, false, inl, inr, refl, sym, ap, arith}
 use Rattle.std.specs.List.{list_any}
 use Rattle.std.specs.declared.alloc.Global.{Global}
-use Rattle.convoy_lines.specs.Texts.{ended}
 use Rattle.convoy_scenario.specs.Scenario.{Scenario}
 use Rattle.convoy_sim.specs.Delivery.{latency_of}
 use Rattle.convoy_sim.specs.Greatest.{IsGreatest, IsReached, IsUpper}
@@ -10,7 +9,7 @@ use Rattle.convoy_sim.specs.Record.{Record, IsAttained}
 use Rattle.convoy_certificate.specs.Certificate.{Certificate, IsCertificate}
 use Rattle.convoy_certificate.specs.Laws.{TextsAreRead, TextsAreShort}
 use Rattle.convoy_certificate.specs.Reading.{AreReadable}
-use Rattle.convoy_certificate.specs.Text.{certificate_text, is_lead, is_stamp, schedule_line}
+use Rattle.convoy_certificate.specs.Text.{certificate_text, is_lead, is_stamp}
 use Rattle.convoy_checker.specs.Laws.{CheckedIsValid, ValidIsGreatest}
 use Rattle.convoy_checker.specs.Validity.{IsValid}
 use Rattle.convoy_branch.specs.declared.bounds.Bounds.{Bounds}
@@ -21,7 +20,7 @@ use Rattle.convoy_branch.specs.declared.options.Ways.{Ways}
 use Rattle.convoy_branch.specs.declared.options.Ways.TheVariants.{One, Both}
 use Rattle.convoy_commands.specs.declared.done.Done.TheVariants.{Fine}
 use Rattle.convoy_commands.specs.Checks.{check_reply}
-use Rattle.convoy_commands.specs.Lines.{accepted_line, greatest_line, open_line}
+use Rattle.convoy_commands.specs.Lines.{accepted_line, greatest_line, open_line, schedule_text}
 use Rattle.convoy_commands.specs.Searches.{IsFrontBy, IsFrontTold, IsGreatestTold, IsOpenBetween, IsOpenProof, IsOutcomeBy, IsProof, IsSearchOf}
 
 -- the text of a valid certificate gets a yes
@@ -90,13 +89,13 @@ open_end (One bounds) scenario workers limit best upper tickets by_worker found 
   of_scenario = found.of_scenario;
   reached = found.reached;
   none_greater = found.none_greater;
-  front = rw found.all at found.front;
+  front = found.front;
 }
 open_end Both scenario workers limit best upper tickets by_worker (inl found) = record {
   of_scenario = found.1.of_scenario;
   reached = found.1.reached;
   none_greater = found.1.none_greater;
-  front = inl (found.0, rw found.1.all at found.1.front);
+  front = inl (found.0, found.1.front);
 }
 open_end Both scenario workers limit best upper tickets by_worker (inr found) = record {
   of_scenario = found.of_scenario;
@@ -106,14 +105,14 @@ open_end Both scenario workers limit best upper tickets by_worker (inr found) = 
 }
 
 -- What is written where a search for the scenario of the text has ended.
-module _ (settings : Settings) (text out : List ℕ) where
+module _ (settings : Settings) (text out : List ℕ) (scenario : Scenario) where
   -- the text of a proved outcome's certificate
   pub proof_written : TextsAreRead → TextsAreShort → CheckedIsValid → ValidIsGreatest →
       (certificate : Certificate) (tickets : ℕ) (by_worker : Vec ℕ Global) → IsCertificate certificate →
-      IsSearchOf settings text (Proved certificate tickets by_worker) → settings.limit ≤ highest_limit settings.ways →
+      IsSearchOf settings text scenario (Proved certificate tickets by_worker) → settings.limit ≤ highest_limit settings.ways →
       out ≡ certificate_text certificate → IsProof settings text out
   proof_written are_read are_short is_valid is_greatest certificate tickets by_worker lawful search few written =
-      let ended = proved_end settings.ways search.scenario search.ended.workers settings.limit certificate tickets by_worker search.ended.found few in
+      let ended = proved_end settings.ways scenario search.ended.workers settings.limit certificate tickets by_worker search.ended.found few in
       record {
         certificate = certificate;
         lawful = lawful;
@@ -131,12 +130,12 @@ module _ (settings : Settings) (text out : List ℕ) where
 
   -- the latency of a proved outcome
   pub greatest_written : (certificate : Certificate) (tickets : ℕ) (by_worker : Vec ℕ Global) →
-      IsSearchOf settings text (Proved certificate tickets by_worker) → settings.limit ≤ highest_limit settings.ways →
-      out ≡ greatest_line certificate.latency → IsGreatestTold text out
+      IsSearchOf settings text scenario (Proved certificate tickets by_worker) → settings.limit ≤ highest_limit settings.ways →
+      out ≡ greatest_line scenario.tick certificate.latency → IsGreatestTold text out
   greatest_written certificate tickets by_worker search few written =
-      let ended = proved_end settings.ways search.scenario search.ended.workers settings.limit certificate tickets by_worker search.ended.found few in
+      let ended = proved_end settings.ways scenario search.ended.workers settings.limit certificate tickets by_worker search.ended.found few in
       record {
-        scenario = search.scenario;
+        scenario = scenario;
         latency = certificate.latency;
         read = search.read;
         lawful = search.lawful;
@@ -146,10 +145,10 @@ module _ (settings : Settings) (text out : List ℕ) where
 
   -- what an open outcome says of the scenario
   open_between : (best : Record) (upper tickets : ℕ) (by_worker : Vec ℕ Global) →
-      (search : IsSearchOf settings text (Open best upper tickets by_worker)) →
-      IsOpenBetween settings text search.scenario best.latency upper
+      (search : IsSearchOf settings text scenario (Open best upper tickets by_worker)) →
+      IsOpenBetween settings text scenario best.latency upper
   open_between best upper tickets by_worker search =
-      let ended = open_end settings.ways search.scenario search.ended.workers settings.limit best upper tickets by_worker search.ended.found in
+      let ended = open_end settings.ways scenario search.ended.workers settings.limit best upper tickets by_worker search.ended.found in
       record {
         read = search.read;
         lawful = search.lawful;
@@ -160,10 +159,10 @@ module _ (settings : Settings) (text out : List ℕ) where
 
   -- the bounds of an open outcome
   pub bounds_written : (best : Record) (upper tickets : ℕ) (by_worker : Vec ℕ Global) →
-      IsSearchOf settings text (Open best upper tickets by_worker) →
-      out ≡ open_line best.latency upper → IsFrontTold settings text out
+      IsSearchOf settings text scenario (Open best upper tickets by_worker) →
+      out ≡ open_line scenario.tick best.latency upper → IsFrontTold settings text out
   bounds_written best upper tickets by_worker search written = record {
-    scenario = search.scenario;
+    scenario = scenario;
     least = best.latency;
     most = upper;
     between = open_between best upper tickets by_worker search;
@@ -172,15 +171,15 @@ module _ (settings : Settings) (text out : List ℕ) where
 
   -- the bounds of an open outcome, and the schedule of its record
   pub open_written : (best : Record) (upper tickets : ℕ) (by_worker : Vec ℕ Global) → IsAttained best →
-      IsSearchOf settings text (Open best upper tickets by_worker) →
-      out ≡ open_line best.latency upper ++ ended (schedule_line best.delays) → IsOpenProof settings text out
+      IsSearchOf settings text scenario (Open best upper tickets by_worker) →
+      out ≡ open_line None best.latency upper ++ schedule_text scenario best.schedule → IsOpenProof settings text out
   open_written best upper tickets by_worker attained search written =
-      let end = open_end settings.ways search.scenario search.ended.workers settings.limit best upper tickets by_worker search.ended.found in
+      let end = open_end settings.ways scenario search.ended.workers settings.limit best upper tickets by_worker search.ended.found in
       let of_scenario = end.of_scenario in
-      let same : best.latency ≡ latency_of search.scenario best.delays = rw of_scenario at attained.latency in
+      let same : best.latency ≡ latency_of scenario best.schedule = rw of_scenario at attained.latency in
       record {
-        scenario = search.scenario;
-        delays = best.delays;
+        scenario = scenario;
+        schedule = best.schedule;
         most = upper;
         assigned = rw of_scenario at attained.assignment;
         between = rw same at (open_between best upper tickets by_worker search);

@@ -4,6 +4,7 @@ use Rattle.std.specs.List.{FoldsTo}
 use Rattle.std.proofs.lemmas.List.{take_more}
 use Rattle.std.proofs.lemmas.List.Elements.{All-nil}
 use Rattle.std.proofs.lemmas.Fn.{FoldsTo-push}
+use Rattle.convoy_streams.specs.declared.reading.ReadFault.TheVariants.{Read, TooManyReads}
 use Rattle.convoy_streams.specs.Jobs.{ended_jobs}
 use Rattle.convoy_streams.specs.Laws.{EndedJobsStay, PiecesGoOn}
 use Rattle.convoy_streams.specs.Devices.{Answer, Moved, Failed, HasRun, IsPiece}
@@ -11,7 +12,7 @@ use Rattle.convoy_branch.specs.Options.{Settings}
 use Rattle.convoy_commands.specs.declared.batch.Batch.{Batch}
 use Rattle.convoy_commands.specs.declared.done.Done.TheVariants.{Fine}
 use Rattle.convoy_commands.specs.declared.fault.Fault.{Fault}
-use Rattle.convoy_commands.specs.declared.fault.Fault.TheVariants.{Read, Write, TooManyJobs, TooManyReads}
+use Rattle.convoy_commands.specs.declared.fault.Fault.TheVariants.{Reading, Write, TooManyJobs}
 use Rattle.convoy_commands.specs.Batches.{AnswersAll, IsBatchRun, ReadsAll, ReadsOn}
 use Rattle.convoy_commands.specs.BatchSteps.{EndsBatch, IsUnderWay, StopsAnswering}
 use Rattle.convoy_commands.proofs.Blocks.{stops_among}
@@ -74,7 +75,7 @@ module _ {S K : Type 0} (reads : S → Answer → S → Type 0) (writes : K → 
   calls answer moved = FoldsTo-push reads source p.answers mid answer new p.calls moved
 
   -- a read failed
-  pub by_failure : reads mid Failed new → IsBatchRun settings most reads writes source new sink now (Err Read)
+  pub by_failure : reads mid Failed new → IsBatchRun settings most reads writes source new sink now (Err (Reading Read))
   by_failure failed = record {
     reads = p.answers ++ Failed ∷ [];
     writes = u.ready.wrote.answers;
@@ -159,7 +160,7 @@ module _ {S K : Type 0} (reads : S → Answer → S → Type 0) (writes : K → 
 -- as many reads as there may be gave no end
 pub by_reads : {S K : Type 0} (reads : S → Answer → S → Type 0) (writes : K → Answer → K → Type 0) (settings : Settings) (most count : ℕ) (source mid : S) (sink now : K)
     (bytes : List ℕ) (batch : Batch) → HasReadOn reads source bytes count mid → IsUnderWay settings writes sink now bytes batch → count ≡ most →
-    IsBatchRun settings most reads writes source mid sink now (Err TooManyReads)
+    IsBatchRun settings most reads writes source mid sink now (Err (Reading TooManyReads))
 by_reads reads writes settings most count source mid sink now bytes batch p u all = record {
   reads = p.answers;
   writes = u.ready.wrote.answers;

@@ -5,12 +5,13 @@ use Rattle.std.specs.Result.{IsOk, OnOk, OnErr, is_err}
 use Rattle.std.proofs.lemmas.Grind.{flat_map-append}
 use Rattle.std.proofs.lemmas.List.{append-nil}
 use Rattle.std.proofs.lemmas.List.Elements.{All-append}
+use Rattle.convoy_streams.specs.declared.reading.ReadFault.TheVariants.{TooLong}
 use Rattle.convoy_streams.specs.Devices.{Answer, Failed, HasRun, IsPiece, bytes_of, joined}
 use Rattle.convoy_streams.specs.Writes.{WritesAll, FailsWithin}
 use Rattle.convoy_branch.specs.Options.{Settings}
 use Rattle.convoy_commands.specs.declared.done.Done.{Done}
 use Rattle.convoy_commands.specs.declared.fault.Fault.{Fault}
-use Rattle.convoy_commands.specs.declared.fault.Fault.TheVariants.{Memory, Write, TooLong, TooManyJobs}
+use Rattle.convoy_commands.specs.declared.fault.Fault.TheVariants.{Memory, Reading, Write, TooManyJobs}
 use Rattle.convoy_streams.specs.Jobs.{ended_jobs, jobs_of}
 use Rattle.convoy_streams.specs.Splitting.{IsJobStart}
 use Rattle.convoy_commands.specs.declared.batch.Batch.{Batch}
@@ -152,7 +153,7 @@ told_allowed : (settings : Settings) (job : List ℕ) (want reply : Reply) → J
     (reply ≡ want) ⊎ (IsOk want × (reply ≡ Err Memory)) → JobSays settings job reply
 told_allowed settings job want reply says (inl same) = subst (JobSays settings job) (sym same) says
 told_allowed settings job want reply says (inr memory) = record {
-  long = λ more. let bad : IsOk {T = Done × List ℕ} {E = Fault} (Err (TooLong LONGEST_JOB)) = subst IsOk (says.long more) memory.0 in cc;
+  long = λ more. let bad : IsOk {T = Done × List ℕ} {E = Fault} (Err (Reading (TooLong LONGEST_JOB))) = subst IsOk (says.long more) memory.0 in cc;
   short = λ few. inr memory.1;
 }
 

@@ -1,5 +1,5 @@
 -- What `check` answers, from what the reader and the checker answered.
-use Rattle.std.proofs.Common.{◌≡◌, ◌≤◌, lit≤, ◌∙◌, ap, inl, inr, ℕ, List, Result, Ok, Err, IfOk, refl}
+use Rattle.std.proofs.Common.{◌≡◌, ◌∙◌, ap, inl, inr, ℕ, List, Result, Ok, Err, IfOk, refl}
 use Rattle.convoy_scenario.specs.Memory.{IsUnlessMemory}
 use Rattle.convoy_certificate.specs.Certificate.{Certificate, IsCertificate}
 use Rattle.convoy_certificate.specs.Reading.{certificate_of, IsTextOf}
@@ -15,10 +15,10 @@ use Rattle.convoy_checker.specs.declared.refused.Refused.TheVariants as checks
 use Rattle.convoy_commands.specs.declared.fault.Fault.{Fault}
 use Rattle.convoy_commands.specs.declared.fault.Fault.TheVariants.{Memory}
 use Rattle.convoy_commands.specs.Checks.{CheckSays, GivesYes, MeansYes, check_reply, reply_of_check, reply_of_text}
-use Rattle.convoy_commands.specs.Faults.{row_of}
 use Rattle.convoy_commands.specs.Lines.{accepted_line}
 use Rattle.convoy_commands.specs.Replies.{IsReply, Reply, SaysUnlessMemory}
 use Rattle.convoy_commands.proofs.Acceptance.{accepts}
+use Rattle.convoy_commands.proofs.NoDevice.{IsNoDevice}
 
 -- each valid certificate gets the yes
 yes_given : TextsAreRead → CheckedIsValid → (text : List ℕ) (reply : Reply) → reply ≡ check_reply text → GivesYes text reply
@@ -89,6 +89,6 @@ text_fault (Ok certificate) fault is = check_fault (checked certificate) fault i
 text_fault (Err texts.Memory) fault is = cc
 text_fault (Err other) fault is = cc
 
-pub check_number : (text : List ℕ) (fault : Fault) → CheckSays text (Err fault) → (row_of fault).0 ≤ 14
+pub check_no_device : (text : List ℕ) (fault : Fault) → CheckSays text (Err fault) → IsNoDevice fault
 unfolding check_reply
-check_number text fault allowed = let none = text_fault (certificate_of text) fault allowed.exact in rw none (lit≤ tt)
+check_no_device text fault allowed = let none = text_fault (certificate_of text) fault allowed.exact in rw none tt

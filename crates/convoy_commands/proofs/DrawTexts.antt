@@ -1,5 +1,5 @@
 -- What `draw` answers, from what the reader and the checker answered.
-use Rattle.std.proofs.Common.{◌≡◌, ◌⊎◌, ◌≤◌, lit≤, ◌∙◌, ap, inl, inr, ℕ, List, Result, Ok, Err, IfOk, refl, subst, sym}
+use Rattle.std.proofs.Common.{◌≡◌, ◌⊎◌, ◌∙◌, ap, inl, inr, ℕ, List, Result, Ok, Err, IfOk, refl, subst}
 use Rattle.convoy_scenario.specs.Memory.{IsUnlessMemory}
 use Rattle.convoy_certificate.specs.Certificate.{Certificate, IsCertificate}
 use Rattle.convoy_certificate.specs.Reading.{certificate_of, IsTextOf}
@@ -15,9 +15,9 @@ use Rattle.convoy_commands.specs.declared.fault.Fault.{Fault}
 use Rattle.convoy_commands.specs.declared.fault.Fault.TheVariants.{Memory}
 use Rattle.convoy_commands.specs.Checks.{check_reply, reply_of_check, reply_of_text}
 use Rattle.convoy_commands.specs.Draws.{DrawSays, DrawsFor, IsDrawn, IsInPlaceOfYes, MeansDrawn}
-use Rattle.convoy_commands.specs.Faults.{row_of}
 use Rattle.convoy_commands.specs.Replies.{IsReply, Reply, SaysUnlessMemory}
 use Rattle.convoy_commands.proofs.CheckTexts.{text_fault}
+use Rattle.convoy_commands.proofs.NoDevice.{IsNoDevice}
 
 -- a refusal of the text stands as it is, and is no image
 refusal_stands : (fault : TextFault) → IsInPlaceOfYes (reply_of_text (Err fault)) (reply_of_text (Err fault))
@@ -40,12 +40,6 @@ refused_drawn text fault reply (inl found) (inl told) =
       as_check = subst (λ said. IsInPlaceOfYes said reply) (ap reply_of_text found) (rw told (refusal_stands fault));
       means = rw told (no_image text fault);
     })
-
--- the checker refused the certificate
-pub refusal_drawn : (certificate : Certificate) (fault : Fault-of-check) (reply : Reply) →
-    IsReply (reply_of_check (Err fault)) reply → DrawsFor certificate (reply_of_check (Err fault)) reply ⊎ (reply ≡ Err Memory)
-refusal_drawn certificate checks.Memory reply told = told
-refusal_drawn certificate fault reply told = told
 
 -- what is drawn for a certificate is drawn in place of a yes
 in_place : (certificate : Certificate) (said reply : Reply) → DrawsFor certificate said reply → IsInPlaceOfYes said reply
@@ -96,8 +90,8 @@ same_fault : (said : Reply) (fault : Fault) → IsInPlaceOfYes said (Err fault) 
 same_fault (Ok (Fine, line)) fault placed = let none = placed.1 in cc
 same_fault other fault placed = placed
 
-pub draw_number : (text : List ℕ) (fault : Fault) → DrawSays text (Err fault) → (row_of fault).0 ≤ 14
+pub draw_no_device : (text : List ℕ) (fault : Fault) → DrawSays text (Err fault) → IsNoDevice fault
 unfolding check_reply
-draw_number text fault allowed =
+draw_no_device text fault allowed =
     let none = text_fault (certificate_of text) fault (same_fault (reply_of_text (certificate_of text)) fault allowed.as_check) in
-    rw none (lit≤ tt)
+    rw none tt

@@ -1,5 +1,5 @@
 -- What `explain` answers, from what the reader and the checker answered.
-use Rattle.std.proofs.Common.{◌≡◌, ◌≤◌, lit≤, ◌∙◌, ap, inl, inr, ℕ, List, Result, Ok, Err, IfOk, refl}
+use Rattle.std.proofs.Common.{◌≡◌, ◌∙◌, ap, inl, inr, ℕ, List, Result, Ok, Err, IfOk, refl}
 use Rattle.convoy_scenario.specs.Memory.{IsUnlessMemory}
 use Rattle.convoy_certificate.specs.Certificate.{Certificate, IsCertificate}
 use Rattle.convoy_certificate.specs.Reading.{certificate_of, IsTextOf}
@@ -14,8 +14,8 @@ use Rattle.convoy_commands.specs.declared.fault.Fault.{Fault}
 use Rattle.convoy_commands.specs.declared.fault.Fault.TheVariants.{Memory}
 use Rattle.convoy_commands.specs.Checks.{reply_of_check, reply_of_text}
 use Rattle.convoy_commands.specs.Explains.{ExplainSays, MeansValid, explain_reply, explained, in_place_of_yes}
-use Rattle.convoy_commands.specs.Faults.{row_of}
 use Rattle.convoy_commands.specs.Replies.{IsReply, Reply, SaysUnlessMemory}
+use Rattle.convoy_commands.proofs.NoDevice.{IsNoDevice}
 
 -- a refusal of the text explains nothing
 no_explanation : (text : List ℕ) (fault : TextFault) → MeansValid text (reply_of_text (Err fault))
@@ -80,6 +80,6 @@ read_fault (Ok certificate) fault is = explained_fault certificate (checked cert
 read_fault (Err texts.Memory) fault is = cc
 read_fault (Err other) fault is = cc
 
-pub explain_number : (text : List ℕ) (fault : Fault) → ExplainSays text (Err fault) → (row_of fault).0 ≤ 14
+pub explain_no_device : (text : List ℕ) (fault : Fault) → ExplainSays text (Err fault) → IsNoDevice fault
 unfolding explain_reply
-explain_number text fault allowed = let none = read_fault (certificate_of text) fault allowed.exact in rw none (lit≤ tt)
+explain_no_device text fault allowed = let none = read_fault (certificate_of text) fault allowed.exact in rw none tt

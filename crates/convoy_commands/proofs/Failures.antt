@@ -7,22 +7,23 @@ use Rattle.convoy_streams.specs.declared.reading.ReadFault.TheVariants as readin
 use Rattle.convoy_streams.specs.Devices.{Answer, Moved, Failed, IsPiece, failures}
 use Rattle.convoy_streams.specs.Reads.{ReadsText, StopsReading}
 use Rattle.convoy_commands.specs.declared.fault.Fault.{Fault}
-use Rattle.convoy_commands.specs.declared.fault.Fault.TheVariants.{Memory, Read, Write}
-use Rattle.convoy_commands.specs.Faults.{row_of, told_of_reading}
+use Rattle.convoy_commands.specs.declared.fault.Fault.TheVariants.{Memory, Reading, Write}
+use Rattle.convoy_commands.specs.Faults.{told_of_reading}
 use Rattle.convoy_commands.specs.Commands.{longest_for, says_for}
 use Rattle.convoy_commands.specs.declared.command.Command.{Command}
-use Rattle.convoy_commands.proofs.CommandTexts.{IsNoDevice, says_number}
+use Rattle.convoy_commands.proofs.CommandTexts.{says_no_device}
+use Rattle.convoy_commands.proofs.NoDevice.{IsNoDevice}
 use Rattle.convoy_commands.specs.Runs.{IsUnread, Replied}
 use Rattle.convoy_commands.specs.Laws.{told_reads, FailuresAreTold}
 
 -- pieces are no failures
-none_in_pieces : (answers : List Answer) → All IsPiece answers → failures answers ≡ 0
+pub none_in_pieces : (answers : List Answer) → All IsPiece answers → failures answers ≡ 0
 none_in_pieces [] each = refl
 none_in_pieces (Moved bytes ∷ answers) each = none_in_pieces answers (All-tail IsPiece (Moved bytes) answers each)
 none_in_pieces (Failed ∷ answers) each = absurd (All-head IsPiece Failed answers each)
 
 -- after pieces, all depends on the last answer
-after_pieces : (pieces : List Answer) (last : Answer) → All IsPiece pieces →
+pub after_pieces : (pieces : List Answer) (last : Answer) → All IsPiece pieces →
     failures (pieces ++ last ∷ []) ≡ failures (last ∷ [])
 after_pieces [] last each = refl
 after_pieces (Moved bytes ∷ pieces) last each = after_pieces pieces last (All-tail IsPiece (Moved bytes) pieces each)
@@ -42,12 +43,12 @@ in_stop longest most_reads reads reading.TooManyReads stop = none_in_pieces read
 in_stop longest most_reads reads reading.Memory stop = none_in_pieces reads stop.each
 
 -- where the text has a fault, which is no device's
-in_refusal : (fault : Fault) → IsNoDevice (row_of fault).0 → 0 ≡ told_reads (Err fault)
-in_refusal Read none = absurd (none.no_read refl)
+in_refusal : (fault : Fault) → IsNoDevice fault → 0 ≡ told_reads (Err fault)
+in_refusal (Reading reading.Read) none = absurd none
 in_refusal other none = refl
 
 -- where nothing was written
-in_nothing : (writes : List Answer) → writes ≡ [] → failures writes ≡ 0
+pub in_nothing : (writes : List Answer) → writes ≡ [] → failures writes ≡ 0
 in_nothing writes none = rw none refl
 
 in_fault : (command : Command) (most_reads : ℕ) (reads writes : List Answer) (fault : Fault) →
@@ -59,7 +60,7 @@ in_fault command most_reads reads writes fault (inl unread) none = (
 )
 in_fault command most_reads reads writes fault (inr replied) none = (
   in_text (longest_for command) reads replied.text replied.read
-      ∙ in_refusal fault (says_number command replied.text fault replied.allowed),
+      ∙ in_refusal fault (says_no_device command replied.text fault replied.allowed),
   in_nothing writes none,
 )
 

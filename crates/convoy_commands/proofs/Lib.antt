@@ -1,5 +1,6 @@
 pub mod Acceptance
 pub mod AskTexts
+pub mod BatchFailures
 pub mod BatchRuns
 pub mod Blocks
 pub mod CheckTexts
@@ -8,6 +9,7 @@ pub mod DrawTexts
 pub mod ExplainTexts
 pub mod Failures
 pub mod FirstTexts
+pub mod NoDevice
 pub mod Refusals
 pub mod Starts
 pub mod TellTexts

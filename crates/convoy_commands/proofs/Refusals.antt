@@ -14,11 +14,8 @@ use Rattle.convoy_commands.specs.Runs.{RunsTo, WritesReply}
 -- Where reading stopped, nothing was written.
 pub unread_run : (longest : ℕ) (says : Rule) (most_reads : ℕ) (reads : List Answer) (cause : ReadFault) →
     StopsReading longest most_reads reads cause → RunsTo longest says most_reads reads [] (Err (told_of_reading cause))
-unread_run longest says most_reads reads reading.Read stop = (inl (record { cause = reading.Read; stopped = stop; told = refl }), refl)
-unread_run longest says most_reads reads (reading.TooLong limit) stop =
-    (inl (record { cause = reading.TooLong limit; stopped = stop; told = refl }), refl)
-unread_run longest says most_reads reads reading.TooManyReads stop = (inl (record { cause = reading.TooManyReads; stopped = stop; told = refl }), refl)
 unread_run longest says most_reads reads reading.Memory stop = (inl stop, refl)
+unread_run longest says most_reads reads cause stop = (inl (record { cause = cause; stopped = stop; told = refl }), refl)
 
 -- a fault that is not want of memory is one that the rule allows
 from_text : (says : Rule) (text : List ℕ) (fault : Fault) → (fault ≡ Memory → ⊥) →

@@ -1,5 +1,5 @@
--- What is told of a text, from what was read, and the numbers of its faults.
-use Rattle.std.proofs.Common.{◌≡◌, ◌≤◌, lit≤, inl, inr, ℕ, ℤ, List, Option, Some, None, Result, Ok, Err, refl, arith}
+-- What is told of a text, from what was read, and that its faults are no device's.
+use Rattle.std.proofs.Common.{◌≡◌, inl, inr, ℕ, ℤ, List, Option, Some, None, Result, Ok, Err, refl, subst}
 use Rattle.std.specs.Result.{result_map_both}
 use Rattle.convoy_scenario.specs.Memory.{IsUnlessMemory}
 use Rattle.convoy_scenario.specs.Scenario.{Scenario}
@@ -7,19 +7,23 @@ use Rattle.convoy_toml.specs.Reading.{InputView, input_of_text, scenario_of_text
 use Rattle.convoy_scenario.specs.declared.fault.ScenarioFault.{ScenarioFault}
 use Rattle.convoy_scenario.specs.declared.fault.ScenarioFault.TheVariants as scenario
 use Rattle.convoy_explain.specs.PacketLists.{packets_text}
-use Rattle.convoy_packets.specs.Assignment.{ranges_of}
+use Rattle.convoy_scenario.specs.declared.time.Time.{Time}
+use Rattle.convoy_scenario.specs.declared.time.Time.TheVariants.{Ticks, Real}
+use Rattle.convoy_lines.specs.Results.{◌>>=◌}
+use Rattle.convoy_packets.specs.Assignment.{Schedule, ranges_of}
 use Rattle.convoy_packets.specs.Given.{schedule_of}
+use Rattle.convoy_packets.specs.OrderLists.{order_given}
 use Rattle.convoy_sim.specs.Scheduled.{Scheduled}
-use Rattle.convoy_packets.specs.declared.fault.ListFault.{ListFault}
-use Rattle.convoy_packets.specs.declared.fault.ListFault.TheVariants as lists
 use Rattle.convoy_commands.specs.declared.fault.Fault.{Fault}
+use Rattle.convoy_commands.specs.declared.fault.Fault.TheVariants as faults
 use Rattle.convoy_commands.specs.declared.fault.Fault.TheVariants.{Memory}
-use Rattle.convoy_commands.specs.Schedules.{chosen_schedule, scheduled_of_input, scheduled_of_text}
-use Rattle.convoy_commands.specs.Faults.{row_of, told_of, told_of_list}
+use Rattle.convoy_commands.specs.declared.fault.OrderFault.TheVariants.{InTicks}
+use Rattle.convoy_commands.specs.Schedules.{chosen_order, chosen_schedule, order_in, scheduled_of_input, scheduled_of_text, scheduled_with}
+use Rattle.convoy_commands.specs.Faults.{told_of, told_of_list, told_of_order}
 use Rattle.convoy_commands.specs.declared.telling.Telling.{Telling}
 use Rattle.convoy_commands.specs.declared.telling.Telling.TheVariants.{Simulate, Timeline, Packets}
 use Rattle.convoy_commands.specs.Tells.{job_told, packets_told, scheduled_told, text_told}
-use Rattle.convoy_commands.proofs.FirstTexts.{told_number}
+use Rattle.convoy_commands.proofs.NoDevice.{IsNoDevice, no_device_in_made, no_device_in_order, no_device_in_scenario, no_device_in_schedule}
 
 -- the text has a fault, or memory ran out
 pub made_refused : (made : Scheduled → List ℕ) (read : Result Scheduled Fault) (fault : Fault) →
@@ -34,39 +38,53 @@ pub made_answered : (made : Scheduled → List ℕ) (read : Result Scheduled Fau
 made_answered made read given (inl is) = rw (← is) refl
 made_answered made read given (inr is) = cc
 
-list_number : (refused : ListFault) → (row_of (told_of_list refused)).0 ≤ 14
-list_number lists.Length = lit≤ tt
-list_number (lists.Range packet) = lit≤ tt
-list_number lists.Memory = lit≤ tt
+chosen_schedule_no_device : (ranges : List (ℕ × ℕ)) (given : Option (List ℤ)) (fault : Fault) →
+    chosen_schedule ranges given ≡ Err fault → IsNoDevice fault
+chosen_schedule_no_device ranges None fault is = cc
+chosen_schedule_no_device ranges (Some numbers) fault is =
+    no_device_in_made _ told_of_list (schedule_of ranges numbers) fault (λ refused same. no_device_in_schedule refused) is
 
-mapped_number : {X Y E : Type 0} (made : X → Y) (told : E → Fault) (read : Result X E) (fault : Fault) →
-    ((refused : E) → read ≡ Err refused → (row_of (told refused)).0 ≤ 14) →
-    result_map_both made told read ≡ Err fault → (row_of fault).0 ≤ 14
-mapped_number made told (Ok value) fault low is = cc
-mapped_number made told (Err refused) fault low is =
-    let same : told refused ≡ fault = cc in rw same at (low refused refl)
+order_no_device : (time : Time) (scenario : Scenario) (numbers : List ℤ) (fault : Fault) →
+    order_in time scenario numbers ≡ Err fault → IsNoDevice fault
+order_no_device Ticks scenario numbers fault is =
+    let same : faults.Order InTicks ≡ fault = cc in
+    subst IsNoDevice same tt
+order_no_device Real scenario numbers fault is =
+    no_device_in_made _ told_of_order (order_given scenario numbers) fault (λ refused same. no_device_in_order refused) is
 
-chosen_number : (ranges : List (ℕ × ℕ)) (given : Option (List ℤ)) (fault : Fault) →
-    chosen_schedule ranges given ≡ Err fault → (row_of fault).0 ≤ 14
-chosen_number ranges None fault is = cc
-chosen_number ranges (Some numbers) fault is =
-    mapped_number _ told_of_list (schedule_of ranges numbers) fault (λ refused same. list_number refused) is
+chosen_order_no_device : (scenario : Scenario) (given : Option (List ℤ)) (fault : Fault) →
+    chosen_order scenario given ≡ Err fault → IsNoDevice fault
+chosen_order_no_device scenario None fault is = cc
+chosen_order_no_device scenario (Some numbers) fault is = order_no_device scenario.time scenario numbers fault is
 
-input_number : (read : Result InputView ScenarioFault) (fault : Fault) → scheduled_of_input read ≡ Err fault → (row_of fault).0 ≤ 14
-input_number (Err refused) fault is =
-    let same : told_of refused ≡ fault = cc in
-    let low = told_number refused in
-    let also : (row_of (told_of refused)).0 ≤ 14 = omega (arith, low) in
-    rw same at also
-input_number (Ok given) fault is =
-    mapped_number _ (λ f. f) (chosen_schedule (ranges_of given.scenario) given.schedule) fault
-    (λ refused same. chosen_number (ranges_of given.scenario) given.schedule refused same) is
+-- a fault of one step or of the next
+step_no_device : {X Y : Type 0} (read : Result X Fault) (next : X → Result Y Fault) (fault : Fault) →
+    ((refused : Fault) → read ≡ Err refused → IsNoDevice refused) →
+    ((value : X) → next value ≡ Err fault → IsNoDevice fault) →
+    (read >>= next) ≡ Err fault → IsNoDevice fault
+step_no_device (Ok value) next fault none after is = after value is
+step_no_device (Err refused) next fault none after is =
+    let same : refused ≡ fault = cc in subst IsNoDevice same (none refused refl)
 
--- the faults of a scenario and its schedule have the first numbers, and so have those of what is told of them
-pub made_number : (made : Scheduled → List ℕ) (text : List ℕ) (fault : Fault) →
-    result_map_both made (λ f. f) (scheduled_of_text text) ≡ Err fault → (row_of fault).0 ≤ 14
-made_number made text fault is =
-    mapped_number made (λ f. f) (scheduled_of_text text) fault (λ refused same. input_number (input_of_text text) refused same) is
+given_no_device : (given : InputView) (schedule : Schedule) (fault : Fault) →
+    (chosen_order given.scenario given.order >>= (λ order. Ok (scheduled_with given.scenario schedule order))) ≡ Err fault
+    → IsNoDevice fault
+given_no_device given schedule fault is =
+    step_no_device (chosen_order given.scenario given.order) (λ order. Ok (scheduled_with given.scenario schedule order)) fault
+    (chosen_order_no_device given.scenario given.order) (λ order no. cc) is
+
+input_no_device : (read : Result InputView ScenarioFault) (fault : Fault) → scheduled_of_input read ≡ Err fault → IsNoDevice fault
+input_no_device (Err refused) fault is =
+    let same : told_of refused ≡ fault = cc in subst IsNoDevice same (no_device_in_scenario refused)
+input_no_device (Ok given) fault is =
+    step_no_device (chosen_schedule (ranges_of given.scenario) given.schedule) _ fault
+    (chosen_schedule_no_device (ranges_of given.scenario) given.schedule) (λ schedule. given_no_device given schedule fault) is
+
+-- a fault of a scenario and its schedule is no device's, and so is none of what is told of them
+made_no_device : (made : Scheduled → List ℕ) (text : List ℕ) (fault : Fault) →
+    result_map_both made (λ f. f) (scheduled_of_text text) ≡ Err fault → IsNoDevice fault
+made_no_device made text fault is =
+    no_device_in_made made (λ f. f) (scheduled_of_text text) fault (λ refused same. input_no_device (input_of_text text) refused same) is
 
 -- the text of which packets are told has a fault, or memory ran out
 pub packets_refused : (text : List ℕ) (refused : ScenarioFault) →
@@ -84,14 +102,15 @@ unfolding packets_told
 packets_answered text plan (inl is) = rw (← is) refl
 packets_answered text plan (inr is) = cc
 
--- its faults have the first numbers
-pub packets_number : (text : List ℕ) (fault : Fault) → packets_told text ≡ Err fault → (row_of fault).0 ≤ 14
+-- its fault is no device's
+packets_no_device : (text : List ℕ) (fault : Fault) → packets_told text ≡ Err fault → IsNoDevice fault
 unfolding packets_told
-packets_number text fault is = mapped_number _ told_of (scenario_of_text text) fault (λ refused same. told_number refused) is
+packets_no_device text fault is =
+    no_device_in_made _ told_of (scenario_of_text text) fault (λ refused same. no_device_in_scenario refused) is
 
--- the faults of what is told of a scenario's text have the first numbers
-pub job_number : (telling : Telling) (text : List ℕ) (fault : Fault) → job_told telling text ≡ Err fault → (row_of fault).0 ≤ 14
+-- no fault of what is told of a scenario's text is a device's
+pub job_no_device : (telling : Telling) (text : List ℕ) (fault : Fault) → job_told telling text ≡ Err fault → IsNoDevice fault
 unfolding scheduled_told
-job_number Simulate text fault is = made_number (text_told Simulate) text fault is
-job_number Timeline text fault is = made_number (text_told Timeline) text fault is
-job_number Packets text fault is = packets_number text fault is
+job_no_device Simulate text fault is = made_no_device (text_told Simulate) text fault is
+job_no_device Timeline text fault is = made_no_device (text_told Timeline) text fault is
+job_no_device Packets text fault is = packets_no_device text fault is

@@ -2,6 +2,7 @@
 use Rattle.std.specs.Prelude.{◌≡◌, ◌⊎◌, ℕ, ◌+◌, ◌<◌, ◌≤◌, List, [], ◌∷◌, ◌++◌, length, All, codes, Result, Ok, Err}
 use Rattle.std.specs.List.{FoldsTo}
 use Rattle.convoy_lines.specs.Texts.{ended, number_line}
+use Rattle.convoy_streams.specs.declared.reading.ReadFault.TheVariants.{Read, TooLong, TooManyReads}
 use Rattle.convoy_streams.specs.Jobs.{ended_jobs, jobs_of}
 use Rattle.convoy_streams.specs.Devices.{Answer, Moved, Failed, IsPiece, joined}
 use Rattle.convoy_streams.specs.Writes.{WritesAll, FailsWithin}
@@ -11,14 +12,14 @@ use Rattle.convoy_commands.specs.declared.limits.TheConstants.{LONGEST_JOB}
 use Rattle.convoy_commands.specs.declared.done.Done.{Done}
 use Rattle.convoy_commands.specs.declared.done.Done.TheVariants.{Fine}
 use Rattle.convoy_commands.specs.declared.fault.Fault.{Fault}
-use Rattle.convoy_commands.specs.declared.fault.Fault.TheVariants.{Memory, Read, Write, TooLong, TooManyJobs, TooManyReads}
+use Rattle.convoy_commands.specs.declared.fault.Fault.TheVariants.{Memory, Reading, Write, TooManyJobs}
 use Rattle.convoy_commands.specs.Faults.{fault_line_of}
 use Rattle.convoy_commands.specs.Replies.{Reply, SaysUnlessMemory}
 use Rattle.convoy_commands.specs.Searches.{LatencySays}
 
 -- What may be answered for a job, by its own text alone: that it is too long just where it is, and else what `latency` answers, unless memory ran out.
 pub record JobSays (settings : Settings) (job : List ℕ) (reply : Reply) : Type 0 where
-  pub long : LONGEST_JOB < length job → reply ≡ Err (TooLong LONGEST_JOB)
+  pub long : LONGEST_JOB < length job → reply ≡ Err (Reading (TooLong LONGEST_JOB))
   pub short : length job ≤ LONGEST_JOB → SaysUnlessMemory (LatencySays settings) job reply
 
 -- the first line of a block
@@ -101,10 +102,10 @@ BatchRunsTo settings most_reads reads writes (Ok Fine) =
     (text : List ℕ) × ReadsAll reads text × (length (jobs_of text) ≤ MOST_JOBS) × AnswersAll settings (jobs_of text) writes
 BatchRunsTo settings most_reads reads writes (Ok done) = ⊥
 -- the blocks of the jobs whose divider had ended went out, and then a read failed
-BatchRunsTo settings most_reads reads writes (Err Read) =
+BatchRunsTo settings most_reads reads writes (Err (Reading Read)) =
     (text : List ℕ) × ReadsThen Failed reads text × (length (ended_jobs text) < MOST_JOBS) × AnswersAll settings (ended_jobs text) writes
 -- they went out, and as many reads as there may be gave no end
-BatchRunsTo settings most_reads reads writes (Err TooManyReads) =
+BatchRunsTo settings most_reads reads writes (Err (Reading TooManyReads)) =
     (text : List ℕ) × ReadsOn reads text × (length reads ≡ most_reads) × (length (ended_jobs text) < MOST_JOBS) × AnswersAll settings (ended_jobs text) writes
 -- one job more than there may be begins: the blocks of those before it went out
 BatchRunsTo settings most_reads reads writes (Err TooManyJobs) = ShowsTooMany settings reads writes

@@ -12,7 +12,7 @@ use Rattle.convoy_commands.specs.Replies.{Reply, Rule}
 
 -- the image is one of the run of the certificate's schedule
 abbrev pub IsImageOf : Certificate → List ℕ → Type 0
-IsImageOf certificate out = IsDrawing certificate.scenario (picture_of certificate.scenario certificate.delays) out
+IsImageOf certificate out = IsDrawing certificate.scenario (picture_of certificate.scenario certificate.schedule) out
 
 -- an image in place of a yes to the certificate, and else what `check` says
 abbrev pub DrawsFor : Certificate → Reply → Reply → Type 0

@@ -15,7 +15,7 @@ use Rattle.convoy_commands.specs.Replies.{Reply, Rule}
 -- why the certificate's schedule has its latency, and that its nodes show that no other has a greater one
 abbrev pub certificate_explained : Certificate → List ℕ
 certificate_explained certificate =
-    text_of certificate.scenario (explanation_of certificate.scenario certificate.delays) (length certificate.nodes)
+    text_of certificate.scenario (explanation_of certificate.scenario certificate.schedule) (length certificate.nodes)
 
 -- the explanation in place of a yes, and else what `check` says
 abbrev pub in_place_of_yes : Certificate → Reply → Reply

@@ -9,12 +9,11 @@ use Rattle.convoy_scenario.specs.declared.fault.Limit.{Limit}
 use Rattle.convoy_scenario.specs.declared.fault.Limit.TheVariants as limits
 use Rattle.convoy_scenario.specs.declared.fault.ScenarioFault.{ScenarioFault}
 use Rattle.convoy_scenario.specs.declared.fault.ScenarioFault.TheVariants as scenario
-use Rattle.convoy_share.specs.declared.fault.SearchFault.{SearchFault}
-use Rattle.convoy_share.specs.declared.fault.SearchFault.TheVariants as searches
 use Rattle.convoy_commands.specs.declared.fault.Ending.{Ending}
 use Rattle.convoy_commands.specs.declared.fault.Ending.TheVariants as endings
+use Rattle.convoy_commands.specs.declared.fault.OrderFault.TheVariants as orders
 use Rattle.convoy_commands.specs.declared.fault.Fault.{Fault}
-use Rattle.convoy_commands.specs.declared.fault.Fault.TheVariants.{NotToml, Shape, OverLimit, BadName, DoubleName, UnknownGroup, NoDestination, DoubleDestination, UnknownTarget, TargetNotAddressed, LinkToItself, ScheduleLength, DelayOutOfRange, Memory, PlaceTooLarge, Read, Write, TooLong, TooManyJobs, TooManyReads}
+use Rattle.convoy_commands.specs.declared.fault.Fault.TheVariants.{Scenario, Schedule, Order, Reading, Write, TooManyJobs, Memory}
 
 -- a limit's word
 abbrev pub limit_word : Limit → List ℕ
@@ -23,29 +22,44 @@ limit_word limits.Groups = codes "groups"
 limit_word limits.Multicasts = codes "multicasts"
 limit_word limits.At = codes "at"
 limit_word limits.Link = codes "link"
+limit_word limits.Tick = codes "tick"
+
+-- the number and the text of memory that ran out, wherever it did
+abbrev pub memory_row : ℕ × List ℕ
+memory_row = (11, codes "out of memory")
+
+-- the number and the text of a fault of the scenario, in a text of its own or in a certificate
+abbrev pub row_of_scenario : ScenarioFault → ℕ × List ℕ
+row_of_scenario scenario.NotToml = (1, codes "not TOML")
+row_of_scenario (scenario.Shape key) = (2, codes "shape of " ++ key_word key)
+row_of_scenario (scenario.NotWhole key) = (18, codes "not whole " ++ key_word key)
+row_of_scenario (scenario.OverLimit limit) = (3, codes "over limit " ++ limit_word limit)
+row_of_scenario scenario.BadName = (4, codes "bad name")
+row_of_scenario scenario.DoubleName = (5, codes "double name")
+row_of_scenario scenario.UnknownGroup = (6, codes "unknown group")
+row_of_scenario scenario.NoDestination = (7, codes "no destination")
+row_of_scenario scenario.DoubleDestination = (8, codes "double destination")
+row_of_scenario scenario.UnknownTarget = (9, codes "unknown target")
+row_of_scenario scenario.TargetNotAddressed = (10, codes "target not addressed")
+row_of_scenario scenario.LinkToItself = (14, codes "link to itself")
+row_of_scenario scenario.Memory = memory_row
 
 -- a fault's number and its text
 abbrev pub row_of : Fault → ℕ × List ℕ
-row_of NotToml = (1, codes "not TOML")
-row_of (Shape key) = (2, codes "shape of " ++ key_word key)
-row_of (OverLimit limit) = (3, codes "over limit " ++ limit_word limit)
-row_of BadName = (4, codes "bad name")
-row_of DoubleName = (5, codes "double name")
-row_of UnknownGroup = (6, codes "unknown group")
-row_of NoDestination = (7, codes "no destination")
-row_of DoubleDestination = (8, codes "double destination")
-row_of UnknownTarget = (9, codes "unknown target")
-row_of TargetNotAddressed = (10, codes "target not addressed")
-row_of LinkToItself = (14, codes "link to itself")
-row_of ScheduleLength = (12, codes "schedule length")
-row_of (DelayOutOfRange packet) = (13, codes "delay out of range " ++ decimal packet)
-row_of Memory = (11, codes "out of memory")
-row_of PlaceTooLarge = (30, codes "place too large")
-row_of Read = (40, codes "read failed")
+row_of (Scenario cause) = row_of_scenario cause
+row_of (Schedule lists.Length) = (12, codes "schedule length")
+row_of (Schedule (lists.Range packet)) = (13, codes "delay out of range " ++ decimal packet)
+row_of (Schedule lists.Memory) = memory_row
+row_of (Order orders.InTicks) = (15, codes "order in ticks")
+row_of (Order orders.Length) = (16, codes "order length")
+row_of (Order (orders.Rank place)) = (17, codes "rank out of range " ++ decimal place)
+row_of (Reading reading.Read) = (40, codes "read failed")
 row_of Write = (41, codes "write failed")
-row_of (TooLong limit) = (42, codes "job too long")
+row_of (Reading (reading.TooLong limit)) = (42, codes "job too long")
 row_of TooManyJobs = (43, codes "too many jobs")
-row_of TooManyReads = (44, codes "too many reads")
+row_of (Reading reading.TooManyReads) = (44, codes "too many reads")
+row_of (Reading reading.Memory) = memory_row
+row_of Memory = memory_row
 
 -- what ends a fault's text
 abbrev pub ending_text : Ending → List ℕ
@@ -61,35 +75,23 @@ IsShortEnding (endings.Number value) = Unit {0}
 unfoldable pub fault_line_of : Fault → List ℕ
 fault_line_of fault = codes "fault " ++ (decimal (row_of fault).0 ++ 32 ∷ ((row_of fault).1 ++ 10 ∷ []))
 
--- why a text was not read to its end, as a command tells it
+-- why a text was not read to its end, as a command tells it: memory is one fault, whichever crate found none
 abbrev pub told_of_reading : ReadFault → Fault
-told_of_reading reading.Read = Read
-told_of_reading (reading.TooLong limit) = TooLong limit
-told_of_reading reading.TooManyReads = TooManyReads
 told_of_reading reading.Memory = Memory
+told_of_reading cause = Reading cause
 
 -- a fault of the scenario, as a command tells it
 abbrev pub told_of : ScenarioFault → Fault
-told_of scenario.NotToml = NotToml
-told_of (scenario.Shape key) = Shape key
-told_of (scenario.OverLimit limit) = OverLimit limit
-told_of scenario.BadName = BadName
-told_of scenario.DoubleName = DoubleName
-told_of scenario.UnknownGroup = UnknownGroup
-told_of scenario.NoDestination = NoDestination
-told_of scenario.DoubleDestination = DoubleDestination
-told_of scenario.UnknownTarget = UnknownTarget
-told_of scenario.TargetNotAddressed = TargetNotAddressed
-told_of scenario.LinkToItself = LinkToItself
 told_of scenario.Memory = Memory
+told_of cause = Scenario cause
 
 -- a fault of a schedule that was given as a list, as a command tells it
 abbrev pub told_of_list : ListFault → Fault
-told_of_list lists.Length = ScheduleLength
-told_of_list (lists.Range packet) = DelayOutOfRange packet
 told_of_list lists.Memory = Memory
+told_of_list cause = Schedule cause
 
--- why a search of several workers gave no answer, as a command tells it
-abbrev pub told_of_search : SearchFault → Fault
-told_of_search searches.Memory = Memory
-told_of_search (searches.PlaceTooLarge late) = PlaceTooLarge
+-- a fault of an order of ties that was given as a list, as a command tells it
+abbrev pub told_of_order : ListFault → Fault
+told_of_order lists.Length = Order orders.Length
+told_of_order (lists.Range place) = Order (orders.Rank place)
+told_of_order lists.Memory = Memory

@@ -1,15 +1,18 @@
 -- Laws of runs.
 use Rattle.std.specs.Prelude.{◌≡◌, ℕ, List, Result, Ok, Err}
+use Rattle.convoy_streams.specs.declared.reading.ReadFault.TheVariants.{Read}
 use Rattle.convoy_streams.specs.Devices.{Answer, failures}
+use Rattle.convoy_branch.specs.Options.{Settings}
 use Rattle.convoy_commands.specs.declared.done.Done.{Done}
 use Rattle.convoy_commands.specs.declared.fault.Fault.{Fault}
-use Rattle.convoy_commands.specs.declared.fault.Fault.TheVariants.{Read, Write}
+use Rattle.convoy_commands.specs.declared.fault.Fault.TheVariants.{Reading, Write}
+use Rattle.convoy_commands.specs.Batches.{BatchRunsTo}
 use Rattle.convoy_commands.specs.Replies.{Rule}
 use Rattle.convoy_commands.specs.Runs.{RunsTo}
 
 -- how often a result says that the source failed
 abbrev pub told_reads : Result Done Fault → ℕ
-told_reads (Err Read) = 1
+told_reads (Err (Reading Read)) = 1
 told_reads (Err other) = 0
 told_reads (Ok done) = 0
 
@@ -19,9 +22,18 @@ told_writes (Err Write) = 1
 told_writes (Err other) = 0
 told_writes (Ok done) = 0
 
--- In runs with that limit of bytes and that rule, each failure of a device is told, and no failure is told that was none.
+-- each failure of a device is told by the result, and no failure is told that was none
+abbrev pub TellsFailures : List Answer → List Answer → Result Done Fault → Type 0
+TellsFailures reads writes result = (failures reads ≡ told_reads result) × (failures writes ≡ told_writes result)
+
+-- It is so in runs with that limit of bytes and that rule.
 abbrev pub FailuresAreTold : ℕ → Rule → Type 0
 FailuresAreTold longest says =
     (most_reads : ℕ) (reads writes : List Answer) (result : Result Done Fault) →
-    RunsTo longest says most_reads reads writes result →
-    (failures reads ≡ told_reads result) × (failures writes ≡ told_writes result)
+    RunsTo longest says most_reads reads writes result → TellsFailures reads writes result
+
+-- It is so in runs of a batch with these settings.
+abbrev pub BatchFailuresAreTold : Settings → Type 0
+BatchFailuresAreTold settings =
+    (most_reads : ℕ) (reads writes : List Answer) (result : Result Done Fault) →
+    BatchRunsTo settings most_reads reads writes result → TellsFailures reads writes result

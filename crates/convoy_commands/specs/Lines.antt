@@ -1,7 +1,10 @@
 -- The lines that commands write, each with its end.
-use Rattle.std.specs.Prelude.{ℕ, List, [], ◌∷◌, codes, decimal}
-use Rattle.convoy_lines.specs.Texts.{ended, line_of}
-use Rattle.convoy_lines.specs.Texts.{number_line}
+use Rattle.std.specs.Prelude.{ℕ, ◌*◌, List, [], ◌∷◌, ◌++◌, map, Option, Some, None, codes, decimal}
+use Rattle.convoy_lines.specs.Texts.{ended, line_of, number_line, text_of}
+use Rattle.convoy_scenario.specs.Durations.{count_of, unit_of, unit_word}
+use Rattle.convoy_scenario.specs.Scenario.{Scenario}
+use Rattle.convoy_packets.specs.Assignment.{Schedule}
+use Rattle.convoy_certificate.specs.Text.{schedule_lines}
 
 -- the latency that a schedule attains
 abbrev pub attained_line : ℕ → List ℕ
@@ -11,10 +14,19 @@ attained_line latency = ended (number_line (codes "attained") latency)
 abbrev pub accepted_line : ℕ → List ℕ
 accepted_line latency = ended (number_line (codes "accepted") latency)
 
--- the greatest latency
-abbrev pub greatest_line : ℕ → List ℕ
-greatest_line latency = ended (number_line (codes "greatest") latency)
+-- numbers of ticks in the unit of a tick, and the unit; nothing where the length of a tick is not known
+abbrev pub in_unit : Option ℕ → List ℕ → List (List ℕ)
+in_unit None ticks = []
+in_unit (Some tick) ticks = map (λ n. decimal (n * count_of tick)) ticks ++ unit_word (unit_of tick) ∷ []
 
--- the least and the most that the greatest latency may be
-abbrev pub open_line : ℕ → ℕ → List ℕ
-open_line least most = ended (line_of (codes "open") (decimal least ∷ decimal most ∷ []))
+-- the greatest latency, in ticks and in the unit of a tick
+abbrev pub greatest_line : Option ℕ → ℕ → List ℕ
+greatest_line tick latency = ended (line_of (codes "greatest") (decimal latency ∷ in_unit tick (latency ∷ [])))
+
+-- a schedule: the line of its delays, and in real time that of the order of its ties
+abbrev pub schedule_text : Scenario → Schedule → List ℕ
+schedule_text scenario schedule = text_of (schedule_lines scenario schedule)
+
+-- the least and the most that the greatest latency may be, in ticks and in the unit of a tick
+abbrev pub open_line : Option ℕ → ℕ → ℕ → List ℕ
+open_line tick least most = ended (line_of (codes "open") (decimal least ∷ decimal most ∷ in_unit tick (least ∷ most ∷ [])))

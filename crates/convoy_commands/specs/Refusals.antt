@@ -9,11 +9,13 @@ use Rattle.convoy_checker.specs.declared.refused.Refused.{Refused}
 use Rattle.convoy_checker.specs.declared.refused.Refused.TheVariants as checks
 use Rattle.convoy_checker.specs.declared.refusal.Refusal.{Refusal}
 use Rattle.convoy_checker.specs.declared.refusal.Refusal.TheVariants.{Text, Check}
-use Rattle.convoy_commands.specs.Faults.{row_of, told_of}
+use Rattle.convoy_commands.specs.Faults.{memory_row, row_of_scenario}
 
 -- the word of what a line has to be
 abbrev pub line_word : Expected → List ℕ
 line_word lines.Convoy = codes "convoy"
+line_word lines.Time = codes "time"
+line_word lines.Tick = codes "tick"
 line_word lines.Delay = codes "delay"
 line_word lines.Groups = codes "groups"
 line_word lines.Link = codes "link"
@@ -21,12 +23,13 @@ line_word lines.Multicast = codes "multicast"
 line_word lines.Target = codes "target"
 line_word lines.Latency = codes "latency"
 line_word lines.Schedule = codes "schedule"
+line_word lines.Order = codes "order"
 line_word lines.Node = codes "node"
 
 -- a fault of the scenario: its own number and text, after a word
 abbrev pub scenario_text : ScenarioFault → List ℕ
 scenario_text fault =
-    let row = row_of (told_of fault) in codes "scenario " ++ (decimal row.0 ++ 32 ∷ row.1)
+    let row = row_of_scenario fault in codes "scenario " ++ (decimal row.0 ++ 32 ∷ row.1)
 
 -- the number and the text of a fault of the certificate's text
 abbrev pub row_of_text : TextFault → ℕ × List ℕ
@@ -36,7 +39,7 @@ row_of_text (texts.Scenario fault) = (21, scenario_text fault)
 row_of_text texts.Schedule = (22, codes "schedule")
 row_of_text texts.TreeCount = (25, codes "tree count")
 row_of_text texts.AfterEnd = (28, codes "after end")
-row_of_text texts.Memory = (11, codes "out of memory")
+row_of_text texts.Memory = memory_row
 
 -- the number and the text of a fault of the certificate
 abbrev pub row_of_check : Refused → ℕ × List ℕ
@@ -49,7 +52,7 @@ row_of_check (checks.PointLeaf node) = (27, codes "point leaf " ++ decimal node)
 row_of_check (checks.StampLeaf node bound) =
     (29, codes "stamp leaf " ++ (decimal node ++ (codes " bound " ++ decimal bound)))
 row_of_check (checks.LeadLeaf node) = (36, codes "lead leaf " ++ decimal node)
-row_of_check checks.Memory = (11, codes "out of memory")
+row_of_check checks.Memory = memory_row
 
 -- the number and the text of a refusal
 abbrev pub row_of_refusal : Refusal → ℕ × List ℕ

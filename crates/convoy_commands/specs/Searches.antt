@@ -1,21 +1,20 @@
 -- What a search gives for a text, and what the commands `analyse` and `latency` write.
-use Rattle.std.specs.Prelude.{◌≡◌, ◌≢◌, ◌⊎◌, ℕ, ◌≤◌, false, List, ◌++◌, length, Result, Ok, Err}
+use Rattle.std.specs.Prelude.{◌≡◌, ◌≢◌, ◌⊎◌, ℕ, ◌≤◌, false, List, ◌++◌, length, None, Result, Ok, Err}
 use Rattle.std.specs.List.{list_any}
-use Rattle.convoy_lines.specs.Texts.{ended}
 use Rattle.convoy_scenario.specs.Scenario.{Scenario}
 use Rattle.convoy_toml.specs.Reading.{scenario_of_text}
 use Rattle.convoy_scenario.specs.WellFormed.{IsScenario}
 use Rattle.convoy_scenario.specs.declared.fault.ScenarioFault.{ScenarioFault}
-use Rattle.convoy_packets.specs.Assignment.{IsAssignment}
+use Rattle.convoy_packets.specs.Assignment.{Schedule, IsAssignment}
 use Rattle.convoy_sim.specs.Delivery.{latency_of}
 use Rattle.convoy_sim.specs.Greatest.{IsGreatest, IsReached, IsUpper}
 use Rattle.convoy_certificate.specs.Certificate.{Certificate, IsCertificate}
-use Rattle.convoy_certificate.specs.Text.{certificate_text, is_lead, is_stamp, schedule_line}
+use Rattle.convoy_certificate.specs.Text.{certificate_text, is_lead, is_stamp}
 use Rattle.convoy_checker.specs.Validity.{IsValid}
 use Rattle.convoy_branch.specs.declared.bounds.Bounds.{Bounds}
 use Rattle.convoy_branch.specs.declared.bounds.Bounds.TheVariants.{Plain, Lead}
 use Rattle.convoy_branch.specs.BothWays.{IsFrontBothWays, IsOutcomeBothWays}
-use Rattle.convoy_branch.specs.Fronts.{IsFront}
+use Rattle.convoy_branch.specs.Fronts.{HasStopped}
 use Rattle.convoy_branch.specs.Outcomes.{IsOutcome}
 use Rattle.convoy_branch.specs.declared.outcome.Outcome.{Outcome}
 use Rattle.convoy_branch.specs.declared.outcome.Outcome.TheVariants as outcomes
@@ -24,11 +23,11 @@ use Rattle.convoy_branch.specs.declared.options.Ways.{Ways}
 use Rattle.convoy_branch.specs.declared.options.Ways.TheVariants.{One, Both}
 use Rattle.convoy_commands.specs.declared.done.Done.TheVariants.{Fine, Open, Refused}
 use Rattle.convoy_commands.specs.declared.fault.Fault.{Fault}
-use Rattle.convoy_commands.specs.declared.fault.Fault.TheVariants.{Memory, PlaceTooLarge}
+use Rattle.convoy_commands.specs.declared.fault.Fault.TheVariants.{Memory}
 use Rattle.convoy_commands.specs.declared.limits.TheConstants.{LONGEST_CERTIFICATE}
 use Rattle.convoy_commands.specs.Checks.{check_reply}
 use Rattle.convoy_commands.specs.Faults.{told_of}
-use Rattle.convoy_commands.specs.Lines.{accepted_line, greatest_line, open_line}
+use Rattle.convoy_commands.specs.Lines.{accepted_line, greatest_line, open_line, schedule_text}
 use Rattle.convoy_commands.specs.Replies.{Rule}
 
 -- The text has this fault.
@@ -42,9 +41,9 @@ abbrev pub IsOutcomeBy : Ways → Scenario → ℕ → ℕ → Outcome → Type 
 IsOutcomeBy (One bounds) scenario workers limit outcome = IsOutcome bounds scenario workers limit outcome
 IsOutcomeBy Both scenario workers limit outcome = IsOutcomeBothWays scenario workers limit outcome
 
--- how far one has come that has spent all its tickets
+-- how far one has come that has stopped with boxes left
 abbrev pub IsFrontBy : Ways → Scenario → ℕ → ℕ → ℕ → Type 0
-IsFrontBy (One bounds) scenario least most limit = IsFront bounds scenario least most limit
+IsFrontBy (One bounds) scenario least most limit = HasStopped bounds scenario least most limit
 IsFrontBy Both scenario least most limit = IsFrontBothWays scenario least most limit
 
 -- how many tickets an outcome took
@@ -58,30 +57,16 @@ pub record IsEnd (settings : Settings) (scenario : Scenario) (outcome : Outcome)
   pub as_said : (workers ≡ settings.workers) ⊎ ((workers ≡ 1) × (tickets_of outcome ≤ 1))
   pub found : IsOutcomeBy settings.ways scenario workers settings.limit outcome
 
--- A search of several workers found more records than their board can name.
-pub record IsBoardFull (settings : Settings) (fault : Fault) : Type 0 where
-  pub several : 2 ≤ settings.workers
-  pub told : fault ≡ PlaceTooLarge
-
--- a search gave no answer: memory ran out, or the board of its workers was full
-abbrev pub IsUnanswered : Settings → Fault → Type 0
-IsUnanswered settings fault = (fault ≡ Memory) ⊎ IsBoardFull settings fault
-
--- A search with these settings for the scenario of the text ended so.
-pub record IsSearchOf (settings : Settings) (text : List ℕ) (outcome : Outcome) : Type 0 where
-  pub scenario : Scenario
+-- The text is that of this scenario, and a search for it with these settings ended so.
+pub record IsSearchOf (settings : Settings) (text : List ℕ) (scenario : Scenario) (outcome : Outcome) : Type 0 where
   pub read : scenario_of_text text ≡ Ok scenario
   pub lawful : IsScenario scenario
   pub ended : IsEnd settings scenario outcome
 
--- what is told where a search has no answer, but for want of memory: the text's fault, or that the board was full
-abbrev pub IsSearchFault : Settings → List ℕ → Fault → Type 0
-IsSearchFault settings text fault = IsFaulty text fault ⊎ IsBoardFull settings fault
-
--- what a search for the scenario of a text gives; or why there is no answer
-abbrev pub SearchGives : Settings → List ℕ → Result Outcome Fault → Type 0
-SearchGives settings text (Ok outcome) = IsSearchOf settings text outcome
-SearchGives settings text (Err fault) = IsSearchFault settings text fault ⊎ (fault ≡ Memory)
+-- what a search for the scenario of a text gives, with that scenario; or why there is no answer
+abbrev pub SearchGives : Settings → List ℕ → Result (Scenario × Outcome) Fault → Type 0
+SearchGives settings text (Ok (scenario, outcome)) = IsSearchOf settings text scenario outcome
+SearchGives settings text (Err fault) = IsFaulty text fault ⊎ (fault ≡ Memory)
 
 -- THE HEADLINE. What is written is a certificate of the scenario that was read, with no more nodes than there are tickets; its schedule has the stated latency; no assignment has a greater one; and the checker accepts what is written.
 pub record IsProof (settings : Settings) (text out : List ℕ) : Type 0 where
@@ -89,7 +74,7 @@ pub record IsProof (settings : Settings) (text out : List ℕ) : Type 0 where
   pub lawful : IsCertificate certificate
   pub read : scenario_of_text text ≡ Ok certificate.scenario
   pub written : out ≡ certificate_text certificate
-  pub latency : latency_of certificate.scenario certificate.delays ≡ certificate.latency
+  pub latency : latency_of certificate.scenario certificate.schedule ≡ certificate.latency
   pub greatest : IsGreatest certificate.scenario certificate.latency
   pub valid : IsValid certificate
   pub few : length certificate.nodes ≤ settings.limit
@@ -100,7 +85,7 @@ pub record IsProof (settings : Settings) (text out : List ℕ) : Type 0 where
   pub fits : length out ≤ LONGEST_CERTIFICATE
   pub accepted : check_reply out ≡ Ok (Fine, accepted_line certificate.latency)
 
--- The greatest latency of the scenario that was read is from `least` to `most`: so say the front, or both fronts, of a search that spent all its tickets.
+-- The greatest latency of the scenario that was read is from `least` to `most`: so say the front, or both fronts, of a search that has stopped with boxes left.
 pub record IsOpenBetween (settings : Settings) (text : List ℕ) (scenario : Scenario) (least most : ℕ) : Type 0 where
   pub read : scenario_of_text text ≡ Ok scenario
   pub lawful : IsScenario scenario
@@ -111,18 +96,18 @@ pub record IsOpenBetween (settings : Settings) (text : List ℕ) (scenario : Sce
 -- What is written is the least and the most that the greatest latency may be, and a schedule that has the least.
 pub record IsOpenProof (settings : Settings) (text out : List ℕ) : Type 0 where
   pub scenario : Scenario
-  pub delays : List ℕ
+  pub schedule : Schedule
   pub most : ℕ
-  pub assigned : IsAssignment scenario delays
-  pub between : IsOpenBetween settings text scenario (latency_of scenario delays) most
-  pub written : out ≡ open_line (latency_of scenario delays) most ++ ended (schedule_line delays)
+  pub assigned : IsAssignment scenario schedule
+  pub between : IsOpenBetween settings text scenario (latency_of scenario schedule) most
+  pub written : out ≡ open_line None (latency_of scenario schedule) most ++ schedule_text scenario schedule
 
 -- what `analyse` may answer
 abbrev pub AnalyseSays : Settings → Rule
 AnalyseSays settings text (Ok (Fine, out)) = IsProof settings text out
 AnalyseSays settings text (Ok (Open, out)) = IsOpenProof settings text out
 AnalyseSays settings text (Ok (Refused refusal, out)) = ⊥
-AnalyseSays settings text (Err fault) = IsSearchFault settings text fault
+AnalyseSays settings text (Err fault) = IsFaulty text fault
 
 -- The greatest latency of the scenario that was read is written.
 pub record IsGreatestTold (text out : List ℕ) : Type 0 where
@@ -131,7 +116,7 @@ pub record IsGreatestTold (text out : List ℕ) : Type 0 where
   pub read : scenario_of_text text ≡ Ok scenario
   pub lawful : IsScenario scenario
   pub greatest : IsGreatest scenario latency
-  pub written : out ≡ greatest_line latency
+  pub written : out ≡ greatest_line scenario.tick latency
 
 -- What is written is the least and the most that the greatest latency may be.
 pub record IsFrontTold (settings : Settings) (text out : List ℕ) : Type 0 where
@@ -139,11 +124,11 @@ pub record IsFrontTold (settings : Settings) (text out : List ℕ) : Type 0 wher
   pub least : ℕ
   pub most : ℕ
   pub between : IsOpenBetween settings text scenario least most
-  pub written : out ≡ open_line least most
+  pub written : out ≡ open_line scenario.tick least most
 
 -- what `latency` may answer
 abbrev pub LatencySays : Settings → Rule
 LatencySays settings text (Ok (Fine, out)) = IsGreatestTold text out
 LatencySays settings text (Ok (Open, out)) = IsFrontTold settings text out
 LatencySays settings text (Ok (Refused refusal, out)) = ⊥
-LatencySays settings text (Err fault) = IsSearchFault settings text fault
+LatencySays settings text (Err fault) = IsFaulty text fault

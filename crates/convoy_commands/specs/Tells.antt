@@ -8,20 +8,21 @@ use Rattle.convoy_sim.specs.Scheduled.{Scheduled}
 use Rattle.convoy_timeline.specs.Timeline.{timeline_text}
 use Rattle.convoy_explain.specs.PacketLists.{packets_text, scheduled_packets_text}
 use Rattle.convoy_certificate.specs.Certificate.{Certificate}
-use Rattle.convoy_certificate.specs.Text.{latency_line, schedule_line}
+use Rattle.convoy_certificate.specs.Text.{latency_line}
 use Rattle.convoy_commands.specs.declared.fault.Fault.{Fault}
 use Rattle.convoy_commands.specs.declared.telling.Telling.{Telling}
 use Rattle.convoy_commands.specs.declared.telling.Telling.TheVariants.{Simulate, Timeline, Packets}
 use Rattle.convoy_commands.specs.Faults.{told_of}
 use Rattle.convoy_commands.specs.Inputs.{reply_by_form}
+use Rattle.convoy_commands.specs.Lines.{schedule_text}
 use Rattle.convoy_commands.specs.Replies.{Answers, Rule}
 use Rattle.convoy_commands.specs.Schedules.{scheduled_in, scheduled_of_text}
 
 -- what is told of a scenario with a schedule: the latency of its run and the schedule, the timeline of its run, or its packets with their delays
 abbrev pub text_told : Telling → Scheduled → List ℕ
-text_told Simulate given = ended (latency_line (latency_of given.scenario given.delays)) ++ ended (schedule_line given.delays)
-text_told Timeline given = timeline_text given.scenario given.delays
-text_told Packets given = scheduled_packets_text given.scenario given.delays
+text_told Simulate given = ended (latency_line (latency_of given.scenario given.schedule)) ++ schedule_text given.scenario given.schedule
+text_told Timeline given = timeline_text given.scenario given.schedule
+text_told Packets given = scheduled_packets_text given.scenario given.schedule
 
 -- what is told of a certificate: that of its scenario with its schedule
 abbrev pub certificate_told : Telling → Certificate → List ℕ

@@ -1,7 +1,6 @@
-ghost use Rattle.std.specs.Prelude.{◌≡◌, ◌++◌, IfOk};
-ghost use Rattle.convoy_lines.specs.Texts.{ended};
-ghost use Rattle.convoy_certificate.specs.Text.{certificate_text, schedule_line};
-ghost use Rattle.convoy_commands.specs.Lines.{open_line};
+ghost use Rattle.std.specs.Prelude.{◌≡◌, ◌++◌, None, IfOk};
+ghost use Rattle.convoy_certificate.specs.Text.{certificate_text};
+ghost use Rattle.convoy_commands.specs.Lines.{open_line, schedule_text};
 ghost use Rattle.convoy_commands.specs.Replies.{SaysUnlessMemory, reply_of};
 ghost use Rattle.convoy_commands.specs.Searches.{AnalyseSays};
 
@@ -14,6 +13,7 @@ use convoy_branch::{Options, Outcome};
 use convoy_certificate::laws::{texts_are_read, texts_are_short};
 use convoy_certificate::{Certificate, push_schedule, write};
 use convoy_checker::laws::{checked_is_valid, valid_is_greatest};
+use convoy_scenario::Scenario;
 use convoy_sim::Record;
 use std::alloc::{AllocError, Global};
 use std::sync::Wait;
@@ -34,9 +34,15 @@ pub(crate) fn analyse_answer<R: Threads + Wait + Sync, W: Watch + Sync>(
     checked_is_valid();
     valid_is_greatest();
     let _limit = options.limit();
-    match search_text(rt, alloc, text, options, watch)? {
+    let (instance, outcome) = search_text(rt, alloc, text, options, watch)?;
+    match outcome {
         Outcome::Proved { certificate, .. } => Ok((Done::Fine, proof_text(alloc, &certificate)?)),
-        Outcome::Open { best, upper, .. } => Ok((Done::Open, open_text(alloc, &best, upper)?)),
+        Outcome::Open { best, upper, .. } => {
+            Ok((
+                Done::Open,
+                open_text(alloc, instance.scenario(), &best, upper)?,
+            ))
+        }
     }
 }
 
@@ -50,12 +56,17 @@ fn proof_text(alloc: Global, certificate: &Certificate) -> Result<Vec<u8>, Alloc
 }
 
 /// The best latency and the upper bound, and a schedule of that latency.
-fn open_text(alloc: Global, best: &Record, upper: u32) -> Result<Vec<u8>, AllocError>
+fn open_text(
+    alloc: Global,
+    scenario: &Scenario,
+    best: &Record,
+    upper: u32,
+) -> Result<Vec<u8>, AllocError>
     ensures { IfOk result (λ text. text.items
-        ≡ open_line best.now.latency upper ++ ended (schedule_line best.now.delays)) }
+        ≡ open_line None best.now.latency upper ++ schedule_text scenario.now best.now.schedule) }
 {
     let mut text = Vec::new(alloc);
-    push_open(best.latency(), upper, &mut text)?;
-    push_schedule(&mut text, best.delays().as_slice())?;
+    push_open(None, best.latency(), upper, &mut text)?;
+    push_schedule(alloc, scenario, best.schedule(), &mut text)?;
     Ok(text)
 }

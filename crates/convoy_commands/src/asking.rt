@@ -125,9 +125,9 @@ fn acceptance(alloc: Global, latency: u32) -> Result<Vec<u8>, AllocError>
 fn explanation(alloc: Global, certificate: &Certificate) -> Result<Vec<u8>, AllocError>
     ensures { IfOk result (λ text. text.items ≡ certificate_explained certificate.now) }
 {
-    let (instance, delays) = (certificate.instance(), certificate.delays());
-    let run = simulate(alloc, instance, delays)?;
-    let why = explain(instance, delays, &run);
+    let (instance, schedule) = (certificate.instance(), certificate.schedule());
+    let run = simulate(alloc, instance, schedule)?;
+    let why = explain(instance, schedule, &run);
     let mut text = Vec::new(alloc);
     write_explanation(
         certificate.scenario(),
@@ -142,9 +142,9 @@ fn explanation(alloc: Global, certificate: &Certificate) -> Result<Vec<u8>, Allo
 fn image(alloc: Global, certificate: &Certificate) -> Result<Vec<u8>, AllocError>
     ensures { IfOk result (λ text. IsImageOf certificate.now text.items) }
 {
-    let (instance, delays) = (certificate.instance(), certificate.delays());
-    let run = simulate(alloc, instance, delays)?;
-    let picture = Picture::of(alloc, instance, delays, &run)?;
+    let (instance, schedule) = (certificate.instance(), certificate.schedule());
+    let run = simulate(alloc, instance, schedule)?;
+    let picture = Picture::of(alloc, instance, schedule, &run)?;
     let mut text = Vec::new(alloc);
     write_drawing(certificate.scenario(), &picture, &mut text)?;
     Ok(text)

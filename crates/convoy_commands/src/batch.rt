@@ -13,7 +13,9 @@ use super::latency::latency_answer;
 use super::limits::LONGEST_JOB;
 use convoy_branch::{NoGate, Options};
 use convoy_streams::laws::{ended_jobs_stay, pieces_go_on};
-use convoy_streams::{BUFFER_LENGTH, JobFault, Sink, Source, Splitter, read_piece, write_all};
+use convoy_streams::{
+    BUFFER_LENGTH, JobFault, ReadFault, Sink, Source, Splitter, read_piece, write_all,
+};
 use std::alloc::{AllocError, Global};
 use std::sync::Wait;
 use std::thread::Threads;
@@ -27,15 +29,14 @@ pub const MOST_JOBS: u32 = 1_000;
 ///
 /// Blocks go out as their jobs end, and memory is that of one job. A job with a fault gets the fault
 /// as its block, and so does one of more than [`LONGEST_JOB`](super::LONGEST_JOB) bytes
-/// (`Fault::TooLong`), one for which memory runs out (`Fault::Memory`), and one for which several
-/// workers find more records than can be told apart (`Fault::PlaceTooLarge`).
+/// (`ReadFault::TooLong`), and one for which memory runs out (`Fault::Memory`).
 ///
-/// At most `options.most_reads()` reads are made. The run ends early with `Fault::Read` where the
-/// source fails, and with `Fault::TooManyReads` where so many reads give bytes and none the end, each
-/// after the blocks of the jobs whose divider line had ended; with `Fault::TooManyJobs` once the
-/// divider after the [`MOST_JOBS`]th job has ended, after that job's block; with `Fault::Write` where
-/// the sink fails, after a front of the blocks; and with `Fault::Memory`, before all else, where there
-/// is no memory for a block.
+/// At most `options.most_reads()` reads are made. The run ends early with `Fault::Reading`, of
+/// `ReadFault::Read` where the source fails, and of `ReadFault::TooManyReads` where so many reads give
+/// bytes and none the end, each after the blocks of the jobs whose divider line had ended; with
+/// `Fault::TooManyJobs` once the divider after the [`MOST_JOBS`]th job has ended, after that job's
+/// block; with `Fault::Write` where the sink fails, after a front of the blocks; and with
+/// `Fault::Memory`, before all else, where there is no memory for a block.
 pub fn run_batch<R: Threads + Wait + Sync, S: Source, K: Sink>(
     rt: &R,
     alloc: Global,
@@ -52,7 +53,7 @@ pub fn run_batch<R: Threads + Wait + Sync, S: Source, K: Sink>(
     let mut buffer = [0; BUFFER_LENGTH];
     for _ in 0..most_reads {
         let Ok(piece) = read_piece(source, &mut buffer) else {
-            return Err(Fault::Read);
+            return Err(Fault::Reading(ReadFault::Read));
         };
         if piece.is_empty() {
             batch.finish(rt, alloc, sink, options)?;
@@ -60,7 +61,7 @@ pub fn run_batch<R: Threads + Wait + Sync, S: Source, K: Sink>(
         }
         batch.take_piece(rt, alloc, piece, sink, options)?;
     }
-    Err(Fault::TooManyReads)
+    Err(Fault::Reading(ReadFault::TooManyReads))
 }
 
 /// A batch under way: its text as jobs, the block of the job that ended last, and the number of the
@@ -206,7 +207,7 @@ fn job_answer<R: Threads + Wait + Sync>(
 {
     match splitter.job() {
         Ok(text) => latency_answer(rt, alloc, text, options, &NoGate),
-        Err(JobFault::TooLong) => Err(Fault::TooLong(LONGEST_JOB)),
+        Err(JobFault::TooLong) => Err(Fault::Reading(ReadFault::TooLong(LONGEST_JOB))),
         Err(JobFault::Memory) => Err(Fault::Memory),
     }
 }

@@ -23,10 +23,11 @@ use std::thread::Threads;
 /// writes").
 ///
 /// At most `most_reads` reads are made. Nothing is written before the answer is known. The faults are
-/// those of [`read_toml`](convoy_toml::read_toml), and `Fault::Memory`; `Fault::Read` where the source fails;
-/// `Fault::TooLong` at the read that brings a byte past [`LONGEST_JOB`](super::LONGEST_JOB);
-/// `Fault::TooManyReads` where `most_reads` reads give bytes and none the end; `Fault::Write` where the sink
-/// fails, after a front of the answer has gone out.
+/// `Fault::Scenario`, of that of [`read_toml`](convoy_toml::read_toml); `Fault::Reading`, of
+/// `ReadFault::Read` where the source fails, `ReadFault::TooLong` at the read that brings a byte past
+/// [`LONGEST_JOB`](super::LONGEST_JOB), and `ReadFault::TooManyReads` where `most_reads` reads give bytes
+/// and none the end; `Fault::Write` where the sink fails, after a front of the answer has gone out; and
+/// `Fault::Memory`.
 pub fn run_first<S: Source, K: Sink>(
     alloc: Global,
     source: &mut S,
@@ -44,9 +45,9 @@ pub fn run_first<S: Source, K: Sink>(
 /// `simulate` writes").
 ///
 /// At most `most_reads` reads are made. Nothing is written before the answer is known. The faults are
-/// those of [`run_first`](super::run_first), and `Fault::ScheduleLength` and
-/// `Fault::DelayOutOfRange` for a schedule that is not one of the scenario. A scenario that is too long
-/// is told once it is read. Where the text begins as a certificate does and is none, it ends as
+/// those of [`run_first`](super::run_first), `Fault::Schedule` for delays that are no schedule of the
+/// scenario, and `Fault::Order` for an order of ties that is none of it. A scenario that is too long is
+/// told once it is read. Where the text begins as a certificate does and is none, it ends as
 /// `Done::Refused`, with the refusal of [`run_check`](super::run_check); whether the certificate is
 /// valid is not looked at.
 pub fn run_simulate<S: Source, K: Sink>(
@@ -95,11 +96,9 @@ pub fn run_timeline<S: Source, K: Sink>(
 /// certificate is refused (docs/FORMATS.md, "What `check` writes").
 ///
 /// At most `most_reads` reads are made. Nothing is written before the answer is known. It ends as
-/// `Done::Fine` or, with the refusal, as `Done::Refused`. The faults are `Fault::Memory`; `Fault::Read`
-/// where the source fails; `Fault::TooLong` at the read that brings a byte past
-/// [`LONGEST_CERTIFICATE`](super::LONGEST_CERTIFICATE); `Fault::TooManyReads` where `most_reads` reads give
-/// bytes and none the end; `Fault::Write` where the sink fails, after a front of the answer has gone
-/// out.
+/// `Done::Fine` or, with the refusal, as `Done::Refused`. The faults are `Fault::Reading` and
+/// `Fault::Write` as of [`run_first`](super::run_first), but with the limit
+/// [`LONGEST_CERTIFICATE`](super::LONGEST_CERTIFICATE), and `Fault::Memory`.
 pub fn run_check<S: Source, K: Sink>(
     alloc: Global,
     source: &mut S,
@@ -117,14 +116,13 @@ pub fn run_check<S: Source, K: Sink>(
 ///
 /// At `Done::Fine` what was written is the text of a certificate of the scenario that was read. Its
 /// schedule has the stated latency, and no assignment of delays to the packets has a greater one. The
-/// command `check` accepts the text. At `Done::Open` the search spent as many tickets as the options
-/// allow and boxes are left: what was written is the line `open LEAST MOST`, where the greatest
-/// latency is at least LEAST ticks and at most MOST, and then the line of a schedule that has the
-/// latency LEAST.
+/// command `check` accepts the text. At `Done::Open` boxes are left: the search spent as many tickets
+/// as the options allow, or in real time it left a point that nothing closes. What was written is the
+/// line `open LEAST MOST`, where the greatest latency is at least LEAST ticks and at most MOST, and then
+/// the lines of a schedule that has the latency LEAST.
 ///
 /// At most `options.most_reads()` reads are made. Nothing is written before the answer is known. The
-/// faults are those of [`run_first`](super::run_first), and with several workers
-/// `Fault::PlaceTooLarge`, where they found more records than can be told apart.
+/// faults are those of [`run_first`](super::run_first).
 pub fn run_analyse<R: Threads + Wait + Sync, S: Source, K: Sink>(
     rt: &R,
     alloc: Global,
@@ -142,13 +140,13 @@ pub fn run_analyse<R: Threads + Wait + Sync, S: Source, K: Sink>(
 /// (docs/FORMATS.md, "What `latency` writes").
 ///
 /// At `Done::Fine` what was written is the line `greatest N`: some assignment of delays to the packets
-/// has the latency of N ticks, and none has a greater one. At `Done::Open` the search spent as many
-/// tickets as the options allow and boxes are left: what was written is the line `open LEAST MOST`,
-/// where the greatest latency is at least LEAST ticks and at most MOST.
+/// has the latency of N ticks, and none has a greater one. At `Done::Open` boxes are left, as told of
+/// [`run_analyse`]: what was written is the line `open LEAST MOST`, where the greatest latency is at
+/// least LEAST ticks and at most MOST. Where the length of a tick is known, both lines go on with the
+/// same numbers in the unit of a tick, and the unit.
 ///
 /// At most `options.most_reads()` reads are made. Nothing is written before the answer is known. The
-/// faults are those of [`run_first`](super::run_first), and with several workers
-/// `Fault::PlaceTooLarge`, where they found more records than can be told apart.
+/// faults are those of [`run_first`](super::run_first).
 pub fn run_latency<R: Threads + Wait + Sync, S: Source, K: Sink>(
     rt: &R,
     alloc: Global,

@@ -5,11 +5,11 @@ ghost use Rattle.convoy_commands.specs.Searches.{LatencySays};
 
 use super::done::Done;
 use super::fault::Fault;
-use super::lines::push_open;
+use super::lines::{push_greatest, push_open};
 use super::search::search_text;
 use super::watch::Watch;
 use convoy_branch::{Options, Outcome};
-use convoy_lines::push_number_line;
+use convoy_scenario::Duration;
 use std::alloc::{AllocError, Global};
 use std::sync::Wait;
 use std::thread::Threads;
@@ -25,28 +25,36 @@ pub(crate) fn latency_answer<R: Threads + Wait + Sync, W: Watch + Sync>(
     ensures { SaysUnlessMemory (LatencySays options.now) text.now (reply_of result) }
 {
     let _limit = options.limit();
-    match search_text(rt, alloc, text, options, watch)? {
-        Outcome::Proved { certificate, .. } => {
-            Ok((Done::Fine, greatest_text(alloc, certificate.latency())?))
-        }
+    let (instance, outcome) = search_text(rt, alloc, text, options, watch)?;
+    let tick = instance.scenario().tick();
+    match outcome {
+        Outcome::Proved { certificate, .. } => Ok((
+            Done::Fine,
+            greatest_text(alloc, tick, certificate.latency())?,
+        )),
         Outcome::Open { best, upper, .. } => {
-            Ok((Done::Open, open_text(alloc, best.latency(), upper)?))
+            Ok((Done::Open, open_text(alloc, tick, best.latency(), upper)?))
         }
     }
 }
 
-fn greatest_text(alloc: Global, latency: u32) -> Result<Vec<u8>, AllocError>
-    ensures { IfOk result (λ text. text.items ≡ greatest_line latency) }
+fn greatest_text(alloc: Global, tick: Option<Duration>, latency: u32) -> Result<Vec<u8>, AllocError>
+    ensures { IfOk result (λ text. text.items ≡ greatest_line tick latency) }
 {
     let mut text = Vec::new(alloc);
-    push_number_line(&mut text, "greatest", latency)?;
+    push_greatest(tick, latency, &mut text)?;
     Ok(text)
 }
 
-fn open_text(alloc: Global, best: u32, upper: u32) -> Result<Vec<u8>, AllocError>
-    ensures { IfOk result (λ text. text.items ≡ open_line best upper) }
+fn open_text(
+    alloc: Global,
+    tick: Option<Duration>,
+    best: u32,
+    upper: u32,
+) -> Result<Vec<u8>, AllocError>
+    ensures { IfOk result (λ text. text.items ≡ open_line tick best upper) }
 {
     let mut text = Vec::new(alloc);
-    push_open(best, upper, &mut text)?;
+    push_open(tick, best, upper, &mut text)?;
     Ok(text)
 }

@@ -9,11 +9,14 @@ pub use convoy_branch::{
     Bounds, DEFAULT_LIMIT, DEFAULT_SIMULATIONS, Gate, MOST_SIMULATIONS, MOST_TICKETS, MOST_WORKERS,
     NoGate, Options, Ways, lead_share, plain_share,
 };
+pub use convoy_packets::ListFault;
+pub use convoy_scenario::{Duration, ScenarioFault};
 pub use convoy_streams::{
-    DeviceFailed, Sink, SliceSource, Source, StreamSink, StreamSource, VecSink, write_all,
+    DeviceFailed, ReadFault, Sink, SliceSource, Source, StreamSink, StreamSource, VecSink,
+    write_all,
 };
 pub use done::Done;
-pub use fault::{Fault, fault_line};
+pub use fault::{Fault, OrderFault, fault_line};
 pub use limits::{LONGEST_CERTIFICATE, LONGEST_JOB};
 pub use telling::Telling;
 pub use watch::Watch;

@@ -1,19 +1,94 @@
-ghost use Rattle.std.specs.Prelude.{◌≡◌, ◌++◌, OnOk};
-ghost use Rattle.convoy_commands.specs.Lines.{open_line};
+ghost use Rattle.std.specs.Prelude.{◌≡◌, ◌*◌, ◌∷◌, [], ◌++◌, decimal, OnOk};
+ghost use Rattle.std.specs.List.{flat_map};
+ghost use Rattle.convoy_lines.specs.Texts.{spaced};
+ghost use Rattle.convoy_scenario.specs.Durations.{count_of};
+ghost use Rattle.convoy_commands.specs.Lines.{greatest_line, in_unit, open_line};
 
-use convoy_lines::push_number;
+use convoy_lines::{push_further_word, push_number};
+use convoy_scenario::Duration;
+use itoa::Buffer;
 use std::alloc::AllocError;
 
-/// Appends the line of a search that did not end: the least and the most that the greatest latency
-/// may be, in ticks.
+/// Appends the line of the greatest latency, in ticks and, where the length of a tick is known, in its
+/// unit.
 #[tactic(auto, using(std::proofs::lemmas::List::append_assoc))]
-pub(crate) fn push_open(least: u32, most: u32, out: &mut Vec<u8>) -> Result<(), AllocError>
-    ensures { OnOk result (out.new.items ≡ out.old.items ++ open_line least most) }
+pub(crate) fn push_greatest(
+    tick: Option<Duration>,
+    latency: u32,
+    out: &mut Vec<u8>,
+) -> Result<(), AllocError>
+    ensures { OnOk result (out.new.items ≡ out.old.items ++ greatest_line tick latency) }
+{
+    out.extend_from_slice(b"greatest ")?;
+    push_number(out, latency)?;
+    push_one_in_unit(tick, latency, out)?;
+    out.push(b'\n')?;
+    Ok(())
+}
+
+/// Appends the line of a search that did not end: the least and the most that the greatest latency
+/// may be, in ticks and, where the length of a tick is known, in its unit.
+#[tactic(auto, using(std::proofs::lemmas::List::append_assoc))]
+pub(crate) fn push_open(
+    tick: Option<Duration>,
+    least: u32,
+    most: u32,
+    out: &mut Vec<u8>,
+) -> Result<(), AllocError>
+    ensures { OnOk result (out.new.items ≡ out.old.items ++ open_line tick least most) }
 {
     out.extend_from_slice(b"open ")?;
     push_number(out, least)?;
     out.push(b' ')?;
     push_number(out, most)?;
+    push_two_in_unit(tick, least, most, out)?;
     out.push(b'\n')?;
     Ok(())
+}
+
+/// Appends a number of ticks in the unit of a tick, and the unit, where its length is known.
+#[tactic(auto, using(std::proofs::lemmas::List::append_assoc))]
+fn push_one_in_unit(tick: Option<Duration>, ticks: u32, out: &mut Vec<u8>) -> Result<(), AllocError>
+    ensures { OnOk result (out.new.items
+        ≡ out.old.items ++ flat_map spaced (in_unit tick (ticks ∷ []))) }
+{
+    let Some(tick) = tick else {
+        return Ok(());
+    };
+    push_times(tick, ticks, out)?;
+    push_further_word(out, tick.unit().word())
+}
+
+/// Appends two numbers of ticks in the unit of a tick, and the unit, where its length is known.
+#[tactic(auto, using(std::proofs::lemmas::List::append_assoc))]
+fn push_two_in_unit(
+    tick: Option<Duration>,
+    first: u32,
+    second: u32,
+    out: &mut Vec<u8>,
+) -> Result<(), AllocError>
+    ensures { OnOk result (out.new.items
+        ≡ out.old.items ++ flat_map spaced (in_unit tick (first ∷ second ∷ []))) }
+{
+    let Some(tick) = tick else {
+        return Ok(());
+    };
+    push_times(tick, first, out)?;
+    push_times(tick, second, out)?;
+    push_further_word(out, tick.unit().word())
+}
+
+/// Appends a space and how many of a tick's unit so many ticks are.
+#[tactic(auto, using(std::proofs::lemmas::List::append_assoc))]
+fn push_times(tick: Duration, ticks: u32, out: &mut Vec<u8>) -> Result<(), AllocError>
+    ensures { OnOk result (out.new.items
+        ≡ out.old.items ++ spaced (decimal (ticks * count_of tick))) }
+{
+    let mut buffer = Buffer::new();
+    out.push(b' ')?;
+    out.extend_from_slice(
+        buffer
+            .format(u128::from(ticks) * u128::from(tick.count()))
+            .as_bytes(),
+    )
 }

@@ -1,7 +1,7 @@
 ghost use Rattle.std.specs.Prelude.{◌≡◌, ◌++◌, OnOk, OnErr, IfOk, string_bytes};
 ghost use Rattle.convoy_commands.specs.Refusals.{line_word, refused_line, row_of_check, row_of_refusal, row_of_text, scenario_text};
 
-use super::fault::{Ending, Fault, row};
+use super::fault::{Ending, scenario_row};
 use convoy_certificate::TextFault;
 use convoy_checker::{Refusal, Refused};
 use convoy_scenario::ScenarioFault;
@@ -43,7 +43,7 @@ fn line_of_text(alloc: Global, fault: TextFault) -> Result<String, AllocError>
 fn line_of_scenario(alloc: Global, fault: ScenarioFault) -> Result<String, AllocError>
     ensures { IfOk result (λ line. string_bytes line ≡ refused_line (21, scenario_text fault)) }
 {
-    let (number, phrase, ending) = row(&Fault::from(fault));
+    let (number, phrase, ending) = scenario_row(fault);
     match ending {
         Ending::Word(word) => format!(in alloc; "refused 21 scenario {number} {phrase}{word}\n"),
         Ending::Number(value) => format!(in alloc;
@@ -77,6 +77,8 @@ fn word_of_line(expected: Expected) -> &'static str
 {
     match expected {
         Expected::Convoy => "convoy",
+        Expected::Time => "time",
+        Expected::Tick => "tick",
         Expected::Delay => "delay",
         Expected::Groups => "groups",
         Expected::Link => "link",
@@ -84,6 +86,7 @@ fn word_of_line(expected: Expected) -> &'static str
         Expected::Target => "target",
         Expected::Latency => "latency",
         Expected::Schedule => "schedule",
+        Expected::Order => "order",
         Expected::Node => "node",
     }
 }

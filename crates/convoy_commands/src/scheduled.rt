@@ -1,13 +1,16 @@
 ghost use Rattle.std.specs.Prelude.{IfOk};
 ghost use Rattle.std.specs.Option.{option_map};
 ghost use Rattle.convoy_packets.specs.Assignment.{AreWithin};
+ghost use Rattle.convoy_packets.specs.Order.{IsOrder};
 ghost use Rattle.convoy_commands.specs.declared.fault.Fault.TheVariants.{Memory};
 ghost use Rattle.convoy_commands.specs.Memory.{IsUnlessMemory};
-ghost use Rattle.convoy_commands.specs.Schedules.{chosen_schedule};
+ghost use Rattle.convoy_commands.specs.Schedules.{chosen_order, chosen_schedule, order_in};
 
-use super::fault::Fault;
+use super::fault::{Fault, OrderFault, fault_of_order};
 use convoy_certificate::Certificate;
-use convoy_packets::{Delays, Instance, PacketTable};
+use convoy_packets::laws::fixed_order_is_order;
+use convoy_packets::{Instance, Order, PacketTable, Schedule};
+use convoy_scenario::{Scenario, Time};
 use convoy_toml::{Input, read_toml};
 use std::alloc::Global;
 use std::marker::Model;
@@ -16,7 +19,7 @@ use std::marker::Model;
 #[derive(Drop)]
 pub(crate) struct Scheduled {
     instance: Instance,
-    delays: Delays,
+    schedule: Schedule,
 }
 
 impl Model for Scheduled {
@@ -25,9 +28,9 @@ impl Model for Scheduled {
 
     ghost Value = { Scheduled };
 
-    ghost view = { λ s. record { scenario = s.instance; delays = s.delays } };
+    ghost view = { λ s. record { scenario = s.instance; schedule = s.schedule } };
 
-    ghost invariant = { λ s. IsAssignment s.instance s.delays };
+    ghost invariant = { λ s. IsAssignment s.instance s.schedule };
 }
 
 impl Scheduled {
@@ -37,53 +40,90 @@ impl Scheduled {
     ghost use Rattle.convoy_commands.specs.Memory.{IsUnlessMemory};
     ghost use Rattle.convoy_commands.specs.Schedules.{scheduled_in, scheduled_of_text};
 
-    /// What a scenario's text gives: where it gives no schedule, the least delays.
+    /// What a scenario's text gives: where it gives no schedule, the least delays, and where it gives
+    /// no order of ties, the fixed one.
     pub(crate) fn read(alloc: Global, text: &[u8]) -> Result<Scheduled, Fault>
         ensures { IsUnlessMemory Memory (scheduled_of_text text.now) result }
     {
-        let Input { scenario, schedule } = read_toml(alloc, text)?;
+        let Input {
+            scenario,
+            schedule,
+            order,
+        } = read_toml(alloc, text)?;
         let instance = Instance::of(alloc, scenario)?;
-        let delays = choose_schedule(alloc, instance.table(), &schedule)?;
-        Ok(Scheduled { instance, delays })
+        let mut schedule = choose_schedule(alloc, instance.table(), &schedule)?;
+        schedule.set_order(choose_order(alloc, instance.scenario(), &order)?);
+        Ok(Scheduled { instance, schedule })
     }
 
     /// What a certificate gives.
     pub(crate) fn of_certificate(certificate: Certificate) -> Scheduled
         ensures { result ≡ scheduled_in certificate }
     {
-        let _ = certificate.delays();
-        let (instance, _, delays, _) = certificate.into_parts();
-        Scheduled { instance, delays }
+        let _ = certificate.schedule();
+        let (instance, _, schedule, _) = certificate.into_parts();
+        Scheduled { instance, schedule }
     }
 
     /// The scenario with its packets.
     pub(crate) fn instance(&self) -> &Instance
         ensures value { result.now ≡ self.now.scenario }
-        ensures assignment { IsAssignment self.now.scenario self.now.delays }
+        ensures assignment { IsAssignment self.now.scenario self.now.schedule }
     {
         &self.instance
     }
 
     /// The schedule.
-    pub(crate) fn delays(&self) -> &Delays
-        ensures { result.now ≡ self.now.delays }
+    pub(crate) fn schedule(&self) -> &Schedule
+        ensures { result.now ≡ self.now.schedule }
     {
-        &self.delays
+        &self.schedule
     }
 }
 
-/// The schedule that is given, and where none is the least delays.
+/// The schedule of the delays that are given, and where none are of the least delays.
 fn choose_schedule(
     alloc: Global,
     table: &PacketTable,
     given: &Option<Vec<i64>>,
-) -> Result<Delays, Fault>
+) -> Result<Schedule, Fault>
     ensures value { IsUnlessMemory Memory
         (chosen_schedule table.now.ranges (option_map (λ numbers. numbers.items) given.now)) result }
-    ensures within { IfOk result (λ delays. AreWithin table.now.ranges delays) }
+    ensures within { IfOk result (λ schedule. AreWithin table.now.ranges schedule.delays) }
 {
     match given {
-        None => Ok(Delays::least(alloc, table)?),
-        Some(numbers) => Ok(Delays::from_list(alloc, table, numbers)?),
+        None => Ok(Schedule::least(alloc, table)?),
+        Some(numbers) => Ok(Schedule::from_list(alloc, table, numbers)?),
+    }
+}
+
+/// The order of ties that is given, and where none is the fixed one.
+fn choose_order(
+    alloc: Global,
+    scenario: &Scenario,
+    given: &Option<Vec<i64>>,
+) -> Result<Order, Fault>
+    ensures value { IsUnlessMemory Memory
+        (chosen_order scenario.now (option_map (λ ranks. ranks.items) given.now)) result }
+    ensures lawful { IfOk result (λ order. IsOrder scenario.now order) }
+{
+    fixed_order_is_order();
+    match given {
+        None => Ok(Order::none()),
+        Some(ranks) => order_in(alloc, scenario, ranks),
+    }
+}
+
+/// The order of ties that a list gives: in whole ticks none may be given.
+fn order_in(alloc: Global, scenario: &Scenario, ranks: &[i64]) -> Result<Order, Fault>
+    ensures value { IsUnlessMemory Memory (order_in scenario.now.time scenario.now ranks.now) result }
+    ensures lawful { IfOk result (λ order. IsOrder scenario.now order) }
+{
+    match scenario.time() {
+        Time::Ticks => Err(Fault::Order(OrderFault::InTicks)),
+        Time::Real => match Order::from_list(alloc, scenario, ranks) {
+            Ok(order) => Ok(order),
+            Err(cause) => Err(fault_of_order(cause)),
+        },
     }
 }

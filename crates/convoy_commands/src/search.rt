@@ -1,13 +1,14 @@
-ghost use Rattle.std.specs.Prelude.{◌≡◌, ◌≤◌, IfOk, IfErr};
+ghost use Rattle.std.specs.Prelude.{◌≡◌, ◌≤◌, IfOk};
 ghost use Rattle.convoy_packets.specs.Assignment.{ranges_of};
 ghost use Rattle.convoy_packets.specs.Table.{least_of};
 ghost use Rattle.convoy_sim.specs.Delivery.{latency_of};
-ghost use Rattle.convoy_commands.specs.Searches.{IsEnd, IsOutcomeBy, IsUnanswered, SearchGives};
+ghost use Rattle.convoy_commands.specs.Searches.{IsEnd, IsOutcomeBy, SearchGives};
 
 use super::fault::Fault;
 use super::watch::Watch;
 use convoy_branch::{Options, Outcome, Ways, plain_share, search_alone};
-use convoy_packets::{Delays, Instance};
+use convoy_packets::laws::fixed_order_is_order;
+use convoy_packets::{Instance, Schedule};
 use convoy_seek::seek;
 use convoy_sim::Record;
 use convoy_toml::read_toml;
@@ -16,22 +17,22 @@ use std::sync::Wait;
 use std::thread::Threads;
 
 /// Searches for the greatest latency of the scenario that a text gives, by the options' limit of
-/// tickets, by their bounds or both ways, and with their number of workers. The faults are those of
-/// [`read_toml`], `Fault::Memory`, and with several workers `Fault::PlaceTooLarge`.
+/// tickets, by their bounds or both ways, and with their number of workers: that scenario with its
+/// packets, and the outcome. The faults are those of [`read_toml`], and `Fault::Memory`.
 pub(crate) fn search_text<R: Threads + Wait + Sync, W: Watch + Sync>(
     rt: &R,
     alloc: Global,
     text: &[u8],
     options: &Options,
     watch: &W,
-) -> Result<Outcome, Fault>
+) -> Result<(Instance, Outcome), Fault>
     ensures { SearchGives options.now text.now result }
 {
     let scenario = read_toml(alloc, text)?.scenario;
     let instance = Instance::of(alloc, scenario)?;
     let outcome = search(rt, alloc, &instance, options, watch);
     watch.ends();
-    outcome
+    Ok((instance, outcome?))
 }
 
 /// The search of a scenario. Where one ticket does not end it, a good schedule is sought first, by the
@@ -42,25 +43,25 @@ fn search<R: Threads + Wait + Sync, W: Watch + Sync>(
     instance: &Instance,
     options: &Options,
     watch: &W,
-) -> Result<Outcome, Fault>
-    ensures value { IfOk result (IsEnd options.now instance.now) }
-    ensures none { IfErr result (IsUnanswered options.now) }
+) -> Result<Outcome, AllocError>
+    ensures { IfOk result (IsEnd options.now instance.now) }
 {
     let simulations = options.simulations();
     if simulations == 0 {
-        let delays = Delays::least(alloc, instance.table())?;
-        let opening = Record::of(instance, delays);
-        tell_begin(watch, options, opening.latency(), None);
+        fixed_order_is_order();
+        let schedule = Schedule::least(alloc, instance.table())?;
+        let opening = Record::of(instance, schedule);
+        tell_begin(watch, instance, options, opening.latency(), None);
         return search_opened(rt, alloc, instance, opening, options, watch);
     }
     match search_alone(alloc, instance, 1, options.ways().first_bounds())? {
         Outcome::Open { best, upper, .. } => {
             match seek(alloc, instance, best, upper, simulations) {
                 Ok(found) => {
-                    tell_begin(watch, options, found.latency(), Some(upper));
+                    tell_begin(watch, instance, options, found.latency(), Some(upper));
                     search_opened(rt, alloc, instance, found, options, watch)
                 }
-                Err((_, error)) => Err(error.into()),
+                Err((_, error)) => Err(error),
             }
         }
         proved => Ok(proved),
@@ -68,12 +69,19 @@ fn search<R: Threads + Wait + Sync, W: Watch + Sync>(
 }
 
 /// Tells who watches that the search begins.
-fn tell_begin<W: Watch>(watch: &W, options: &Options, least: u32, most: Option<u32>) {
+fn tell_begin<W: Watch>(
+    watch: &W,
+    instance: &Instance,
+    options: &Options,
+    least: u32,
+    most: Option<u32>,
+) {
     let limit = match options.ways() {
         Ways::One(_) => options.limit(),
         Ways::Both => plain_share(options.limit()),
     };
-    watch.begins(options.ways().first_bounds(), limit, least, most);
+    let tick = instance.scenario().tick();
+    watch.begins(tick, options.ways().first_bounds(), limit, least, most);
 }
 
 /// The search from an opening record of the scenario, with one worker or in several threads.
@@ -85,17 +93,15 @@ fn search_opened<R: Threads + Wait + Sync, W: Watch + Sync>(
     opening: Record,
     options: &Options,
     watch: &W,
-) -> Result<Outcome, Fault>
+) -> Result<Outcome, AllocError>
     requires of_scenario { opening.scenario ≡ instance.now }
     requires least { latency_of instance.now (least_of (ranges_of instance.now)) ≤ opening.latency }
-    ensures value { IfOk result (IsEnd options.now instance.now) }
-    ensures none { IfErr result (IsUnanswered options.now) }
+    ensures { IfOk result (IsEnd options.now instance.now) }
 {
     if options.workers() > 1 {
         return search_together(rt, alloc, instance, opening, options, watch);
     }
-    let outcome = search_by_one(alloc, instance, opening, options, watch)?;
-    Ok(outcome)
+    search_by_one(alloc, instance, opening, options, watch)
 }
 
 /// The search from an opening record of the scenario, with one worker.
@@ -128,21 +134,19 @@ fn search_together<R: Threads + Wait + Sync, W: Watch + Sync>(
     opening: Record,
     options: &Options,
     watch: &W,
-) -> Result<Outcome, Fault>
+) -> Result<Outcome, AllocError>
     requires of_scenario { opening.scenario ≡ instance.now }
     requires least { latency_of instance.now (least_of (ranges_of instance.now)) ≤ opening.latency }
     requires several { 2 ≤ options.now.workers }
-    ensures value { IfOk result (IsEnd options.now instance.now) }
-    ensures none { IfErr result (IsUnanswered options.now) }
+    ensures { IfOk result (IsEnd options.now instance.now) }
 {
     let (workers, limit) = (options.workers(), options.limit());
-    let outcome = match options.ways() {
+    match options.ways() {
         Ways::One(bounds) => convoy_share::search_from(
             rt, alloc, instance, opening, workers, limit, bounds, watch,
-        )?,
+        ),
         Ways::Both => convoy_share::search_both_ways(
             rt, alloc, instance, opening, workers, limit, watch,
-        )?,
-    };
-    Ok(outcome)
+        ),
+    }
 }

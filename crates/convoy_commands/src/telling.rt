@@ -19,6 +19,7 @@ use convoy_explain::{write_packets, write_scheduled_packets};
 use convoy_lines::push_number_line;
 use convoy_packets::Instance;
 use convoy_sim::{latency, simulate};
+use convoy_streams::ReadFault;
 use convoy_timeline::write_timeline;
 use convoy_toml::read_toml;
 use std::alloc::{AllocError, Global};
@@ -26,7 +27,7 @@ use std::alloc::{AllocError, Global};
 /// What is to be told of a scenario or of a certificate.
 #[derive(Clone, Copy, Debug)]
 pub enum Telling {
-    /// The latency under the schedule that is given, and that schedule.
+    /// The latency under the schedule and the order of ties that are given, and these.
     Simulate,
     /// What happens at each group under that schedule.
     Timeline,
@@ -62,7 +63,7 @@ fn tell_job(alloc: Global, telling: Telling, text: &[u8]) -> Result<(Done, Vec<u
     ensures { IsReply (reply_of_job (job_told telling) text.now) (reply_of result) }
 {
     if text.len() > LONGEST_JOB {
-        return Err(Fault::TooLong(LONGEST_JOB));
+        return Err(Fault::Reading(ReadFault::TooLong(LONGEST_JOB)));
     }
     Ok((Done::Fine, told_of_job(alloc, telling, text)?))
 }
@@ -121,11 +122,11 @@ fn told(alloc: Global, telling: Telling, scheduled: &Scheduled) -> Result<Vec<u8
 fn told_latency(alloc: Global, scheduled: &Scheduled) -> Result<Vec<u8>, AllocError>
     ensures { IfOk result (λ text. text.items ≡ text_told Simulate scheduled.now) }
 {
-    let (instance, delays) = (scheduled.instance(), scheduled.delays());
-    let latency = latency(instance, delays);
+    let (instance, schedule) = (scheduled.instance(), scheduled.schedule());
+    let latency = latency(instance, schedule);
     let mut text = Vec::new(alloc);
     push_number_line(&mut text, "latency", latency)?;
-    push_schedule(&mut text, delays.as_slice())?;
+    push_schedule(alloc, instance.scenario(), schedule, &mut text)?;
     Ok(text)
 }
 
@@ -133,8 +134,8 @@ fn told_latency(alloc: Global, scheduled: &Scheduled) -> Result<Vec<u8>, AllocEr
 fn told_timeline(alloc: Global, scheduled: &Scheduled) -> Result<Vec<u8>, AllocError>
     ensures { IfOk result (λ text. text.items ≡ text_told Timeline scheduled.now) }
 {
-    let (instance, delays) = (scheduled.instance(), scheduled.delays());
-    let run = simulate(alloc, instance, delays)?;
+    let (instance, schedule) = (scheduled.instance(), scheduled.schedule());
+    let run = simulate(alloc, instance, schedule)?;
     let mut text = Vec::new(alloc);
     write_timeline(instance.scenario(), &run, &mut text)?;
     Ok(text)
@@ -144,8 +145,8 @@ fn told_timeline(alloc: Global, scheduled: &Scheduled) -> Result<Vec<u8>, AllocE
 fn told_packets(alloc: Global, scheduled: &Scheduled) -> Result<Vec<u8>, AllocError>
     ensures { IfOk result (λ text. text.items ≡ text_told Packets scheduled.now) }
 {
-    let (instance, delays) = (scheduled.instance(), scheduled.delays());
+    let (instance, schedule) = (scheduled.instance(), scheduled.schedule());
     let mut text = Vec::new(alloc);
-    write_scheduled_packets(instance, delays, &mut text)?;
+    write_scheduled_packets(instance, schedule, &mut text)?;
     Ok(text)
 }

@@ -1,18 +1,34 @@
 use convoy_branch::{Bounds, Gate, NoGate};
+use convoy_scenario::Duration;
 
 /// Who watches a search: besides what a gate is told, how the search begins, and that it has ended.
 /// Nothing that a search promises rests on it.
 pub trait Watch: Gate {
     /// The search begins by those bounds, with so many tickets at most for them, and by what is known the
-    /// greatest latency is at least that, and at most that where a bound is known, in ticks.
-    fn begins(&self, bounds: Bounds, limit: u64, least: u32, most: Option<u32>);
+    /// greatest latency is at least that, and at most that where a bound is known, in ticks of that
+    /// length.
+    fn begins(
+        &self,
+        tick: Option<Duration>,
+        bounds: Bounds,
+        limit: u64,
+        least: u32,
+        most: Option<u32>,
+    );
 
     /// The search has ended. Nothing is written of it yet.
     fn ends(&self);
 }
 
 impl Watch for NoGate {
-    fn begins(&self, _bounds: Bounds, _limit: u64, _least: u32, _most: Option<u32>) {}
+    fn begins(
+        &self,
+        _tick: Option<Duration>,
+        _bounds: Bounds,
+        _limit: u64,
+        _least: u32,
+        _most: Option<u32>,
+    ) {}
 
     fn ends(&self) {}
 }

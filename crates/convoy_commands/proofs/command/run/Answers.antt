@@ -1,7 +1,7 @@
 use Rattle.std.proofs.Common.{[], refl}
 use Rattle.std.proofs.lemmas.Result.{err_from_is_err_and}
 use Rattle.convoy_commands.specs.declared.fault.Fault.TheVariants.{Write}
-use Rattle.convoy_commands.proofs.CommandTexts.{direct_number}
+use Rattle.convoy_commands.proofs.CommandTexts.{direct_no_device}
 use Rattle.convoy_commands.proofs.Refusals.{replied_run, unread_run}
 use Rattle.convoy_commands.proofs.command.run.Goals as goal
 
@@ -29,6 +29,6 @@ returns g c =
       read = read.calls;
       few = read.says.0;
       wrote = wrote.calls;
-      outcome = replied_run _ _ _ _ _ _ _ _ (λ allowed. (direct_number _ _ Write allowed).no_write refl)
+      outcome = replied_run _ _ _ _ _ _ _ _ (λ allowed. direct_no_device _ _ Write allowed)
           (rw c.longest_of.ensures at read.says.1) (rw c.deref.ensures.value at c.answer_of.ensures) wrote.says;
     }

@@ -1,7 +1,7 @@
 use Rattle.std.proofs.Common.{[], refl}
 use Rattle.std.proofs.lemmas.Result.{err_from_is_err_and}
 use Rattle.convoy_commands.specs.declared.fault.Fault.TheVariants.{Write}
-use Rattle.convoy_commands.proofs.CommandTexts.{goal_number}
+use Rattle.convoy_commands.proofs.CommandTexts.{goal_no_device}
 use Rattle.convoy_commands.proofs.Refusals.{replied_run, unread_run}
 use Rattle.convoy_commands.proofs.command.run_search.Goals as goal
 
@@ -29,6 +29,6 @@ returns g c =
       read = read.calls;
       few = rw c.most_reads.ensures at read.says.0;
       wrote = wrote.calls;
-      outcome = replied_run _ _ _ _ _ _ _ _ (λ allowed. (goal_number _ _ _ Write allowed).no_write refl)
+      outcome = replied_run _ _ _ _ _ _ _ _ (λ allowed. goal_no_device _ _ _ Write allowed)
           read.says.1 (rw c.deref.ensures.value at c.found_of.ensures) wrote.says;
     }
