@@ -1,17 +1,19 @@
-//! What the program writes to standard error, for people: a line before it waits for a terminal, and a
-//! hint where it has no answer, or an open one (docs/HINTS.md).
+//! What the program writes to standard error, for people: a line before it waits for a terminal, why a file
+//! could not be read, and a hint where it has no answer, or an open one (docs/HINTS.md).
 
 use super::REJECTED;
 use super::ending::End;
 use super::judge::Verdict;
 use super::kept::{KeptReader, KeptWriter};
 use convoy_commands::{
-    Bounds, Command, Direct, Done, Fault, LONGEST_JOB, MOST_JOBS, Ways, lead_share, plain_share,
+    Bounds, Command, Direct, Done, Fault, LONGEST_JOB, MOST_JOBS, Options, ReadFault, Ways,
+    lead_share, plain_share,
 };
 use convoy_hints::{
-    hint_for_batch, hint_for_both, hint_for_certificate, hint_for_jobs, hint_for_leads,
-    hint_for_length, hint_for_limit, hint_for_reading, hint_for_scenario, hint_for_tickets,
-    hint_for_words, hint_for_writing,
+    hint_for_batch, hint_for_both, hint_for_certificate, hint_for_first, hint_for_jobs,
+    hint_for_leads, hint_for_length, hint_for_limit, hint_for_reading, hint_for_real_time,
+    hint_for_scenario, hint_for_tickets, hint_for_words, hint_for_writing, is_in_real_time,
+    line_for_file,
 };
 use std::alloc::{AllocError, Global};
 use std::convert::AsStr;
@@ -35,10 +37,8 @@ pub fn is_quiet<S: AsStr>(words: &[S]) -> bool {
 /// The line that is written before a terminal is read.
 pub fn greeting(alloc: Global, verdict: &Verdict) -> Result<Option<String>, AllocError> {
     let wanted = match verdict {
-        Verdict::Run(Command::Direct(Direct::First) | Command::Search(..)) => "a scenario",
-        Verdict::Run(Command::Direct(Direct::Ask(_))) => "a certificate",
-        Verdict::Run(Command::Direct(Direct::Tell(_))) => "a scenario or a certificate",
-        Verdict::Batch(_) => "scenarios",
+        Verdict::Run { command, .. } => text_of(command),
+        Verdict::Batch { .. } => "scenarios",
         Verdict::Text { .. } | Verdict::Memory => return Ok(None),
     };
     let line = format!(in alloc;
@@ -47,11 +47,43 @@ pub fn greeting(alloc: Global, verdict: &Verdict) -> Result<Option<String>, Allo
     Ok(Some(line))
 }
 
-/// The hint for how a run ended; None where there is none.
-pub fn hint_for<R, W>(
+/// What a command reads, in words.
+fn text_of(command: &Command) -> &'static str {
+    match command {
+        Command::Direct(Direct::First) | Command::Search(..) => "a scenario",
+        Command::Direct(Direct::Ask(_)) => "a certificate",
+        Command::Direct(Direct::Tell(_)) => "a scenario or a certificate",
+    }
+}
+
+/// Writes why a file could not be read, and the hint for how the run ended unless it is to be quiet.
+pub fn tell_ended<E: Write, R, W>(
+    errors: &mut E,
+    alloc: Global,
+    ended: &Ended<'_, R, W>,
+    is_quiet: bool,
+) {
+    write_line(errors, line_for_input(alloc, ended));
+    if !is_quiet {
+        write_line(errors, hint_for(alloc, ended));
+    }
+}
+
+/// The line for a file that could not be opened or read; None where there is none.
+fn line_for_input<R, W>(
     alloc: Global,
     ended: &Ended<'_, R, W>,
 ) -> Result<Option<String>, AllocError> {
+    match (ended.result, ended.verdict.file(), ended.reader.failure()) {
+        (Err(Fault::Reading(ReadFault::Read)), Some(file), Some(error)) => {
+            Ok(Some(line_for_file(alloc, file, &error)?))
+        }
+        _ => Ok(None),
+    }
+}
+
+/// The hint for how a run ended; None where there is none.
+fn hint_for<R, W>(alloc: Global, ended: &Ended<'_, R, W>) -> Result<Option<String>, AllocError> {
     match ended.result {
         Ok(End::Told(REJECTED)) => hint_for_words(alloc, ended.words),
         Ok(End::Told(_)) => Ok(None),
@@ -59,51 +91,94 @@ pub fn hint_for<R, W>(
             let reader = ended.reader;
             hint_for_certificate(alloc, reader.text(), reader.is_whole(), *refusal)
         }
-        Ok(End::Answered(Done::Open)) => hint_for_open(alloc, ended.verdict, ended.words),
+        Ok(End::Answered(Done::Open)) => hint_for_open(alloc, ended),
         Ok(End::Answered(Done::Fine)) => hint_for_answer(alloc, ended),
-        Err(Fault::Memory | Fault::TooManyReads) => Ok(None),
-        Err(Fault::Read) => match ended.reader.failure() {
-            Some(error) => Ok(Some(hint_for_reading(alloc, &error)?)),
-            None => Ok(None),
+        Err(fault) => hint_for_fault(alloc, ended, fault),
+    }
+}
+
+/// The hint for a run that had a fault.
+fn hint_for_fault<R, W>(
+    alloc: Global,
+    ended: &Ended<'_, R, W>,
+    fault: &Fault,
+) -> Result<Option<String>, AllocError> {
+    let reader = ended.reader;
+    match fault {
+        Fault::Scenario(_) | Fault::Schedule(_) | Fault::Order(_) if reader.is_whole() => {
+            hint_for_scenario(alloc, reader.text())
+        }
+        Fault::Reading(ReadFault::Read) => match (ended.verdict.file(), reader.failure()) {
+            (None, Some(error)) => Ok(Some(hint_for_reading(alloc, &error)?)),
+            _ => Ok(None),
         },
-        Err(Fault::Write) => match ended.writer.failure() {
+        Fault::Reading(ReadFault::TooLong(most)) => {
+            Ok(Some(hint_for_length(alloc, reader.text(), *most)?))
+        }
+        Fault::Write => match ended.writer.failure() {
             Some(error) => Ok(Some(hint_for_writing(alloc, &error)?)),
             None => Ok(None),
         },
-        Err(Fault::TooLong(most)) => {
-            Ok(Some(hint_for_length(alloc, ended.reader.text(), *most)?))
-        }
-        Err(Fault::TooManyJobs) => Ok(Some(hint_for_jobs(alloc, MOST_JOBS)?)),
-        Err(_) if ended.reader.is_whole() => hint_for_scenario(alloc, ended.reader.text()),
-        Err(_) => Ok(None),
+        Fault::TooManyJobs => Ok(Some(hint_for_jobs(alloc, MOST_JOBS)?)),
+        Fault::Scenario(_)
+        | Fault::Schedule(_)
+        | Fault::Order(_)
+        | Fault::Reading(ReadFault::TooManyReads | ReadFault::Memory)
+        | Fault::Memory => Ok(None),
     }
 }
 
 /// The hint for a search that did not end.
-fn hint_for_open<S: AsStr>(
+fn hint_for_open<R, W>(
     alloc: Global,
-    verdict: &Verdict,
-    words: &[S],
+    ended: &Ended<'_, R, W>,
 ) -> Result<Option<String>, AllocError> {
-    let Verdict::Run(Command::Search(_, options)) = verdict else {
+    let Verdict::Run {
+        command: Command::Search(_, options),
+        ..
+    } = ended.verdict
+    else {
         return Ok(None);
     };
-    let tickets = options.limit();
-    let hint = match options.ways() {
-        Ways::One(Bounds::Plain) if !names_bounds(words) => hint_for_limit(alloc, tickets)?,
-        Ways::One(Bounds::Plain | Bounds::Stamp) => hint_for_leads(alloc, tickets)?,
-        Ways::One(Bounds::Lead) => hint_for_tickets(
-            alloc,
-            tickets,
-            Bounds::Lead.most_nodes() as u64,
-        )?,
-        Ways::Both if lead_share(tickets) == 0 => hint_for_leads(alloc, tickets)?,
-        Ways::Both => {
-            let (by_plain, by_leads) = (plain_share(tickets), lead_share(tickets));
-            hint_for_both(alloc, by_plain, by_leads, Bounds::Lead.most_nodes() as u64)?
-        }
+    let hint = if is_in_real_time(alloc, ended.reader.text()) {
+        hint_in_real_time(alloc, options)?
+    } else {
+        hint_in_ticks(alloc, options, ended.words)?
     };
     Ok(Some(hint))
+}
+
+/// The hint for a search in real time that did not end.
+fn hint_in_real_time(alloc: Global, options: &Options) -> Result<String, AllocError> {
+    let tickets = options.limit();
+    let (by_bounds, by_leads) = match options.ways() {
+        Ways::One(Bounds::Lead) => (0, tickets),
+        Ways::One(Bounds::Plain | Bounds::Stamp) => (tickets, 0),
+        Ways::Both => (plain_share(tickets), lead_share(tickets)),
+    };
+    let most = Bounds::Lead.most_nodes() as u64;
+    hint_for_real_time(alloc, by_bounds, by_leads, most)
+}
+
+/// The hint for a search in whole ticks that did not end.
+fn hint_in_ticks<S: AsStr>(
+    alloc: Global,
+    options: &Options,
+    words: &[S],
+) -> Result<String, AllocError> {
+    let tickets = options.limit();
+    match options.ways() {
+        Ways::One(Bounds::Plain) if !names_bounds(words) => hint_for_limit(alloc, tickets),
+        Ways::One(Bounds::Plain | Bounds::Stamp) => hint_for_leads(alloc, tickets),
+        Ways::One(Bounds::Lead) => {
+            hint_for_tickets(alloc, tickets, Bounds::Lead.most_nodes() as u64)
+        }
+        Ways::Both if lead_share(tickets) == 0 => hint_for_leads(alloc, tickets),
+        Ways::Both => {
+            let (by_plain, by_leads) = (plain_share(tickets), lead_share(tickets));
+            hint_for_both(alloc, by_plain, by_leads, Bounds::Lead.most_nodes() as u64)
+        }
+    }
 }
 
 /// Whether the command line names bounds.
@@ -113,14 +188,23 @@ fn names_bounds<S: AsStr>(words: &[S]) -> bool {
         .any(|word| word.as_str().starts_with("--bounds"))
 }
 
-/// The hint for a run that gave its answer: the blocks of a batch have the faults of its jobs.
+/// The hint for a run that gave its answer: the blocks of a batch have the faults of its jobs, and without a
+/// command word the answer is that of one schedule.
 fn hint_for_answer<R, W>(
     alloc: Global,
     ended: &Ended<'_, R, W>,
 ) -> Result<Option<String>, AllocError> {
     let reader = ended.reader;
     match ended.verdict {
-        Verdict::Batch(_) => hint_for_batch(alloc, reader.text(), reader.is_whole(), LONGEST_JOB),
+        Verdict::Batch { .. } => {
+            hint_for_batch(alloc, reader.text(), reader.is_whole(), LONGEST_JOB)
+        }
+        Verdict::Run {
+            command: Command::Direct(Direct::First),
+            ..
+        } if !ended.words.iter().any(|word| word.as_str() == "first") => {
+            Ok(Some(hint_for_first(alloc)?))
+        }
         _ => Ok(None),
     }
 }

@@ -1,4 +1,4 @@
-//! The standard streams, with what a hint needs to know of them.
+//! What is read and written, with what a hint needs to know of it.
 
 use std::alloc::Global;
 use std::io;

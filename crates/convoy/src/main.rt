@@ -1,11 +1,12 @@
-//! Convoy, the program: its command line and the standard streams. What a command writes is said
-//! by the functions of `convoy_commands`.
+//! Convoy, the program: its command line, the standard streams and the file that is read. What a command
+//! writes is said by the functions of `convoy_commands`.
 #![tactic(auto)]
 
 ghost use Rattle.convoy.specs.Verdicts.{IsVerdict, Obeys, Tells};
 
 mod ending;
 mod hinting;
+mod input;
 mod judge;
 mod kept;
 mod progress;
@@ -15,7 +16,8 @@ use convoy_commands::{
     run_batch, run_search, write_all,
 };
 use ending::End;
-use hinting::{Ended, greeting, hint_for, is_quiet, write_line};
+use hinting::{Ended, greeting, is_quiet, tell_ended, write_line};
+use input::open_input;
 use judge::{Verdict, judge, judge_bytes};
 use kept::{KeptReader, KeptWriter};
 use progress::{Progress, screen_for};
@@ -51,11 +53,12 @@ fn main(rt: HostRuntime) -> ExitCode {
     let verdict = verdict(alloc, &words);
     let words = words.unwrap_or(Vec::new(alloc));
     let is_quiet = is_quiet(&words);
-    if !is_quiet && rt.stdin().is_terminal() {
+    if !is_quiet && verdict.file().is_none() && rt.stdin().is_terminal() {
         write_line(&mut rt.stderr(), greeting(alloc, &verdict));
     }
+    let input = open_input(&rt, rt.stdin(), verdict.file());
     let mut source = StreamSource {
-        reader: KeptReader::new(alloc, rt.stdin()),
+        reader: KeptReader::new(alloc, input),
     };
     let mut sink = StreamSink {
         writer: KeptWriter::new(rt.stdout()),
@@ -70,16 +73,14 @@ fn main(rt: HostRuntime) -> ExitCode {
             FAULT
         }
     };
-    if !is_quiet {
-        let ended = Ended {
-            verdict: &verdict,
-            words: &words,
-            result: &result,
-            reader: &source.reader,
-            writer: &sink.writer,
-        };
-        write_line(&mut rt.stderr(), hint_for(alloc, &ended));
-    }
+    let ended = Ended {
+        verdict: &verdict,
+        words: &words,
+        result: &result,
+        reader: &source.reader,
+        writer: &sink.writer,
+    };
+    tell_ended(&mut rt.stderr(), alloc, &ended, is_quiet);
     ExitCode::from(status)
 }
 
@@ -114,15 +115,21 @@ fn obey<R: Threads + Wait + Sync, S: Source, K: Sink, W: Watch + Sync>(
     ensures { Obeys S.reads K.writes verdict.now source.old source.new sink.old sink.new result }
 {
     match verdict {
-        Verdict::Run(Command::Direct(command)) => {
+        Verdict::Run {
+            command: Command::Direct(command),
+            ..
+        } => {
             let done = run(alloc, *command, source, sink, MOST_READS)?;
             Ok(End::Answered(done))
         }
-        Verdict::Run(Command::Search(goal, options)) => {
+        Verdict::Run {
+            command: Command::Search(goal, options),
+            ..
+        } => {
             let done = run_search(rt, alloc, *goal, options, source, sink, watch)?;
             Ok(End::Answered(done))
         }
-        Verdict::Batch(options) => {
+        Verdict::Batch { options, .. } => {
             let done = run_batch(rt, alloc, source, sink, options)?;
             Ok(End::Answered(done))
         }

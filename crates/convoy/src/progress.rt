@@ -1,6 +1,6 @@
 //! How far a long search has come, told on standard error.
 
-use convoy_commands::{Bounds, Gate, Watch};
+use convoy_commands::{Bounds, Duration, Gate, Watch};
 use std::alloc::{AllocError, Global};
 use std::convert::AsStr;
 use std::io::{Stderr, Write};
@@ -55,6 +55,8 @@ pub struct Progress<'a, R> {
     /// How many branches were taken up, as far as they are counted.
     spent: AtomicU64,
     limit: AtomicU64,
+    /// How many nanoseconds a tick lasts, or 0 where that is not known.
+    tick: AtomicU64,
     least: AtomicU32,
     /// The greatest number where no bound is known.
     most: AtomicU32,
@@ -76,6 +78,7 @@ impl<'a, R: Clock> Progress<'a, R> {
             due: AtomicU64::new(0),
             spent: AtomicU64::new(0),
             limit: AtomicU64::new(0),
+            tick: AtomicU64::new(0),
             least: AtomicU32::new(0),
             most: AtomicU32::new(0),
             told: AtomicBool::new(false),
@@ -156,13 +159,28 @@ impl<'a, R: Clock> Progress<'a, R> {
         let way = self.way();
         if most == u32::MAX {
             let ticks = if least == 1 { "tick" } else { "ticks" };
+            let lasting = self.lasting("", least)?;
             return format!(in self.alloc;
-                "{start}{spent} of {limit} {tickets} {way}, {rate} a second; at least {least} {ticks}{end}"
+                "{start}{spent} of {limit} {tickets} {way}, {rate} a second; at least {least} {ticks}{lasting}{end}"
             );
         }
+        let lasting = self.lasting("at most ", most)?;
         format!(in self.alloc;
-            "{start}{spent} of {limit} {tickets} {way}, {rate} a second; between {least} and {most} ticks{end}"
+            "{start}{spent} of {limit} {tickets} {way}, {rate} a second; between {least} and {most} ticks{lasting}{end}"
         )
+    }
+
+    /// What is told of so many ticks in their unit, in brackets; nothing where the length of a tick is
+    /// not known.
+    fn lasting(&self, word: &str, ticks: u32) -> Result<String, AllocError> {
+        match Duration::from_nanoseconds(self.tick.load(Ordering::Relaxed)) {
+            Some(tick) if tick.nanoseconds() > 0 => {
+                let count = u128::from(ticks) * u128::from(tick.count());
+                let unit = tick.unit().word();
+                format!(in self.alloc; " ({word}{count} {unit})")
+            }
+            _ => Ok(String::new(self.alloc)),
+        }
     }
 }
 
@@ -185,7 +203,19 @@ impl<'a, R: Clock> Gate for Progress<'a, R> {
 }
 
 impl<'a, R: Clock> Watch for Progress<'a, R> {
-    fn begins(&self, bounds: Bounds, limit: u64, least: u32, most: Option<u32>) {
+    fn begins(
+        &self,
+        tick: Option<Duration>,
+        bounds: Bounds,
+        limit: u64,
+        least: u32,
+        most: Option<u32>,
+    ) {
+        let nanoseconds = match tick {
+            Some(tick) => tick.nanoseconds(),
+            None => 0,
+        };
+        self.tick.store(nanoseconds, Ordering::Relaxed);
         self.start(bounds, limit, least, most.unwrap_or(u32::MAX));
     }
 
