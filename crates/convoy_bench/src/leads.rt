@@ -6,15 +6,20 @@ use super::timing::time_stamps;
 use anyhow::Result;
 use convoy_intervals::{DelayBox, bound};
 use convoy_leads::closes_by_leads;
-use convoy_packets::{Delays, Instance};
+use convoy_packets::laws::fixed_order_is_order;
+use convoy_packets::{Instance, Schedule};
 use convoy_sim::latency;
 use std::alloc::Global;
 use std::rt::Runtime;
 use std::time::Instant;
 
-/// Tests by leads whether the root is closed, so many times for each latency from that of the least delays
-/// to the plain bound. Tells for how many it is, and how long a test takes in the mean and for the latency
-/// where it takes longest; and the same number of calls of each other bound, as yardsticks.
+/// For how many latencies a test is made at most, but for the first.
+const MOST_STEPS: u32 = 63;
+
+/// Tests by leads whether the root is closed, so many times for each of at most 64 latencies, which lie
+/// evenly between that of the least delays and the plain bound, both among them. Tells for how many it is,
+/// and how long a test takes in the mean and for the latency where it takes longest; and the same number
+/// of calls of each other bound, as yardsticks.
 pub fn time_leads<R: Runtime>(
     rt: &R,
     alloc: Global,
@@ -23,11 +28,15 @@ pub fn time_leads<R: Runtime>(
 ) -> Result<()> {
     let root = DelayBox::root(alloc, instance)?;
     time_stamps(rt, alloc, instance, &root, turns)?;
-    let least = latency(instance, &Delays::least(alloc, instance.table())?);
+    fixed_order_is_order();
+    let least = latency(instance, &Schedule::least(alloc, instance.table())?);
     let most = bound(instance, &root);
+    let width = most.saturating_sub(least);
+    let steps = width.min(MOST_STEPS);
     let (mut tests, mut closed) = (0u32, 0u32);
     let (mut sum, mut worst) = (0u128, (0u128, least));
-    for tested in least..=most {
+    for step in 0..=steps {
+        let tested = least.saturating_add(width.saturating_mul(step) / steps.max(1));
         let (closes, each) = time_test(rt, alloc, instance, &root, tested, turns)?;
         tests = tests.wrapping_add(1);
         closed = closed.wrapping_add(u32::from(closes));

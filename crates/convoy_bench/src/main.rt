@@ -8,7 +8,7 @@
 //! `convoy_bench workers [LIMIT]` takes a scenario and searches it, alone and by 1, 2 and 4 workers.
 //! `convoy_bench crews [TURNS]` takes a scenario, and compares that many searches by 4 and by 16 workers.
 //! `convoy_bench sharing [TURNS]` takes a scenario and lets 1, 2 and 4 threads share a board and a ledger.
-//! `convoy_bench leads [TURNS]` takes a scenario and makes that many tests by leads for each latency.
+//! `convoy_bench leads [TURNS]` takes a scenario and makes that many tests by leads for each of some latencies.
 //! `convoy_bench seek [BUDGET]` takes a scenario and seeks in it, with at most that many simulations.
 //! `convoy_bench certificate` takes the text of a certificate, reads it, checks it and writes it again.
 #![tactic(auto)]
@@ -21,7 +21,8 @@ mod workers;
 
 use anyhow::{Context, Result};
 use convoy_intervals::DelayBox;
-use convoy_packets::{Delays, Instance};
+use convoy_packets::laws::fixed_order_is_order;
+use convoy_packets::{Instance, Schedule};
 use convoy_toml::read_toml;
 use crews::compare_crews;
 use leads::time_leads;
@@ -66,7 +67,7 @@ enum Task {
     Crews,
     /// What threads share, with so many calls by each.
     Sharing,
-    /// Tests by leads, so many times for each latency.
+    /// Tests by leads, so many times for each of some latencies.
     Leads,
     /// Seeking with at most so many simulations.
     Seek,
@@ -182,7 +183,8 @@ fn time_alone<R: Runtime>(
 /// Times the calls on a scenario.
 fn time_scenario<R: Runtime>(rt: &R, alloc: Global, instance: &Instance, turns: u32) -> Result<()> {
     let root = DelayBox::root(alloc, instance)?;
-    let least = Delays::least(alloc, instance.table())?;
+    fixed_order_is_order();
+    let least = Schedule::least(alloc, instance.table())?;
     time_bound(rt, instance, &root, turns)?;
     time_simulate(rt, alloc, instance, &least, turns)
 }

@@ -7,7 +7,8 @@ use super::timing::tell_rate;
 use anyhow::{Result, bail};
 use convoy_incumbent::{Board, Hand, Noted};
 use convoy_ledger::{Clerk, Ledger};
-use convoy_packets::{Delays, Instance};
+use convoy_packets::laws::fixed_order_is_order;
+use convoy_packets::{Instance, Schedule};
 use convoy_sim::Record;
 use std::alloc::Global;
 use std::rt::Runtime;
@@ -69,7 +70,8 @@ pub fn time_sharing<R: Runtime + Threads + Wait + Sync>(
     instance: &Instance,
     turns: u32,
 ) -> Result<()> {
-    let first = Record::of(instance, Delays::least(alloc, instance.table())?);
+    fixed_order_is_order();
+    let first = Record::of(instance, Schedule::least(alloc, instance.table())?);
     for threads in [1u32, 2, 4] {
         time_call(rt, alloc, &first, Call::Publish, threads, turns)?;
         time_call(rt, alloc, &first, Call::Look, threads, turns)?;

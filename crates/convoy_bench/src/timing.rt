@@ -7,7 +7,8 @@ use convoy_branch::{Bounds, Outcome, search_alone};
 use convoy_certificate::{read, write};
 use convoy_checker::check;
 use convoy_intervals::{DelayBox, Tracked, bound};
-use convoy_packets::{Delays, Instance};
+use convoy_packets::laws::fixed_order_is_order;
+use convoy_packets::{Instance, Schedule};
 use convoy_seek::seek;
 use convoy_sim::{Record, latency, simulate};
 use convoy_stamps::{stamp_bound, stamp_bound_of};
@@ -69,21 +70,21 @@ pub fn time_simulate<R: Runtime>(
     rt: &R,
     alloc: Global,
     instance: &Instance,
-    delays: &Delays,
+    schedule: &Schedule,
     turns: u32,
 ) -> Result<()>
-    requires assignment { IsAssignment instance.now delays.now }
+    requires assignment { IsAssignment instance.now schedule.now }
 {
     let start = Instant::now(rt)?;
     let mut answer = 0;
     for _ in 0..turns {
-        answer = simulate(alloc, instance, delays)?.latency();
+        answer = simulate(alloc, instance, schedule)?.latency();
     }
     tell(rt, "simulate", turns, start.elapsed(rt)?)?;
     println!(rt; "latency {answer}")?;
     let start = Instant::now(rt)?;
     for _ in 0..turns {
-        answer = latency(instance, delays);
+        answer = latency(instance, schedule);
     }
     tell(rt, "latency", turns, start.elapsed(rt)?)?;
     println!(rt; "alone {answer}")?;
@@ -104,16 +105,16 @@ pub fn time_mixed<R: Runtime>(
     let (mut simulating, mut measuring) = (0u128, 0u128);
     let (mut simulated, mut measured) = (0u64, 0u64);
     for number in 0..MIXTURES {
-        let delays = mixed_schedule(alloc, instance, number)?;
+        let schedule = mixed_schedule(alloc, instance, number)?;
         let start = Instant::now(rt)?;
         for _ in 0..turns {
-            let run = simulate(alloc, instance, &delays)?;
+            let run = simulate(alloc, instance, &schedule)?;
             simulated = simulated.wrapping_add(u64::from(run.latency()));
         }
         simulating = simulating.saturating_add(start.elapsed(rt)?.as_nanos());
         let start = Instant::now(rt)?;
         for _ in 0..turns {
-            measured = measured.wrapping_add(u64::from(latency(instance, &delays)));
+            measured = measured.wrapping_add(u64::from(latency(instance, &schedule)));
         }
         measuring = measuring.saturating_add(start.elapsed(rt)?.as_nanos());
     }
@@ -125,11 +126,12 @@ pub fn time_mixed<R: Runtime>(
 }
 
 /// A schedule with some delay in each range, another mixture for each number.
-fn mixed_schedule(alloc: Global, instance: &Instance, number: u32) -> Result<Delays>
+fn mixed_schedule(alloc: Global, instance: &Instance, number: u32) -> Result<Schedule>
     ensures { IfOk result (IsAssignment instance.now) }
 {
+    fixed_order_is_order();
     let list = mixed_delays(alloc, instance.table().ranges(), number)?;
-    Ok(Delays::from_list(alloc, instance.table(), &list)?)
+    Ok(Schedule::from_list(alloc, instance.table(), &list)?)
 }
 
 /// Some delay in each range, another mixture for each number.
@@ -185,7 +187,8 @@ pub fn time_seek<R: Runtime>(
 ) -> Result<()> {
     let root = DelayBox::root(alloc, instance)?;
     let until = bound(instance, &root);
-    let least = Delays::least(alloc, instance.table())?;
+    fixed_order_is_order();
+    let least = Schedule::least(alloc, instance.table())?;
     let known = Record::of(instance, least);
     let start = Instant::now(rt)?;
     let Ok(found) = seek(alloc, instance, known, until, u64::from(budget)) else {

@@ -3,7 +3,7 @@
 use super::cases::{READS, options};
 use super::failing::{FailingSink, FailingSource};
 use super::texts::{BASE, LONE};
-use convoy_commands::{DEFAULT_LIMIT, Done, Fault, SliceSource, VecSink, run_batch};
+use convoy_commands::{DEFAULT_LIMIT, Done, Fault, ReadFault, SliceSource, VecSink, run_batch};
 use std::alloc::{AllocError, Global};
 use std::sync::Wait;
 use std::test::Fail;
@@ -62,7 +62,7 @@ fn batch_reads_fail(rt: HostRuntime) -> Result<(), Fail> {
         let mut source = FailingSource { inner, good };
         let mut sink = VecSink::new(alloc, 4_096);
         let ended = run_batch(&rt, alloc, &mut source, &mut sink, &options(1, READS));
-        assert!(rt; matches!(ended, Err(Fault::Read)));
+        assert!(rt; matches!(ended, Err(Fault::Reading(ReadFault::Read))));
         assert_eq!(rt; sink.bytes(), blocks_after(good).as_bytes(), "at {good}");
     }
     Ok(())
@@ -77,7 +77,7 @@ fn batch_reads_are_used_up(rt: HostRuntime) -> Result<(), Fail> {
         let mut source = SliceSource::new(batch.as_bytes(), 1);
         let mut sink = VecSink::new(alloc, 4_096);
         let ended = run_batch(&rt, alloc, &mut source, &mut sink, &options(1, reads));
-        assert!(rt; matches!(ended, Err(Fault::TooManyReads)));
+        assert!(rt; matches!(ended, Err(Fault::Reading(ReadFault::TooManyReads))));
         assert_eq!(rt; sink.bytes(), blocks_after(reads).as_bytes(), "at {reads}");
     }
     Ok(())

@@ -2,7 +2,7 @@
 
 use super::texts::{
     BASE, CERTIFICATE_OF_BASE, CERTIFICATE_OF_SWAPPED, FIRST_OF_BASE, PACKETS_OF_BASE,
-    TIMELINE_OF_BASE, WHY_BASE,
+    TIED_IN_ORDER, TIMELINE_OF_BASE, WHY_BASE,
 };
 use convoy_commands::{
     Asking, Command, DEFAULT_LIMIT, Direct, Done, Fault, Goal, MOST_TICKETS, NoGate, Options, Sink,
@@ -36,7 +36,7 @@ pub(crate) struct Case {
     pub(crate) told: &'static str,
 }
 
-pub(crate) const CASES: [Case; 9] = [
+pub(crate) const CASES: [Case; 10] = [
     Case {
         asked: Asked::First,
         text: BASE,
@@ -46,6 +46,11 @@ pub(crate) const CASES: [Case; 9] = [
         asked: Asked::Simulate,
         text: BASE,
         told: "latency 2\nschedule 1 1 1 1 1 1 1 1\n",
+    },
+    Case {
+        asked: Asked::Simulate,
+        text: TIED_IN_ORDER,
+        told: "latency 4\nschedule 1 1 1 1 1 1 1 1\norder 0 0 1 0 0 0 0 0 0 0\n",
     },
     Case {
         asked: Asked::Timeline,

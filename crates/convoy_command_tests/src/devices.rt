@@ -3,7 +3,7 @@
 use super::cases::{Asked, CASES, Case, READS, run};
 use super::failing::{FailingSink, FailingSource};
 use super::texts::{BASE, CERTIFICATE_OF_BASE, FIRST_OF_BASE};
-use convoy_commands::{Fault, LONGEST_JOB, SliceSource, VecSink, fault_line};
+use convoy_commands::{Fault, LONGEST_JOB, ReadFault, SliceSource, VecSink, fault_line};
 use std::alloc::{AllocError, Global};
 use std::sync::Wait;
 use std::test::Fail;
@@ -92,7 +92,7 @@ fn stops_reading<R: Threads + Wait + Sync>(
     let mut source = FailingSource { inner, good };
     let mut sink = VecSink::new(alloc, 4_096);
     let ended = run(rt, alloc, asked, &mut source, &mut sink, READS);
-    matches!(ended, Err(Fault::Read)) && sink.bytes().is_empty()
+    matches!(ended, Err(Fault::Reading(ReadFault::Read))) && sink.bytes().is_empty()
 }
 
 /// How many reads of 64 bytes give a text. One more tells its end.
@@ -133,13 +133,4 @@ fn memory_or_the_answer(rt: HostRuntime) {
         let holds = tells_or_lacks_memory(&rt, rt.alloc(), case);
         assert!(rt; holds, "{:?}", case.asked);
     }
-}
-
-/// No search here comes near so many records, so the line is all that can be tested.
-#[test]
-fn full_board(rt: HostRuntime) -> Result<(), Fail> {
-    let mut line = Vec::new(rt.alloc());
-    fault_line(&Fault::PlaceTooLarge, &mut line)?;
-    assert_eq!(rt; line.as_slice(), b"fault 30 place too large\n".as_slice());
-    Ok(())
 }

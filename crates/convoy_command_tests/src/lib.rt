@@ -1,5 +1,5 @@
 //! Tests of the commands over devices in memory: slow ones, failing ones, and ones that lack memory, and of
-//! what a search tells of itself. What the built program answers for whole texts is tested by `./test`
+//! what a search and a fault tell of themselves. What the built program answers for whole texts is tested by `./test`
 //! at the root.
 #![tactic(auto)]
 
@@ -11,6 +11,8 @@ mod cases;
 mod devices;
 #[cfg(test)]
 mod failing;
+#[cfg(test)]
+mod faults;
 #[cfg(test)]
 mod lengths;
 #[cfg(test)]

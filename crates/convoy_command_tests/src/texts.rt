@@ -52,6 +52,34 @@ message = \"t\"
 group = \"a\"
 ";
 
+/// In real time, where each packet takes a tick: t and x come to b at once, and x is first by the order.
+pub(crate) const TIED_IN_ORDER: &str = "\
+time = \"real\"
+order = [0, 0, 1, 0, 0, 0, 0, 0, 0, 0]
+delay = 1
+groups = [\"a\", \"b\"]
+
+[[multicast]]
+name = \"t\"
+to = [\"a\", \"b\"]
+at = 0
+
+[[multicast]]
+name = \"x\"
+to = [\"b\"]
+at = 0
+
+[[multicast]]
+name = \"y\"
+from = \"a\"
+to = [\"a\", \"b\"]
+at = 2
+
+[target]
+message = \"t\"
+group = \"a\"
+";
+
 /// What `first` writes for the base scenario.
 pub(crate) const FIRST_OF_BASE: &str = "attained 2\nschedule 1 1 1 1 1 1 1 1\n";
 

@@ -2,7 +2,8 @@
 
 use super::texts::{BASE, SWAPPED};
 use convoy_commands::{
-    Bounds, DEFAULT_LIMIT, Done, Gate, Goal, Options, SliceSource, VecSink, Watch, run_search,
+    Bounds, DEFAULT_LIMIT, Done, Duration, Gate, Goal, Options, SliceSource, VecSink, Watch,
+    run_search,
 };
 use std::alloc::Global;
 use std::sync::Wait;
@@ -41,7 +42,14 @@ impl Gate for Seen {
 }
 
 impl Watch for Seen {
-    fn begins(&self, _bounds: Bounds, limit: u64, least: u32, most: Option<u32>) {
+    fn begins(
+        &self,
+        _tick: Option<Duration>,
+        _bounds: Bounds,
+        limit: u64,
+        least: u32,
+        most: Option<u32>,
+    ) {
         let _ = self.begun.fetch_add(1, Ordering::Relaxed);
         self.limit.store(limit, Ordering::Relaxed);
         self.least.store(least, Ordering::Relaxed);

@@ -6,15 +6,18 @@ pub use Rattle.convoy_scenario.specs.Draft
 pub use Rattle.convoy_scenario.specs.Numbering
 pub use Rattle.convoy_toml.specs.Reading
 pub use Rattle.convoy_scenario.specs.declared.fault.ScenarioFault
+pub use Rattle.convoy_scenario.specs.declared.time.Time
 -- the lines of a scenario in a certificate
 pub use Rattle.convoy_scenario_lines.specs.Lines as ScenarioLines
 pub use Rattle.convoy_scenario_lines.specs.LineReading
 pub use Rattle.convoy_scenario_lines.specs.declared.line_fault.LineFault
--- packets and schedules
+-- packets, schedules and orders of ties
 pub use Rattle.convoy_packets.specs.Packets
 pub use Rattle.convoy_packets.specs.Assignment
 pub use Rattle.convoy_packets.specs.Table
 pub use Rattle.convoy_packets.specs.Given
+pub use Rattle.convoy_packets.specs.Order
+pub use Rattle.convoy_packets.specs.OrderLists
 pub use Rattle.convoy_packets.specs.declared.fault.ListFault
 -- runs, latency, and what it is to be the greatest
 pub use Rattle.convoy_sim.specs.Times
@@ -23,6 +26,10 @@ pub use Rattle.convoy_sim.specs.Delivery
 pub use Rattle.convoy_sim.specs.Run
 pub use Rattle.convoy_sim.specs.Record
 pub use Rattle.convoy_sim.specs.Greatest
+-- one scenario in ticks and in finer ones
+pub use Rattle.convoy_finer.specs.FinerTicks
+-- the ceiling, in traffic of a scenario's kinds of messages
+pub use Rattle.convoy_ceiling.specs.Ceiling
 -- certificates: their text, and when they are valid
 pub use Rattle.convoy_certificate.specs.Certificate
 pub use Rattle.convoy_certificate.specs.Text
@@ -39,6 +46,7 @@ pub use Rattle.convoy_explain.specs.PacketLists
 pub use Rattle.convoy_intervals.specs.Boxes
 pub use Rattle.convoy_intervals.specs.Bounds as PlainBounds
 pub use Rattle.convoy_stamps.specs.StampBounds
+pub use Rattle.convoy_monotone.specs.Narrower
 pub use Rattle.convoy_leads.specs.Closing
 -- what seeking and a search answer
 pub use Rattle.convoy_seek.specs.Finds
@@ -46,7 +54,6 @@ pub use Rattle.convoy_branch.specs.declared.bounds.Bounds
 pub use Rattle.convoy_branch.specs.Fronts
 pub use Rattle.convoy_branch.specs.Outcomes
 pub use Rattle.convoy_branch.specs.BothWays
-pub use Rattle.convoy_share.specs.declared.fault.SearchFault
 -- the search of many workers as a machine
 pub use Rattle.convoy_machine.specs.Machine
 pub use Rattle.convoy_machine.specs.Replays

@@ -2,14 +2,17 @@
 #![tactic(auto)]
 
 pub use convoy_branch as branch;
+pub use convoy_ceiling as ceiling;
 pub use convoy_certificate as certificate;
 pub use convoy_checker as checker;
 pub use convoy_explain as explain;
+pub use convoy_finer as finer;
 pub use convoy_incumbent as incumbent;
 pub use convoy_intervals as intervals;
 pub use convoy_leads as leads;
 pub use convoy_ledger as ledger;
 pub use convoy_machine as machine;
+pub use convoy_monotone as monotone;
 pub use convoy_packets as packets;
 pub use convoy_scenario as scenario;
 pub use convoy_scenario_lines as scenario_lines;

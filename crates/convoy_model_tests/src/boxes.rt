@@ -97,10 +97,10 @@ fn bound_of_a_point(rt: HostRuntime) -> Result<(), Fail> {
     assert_eq!(rt; bound(&instance, &point), 12);
     let copy = point.copy()?;
     assert!(rt; copy.is_point());
-    let delays = copy.greatest(alloc)?;
-    assert_eq!(rt; delays.len(), 8);
+    let schedule = copy.greatest(alloc)?;
+    assert_eq!(rt; schedule.len(), 8);
     for packet in 0..8 {
-        assert_eq!(rt; delays.delay(packet), 3, "packet {packet}");
+        assert_eq!(rt; schedule.delay(packet), 3, "packet {packet}");
     }
     Ok(())
 }

@@ -1,6 +1,6 @@
 //! Boxes that leads close.
 
-use super::scenarios::{base, raised_twice, swapped};
+use super::scenarios::{base, raised_twice, swapped, tied};
 use convoy_intervals::DelayBox;
 use convoy_leads::closes_by_leads;
 use convoy_packets::Instance;
@@ -29,6 +29,16 @@ fn roots_are_closed(rt: HostRuntime) -> Result<(), Fail> {
     let raised = raised_twice(alloc)?;
     assert!(rt; closes_root(alloc, &raised, 11)?, "raised twice, 11");
     assert!(rt; !closes_root(alloc, &raised, 10)?, "raised twice, 10");
+    Ok(())
+}
+
+/// In whole ticks y would surely be too late to delay t by more than 2 ticks.
+#[test]
+fn root_in_real_time(rt: HostRuntime) -> Result<(), Fail> {
+    let alloc = rt.alloc();
+    let tied = tied(alloc)?;
+    assert!(rt; closes_root(alloc, &tied, 4)?, "ties, 4");
+    assert!(rt; !closes_root(alloc, &tied, 3)?, "ties, 3");
     Ok(())
 }
 

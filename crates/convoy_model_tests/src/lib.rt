@@ -15,6 +15,8 @@ mod runs;
 #[cfg(test)]
 mod scenarios;
 #[cfg(test)]
+mod schedules;
+#[cfg(test)]
 mod seeking;
 #[cfg(test)]
 mod stamp_bounds;

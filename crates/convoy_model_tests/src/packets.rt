@@ -1,7 +1,7 @@
 //! Packets, their ranges, and schedules.
 
 use super::scenarios::{base, instance_of, linked, of_client};
-use convoy_packets::{Delays, ListFault, MOST_PACKETS, Packet};
+use convoy_packets::{ListFault, MOST_PACKETS, Packet, Schedule};
 use convoy_scenario::LinkParts;
 use std::alloc::Global;
 use std::test::Fail;
@@ -38,14 +38,14 @@ const BASE_PACKETS: [Packet; 8] = [
 fn lists_the_base(rt: HostRuntime) -> Result<(), Fail> {
     let instance = base(rt.alloc())?;
     let table = instance.table();
-    let delays = Delays::least(rt.alloc(), table)?;
+    let schedule = Schedule::least(rt.alloc(), table)?;
     assert_eq!(rt; table.len(), 8);
-    assert_eq!(rt; delays.len(), 8);
+    assert_eq!(rt; schedule.len(), 8);
     for (i, packet) in BASE_PACKETS.iter().enumerate() {
         assert_eq!(rt; table.packet(i), *packet, "at {i}");
         assert_eq!(rt; table.place(*packet), Some(i as u16), "at {i}");
         assert_eq!(rt; table.range(i), (1, 3), "at {i}");
-        assert_eq!(rt; delays.delay(i), 1, "at {i}");
+        assert_eq!(rt; schedule.delay(i), 1, "at {i}");
     }
     Ok(())
 }
@@ -85,7 +85,7 @@ fn takes_ranges_of_links(rt: HostRuntime) -> Result<(), Fail> {
 fn looks_up_the_base(rt: HostRuntime) -> Result<(), Fail> {
     let instance = base(rt.alloc())?;
     let table = instance.table();
-    let delays = Delays::least(rt.alloc(), table)?;
+    let schedule = Schedule::least(rt.alloc(), table)?;
     for (message, to, place, delay) in [
         (0, 1, Some(0), 1),
         (1, 0, Some(1), 1),
@@ -98,7 +98,7 @@ fn looks_up_the_base(rt: HostRuntime) -> Result<(), Fail> {
     ] {
         assert_eq!(rt; table.multicast_to(message, to), place, "{message} to {to}");
         assert_eq!(rt;
-            table.multicast_delay(&delays, message, to),
+            table.multicast_delay(&schedule, message, to),
             delay,
             "{message} to {to}"
         );
@@ -116,7 +116,7 @@ fn looks_up_the_base(rt: HostRuntime) -> Result<(), Fail> {
             place,
             "{message}: {from} to {to}"
         );
-        let found = table.propose_delay(&delays, message, from, to);
+        let found = table.propose_delay(&schedule, message, from, to);
         assert_eq!(rt; found, delay, "{message}: {from} to {to}");
     }
     Ok(())
@@ -150,9 +150,9 @@ fn lists_the_largest(rt: HostRuntime) -> Result<(), Fail> {
 }
 
 /// What the numbers give as a schedule of the base scenario.
-fn base_given(alloc: Global, numbers: &[i64]) -> Result<Result<Delays, ListFault>, Fail> {
+fn base_given(alloc: Global, numbers: &[i64]) -> Result<Result<Schedule, ListFault>, Fail> {
     let instance = base(alloc)?;
-    Ok(Delays::from_list(alloc, instance.table(), numbers))
+    Ok(Schedule::from_list(alloc, instance.table(), numbers))
 }
 
 #[test]
@@ -177,12 +177,12 @@ fn lists_with_faults(rt: HostRuntime) -> Result<(), Fail> {
 #[test]
 fn lists_as_given(rt: HostRuntime) -> Result<(), Fail> {
     let numbers = [1, 2, 3, 3, 1, 2, 3, 1];
-    let delays = base_given(rt.alloc(), &numbers)??;
-    let copy = delays.copy()?;
-    assert_eq!(rt; delays.len(), 8);
+    let schedule = base_given(rt.alloc(), &numbers)??;
+    let copy = schedule.copy()?;
+    assert_eq!(rt; schedule.len(), 8);
     assert_eq!(rt; copy.len(), 8);
     for (i, number) in numbers.iter().enumerate() {
-        assert_eq!(rt; i64::from(delays.delay(i)), *number, "at {i}");
+        assert_eq!(rt; i64::from(schedule.delay(i)), *number, "at {i}");
         assert_eq!(rt; i64::from(copy.delay(i)), *number, "at {i}");
     }
     Ok(())
@@ -190,7 +190,7 @@ fn lists_as_given(rt: HostRuntime) -> Result<(), Fail> {
 
 #[test]
 fn takes_the_greatest(rt: HostRuntime) -> Result<(), Fail> {
-    let greatest = Delays::greatest(rt.alloc(), base(rt.alloc())?.table())?;
+    let greatest = Schedule::greatest(rt.alloc(), base(rt.alloc())?.table())?;
     let given = base_given(rt.alloc(), &[3, 3, 3, 3, 3, 3, 3, 3])??;
     assert_eq!(rt; greatest.len(), 8);
     assert_eq!(rt; greatest.delay(0), 3);

@@ -1,7 +1,8 @@
 //! The picture of a worked row, and what is told of it.
 
 use super::scenarios::base;
-use convoy_packets::{Delays, Instance, Packet};
+use super::schedules::greatest;
+use convoy_packets::{Instance, Packet};
 use convoy_picture::{Picture, Role, answer_words, entry_words, flight_words};
 use convoy_scenario::Sender;
 use convoy_sim::simulate;
@@ -10,9 +11,9 @@ use std::test::Fail;
 
 /// The picture of a scenario under the greatest delays.
 fn picture_of(alloc: Global, instance: &Instance) -> Result<Picture, AllocError> {
-    let delays = Delays::greatest(alloc, instance.table())?;
-    let run = simulate(alloc, instance, &delays)?;
-    Picture::of(alloc, instance, &delays, &run)
+    let schedule = greatest(alloc, instance)?;
+    let run = simulate(alloc, instance, &schedule)?;
+    Picture::of(alloc, instance, &schedule, &run)
 }
 
 #[test]

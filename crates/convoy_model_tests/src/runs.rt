@@ -2,27 +2,32 @@
 
 ghost use Rattle.convoy_packets.specs.Assignment.{IsAssignment};
 
-use super::scenarios::{base, base_at, base_with, instance_of, of_client, of_group};
-use convoy_packets::{Delays, Instance};
-use convoy_scenario::{MessageParts, ScenarioFault};
+use super::scenarios::{base, base_at, base_with, instance_of, of_client, of_group, tied};
+use super::schedules::{given, least};
+use convoy_packets::{Instance, Order, Schedule};
+use convoy_scenario::{MessageParts, ScenarioFault, Time};
 use convoy_sim::{Proposal, Record, Run, Timestamp, latency, simulate};
 use std::alloc::Global;
 use std::process::Abort;
 use std::test::Fail;
 
 /// The run of a scenario, once the call for the latency alone has found the same latency.
-fn run(rt: &impl Abort, alloc: Global, instance: &Instance, delays: &Delays) -> Result<Run, Fail>
-    requires assignment { IsAssignment instance.now delays.now }
+fn run(
+    rt: &impl Abort,
+    alloc: Global,
+    instance: &Instance,
+    schedule: &Schedule,
+) -> Result<Run, Fail>
+    requires assignment { IsAssignment instance.now schedule.now }
 {
-    let run = simulate(alloc, instance, delays)?;
-    assert_eq!(rt; run.latency(), latency(instance, delays));
+    let run = simulate(alloc, instance, schedule)?;
+    assert_eq!(rt; run.latency(), latency(instance, schedule));
     Ok(run)
 }
 
 /// The run of a scenario under the schedule of least delays.
 fn least_run(rt: &impl Abort, alloc: Global, instance: &Instance) -> Result<Run, Fail> {
-    let delays = Delays::least(alloc, instance.table())?;
-    run(rt, alloc, instance, &delays)
+    run(rt, alloc, instance, &least(alloc, instance)?)
 }
 
 /// The run of a scenario under a schedule.
@@ -32,8 +37,7 @@ fn run_under(
     instance: &Instance,
     delays: &[i64],
 ) -> Result<Run, Fail> {
-    let delays = Delays::from_list(alloc, instance.table(), delays)?;
-    run(rt, alloc, instance, &delays)
+    run(rt, alloc, instance, &given(alloc, instance, delays)?)
 }
 
 /// x arrives at the group b after t where it takes two ticks or more.
@@ -83,14 +87,14 @@ fn lone_message(rt: HostRuntime) -> Result<(), Fail> {
 fn base_under_schedules(rt: HostRuntime) -> Result<(), Fail> {
     let alloc = rt.alloc();
     let most = [3, 3, 3, 3, 3, 3, 3, 3];
-    for (at, delays, want) in [
+    for (at, schedule, want) in [
         (6, most, 12),
         (5, most, 11),
         (5, [3, 3, 1, 3, 1, 3, 3, 3], 3),
     ] {
         let instance = base_at(alloc, at)?;
         assert_eq!(rt;
-            run_under(&rt, alloc, &instance, &delays)?.latency(),
+            run_under(&rt, alloc, &instance, &schedule)?.latency(),
             want,
             "y at {at}"
         );
@@ -102,8 +106,8 @@ fn base_under_schedules(rt: HostRuntime) -> Result<(), Fail> {
 fn overtaken_under_schedules(rt: HostRuntime) -> Result<(), Fail> {
     let instance = overtaken(rt.alloc())?;
     for (delay, want) in [(1, 11), (2, 6), (3, 6)] {
-        let delays = [3, 3, 3, 3, delay, 3, 3, 3];
-        let run = run_under(&rt, rt.alloc(), &instance, &delays)?;
+        let schedule = [3, 3, 3, 3, delay, 3, 3, 3];
+        let run = run_under(&rt, rt.alloc(), &instance, &schedule)?;
         assert_eq!(rt; run.latency(), want, "x takes {delay}");
     }
     Ok(())
@@ -127,22 +131,57 @@ fn base_as_told(rt: HostRuntime) -> Result<(), Fail> {
 fn record_of_the_base(rt: HostRuntime) -> Result<(), Fail> {
     let alloc = rt.alloc();
     let instance = base(alloc)?;
-    let delays = Delays::least(alloc, instance.table())?;
-    let copy = Record::of(&instance, delays).copy()?;
+    let copy = Record::of(&instance, least(alloc, &instance)?).copy()?;
     assert_eq!(rt; copy.latency(), 2);
-    assert_eq!(rt; copy.delays().len(), 8);
+    assert_eq!(rt; copy.schedule().len(), 8);
+    Ok(())
+}
+
+/// The run of a scenario in real time under the schedule of least delays, with ties in an order.
+fn run_in_order(
+    rt: &impl Abort,
+    alloc: Global,
+    instance: &Instance,
+    ranks: &[i64],
+) -> Result<Run, Fail> {
+    let mut schedule = least(alloc, instance)?;
+    let scenario = instance.scenario();
+    match scenario.time() {
+        Time::Real => {
+            schedule.set_order(Order::from_list(alloc, scenario, ranks)?);
+            run(rt, alloc, instance, &schedule)
+        }
+        Time::Ticks => Err("ties have an order".into()),
+    }
+}
+
+#[test]
+fn ties_in_real_time(rt: HostRuntime) -> Result<(), Fail> {
+    let instance = tied(rt.alloc())?;
+    for (ranks, want) in [
+        ([0, 0, 0, 0, 0, 0, 0, 0, 0, 0], 2),
+        // t comes to b after x.
+        ([0, 0, 1, 0, 0, 0, 0, 0, 0, 0], 4),
+        ([0, 0, 255, 0, 254, 0, 0, 0, 0, 0], 4),
+        // And y comes to a after t is committed there.
+        ([0, 0, 1, 0, 0, 0, 1, 0, 0, 0], 2),
+        ([0, 1, 1, 0, 0, 0, 1, 0, 0, 0], 4),
+    ] {
+        let run = run_in_order(&rt, rt.alloc(), &instance, &ranks)?;
+        assert_eq!(rt; run.latency(), want);
+    }
     Ok(())
 }
 
 /// Eight delays from 1 to 3, another mixture for each number.
 fn mixed(number: u32) -> [i64; 8] {
     let mut state = number;
-    let mut delays = [1; 8];
-    for delay in delays.iter_mut() {
+    let mut schedule = [1; 8];
+    for delay in schedule.iter_mut() {
         state = state.wrapping_mul(1_103_515_245).wrapping_add(12_345);
         *delay = 1 + i64::from(state / 65_536 % 3);
     }
-    delays
+    schedule
 }
 
 // The run and the call for the latency alone agree on ninety-six runs: y is issued at twelve ticks, and each of these
@@ -152,8 +191,8 @@ fn mixed_schedules(rt: HostRuntime) -> Result<(), Fail> {
     for at in 0..12u32 {
         let instance = base_at(rt.alloc(), at)?;
         for number in 0..8u32 {
-            let delays = mixed(8 * at + number);
-            let _run = run_under(&rt, rt.alloc(), &instance, &delays)?;
+            let schedule = mixed(8 * at + number);
+            let _run = run_under(&rt, rt.alloc(), &instance, &schedule)?;
         }
     }
     Ok(())

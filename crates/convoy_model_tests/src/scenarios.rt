@@ -1,7 +1,7 @@
 //! Scenarios of worked rows.
 
 use convoy_packets::Instance;
-use convoy_scenario::{LinkParts, MessageParts, Scenario, ScenarioFault, ScenarioParts};
+use convoy_scenario::{LinkParts, MessageParts, Scenario, ScenarioFault, ScenarioParts, Time};
 use std::alloc::Global;
 
 /// A message of a client.
@@ -38,6 +38,8 @@ pub(crate) fn instance_of(
     target: (&str, &str),
 ) -> Result<Instance, ScenarioFault> {
     let parts = ScenarioParts {
+        time: Time::Ticks,
+        tick: None,
         delay,
         groups,
         links: &[],
@@ -86,9 +88,31 @@ pub(crate) fn swapped(alloc: Global) -> Result<Instance, ScenarioFault> {
 pub(crate) fn linked(alloc: Global, links: &[LinkParts]) -> Result<Instance, ScenarioFault> {
     let messages = base_messages(6);
     let parts = ScenarioParts {
+        time: Time::Ticks,
+        tick: None,
         delay: 3,
         groups: &["a", "b"],
         links,
+        messages: &messages,
+        target_message: "t",
+        target_group: "a",
+    };
+    Ok(Instance::of(alloc, Scenario::new(alloc, &parts)?)?)
+}
+
+/// In real time, where each packet takes a tick, t and x come to b at once, and y to a as t is committed there.
+pub(crate) fn tied(alloc: Global) -> Result<Instance, ScenarioFault> {
+    let messages = [
+        of_client("t", &["a", "b"], 0),
+        of_client("x", &["b"], 0),
+        of_group("y", "a", &["a", "b"], 2),
+    ];
+    let parts = ScenarioParts {
+        time: Time::Real,
+        tick: None,
+        delay: 1,
+        groups: &["a", "b"],
+        links: &[],
         messages: &messages,
         target_message: "t",
         target_group: "a",

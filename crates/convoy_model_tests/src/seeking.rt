@@ -1,7 +1,8 @@
 //! Scenarios of which the greatest latency is known by other programs, or from docs/PROTOCOL.md.
 
-use super::scenarios::{base, base_at, instance_of, of_client, of_group};
-use convoy_packets::{Delays, Instance};
+use super::scenarios::{base, base_at, instance_of, of_client, of_group, tied};
+use super::schedules::least;
+use convoy_packets::Instance;
 use convoy_scenario::ScenarioFault;
 use convoy_seek::seek;
 use convoy_sim::Record;
@@ -54,7 +55,7 @@ fn three_groups(alloc: Global) -> Result<Instance, ScenarioFault> {
 
 /// The record that is found from the one of the least delays.
 fn found(alloc: Global, instance: &Instance, until: u32, budget: u64) -> Result<Record, Fail> {
-    let known = Record::of(instance, Delays::least(alloc, instance.table())?);
+    let known = Record::of(instance, least(alloc, instance)?);
     match seek(alloc, instance, known, until, budget) {
         Ok(found) => Ok(found),
         Err((_, error)) => Err(error.into()),
@@ -68,6 +69,15 @@ fn reaches_the_base(rt: HostRuntime) -> Result<(), Fail> {
     assert_eq!(rt; later.latency(), 12);
     let earlier = found(alloc, &base_at(alloc, 5)?, u32::MAX, 200)?;
     assert_eq!(rt; earlier.latency(), 11);
+    Ok(())
+}
+
+/// All schedules have the same delays, and one order of ties makes t late.
+#[test]
+fn reaches_an_order(rt: HostRuntime) -> Result<(), Fail> {
+    let instance = tied(rt.alloc())?;
+    let record = found(rt.alloc(), &instance, u32::MAX, 400)?;
+    assert_eq!(rt; record.latency(), 4);
     Ok(())
 }
 
@@ -111,6 +121,6 @@ fn finds_the_same_again(rt: HostRuntime) -> Result<(), Fail> {
     let first = found(rt.alloc(), &instance, u32::MAX, 3_000)?;
     let second = found(rt.alloc(), &instance, u32::MAX, 3_000)?;
     assert_eq!(rt; first.latency(), second.latency());
-    assert_eq!(rt; first.delays().as_slice(), second.delays().as_slice());
+    assert_eq!(rt; first.schedule().delays(), second.schedule().delays());
     Ok(())
 }

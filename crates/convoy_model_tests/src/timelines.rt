@@ -1,7 +1,8 @@
 //! The timelines of worked rows, under the schedule in which each packet takes one tick.
 
 use super::scenarios::{base, instance_of, of_client, of_group};
-use convoy_packets::{Delays, Instance};
+use super::schedules::least;
+use convoy_packets::Instance;
 use convoy_scenario::ScenarioFault;
 use convoy_sim::simulate;
 use convoy_timeline::write_timeline;
@@ -57,8 +58,8 @@ const HELD_BACK_TIMELINE: &str = "\
 
 /// The timeline of a scenario under the schedule of least delays.
 fn least_timeline(alloc: Global, instance: &Instance) -> Result<Vec<u8>, AllocError> {
-    let delays = Delays::least(alloc, instance.table())?;
-    let run = simulate(alloc, instance, &delays)?;
+    let schedule = least(alloc, instance)?;
+    let run = simulate(alloc, instance, &schedule)?;
     let mut timeline = Vec::new(alloc);
     write_timeline(instance.scenario(), &run, &mut timeline)?;
     Ok(timeline)

@@ -3,7 +3,8 @@
 use super::scenarios::{base, base_with, swapped};
 use convoy_branch::{Bounds, Gate, NoGate, Outcome, search_alone, search_alone_from};
 use convoy_certificate::Node;
-use convoy_packets::{Delays, Instance};
+use convoy_packets::laws::fixed_order_is_order;
+use convoy_packets::{Instance, Schedule};
 use convoy_sim::Record;
 use std::alloc::Global;
 use std::process::Abort;
@@ -29,8 +30,9 @@ fn outcome_from_greatest(
     instance: &Instance,
     limit: u64,
 ) -> Result<Outcome, Fail> {
-    let least = Record::of(instance, Delays::least(alloc, instance.table())?);
-    let opening = Record::of(instance, Delays::greatest(alloc, instance.table())?);
+    fixed_order_is_order();
+    let least = Record::of(instance, Schedule::least(alloc, instance.table())?);
+    let opening = Record::of(instance, Schedule::greatest(alloc, instance.table())?);
     assert!(rt; least.latency() <= opening.latency());
     Ok(search_alone_from(alloc, instance, opening, limit, Bounds::Plain, &NoGate)?)
 }
@@ -76,7 +78,7 @@ fn base_is_one_leaf(rt: HostRuntime) -> Result<(), Fail> {
         );
         if let Outcome::Proved { certificate, .. } = &outcome {
             assert_eq!(rt; certificate.nodes(), [Node::Bound].as_slice());
-            assert_eq!(rt; certificate.delays().as_slice(), [3; 8].as_slice());
+            assert_eq!(rt; certificate.schedule().delays(), [3; 8].as_slice());
         }
     }
     Ok(())
@@ -191,7 +193,8 @@ impl Gate for Counting {
 fn calls_its_gate(rt: HostRuntime) -> Result<(), Fail> {
     let alloc = rt.alloc();
     let instance = swapped(alloc)?;
-    let opening = Record::of(&instance, Delays::least(alloc, instance.table())?);
+    fixed_order_is_order();
+    let opening = Record::of(&instance, Schedule::least(alloc, instance.table())?);
     let gate = Counting {
         calls: AtomicU64::new(0),
         in_turn: AtomicBool::new(true),

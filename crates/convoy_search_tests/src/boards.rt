@@ -4,7 +4,8 @@ ghost use Rattle.std.specs.Prelude.{◌≡◌, IfOk};
 
 use super::scenarios::lone;
 use convoy_incumbent::{Board, CloseFault, Hand};
-use convoy_packets::{Delays, Instance};
+use convoy_packets::laws::fixed_order_is_order;
+use convoy_packets::{Instance, Schedule};
 use convoy_sim::Record;
 use std::alloc::Global;
 use std::process::Abort;
@@ -24,8 +25,9 @@ const ALSO_LATENCY_9: [i64; 4] = [1, 5, 1, 4];
 pub(crate) fn record_of(alloc: Global, instance: &Instance, list: &[i64]) -> Result<Record, Fail>
     ensures { IfOk result (λ found. found.scenario ≡ instance.now) }
 {
-    let delays = Delays::from_list(alloc, instance.table(), list)?;
-    Ok(Record::of(instance, delays))
+    fixed_order_is_order();
+    let schedule = Schedule::from_list(alloc, instance.table(), list)?;
+    Ok(Record::of(instance, schedule))
 }
 
 /// A board that is opened with a record, and its hand.

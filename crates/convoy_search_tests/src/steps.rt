@@ -2,28 +2,27 @@
 
 ghost use Rattle.std.specs.Prelude.{◌≡◌, ◌<◌, length, IfOk};
 
-use super::scenarios::{base, swapped};
-use convoy_branch::{Bounds, Step, Turn, step_branch};
+use super::scenarios::{base, swapped, tied};
+use convoy_branch::{Bounds, Fate, Step, Turn, step_branch};
 use convoy_certificate::Node;
 use convoy_intervals::Tracked;
 use convoy_packets::Instance;
 use std::alloc::{AllocError, Global};
 use std::test::Fail;
 
-/// The latency that the step found, and the node that stands for the box.
-fn summary(step: &Step) -> (Option<u32>, Node) {
+/// The latency that the step found, and the node that stands for the box; None where the box stays.
+fn summary(step: &Step) -> (Option<u32>, Option<Node>) {
     let found = match &step.found {
         Some(best) => Some(best.latency()),
         None => None,
     };
-    let node = match &step.turn {
-        Turn::Closed(leaf) => *leaf,
-        Turn::Halves { packet, at, .. } => {
-            Node::Split {
-                packet: *packet,
-                at: *at,
-            }
-        }
+    let node = match &step.fate {
+        Fate::Turned(Turn::Closed(leaf)) => Some(*leaf),
+        Fate::Turned(Turn::Halves { packet, at, .. }) => Some(Node::Split {
+            packet: *packet,
+            at: *at,
+        }),
+        Fate::Stays(_) => None,
     };
     (found, node)
 }
@@ -35,7 +34,7 @@ fn step_over(
     branch: Tracked,
     seen: u32,
     bounds: Bounds,
-) -> Result<(Option<u32>, Node), Fail>
+) -> Result<(Option<u32>, Option<Node>), Fail>
     requires of_scenario { branch.scenario ≡ instance.now }
 {
     match step_branch(alloc, instance, branch, false, seen, bounds) {
@@ -50,7 +49,7 @@ fn root_step(
     instance: &Instance,
     seen: u32,
     bounds: Bounds,
-) -> Result<(Option<u32>, Node), Fail> {
+) -> Result<(Option<u32>, Option<Node>), Fail> {
     let root = Tracked::root(alloc, instance)?;
     step_over(alloc, instance, root, seen, bounds)
 }
@@ -61,7 +60,7 @@ fn point_step(
     instance: &Instance,
     seen: u32,
     bounds: Bounds,
-) -> Result<(Option<u32>, Node), Fail> {
+) -> Result<(Option<u32>, Option<Node>), Fail> {
     let point = greatest_point(alloc, instance)?;
     step_over(alloc, instance, point, seen, bounds)
 }
@@ -101,11 +100,11 @@ fn closes_by_the_latency_found(rt: HostRuntime) -> Result<(), Fail> {
     for bounds in [Bounds::Plain, Bounds::Stamp] {
         assert_eq!(rt;
             root_step(alloc, &instance, 2, bounds)?,
-            (Some(12), Node::Bound)
+            (Some(12), Some(Node::Bound))
         );
         assert_eq!(rt;
             root_step(alloc, &instance, 12, bounds)?,
-            (None, Node::Bound)
+            (None, Some(Node::Bound))
         );
     }
     Ok(())
@@ -118,11 +117,11 @@ fn parts_the_first_of_the_widest(rt: HostRuntime) -> Result<(), Fail> {
     let split = Node::Split { packet: 0, at: 2 };
     assert_eq!(rt;
         root_step(alloc, &instance, 2, Bounds::Plain)?,
-        (Some(6), split)
+        (Some(6), Some(split))
     );
     assert_eq!(rt;
         root_step(alloc, &instance, 6, Bounds::Plain)?,
-        (None, split)
+        (None, Some(split))
     );
     Ok(())
 }
@@ -133,15 +132,15 @@ fn closes_by_stamps(rt: HostRuntime) -> Result<(), Fail> {
     let instance = swapped(alloc)?;
     assert_eq!(rt;
         root_step(alloc, &instance, 2, Bounds::Stamp)?,
-        (Some(6), Node::Stamp)
+        (Some(6), Some(Node::Stamp))
     );
     assert_eq!(rt;
         root_step(alloc, &instance, 6, Bounds::Stamp)?,
-        (None, Node::Stamp)
+        (None, Some(Node::Stamp))
     );
     assert_eq!(rt;
         root_step(alloc, &instance, 12, Bounds::Stamp)?,
-        (None, Node::Bound)
+        (None, Some(Node::Bound))
     );
     Ok(())
 }
@@ -152,19 +151,40 @@ fn closes_a_point(rt: HostRuntime) -> Result<(), Fail> {
     let instance = swapped(alloc)?;
     assert_eq!(rt;
         point_step(alloc, &instance, 2, Bounds::Plain)?,
-        (Some(6), Node::Point)
+        (Some(6), Some(Node::Point))
     );
     assert_eq!(rt;
         point_step(alloc, &instance, 6, Bounds::Plain)?,
-        (None, Node::Point)
+        (None, Some(Node::Point))
     );
     assert_eq!(rt;
         point_step(alloc, &instance, 6, Bounds::Stamp)?,
-        (None, Node::Stamp)
+        (None, Some(Node::Stamp))
     );
     assert_eq!(rt;
         point_step(alloc, &instance, 12, Bounds::Plain)?,
-        (None, Node::Bound)
+        (None, Some(Node::Bound))
+    );
+    Ok(())
+}
+
+/// In real time a point is closed by its bound, or it stays: a leaf for it would have to speak of each order of ties.
+#[test]
+fn point_in_real_time(rt: HostRuntime) -> Result<(), Fail> {
+    let alloc = rt.alloc();
+    let instance = tied(alloc)?;
+    assert_eq!(rt;
+        root_step(alloc, &instance, 1, Bounds::Plain)?,
+        (Some(2), None)
+    );
+    assert_eq!(rt;
+        root_step(alloc, &instance, 2, Bounds::Stamp)?,
+        (None, None)
+    );
+    assert_eq!(rt; root_step(alloc, &instance, 3, Bounds::Lead)?, (None, None));
+    assert_eq!(rt;
+        root_step(alloc, &instance, 4, Bounds::Plain)?,
+        (None, Some(Node::Bound))
     );
     Ok(())
 }

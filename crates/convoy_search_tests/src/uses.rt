@@ -8,7 +8,7 @@ use convoy_scenario::{Limit, ScenarioFault};
 use convoy_scenario_lines::Expected;
 use convoy_uses::{
     Answer, Fault, Judgement, check_certificate, exchange, greatest_latency, greatest_latency_by,
-    judge_timeout, latency_under,
+    judge_timeout, latency_under, timeout_in_traffic,
 };
 use std::alloc::Global;
 use std::test::Fail;
@@ -28,7 +28,7 @@ target = { message = "t", group = "a" }
 #[test]
 fn latencies_under_schedules(rt: HostRuntime) {
     let alloc = rt.alloc();
-    for (delays, want) in [
+    for (schedule, want) in [
         ([1; 8].as_slice(), Ok(2)),
         ([3; 8].as_slice(), Ok(12)),
         ([3; 7].as_slice(), Err(Fault::Schedule(ListFault::Length))),
@@ -37,7 +37,7 @@ fn latencies_under_schedules(rt: HostRuntime) {
             Err(Fault::Schedule(ListFault::Range(4))),
         ),
     ] {
-        assert_eq!(rt; latency_under(alloc, BASE.as_bytes(), delays), want);
+        assert_eq!(rt; latency_under(alloc, BASE.as_bytes(), schedule), want);
     }
     let too_long =
         b"delay = 17\ngroups = [\"a\"]\nmulticast = []\ntarget = { message = \"t\", group = \"a\" }\n";
@@ -137,6 +137,16 @@ fn timeouts_are_judged(rt: HostRuntime) -> Result<(), Fail> {
     Ok(())
 }
 
+/// The ceiling does not look at stamps, so the order of the groups makes no difference.
+#[test]
+fn timeouts_in_traffic(rt: HostRuntime) -> Result<(), Fail> {
+    let alloc = rt.alloc();
+    let (first, second) = (base(alloc)?, swapped(alloc)?);
+    assert_eq!(rt; timeout_in_traffic(first.scenario()), 12);
+    assert_eq!(rt; timeout_in_traffic(second.scenario()), 12);
+    Ok(())
+}
+
 /// A message alone takes twice the greatest delay: on its way, and with its stamps on theirs.
 #[test]
 fn exchanges_take_two_delays(rt: HostRuntime) -> Result<(), Fail> {
@@ -169,7 +179,7 @@ fn faults_tell_themselves(rt: HostRuntime) -> Result<(), Fail> {
         ),
         (
             Fault::Schedule(ListFault::Range(4)),
-            "the delays are no schedule of the scenario: the schedule gives packet 4 a delay that it may not take",
+            "the schedule are no schedule of the scenario: the schedule gives packet 4 a delay that it may not take",
         ),
         (
             Fault::Text(TextFault::AfterEnd),
@@ -179,7 +189,6 @@ fn faults_tell_themselves(rt: HostRuntime) -> Result<(), Fail> {
             Fault::Invalid(Refused::TreeCount),
             "the certificate is not valid: the nodes are not one whole tree",
         ),
-        (Fault::BoardFull, "the board takes no further record"),
         (Fault::Memory, "out of memory"),
     ] {
         let line = format!(in alloc; "{fault}")?;

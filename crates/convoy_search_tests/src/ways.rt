@@ -1,10 +1,12 @@
 //! The search both ways.
 
-use super::scenarios::base_with;
+use super::scenarios::{base_with, tied};
 use convoy_branch::{
     Bounds, Gate, NoGate, Outcome, lead_share, plain_share, search_alone, search_both_ways,
 };
-use convoy_packets::{Delays, Instance};
+use convoy_packets::laws::fixed_order_is_order;
+use convoy_packets::{Instance, Order, Schedule};
+use convoy_scenario::Time;
 use convoy_sim::Record;
 use std::alloc::Global;
 use std::sync::atomic::{AtomicU64, Ordering};
@@ -17,7 +19,8 @@ fn outcome_of<G: Gate>(
     limit: u64,
     gate: &G,
 ) -> Result<Outcome, Fail> {
-    let opening = Record::of(instance, Delays::least(alloc, instance.table())?);
+    fixed_order_is_order();
+    let opening = Record::of(instance, Schedule::least(alloc, instance.table())?);
     Ok(search_both_ways(alloc, instance, opening, limit, gate)?)
 }
 
@@ -118,6 +121,37 @@ fn leads_end_what_plain_bounds_do_not(rt: HostRuntime) -> Result<(), Fail> {
     assert_eq!(rt; seen.branches.load(Ordering::Relaxed), 10_001);
     assert_eq!(rt; seen.anew.load(Ordering::Relaxed), 1);
     assert_eq!(rt; seen.limit.load(Ordering::Relaxed), 1);
+    Ok(())
+}
+
+/// What a search both ways in real time answers, from the record of the least delays with ties in an order.
+fn outcome_from(alloc: Global, instance: &Instance, ranks: &[i64]) -> Result<Outcome, Fail> {
+    fixed_order_is_order();
+    let least = Record::of(instance, Schedule::least(alloc, instance.table())?);
+    let mut schedule = Schedule::least(alloc, instance.table())?;
+    let scenario = instance.scenario();
+    match scenario.time() {
+        Time::Real => schedule.set_order(Order::from_list(alloc, scenario, ranks)?),
+        Time::Ticks => return Err("ties have an order".into()),
+    }
+    let opening = Record::of(instance, schedule);
+    if opening.latency() < least.latency() {
+        return Err("the opening record is no less than that of the least delays".into());
+    }
+    Ok(search_both_ways(alloc, instance, opening, 10_001, &NoGate)?)
+}
+
+/// All schedules have the same delays: in the fixed order none is as slow as the bound, and no leaf says that none is
+/// in another order. The bound is proved by a record in which x comes to b before t.
+#[test]
+fn points_in_real_time(rt: HostRuntime) -> Result<(), Fail> {
+    let alloc = rt.alloc();
+    let instance = tied(alloc)?;
+    let fixed = outcome_from(alloc, &instance, &[0; 10])?;
+    let (least, upper, _) = told(&fixed);
+    assert_eq!(rt; (least, upper), (2, Some(4)));
+    let other = outcome_from(alloc, &instance, &[0, 0, 1, 0, 0, 0, 0, 0, 0, 0])?;
+    assert_eq!(rt; told(&other), (4, None, 1));
     Ok(())
 }
 

@@ -4,7 +4,8 @@ ghost use Rattle.std.specs.Prelude.{◌≤◌};
 
 use super::scenarios::{base, base_with, swapped};
 use convoy_branch::{Bounds, Outcome, search_alone};
-use convoy_packets::{Delays, Instance};
+use convoy_packets::laws::fixed_order_is_order;
+use convoy_packets::{Instance, Schedule};
 use convoy_share::{Gate, NoGate, search, search_from};
 use convoy_sim::Record;
 use std::alloc::Global;
@@ -204,7 +205,7 @@ fn one_worker_alone(rt: HostRuntime) -> Result<(), Fail> {
             ),
         ) => {
             assert!(rt; certificate.nodes() == same.nodes());
-            assert!(rt; certificate.delays().as_slice() == same.delays().as_slice());
+            assert!(rt; certificate.schedule().delays() == same.schedule().delays());
         }
         _ => assert!(rt; false, "no certificate"),
     }
@@ -215,8 +216,9 @@ fn one_worker_alone(rt: HostRuntime) -> Result<(), Fail> {
 fn by_stamps_from_a_record(rt: HostRuntime) -> Result<(), Fail> {
     let alloc = rt.alloc();
     let instance = swapped(alloc)?;
-    let least = Record::of(&instance, Delays::least(alloc, instance.table())?);
-    let opening = Record::of(&instance, Delays::greatest(alloc, instance.table())?);
+    fixed_order_is_order();
+    let least = Record::of(&instance, Schedule::least(alloc, instance.table())?);
+    let opening = Record::of(&instance, Schedule::greatest(alloc, instance.table())?);
     assert!(rt; least.latency() <= opening.latency());
     let outcome = search_from(
         &rt,

@@ -2,8 +2,9 @@
 
 use super::scenarios::{base, instance_of, of_group};
 use convoy_certificate::{Certificate, MOST_NODES, Node, TextFault, read, write};
-use convoy_packets::{Delays, Instance};
-use convoy_scenario::ScenarioFault;
+use convoy_packets::laws::fixed_order_is_order;
+use convoy_packets::{Instance, Schedule};
+use convoy_scenario::{ScenarioFault, Time};
 use convoy_scenario_lines::Expected;
 use std::alloc::{AllocError, Global};
 use std::test::Fail;
@@ -29,6 +30,21 @@ target m a
 latency 0
 schedule
 b
+end
+";
+
+const REAL: &[u8] = b"convoy 4
+time real
+delay 3
+groups a b
+multicast x client 0 b
+multicast t client 0 a b
+multicast y a 6 a b
+target t a
+latency 6
+schedule 3 3 3 3 3 3 3 3
+order 0 0 0 0 0 0 1 0 0 0
+c 6
 end
 ";
 
@@ -68,7 +84,7 @@ fn certificate_of_base(rt: HostRuntime) -> Result<(), Fail> {
     let certificate = read(rt.alloc(), BASE)?;
     assert_eq!(rt; certificate.latency(), 12);
     assert_eq!(rt;
-        certificate.delays().as_slice(),
+        certificate.schedule().delays(),
         [3, 3, 3, 3, 3, 3, 3, 3].as_slice()
     );
     assert_eq!(rt; certificate.nodes(), [Node::Bound].as_slice());
@@ -157,8 +173,58 @@ fn faults_of_lead_leaves(rt: HostRuntime) -> Result<(), Fail> {
         let text = with(alloc, &older, b"b\nend", b"s 4 2\nb\nc 12\nend")?;
         assert!(rt; is_refused(alloc, &text, TextFault::Line(12, Expected::Node)));
     }
-    let fourth = with(alloc, BASE, b"convoy 1", b"convoy 4")?;
-    assert!(rt; is_refused(alloc, &fourth, TextFault::Line(1, Expected::Convoy)));
+    let fifth = with(alloc, BASE, b"convoy 1", b"convoy 5")?;
+    assert!(rt; is_refused(alloc, &fifth, TextFault::Line(1, Expected::Convoy)));
+    Ok(())
+}
+
+#[test]
+fn certificate_in_real_time(rt: HostRuntime) -> Result<(), Fail> {
+    let alloc = rt.alloc();
+    assert!(rt; is_kept(alloc, REAL)?);
+    let certificate = read(alloc, REAL)?;
+    assert_eq!(rt; certificate.scenario().time(), Time::Real);
+    let order = certificate.schedule().order();
+    assert_eq!(rt; order.arrival(2, 0), 1);
+    assert_eq!(rt; order.commit(2, 0), 0);
+    let none = with(alloc, REAL, b" 0 0 0 0 0 0 1 0 0 0", b"")?;
+    assert!(rt; is_kept(alloc, &none)?);
+    let most = with(alloc, REAL, b" 1 0 0 0\n", b" 255 0 0 0\n")?;
+    assert!(rt; is_kept(alloc, &most)?);
+    let split = with(alloc, REAL, b"c 6\nend", b"s 4 2\nb\nc 6\nend")?;
+    assert!(rt; is_kept(alloc, &split)?);
+    Ok(())
+}
+
+#[test]
+fn faults_in_real_time(rt: HostRuntime) -> Result<(), Fail> {
+    let alloc = rt.alloc();
+    for (old, new, line, expected) in [
+        (
+            b"convoy 4".as_slice(),
+            b"convoy 3".as_slice(),
+            2,
+            Expected::Delay,
+        ),
+        (b"time real\n", b"", 2, Expected::Time),
+        (b"time real", b"time ticks", 2, Expected::Time),
+        (b"order 0", b"order  0", 11, Expected::Order),
+        (b"order 0", b"order 65536", 11, Expected::Order),
+        (b"c 6", b"p", 12, Expected::Node),
+        (b"c 6", b"t", 12, Expected::Node),
+    ] {
+        let text = with(alloc, REAL, old, new)?;
+        assert!(rt; is_refused(alloc, &text, TextFault::Line(line, expected)));
+    }
+    for (old, new) in [
+        (b"order 0".as_slice(), b"order".as_slice()),
+        (b"order 0", b"order 0 0"),
+        (b"order 0", b"order 256"),
+        (b" 1 0 0 0\n", b" 0 0 0 0\n"),
+    ] {
+        let text = with(alloc, REAL, old, new)?;
+        assert!(rt; is_refused(alloc, &text, TextFault::Schedule));
+    }
     Ok(())
 }
 
@@ -310,10 +376,11 @@ fn one_node_too_many(rt: HostRuntime) -> Result<(), Fail> {
 
 /// The certificate of a scenario with each packet at its greatest delay, and one leaf.
 fn one_leaf(alloc: Global, instance: Instance, latency: u32) -> Result<Certificate, AllocError> {
-    let delays = Delays::greatest(alloc, instance.table())?;
+    fixed_order_is_order();
+    let schedule = Schedule::greatest(alloc, instance.table())?;
     let mut nodes = Vec::new(alloc);
     nodes.push(Node::Bound)?;
-    Ok(Certificate::new(instance, latency, delays, nodes))
+    Ok(Certificate::new(instance, latency, schedule, nodes))
 }
 
 /// The scenario of the second certificate above.
@@ -326,10 +393,10 @@ fn lone(alloc: Global) -> Result<Instance, Fail> {
 fn text_of_lead_leaf(rt: HostRuntime) -> Result<(), Fail> {
     let alloc = rt.alloc();
     let certificate = one_leaf(alloc, base(alloc)?, 12)?;
-    let (instance, latency, delays, _) = certificate.into_parts();
+    let (instance, latency, schedule, _) = certificate.into_parts();
     let mut nodes = Vec::new(alloc);
     nodes.push(Node::Lead { latency: 11 })?;
-    let led = Certificate::new(instance, latency, delays, nodes);
+    let led = Certificate::new(instance, latency, schedule, nodes);
     let mut written = Vec::new(alloc);
     write(alloc, &led, &mut written)?;
     let third = with(alloc, BASE, b"convoy 1", b"convoy 3")?;

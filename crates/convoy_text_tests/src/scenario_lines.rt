@@ -1,7 +1,7 @@
 //! The lines of a scenario in a certificate.
 
 use convoy_lines::LineReader;
-use convoy_scenario::{Limit, ScenarioFault};
+use convoy_scenario::{Limit, ScenarioFault, Time};
 use convoy_scenario_lines::{Expected, LineFault, Version, read_lines};
 use std::alloc::Global;
 use std::test::Fail;
@@ -26,6 +26,21 @@ fn counts_of_links(rt: HostRuntime) -> Result<(), Fail> {
     }
     let found = fault_of(rt.alloc(), Version::One, 1)?;
     assert_eq!(rt; found, Some(LineFault::Line(3, Expected::Multicast)));
+    Ok(())
+}
+
+#[test]
+fn real_time(rt: HostRuntime) -> Result<(), Fail> {
+    let text =
+        b"time real\ndelay 3\ngroups a b\nlink a b 1 2\nmulticast x client 0 b\ntarget x b\n";
+    let mut reader = LineReader::over(text);
+    let scenario = read_lines(rt.alloc(), Version::Three, &mut reader)?;
+    assert_eq!(rt; scenario.time(), Time::Real);
+    let mut reader = LineReader::over(text);
+    let older = read_lines(rt.alloc(), Version::Two, &mut reader).err();
+    assert_eq!(rt; older, Some(LineFault::Line(1, Expected::Delay)));
+    let found = fault_of(rt.alloc(), Version::Three, 0)?;
+    assert_eq!(rt; found, Some(LineFault::Line(1, Expected::Time)));
     Ok(())
 }
 

@@ -1,7 +1,7 @@
 //! Scenario texts.
 
 use super::scenarios::base_messages;
-use convoy_scenario::{Key, Limit, Scenario, ScenarioFault, ScenarioParts, Sender};
+use convoy_scenario::{Key, Limit, Scenario, ScenarioFault, ScenarioParts, Sender, Time};
 use convoy_toml::read_toml;
 use std::alloc::Global;
 use std::process::Abort;
@@ -71,6 +71,8 @@ fn base(rt: HostRuntime) -> Result<(), Fail> {
 fn base_in_parts(rt: HostRuntime) -> Result<(), Fail> {
     let messages = base_messages();
     let mut parts = ScenarioParts {
+        time: Time::Ticks,
+        tick: None,
         delay: 3,
         groups: &["a", "b"],
         links: &[],
@@ -211,6 +213,43 @@ fn schedule_in_order(rt: HostRuntime) -> Result<(), Fail> {
 }
 
 #[test]
+fn kinds_of_time(rt: HostRuntime) -> Result<(), Fail> {
+    let alloc = rt.alloc();
+    assert_eq!(rt;
+        read_toml(alloc, BASE.as_bytes())?.scenario.time(),
+        Time::Ticks
+    );
+    for (word, time) in [("ticks", Time::Ticks), ("real", Time::Real)] {
+        let text = format!(in alloc; "time = \"{word}\"{BASE}")?;
+        let input = read_toml(alloc, text.as_bytes())?;
+        assert_eq!(rt; input.scenario.time(), time);
+        assert!(rt; input.order.is_none());
+    }
+    for value in ["3", "\"tick\"", "[\"real\"]"] {
+        let text = format!(in alloc; "time = {value}{BASE}")?;
+        let fault = read_toml(alloc, text.as_bytes()).err();
+        assert_eq!(rt; fault, Some(ScenarioFault::Shape(Key::Time)), "{value}");
+    }
+    Ok(())
+}
+
+#[test]
+fn order_of_ties(rt: HostRuntime) -> Result<(), Fail> {
+    let alloc = rt.alloc();
+    let text = format!(in alloc; "order = [0, 256, -1]{BASE}")?;
+    let input = read_toml(alloc, text.as_bytes())?;
+    let order = input.order.ok_or("an order")?;
+    assert_eq!(rt; order.as_slice(), [0, 256, -1].as_slice());
+    assert!(rt; input.schedule.is_none());
+    let other = format!(in alloc; "order = 0{BASE}")?;
+    assert_eq!(rt;
+        read_toml(alloc, other.as_bytes()).err(),
+        Some(ScenarioFault::Shape(Key::Order))
+    );
+    Ok(())
+}
+
+#[test]
 fn schedule_of_none(rt: HostRuntime) -> Result<(), Fail> {
     let text = text_with_schedule(rt.alloc(), "[]")?;
     let input = read_toml(rt.alloc(), text.as_bytes())?;
@@ -230,7 +269,12 @@ fn faults_tell_themselves(rt: HostRuntime) -> Result<(), Fail> {
     let delay = format!(in alloc; "{}", ScenarioFault::OverLimit(Limit::Delay))?;
     assert_eq!(rt;
         delay.as_str(),
-        "over a limit: the greatest delay is 1 to 16"
+        "over a limit: the greatest delay is 1 to 65535, and in whole ticks 1 to 16"
+    );
+    let whole = format!(in alloc; "{}", ScenarioFault::NotWhole(Key::Least))?;
+    assert_eq!(rt;
+        whole.as_str(),
+        "a duration is no whole number of ticks: least"
     );
     let link = format!(in alloc; "{}", Limit::Link)?;
     assert_eq!(rt;

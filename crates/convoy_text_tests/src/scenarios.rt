@@ -1,7 +1,7 @@
 //! Scenarios of worked rows.
 
 use convoy_packets::Instance;
-use convoy_scenario::{MessageParts, Scenario, ScenarioParts};
+use convoy_scenario::{LinkParts, MessageParts, Scenario, ScenarioParts, Time};
 use std::alloc::Global;
 use std::test::Fail;
 
@@ -30,7 +30,8 @@ pub(crate) fn of_group<'a>(
     }
 }
 
-/// The scenario with these messages and no link, that asks for the latency of a message at a group.
+/// The scenario in whole ticks with these messages and no link, that asks for the latency of a message at
+/// a group.
 pub(crate) fn instance_of(
     alloc: Global,
     delay: u32,
@@ -38,10 +39,25 @@ pub(crate) fn instance_of(
     messages: &[MessageParts],
     target: (&str, &str),
 ) -> Result<Instance, Fail> {
+    timed_instance_of(alloc, Time::Ticks, delay, groups, &[], messages, target)
+}
+
+/// The scenario of that time with these links and messages, that asks likewise.
+pub(crate) fn timed_instance_of(
+    alloc: Global,
+    time: Time,
+    delay: u32,
+    groups: &[&str],
+    links: &[LinkParts],
+    messages: &[MessageParts],
+    target: (&str, &str),
+) -> Result<Instance, Fail> {
     let parts = ScenarioParts {
+        time,
+        tick: None,
         delay,
         groups,
-        links: &[],
+        links,
         messages,
         target_message: target.0,
         target_group: target.1,

@@ -2,6 +2,7 @@
 use Rattle.std.specs.Prelude.{ℕ, ℤ, pos, ◌≤◌, ◌<◌, List, [], ◌∷◌, codes, None, Result, Ok, Err}
 use Rattle.std.specs.Result.{result_map_both}
 use Rattle.convoy_library.specs.Draft.{Draft}
+use Rattle.convoy_library.specs.Time.TheVariants.{Ticks}
 use Rattle.convoy_library.specs.Scenario.{Scenario}
 use Rattle.convoy_library.specs.Reading.{scenario_of_text}
 use Rattle.convoy_library.specs.Assignment.{ranges_of}
@@ -27,12 +28,12 @@ abbrev pub ◌>>=◌ : {A B : Type 0} → Result A Fault → (A → Result B Fau
 Ok x >>= f = f x
 Err fault >>= f = Err fault
 
--- the latency of the scenario that the text is, under the schedule that the list is; else the first fault, that of the text before that of the list
+-- the latency of the scenario that the text is, under the schedule that the list is, where ties fall in the fixed order; else the first fault, that of the text before that of the list
 abbrev pub latency_given : List ℕ → List ℤ → Result ℕ Fault
 latency_given text list = do
   scenario ← told of_scenario (scenario_of_text text)
-  delays ← told of_list (schedule_of (ranges_of scenario) list)
-  Ok (latency_of scenario delays)
+  schedule ← told of_list (schedule_of (ranges_of scenario) list)
+  Ok (latency_of scenario schedule)
 
 -- the scenario of the valid certificate that the text is, and the latency stated there; else the first fault, that of the text before that of the certificate
 abbrev pub vouched_in : List ℕ → Result (Scenario × ℕ) Fault
@@ -53,9 +54,11 @@ IsJudgement scenario timeout (TooShort latency) = IsReached scenario latency × 
 IsJudgement scenario timeout (Unknown least most) =
     IsReached scenario least × IsUpper scenario most × (least ≤ timeout) × (timeout < most)
 
--- the parts of a scenario: a client sends m to the groups a and b at tick 0, and it is asked when a delivers it
+-- the parts of a scenario in whole ticks: a client sends m to the groups a and b at tick 0, and it is asked when a delivers it
 abbrev pub exchange : ℕ → Draft
 exchange delay = record {
+  time = Ticks;
+  tick = None;
   delay = pos delay;
   groups = codes "a" ∷ codes "b" ∷ [];
   links = [];

@@ -7,10 +7,8 @@ use Rattle.convoy_library.specs.TextFault.{TextFault}
 use Rattle.convoy_library.specs.TextFault.TheVariants as text
 use Rattle.convoy_library.specs.Refused.{Refused}
 use Rattle.convoy_library.specs.Refused.TheVariants as check
-use Rattle.convoy_library.specs.SearchFault.{SearchFault}
-use Rattle.convoy_library.specs.SearchFault.TheVariants as search_of
 use Rattle.convoy_uses.specs.declared.fault.Fault.{Fault}
-use Rattle.convoy_uses.specs.declared.fault.Fault.TheVariants.{Scenario, Schedule, Text, Invalid, BoardFull, Memory}
+use Rattle.convoy_uses.specs.declared.fault.Fault.TheVariants.{Scenario, Schedule, Text, Invalid, Memory}
 
 -- a fault of a scenario text
 abbrev pub of_scenario : ScenarioFault → Fault
@@ -26,11 +24,6 @@ of_list cause = Schedule cause
 abbrev pub of_text : TextFault → Fault
 of_text text.Memory = Memory
 of_text cause = Text cause
-
--- why a search of several workers gave no outcome
-abbrev pub of_search : SearchFault → Fault
-of_search search_of.Memory = Memory
-of_search (search_of.PlaceTooLarge late) = BoardFull
 
 -- why a certificate is refused
 abbrev pub of_check : Refused → Fault

@@ -7,19 +7,21 @@ ghost use Rattle.convoy_uses.specs.Answers.{exchange, told};
 ghost use Rattle.convoy_uses.specs.Faults.{of_scenario};
 
 use super::fault::Fault;
-use convoy_library::scenario::{MessageParts, Scenario, ScenarioParts};
+use convoy_library::scenario::{MessageParts, Scenario, ScenarioParts, Time};
 use std::alloc::Global;
 
 /// The scenario in which a client sends one message to the groups a and b at tick 0, and it is asked
-/// when a delivers it. A packet takes at most `delay` ticks.
+/// when a delivers it. Time goes in whole ticks, and a packet takes at most `delay` of them.
 ///
-/// A `delay` that is not from 1 to `GREATEST_DELAY` is told as `Fault::Scenario`.
+/// A `delay` that is not from 1 to `GREATEST_WHOLE_DELAY`, which is 16, is told as `Fault::Scenario`.
 pub fn exchange(alloc: Global, delay: u32) -> Result<Scenario, Fault>
     ensures value { IsUnlessMemory Memory
         (told of_scenario (scenario_of_draft (exchange delay))) result }
     ensures lawful { IfOk result (λ scenario. IsScenario scenario) }
 {
     let parts = ScenarioParts {
+        time: Time::Ticks,
+        tick: None,
         delay,
         groups: &["a", "b"],
         links: &[],

@@ -2,7 +2,6 @@ use convoy_library::certificate::TextFault;
 use convoy_library::checker::Refused;
 use convoy_library::packets::ListFault;
 use convoy_library::scenario::ScenarioFault;
-use convoy_library::share::SearchFault;
 use std::alloc::AllocError;
 use thiserror::Error;
 
@@ -21,9 +20,6 @@ pub enum Fault {
     /// The certificate is not valid.
     #[error("the certificate is not valid: {0}")]
     Invalid(Refused),
-    /// A board holds 4,294,967,296 records, and takes no further one.
-    #[error("the board takes no further record")]
-    BoardFull,
     /// Memory ran out, which says nothing of the input.
     #[error("out of memory")]
     Memory,
@@ -78,20 +74,6 @@ impl From<TextFault> for Fault {
         match cause {
             TextFault::Memory => Fault::Memory,
             cause => Fault::Text(cause),
-        }
-    }
-}
-
-impl From<SearchFault> for Fault {
-    ghost use Rattle.std.specs.Prelude.{◌≡◌};
-    ghost use Rattle.convoy_uses.specs.Faults.{of_search};
-
-    ghost from_gives = { λ cause fault. fault ≡ of_search cause };
-
-    fn from(cause: SearchFault) -> Fault {
-        match cause {
-            SearchFault::Memory => Fault::Memory,
-            SearchFault::PlaceTooLarge(_) => Fault::BoardFull,
         }
     }
 }

@@ -6,7 +6,8 @@ ghost use Rattle.convoy_uses.specs.Answers.{IsAnswer};
 
 use super::fault::Fault;
 use convoy_library::branch::{NoGate, Outcome, search_both_ways};
-use convoy_library::packets::{Delays, Instance};
+use convoy_library::packets::laws::fixed_order_is_order;
+use convoy_library::packets::{Instance, Schedule};
 use convoy_library::share;
 use convoy_library::sim::Record;
 use std::alloc::{AllocError, Global};
@@ -31,7 +32,8 @@ pub fn greatest_latency(
 ) -> Result<Answer, AllocError>
     ensures { IfOk result (IsAnswer instance.now) }
 {
-    let opening = Record::of(instance, Delays::least(alloc, instance.table())?);
+    fixed_order_is_order();
+    let opening = Record::of(instance, Schedule::least(alloc, instance.table())?);
     let outcome = search_both_ways(alloc, instance, opening, limit, &NoGate)?;
     Ok(answer_of(&outcome))
 }
@@ -48,7 +50,8 @@ pub fn greatest_latency_by<R: Threads + Wait + Sync>(
     requires tickets { (1 ≤ limit) × (limit ≤ most_tickets) }
     ensures { IfOk result (IsAnswer instance.now) }
 {
-    let opening = Record::of(instance, Delays::least(alloc, instance.table())?);
+    fixed_order_is_order();
+    let opening = Record::of(instance, Schedule::least(alloc, instance.table())?);
     let outcome = share::search_both_ways(rt, alloc, instance, opening, workers, limit, &NoGate)?;
     Ok(answer_of(&outcome))
 }

@@ -10,6 +10,7 @@ pub use records::best_of_three;
 pub use schedule::latency_under;
 pub use tickets::draw_together;
 pub use timeout::{Judgement, judge_timeout};
+pub use traffic::timeout_in_traffic;
 
 mod building;
 mod checking;
@@ -19,3 +20,4 @@ mod records;
 mod schedule;
 mod tickets;
 mod timeout;
+mod traffic;

@@ -3,7 +3,7 @@ ghost use Rattle.convoy_library.specs.Record.{IsAttained};
 ghost use Rattle.convoy_uses.specs.Sharing.{IsFirstHand, Publishes};
 
 use super::fault::Fault;
-use convoy_library::incumbent::{Board, BoardFault, CloseFault, Hand, NoteFault};
+use convoy_library::incumbent::{Board, CloseFault, Hand};
 use convoy_library::sim::Record;
 use std::alloc::Global;
 use std::sync::Wait;
@@ -56,8 +56,7 @@ fn opened<R: Wait>(rt: &R, alloc: Global, opening: Record) -> Result<(Board, Han
 {
     match Board::open(rt, alloc, opening) {
         Ok(opened) => Ok(opened),
-        Err((_, BoardFault::Memory)) => Err(Fault::Memory),
-        Err((_, BoardFault::PlaceTooLarge(_))) => Err(Fault::BoardFull),
+        Err(_) => Err(Fault::Memory),
     }
 }
 
@@ -72,7 +71,6 @@ fn published<R: Wait>(rt: &R, board: &Board, mut hand: Hand, found: Record) -> R
             board.publish(&mut hand, noted);
             Ok(hand)
         }
-        Err(NoteFault::Memory(_)) => Err(Fault::Memory),
-        Err(NoteFault::PlaceTooLarge(_)) => Err(Fault::BoardFull),
+        Err(_) => Err(Fault::Memory),
     }
 }
