@@ -1,6 +1,8 @@
 """What the tests have in common: how the program is run, what is wrong with an answer, and how a part counts its checks."""
 
 import argparse
+import importlib.machinery
+import importlib.util
 import subprocess
 import sys
 import typing
@@ -22,6 +24,14 @@ class Answer(typing.NamedTuple):
     status: int
     out: str
     errors: str
+
+
+def load(path):
+    """A script as a module."""
+    loader = importlib.machinery.SourceFileLoader(path.name, str(path))
+    module = importlib.util.module_from_spec(importlib.util.spec_from_file_location(path.name, path, loader=loader))
+    loader.exec_module(module)
+    return module
 
 
 def run(words, text="", before=None):

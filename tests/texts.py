@@ -261,3 +261,139 @@ schedule 3 3 3 2 3 3 1 3 1 3 3 3
 t
 end
 """
+
+# In real time, where moments of one tick come in any order.
+REAL_BASE = 'time = "real"\n' + BASE
+REAL_SWAPPED = 'time = "real"\n' + SWAPPED
+
+# Each packet takes one tick, and t is listed before x: in whole ticks it comes to b before x, in real time it need not.
+TIED = """\
+time = "real"
+delay = 1
+groups = ["a", "b"]
+
+[[multicast]]
+name = "t"
+to = ["a", "b"]
+at = 0
+
+[[multicast]]
+name = "x"
+to = ["b"]
+at = 0
+
+[[multicast]]
+name = "y"
+from = "a"
+to = ["a", "b"]
+at = 2
+
+[target]
+message = "t"
+group = "a"
+"""
+TIED_IN_TICKS = TIED.replace('time = "real"\n', "")
+
+# The same in durations: a tick lasts 50 us.
+MEASURED = """\
+time = "real"
+tick = "50 us"
+delay = "0.05 ms"
+groups = ["a", "b"]
+
+[[multicast]]
+name = "t"
+to = ["a", "b"]
+at = "0 ms"
+
+[[multicast]]
+name = "x"
+to = ["b"]
+at = 0
+
+[[multicast]]
+name = "y"
+from = "a"
+to = ["a", "b"]
+at = "100us"
+
+[target]
+message = "t"
+group = "a"
+"""
+
+# The base in milliseconds, without the length of a tick: it is the greatest that goes into all times, and 3 ms; with y a
+# millisecond later it is 1 ms.
+MILLISECONDS = 'time = "real"\n' + BASE.replace("delay = 3", 'delay = "3 ms"').replace("at = 0", 'at = "0 ms"').replace("at = 6", 'at = "6 ms"')
+LATER_MILLISECONDS = MILLISECONDS.replace("6 ms", "7 ms")
+
+# The base's certificate in real time, of version 4.
+REAL_CERTIFICATE = """\
+convoy 4
+time real
+delay 3
+groups a b
+multicast x client 0 b
+multicast t client 0 a b
+multicast y a 6 a b
+target t a
+latency 12
+schedule 3 3 3 3 3 3 3 3
+order
+b
+end
+"""
+
+# t comes to b after x, which is told by the rank of its arrival there, the third number of the order.
+TIED_CERTIFICATE = """\
+convoy 4
+time real
+delay 1
+groups a b
+multicast t client 0 a b
+multicast x client 0 b
+multicast y a 2 a b
+target t a
+latency 4
+schedule 1 1 1 1 1 1 1 1
+order 0 0 1 0 0 0 0 0 0 0
+b
+end
+"""
+
+# The same with the length of a tick.
+MEASURED_CERTIFICATE = TIED_CERTIFICATE.replace("time real\n", "time real\ntick 50 us\n")
+
+# With the groups in the other order, by a lead leaf.
+REAL_LEAD_CERTIFICATE = """\
+convoy 4
+time real
+delay 3
+groups b a
+multicast x client 0 b
+multicast t client 0 b a
+multicast y a 6 b a
+target t a
+latency 6
+schedule 3 3 3 3 3 3 3 3
+order
+c 6
+end
+"""
+
+# A message from a client to one group, by a bound leaf for each half.
+REAL_SPLIT_CERTIFICATE = """\
+convoy 4
+time real
+delay 2
+groups a
+multicast x client 0 a
+target x a
+latency 2
+schedule 2
+order
+s 0 1
+b
+b
+end
+"""

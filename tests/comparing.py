@@ -1,0 +1,61 @@
+"""Compares the greatest latency that the program proves with that of all schedules, of small scenarios by chance."""
+
+import functools
+import itertools
+import random
+import sys
+
+import schedules
+from schedules import delays_of_certificate, latency, ranks_of_certificate, small_scenarios
+from support import count, need, run, tell, want
+
+
+greatest = functools.lru_cache(None)(schedules.greatest)
+
+
+def compare(scenario, options, told):
+    """Compares one answer, and counts whether it is exact, and in one node, or open."""
+    text = scenario.text()
+    worst = greatest(scenario)
+    done = run(["analyse", *options], text)
+    lines = done.out.splitlines()
+    need(done.status in (0, 3), f"status {done.status}, {done.out}\n{text}")
+    if done.status == 3:
+        _, least, most = lines[0].split()
+        told["open"] += 1
+        need(int(least) <= worst <= int(most), f"{lines[0]}, and the greatest is {worst}\n{text}")
+        return
+    found = [int(line.split()[1]) for line in lines if line.startswith("latency ")]
+    checked = run(["check"], done.out)
+    want((found, checked.status, checked.out), ([worst], 0, f"accepted {worst}\n"))
+    want(latency(scenario, list(scenario.packets()), delays_of_certificate(done.out), ranks_of_certificate(done.out)), worst)
+    start = max(number for number, line in enumerate(lines) if line.split(" ")[0] in ("schedule", "order"))
+    told["exact"] += 1
+    told["in one node"] += len(lines) - start == 3
+
+
+def few_are_open(told, most):
+    """At most so many answers are open."""
+    need(told["open"] <= most, f"{told['open']} answers are open, and not up to {most}")
+
+
+def main(documentation, real, most, most_open=lambda number, options: 0, further=()):
+    """Makes the scenarios of a part and compares the answers for them, and makes the further checks of each, which are
+    called with the chance and the scenario. How many of so many answers may be open depends on the options: with a limit
+    of tickets all."""
+    words = sys.argv[1:]
+    if words[:1] in (["--help"], ["-h"]):
+        sys.exit(documentation)
+    number = int(words[0]) if words else 100
+    chance = random.Random(int(words[1]) if len(words) > 1 else 1)
+    told = {"exact": 0, "in one node": 0, "open": 0}
+    scenarios = list(itertools.islice(small_scenarios(chance, most, real), number))
+    checks = [(f"scenario {place}", lambda s=scenario: compare(s, words[2:], told)) for place, scenario in enumerate(scenarios)]
+    allowed = number if "--limit" in words else most_open(number, words[2:])
+    checks += [("few are open", lambda: few_are_open(told, allowed))]
+    checks += [
+        (f"{check.__name__} {place}", lambda c=check, s=scenario: c(chance, s)) for check in further for place, scenario in enumerate(scenarios)
+    ]
+    counts = count(checks)
+    print(f"{told['exact']} exact, {told['in one node']} of them in one node, {told['open']} open")
+    sys.exit(tell(*counts))
