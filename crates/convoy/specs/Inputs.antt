@@ -9,7 +9,7 @@ use Rattle.convoy.specs.declared.input.InputReader.TheVariants as readers
 abbrev pub IsNamed : Option (List ℕ) → Input → Type 0
 IsNamed None inputs.Standard = Unit {0}
 IsNamed (Some name) inputs.Standard = name ≡ codes "-"
-IsNamed (Some name) (inputs.File file) = string_bytes file ≡ name
+IsNamed (Some name) (inputs.File file) = (string_bytes file ≡ name) × ¬ (name ≡ codes "-")
 IsNamed None (inputs.File file) = ⊥
 
 -- the name of the file, where it is one

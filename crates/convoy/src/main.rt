@@ -3,6 +3,7 @@
 #![tactic(auto)]
 
 ghost use Rattle.convoy.specs.Verdicts.{IsVerdict, Obeys, Tells};
+ghost use Rattle.convoy_commands.specs.Batches.{IsBatchRun};
 
 mod ending;
 mod hinting;
@@ -12,8 +13,8 @@ mod kept;
 mod progress;
 
 use convoy_commands::{
-    Command, DeviceFailed, Fault, Sink, Source, StreamSink, StreamSource, Watch, fault_line, run,
-    run_batch, run_search, write_all,
+    Command, DeviceFailed, Done, Fault, Options, Sink, Source, StreamSink, StreamSource, Watch,
+    fault_line, run, run_batch, run_search, write_all,
 };
 use ending::End;
 use hinting::{Ended, greeting, is_quiet, tell_ended, write_line};
@@ -130,7 +131,7 @@ fn obey<R: Threads + Wait + Sync, S: Source, K: Sink, W: Watch + Sync>(
             Ok(End::Answered(done))
         }
         Verdict::Batch { options, .. } => {
-            let done = run_batch(rt, alloc, source, sink, options)?;
+            let done = answer_batch(rt, alloc, source, sink, options)?;
             Ok(End::Answered(done))
         }
         Verdict::Text { text, status } => match write_all(sink, text.as_bytes()) {
@@ -139,6 +140,21 @@ fn obey<R: Threads + Wait + Sync, S: Source, K: Sink, W: Watch + Sync>(
         },
         Verdict::Memory => Err(Fault::Memory),
     }
+}
+
+/// Answers a batch. The buffer of one lies on the stack, and no other command is to have it there.
+#[inline(never)]
+fn answer_batch<R: Threads + Wait + Sync, S: Source, K: Sink>(
+    rt: &R,
+    alloc: Global,
+    source: &mut S,
+    sink: &mut K,
+    options: &Options,
+) -> Result<Done, Fault>
+    ensures { IsBatchRun options.now options.now.most_reads
+        S.reads K.writes source.old source.new sink.old sink.new result }
+{
+    run_batch(rt, alloc, source, sink, options)
 }
 
 /// Writes the line of a fault. Where memory runs out or the write fails, nothing more is written.

@@ -3,7 +3,7 @@ ghost use Rattle.convoy_uses.specs.declared.fault.Fault.TheVariants.{Memory};
 ghost use Rattle.convoy_uses.specs.Answers.{latency_given};
 
 use super::fault::Fault;
-use convoy_library::packets::laws::fixed_order_is_order;
+use convoy_library::packets::laws::{fixed_order_is_order, lists_of_delays_are_schedules};
 use convoy_library::packets::{Instance, Schedule};
 use convoy_library::scenario_toml::read_toml;
 use convoy_library::sim::latency;
@@ -18,6 +18,7 @@ pub fn latency_under(alloc: Global, text: &[u8], delays: &[i64]) -> Result<u32, 
     ensures { IsUnlessMemory Memory (latency_given text.now delays.now) result }
 {
     fixed_order_is_order();
+    lists_of_delays_are_schedules();
     let scenario = read_toml(alloc, text)?.scenario;
     let instance = Instance::of(alloc, scenario)?;
     let schedule = Schedule::from_list(alloc, instance.table(), delays)?;
