@@ -2,12 +2,12 @@
 
 ghost use Rattle.convoy_intervals.specs.Boxes.{IsBox};
 
+use super::schedules;
 use super::timing::time_stamps;
 use anyhow::Result;
 use convoy_intervals::{DelayBox, bound};
 use convoy_leads::closes_by_leads;
-use convoy_packets::laws::fixed_order_is_order;
-use convoy_packets::{Instance, Schedule};
+use convoy_packets::Instance;
 use convoy_sim::latency;
 use std::alloc::Global;
 use std::rt::Runtime;
@@ -28,8 +28,7 @@ pub fn time_leads<R: Runtime>(
 ) -> Result<()> {
     let root = DelayBox::root(alloc, instance)?;
     time_stamps(rt, alloc, instance, &root, turns)?;
-    fixed_order_is_order();
-    let least = latency(instance, &Schedule::least(alloc, instance.table())?);
+    let least = latency(instance, &schedules::least(alloc, instance)?);
     let most = bound(instance, &root);
     let width = most.saturating_sub(least);
     let steps = width.min(MOST_STEPS);

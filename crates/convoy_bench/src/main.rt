@@ -15,14 +15,14 @@
 
 mod crews;
 mod leads;
+mod schedules;
 mod sharing;
 mod timing;
 mod workers;
 
 use anyhow::{Context, Result};
 use convoy_intervals::DelayBox;
-use convoy_packets::laws::fixed_order_is_order;
-use convoy_packets::{Instance, Schedule};
+use convoy_packets::Instance;
 use convoy_toml::read_toml;
 use crews::compare_crews;
 use leads::time_leads;
@@ -183,8 +183,7 @@ fn time_alone<R: Runtime>(
 /// Times the calls on a scenario.
 fn time_scenario<R: Runtime>(rt: &R, alloc: Global, instance: &Instance, turns: u32) -> Result<()> {
     let root = DelayBox::root(alloc, instance)?;
-    fixed_order_is_order();
-    let least = Schedule::least(alloc, instance.table())?;
+    let least = schedules::least(alloc, instance)?;
     time_bound(rt, instance, &root, turns)?;
     time_simulate(rt, alloc, instance, &least, turns)
 }

@@ -3,12 +3,12 @@
 ghost use Rattle.std.specs.Prelude.{◌≡◌, All};
 ghost use Rattle.convoy_incumbent.specs.Boards.{IsNoteOf};
 
+use super::schedules;
 use super::timing::tell_rate;
 use anyhow::{Result, bail};
 use convoy_incumbent::{Board, Hand, Noted};
 use convoy_ledger::{Clerk, Ledger};
-use convoy_packets::laws::fixed_order_is_order;
-use convoy_packets::{Instance, Schedule};
+use convoy_packets::Instance;
 use convoy_sim::Record;
 use std::alloc::Global;
 use std::rt::Runtime;
@@ -70,8 +70,7 @@ pub fn time_sharing<R: Runtime + Threads + Wait + Sync>(
     instance: &Instance,
     turns: u32,
 ) -> Result<()> {
-    fixed_order_is_order();
-    let first = Record::of(instance, Schedule::least(alloc, instance.table())?);
+    let first = Record::of(instance, schedules::least(alloc, instance)?);
     for threads in [1u32, 2, 4] {
         time_call(rt, alloc, &first, Call::Publish, threads, turns)?;
         time_call(rt, alloc, &first, Call::Look, threads, turns)?;

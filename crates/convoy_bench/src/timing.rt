@@ -2,12 +2,12 @@ ghost use Rattle.std.specs.Prelude.{IfOk};
 ghost use Rattle.convoy_packets.specs.Assignment.{IsAssignment};
 ghost use Rattle.convoy_intervals.specs.Boxes.{IsBox};
 
+use super::schedules;
 use anyhow::{Result, bail};
 use convoy_branch::{Bounds, Outcome, search_alone};
 use convoy_certificate::{read, write};
 use convoy_checker::check;
 use convoy_intervals::{DelayBox, Tracked, bound};
-use convoy_packets::laws::fixed_order_is_order;
 use convoy_packets::{Instance, Schedule};
 use convoy_seek::seek;
 use convoy_sim::{Record, latency, simulate};
@@ -129,9 +129,8 @@ pub fn time_mixed<R: Runtime>(
 fn mixed_schedule(alloc: Global, instance: &Instance, number: u32) -> Result<Schedule>
     ensures { IfOk result (IsAssignment instance.now) }
 {
-    fixed_order_is_order();
     let list = mixed_delays(alloc, instance.table().ranges(), number)?;
-    Ok(Schedule::from_list(alloc, instance.table(), &list)?)
+    Ok(schedules::given(alloc, instance, &list)?)
 }
 
 /// Some delay in each range, another mixture for each number.
@@ -187,8 +186,7 @@ pub fn time_seek<R: Runtime>(
 ) -> Result<()> {
     let root = DelayBox::root(alloc, instance)?;
     let until = bound(instance, &root);
-    fixed_order_is_order();
-    let least = Schedule::least(alloc, instance.table())?;
+    let least = schedules::least(alloc, instance)?;
     let known = Record::of(instance, least);
     let start = Instant::now(rt)?;
     let Ok(found) = seek(alloc, instance, known, until, u64::from(budget)) else {

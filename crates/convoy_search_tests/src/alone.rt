@@ -1,10 +1,10 @@
 //! Searches of one worker.
 
 use super::scenarios::{base, base_with, swapped};
+use super::schedules;
 use convoy_branch::{Bounds, Gate, NoGate, Outcome, search_alone, search_alone_from};
 use convoy_certificate::Node;
-use convoy_packets::laws::fixed_order_is_order;
-use convoy_packets::{Instance, Schedule};
+use convoy_packets::Instance;
 use convoy_sim::Record;
 use std::alloc::Global;
 use std::process::Abort;
@@ -30,9 +30,8 @@ fn outcome_from_greatest(
     instance: &Instance,
     limit: u64,
 ) -> Result<Outcome, Fail> {
-    fixed_order_is_order();
-    let least = Record::of(instance, Schedule::least(alloc, instance.table())?);
-    let opening = Record::of(instance, Schedule::greatest(alloc, instance.table())?);
+    let least = Record::of(instance, schedules::least(alloc, instance)?);
+    let opening = Record::of(instance, schedules::greatest(alloc, instance)?);
     assert!(rt; least.latency() <= opening.latency());
     Ok(search_alone_from(alloc, instance, opening, limit, Bounds::Plain, &NoGate)?)
 }
@@ -193,8 +192,7 @@ impl Gate for Counting {
 fn calls_its_gate(rt: HostRuntime) -> Result<(), Fail> {
     let alloc = rt.alloc();
     let instance = swapped(alloc)?;
-    fixed_order_is_order();
-    let opening = Record::of(&instance, Schedule::least(alloc, instance.table())?);
+    let opening = Record::of(&instance, schedules::least(alloc, &instance)?);
     let gate = Counting {
         calls: AtomicU64::new(0),
         in_turn: AtomicBool::new(true),

@@ -3,9 +3,9 @@
 ghost use Rattle.std.specs.Prelude.{◌≡◌, IfOk};
 
 use super::scenarios::lone;
+use super::schedules;
 use convoy_incumbent::{Board, CloseFault, Hand};
-use convoy_packets::laws::fixed_order_is_order;
-use convoy_packets::{Instance, Schedule};
+use convoy_packets::Instance;
 use convoy_sim::Record;
 use std::alloc::Global;
 use std::process::Abort;
@@ -25,8 +25,7 @@ const ALSO_LATENCY_9: [i64; 4] = [1, 5, 1, 4];
 pub(crate) fn record_of(alloc: Global, instance: &Instance, list: &[i64]) -> Result<Record, Fail>
     ensures { IfOk result (λ found. found.scenario ≡ instance.now) }
 {
-    fixed_order_is_order();
-    let schedule = Schedule::from_list(alloc, instance.table(), list)?;
+    let schedule = schedules::given(alloc, instance, list)?;
     Ok(Record::of(instance, schedule))
 }
 

@@ -17,6 +17,8 @@ mod options;
 #[cfg(test)]
 mod scenarios;
 #[cfg(test)]
+mod schedules;
+#[cfg(test)]
 mod steps;
 #[cfg(test)]
 mod threads;

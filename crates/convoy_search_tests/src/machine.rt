@@ -6,9 +6,9 @@ ghost use Rattle.convoy_machine.specs.Replays.{IsEventOf};
 
 use self::Move::{Close, Draw, Look, Publish, Put, Split, Take};
 use super::scenarios::base;
+use super::schedules;
 use convoy_machine::{Event, ReplayFault, replay};
-use convoy_packets::laws::fixed_order_is_order;
-use convoy_packets::{Instance, Schedule};
+use convoy_packets::Instance;
 use convoy_sim::Record;
 use std::alloc::{AllocError, Global};
 use std::process::Abort;
@@ -90,8 +90,7 @@ fn told(
 /// That each row comes to what stands beside it.
 fn hold<R: Abort>(rt: &R, alloc: Global, rows: &[(&[Move], Told)]) -> Result<(), Fail> {
     let instance = base(alloc)?;
-    fixed_order_is_order();
-    let threes = Record::of(&instance, Schedule::greatest(alloc, instance.table())?);
+    let threes = Record::of(&instance, schedules::greatest(alloc, &instance)?);
     for (moves, want) in rows {
         assert_eq!(rt; told(alloc, &instance, &threes, moves)?, *want);
     }

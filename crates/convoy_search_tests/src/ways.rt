@@ -1,11 +1,11 @@
 //! The search both ways.
 
 use super::scenarios::{base_with, tied};
+use super::schedules;
 use convoy_branch::{
     Bounds, Gate, NoGate, Outcome, lead_share, plain_share, search_alone, search_both_ways,
 };
-use convoy_packets::laws::fixed_order_is_order;
-use convoy_packets::{Instance, Order, Schedule};
+use convoy_packets::{Instance, Order};
 use convoy_scenario::Time;
 use convoy_sim::Record;
 use std::alloc::Global;
@@ -19,8 +19,7 @@ fn outcome_of<G: Gate>(
     limit: u64,
     gate: &G,
 ) -> Result<Outcome, Fail> {
-    fixed_order_is_order();
-    let opening = Record::of(instance, Schedule::least(alloc, instance.table())?);
+    let opening = Record::of(instance, schedules::least(alloc, instance)?);
     Ok(search_both_ways(alloc, instance, opening, limit, gate)?)
 }
 
@@ -126,9 +125,8 @@ fn leads_end_what_plain_bounds_do_not(rt: HostRuntime) -> Result<(), Fail> {
 
 /// What a search both ways in real time answers, from the record of the least delays with ties in an order.
 fn outcome_from(alloc: Global, instance: &Instance, ranks: &[i64]) -> Result<Outcome, Fail> {
-    fixed_order_is_order();
-    let least = Record::of(instance, Schedule::least(alloc, instance.table())?);
-    let mut schedule = Schedule::least(alloc, instance.table())?;
+    let least = Record::of(instance, schedules::least(alloc, instance)?);
+    let mut schedule = schedules::least(alloc, instance)?;
     let scenario = instance.scenario();
     match scenario.time() {
         Time::Real => schedule.set_order(Order::from_list(alloc, scenario, ranks)?),

@@ -3,9 +3,9 @@
 ghost use Rattle.std.specs.Prelude.{◌≤◌};
 
 use super::scenarios::{base, base_with, swapped};
+use super::schedules;
 use convoy_branch::{Bounds, Outcome, search_alone};
-use convoy_packets::laws::fixed_order_is_order;
-use convoy_packets::{Instance, Schedule};
+use convoy_packets::Instance;
 use convoy_share::{Gate, NoGate, search, search_from};
 use convoy_sim::Record;
 use std::alloc::Global;
@@ -216,9 +216,8 @@ fn one_worker_alone(rt: HostRuntime) -> Result<(), Fail> {
 fn by_stamps_from_a_record(rt: HostRuntime) -> Result<(), Fail> {
     let alloc = rt.alloc();
     let instance = swapped(alloc)?;
-    fixed_order_is_order();
-    let least = Record::of(&instance, Schedule::least(alloc, instance.table())?);
-    let opening = Record::of(&instance, Schedule::greatest(alloc, instance.table())?);
+    let least = Record::of(&instance, schedules::least(alloc, &instance)?);
+    let opening = Record::of(&instance, schedules::greatest(alloc, &instance)?);
     assert!(rt; least.latency() <= opening.latency());
     let outcome = search_from(
         &rt,
