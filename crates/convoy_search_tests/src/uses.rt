@@ -179,7 +179,7 @@ fn faults_tell_themselves(rt: HostRuntime) -> Result<(), Fail> {
         ),
         (
             Fault::Schedule(ListFault::Range(4)),
-            "the schedule are no schedule of the scenario: the schedule gives packet 4 a delay that it may not take",
+            "the delays are no schedule of the scenario: the schedule gives packet 4 a delay that it may not take",
         ),
         (
             Fault::Text(TextFault::AfterEnd),
