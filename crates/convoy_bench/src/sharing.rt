@@ -1,6 +1,6 @@
 //! Times what threads share: a board of records, a ledger of tickets, and as a yardstick a lock.
 
-ghost use Rattle.std.specs.Prelude.{◌≡◌, All};
+ghost use Rattle.std.specs.Prelude.{◌≡◌, All, IfOk};
 ghost use Rattle.convoy_incumbent.specs.Boards.{IsNoteOf};
 
 use super::schedules;
@@ -150,6 +150,17 @@ fn made_by(seats: &[Seat]) -> u64 {
     made
 }
 
+/// A note of a record on a board.
+fn note_of<R: Wait>(rt: &R, board: &Board, first: &Record) -> Result<Noted>
+    requires { first.now.scenario ≡ board.now.scenario }
+    ensures { IfOk result (IsNoteOf board.now) }
+{
+    let Ok(noted) = board.note(rt, first.copy()?) else {
+        bail!("memory ran out");
+    };
+    Ok(noted)
+}
+
 impl<'a> Seat<'a> {
     /// A seat for another thread.
     fn split(&mut self, alloc: Global) -> Result<Seat<'a>> {
@@ -174,9 +185,7 @@ impl<'a> Seat<'a> {
     /// Notes the first record so many times.
     fn note_often<R: Wait>(&mut self, rt: &R, turns: u32) -> Result<()> {
         for _ in 0..turns {
-            let Ok(noted) = self.board.note(rt, self.first.copy()?) else {
-                bail!("memory ran out");
-            };
+            let noted = note_of(rt, self.board, self.first)?;
             self.notes.push(noted)?;
         }
         Ok(())
