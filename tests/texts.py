@@ -267,60 +267,13 @@ REAL_BASE = 'time = "real"\n' + BASE
 REAL_SWAPPED = 'time = "real"\n' + SWAPPED
 
 # Each packet takes one tick, and t is listed before x: in whole ticks it comes to b before x, in real time it need not.
-TIED = """\
-time = "real"
-delay = 1
-groups = ["a", "b"]
-
-[[multicast]]
-name = "t"
-to = ["a", "b"]
-at = 0
-
-[[multicast]]
-name = "x"
-to = ["b"]
-at = 0
-
-[[multicast]]
-name = "y"
-from = "a"
-to = ["a", "b"]
-at = 2
-
-[target]
-message = "t"
-group = "a"
-"""
-TIED_IN_TICKS = TIED.replace('time = "real"\n', "")
+TIED_IN_TICKS = RIVALS.replace("delay = 3", "delay = 1").replace("at = 1", "at = 0").replace("at = 5", "at = 2")
+TIED = 'time = "real"\n' + TIED_IN_TICKS
 
 # The same in durations: a tick lasts 50 us.
-MEASURED = """\
-time = "real"
-tick = "50 us"
-delay = "0.05 ms"
-groups = ["a", "b"]
-
-[[multicast]]
-name = "t"
-to = ["a", "b"]
-at = "0 ms"
-
-[[multicast]]
-name = "x"
-to = ["b"]
-at = 0
-
-[[multicast]]
-name = "y"
-from = "a"
-to = ["a", "b"]
-at = "100us"
-
-[target]
-message = "t"
-group = "a"
-"""
+MEASURED = 'time = "real"\ntick = "50 us"\n' + (
+    TIED_IN_TICKS.replace("delay = 1", 'delay = "0.05 ms"').replace("at = 0", 'at = "0 ms"', 1).replace("at = 2", 'at = "100us"')
+)
 
 # The base in milliseconds, without the length of a tick: it is the greatest that goes into all times, and 3 ms; with y a
 # millisecond later it is 1 ms.
