@@ -7,5 +7,6 @@ pub mod NumberedLemmas
 pub mod GivenScenarios
 pub mod PlaceLemmas
 pub mod NumberedAgain
+pub mod OtherTargets
 pub mod DraftAgain
 pub mod Judged

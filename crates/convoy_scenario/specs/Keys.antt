@@ -2,7 +2,7 @@
 use Rattle.std.specs.Prelude.{ℕ, if◌then◌else◌, List, Option, Some, None, codes}
 use Rattle.std.specs.Str.{bytes_eq}
 use Rattle.convoy_scenario.specs.declared.fault.Key.{Key}
-use Rattle.convoy_scenario.specs.declared.fault.Key.TheVariants.{Time, Tick, Delay, Groups, Multicast, Name, From, To, At, Target, Message, Group, Link, Least, Most, Schedule, Order, Unknown}
+use Rattle.convoy_scenario.specs.declared.fault.Key.TheVariants.{Time, Tick, Delay, Groups, Multicast, Name, From, To, At, Target, Message, Group, Link, Least, Most, Both, Schedule, Order, Unknown}
 use Rattle.convoy_scenario.specs.declared.time.Time.{Time as AnyTime}
 use Rattle.convoy_scenario.specs.declared.time.Time.TheVariants.{Ticks, Real}
 
@@ -23,6 +23,7 @@ key_word Group = codes "group"
 key_word Link = codes "link"
 key_word Least = codes "least"
 key_word Most = codes "most"
+key_word Both = codes "both"
 key_word Schedule = codes "schedule"
 key_word Order = codes "order"
 key_word Unknown = codes "unknown"

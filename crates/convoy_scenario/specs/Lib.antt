@@ -7,4 +7,5 @@ pub mod Memory
 pub mod Naming
 pub mod Numbering
 pub mod Scenario
+pub mod Targets
 pub mod WellFormed

@@ -290,17 +290,20 @@ fn all_links_are_known(groups: &[Name], links: &[DraftLink]) -> bool
     links.iter().all(|link| knows_link(groups, link))
 }
 
-fn leads_elsewhere(link: &DraftLink) -> bool
-    ensures { result ≡ leads_elsewhere link.now }
-{
-    match &link.sender {
-        Some(sender) => !sender.is_same(&link.to),
-        None => true,
+impl DraftLink {
+    /// Whether the link leads to another place than its sender.
+    pub fn leads_elsewhere(&self) -> bool
+        ensures { result ≡ leads_elsewhere self.now }
+    {
+        match &self.sender {
+            Some(sender) => !sender.is_same(&self.to),
+            None => true,
+        }
     }
 }
 
 fn all_lead_elsewhere(links: &[DraftLink]) -> bool
     ensures { result ≡ list_all leads_elsewhere links.now }
 {
-    links.iter().all(|link| leads_elsewhere(link))
+    links.iter().all(|link| link.leads_elsewhere())
 }

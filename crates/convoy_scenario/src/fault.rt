@@ -25,6 +25,7 @@ pub enum Key {
     Link,
     Least,
     Most,
+    Both,
     Schedule,
     Order,
     /// A key that a scenario text may not have.
@@ -121,6 +122,7 @@ impl Key {
             Key::Link => "link",
             Key::Least => "least",
             Key::Most => "most",
+            Key::Both => "both",
             Key::Schedule => "schedule",
             Key::Order => "order",
             Key::Unknown => "unknown",

@@ -1,5 +1,6 @@
 ghost use Rattle.std.specs.Prelude.{◌≡◌, ◌<◌, length, IfOk};
-ghost use Rattle.convoy_scenario.specs.Scenario.{message_at, group_name_at, range_between};
+ghost use Rattle.convoy_scenario.specs.Scenario.{GoesTo, message_at, group_name_at, range_between};
+ghost use Rattle.convoy_scenario.specs.Targets.{with_target};
 ghost use Rattle.convoy_scenario.specs.WellFormed.{IsScenario};
 
 use super::checks::check;
@@ -162,6 +163,21 @@ impl Scenario {
             multicasts,
             target_message: self.target_message,
             target_group: self.target_group,
+        })
+    }
+
+    /// The same scenario with another target, in memory of its own: the latency of that message is asked
+    /// at that group, which is one that it goes to. Fails where memory runs out, and else never.
+    pub fn with_target(&self, message: usize, group: usize) -> Result<Scenario, AllocError>
+        requires known { message < length self.now.multicasts }
+        requires addressed { GoesTo self.now message group }
+        ensures { IfOk result (λ other. other ≡ with_target self.now message group) }
+    {
+        let same = self.copy()?;
+        Ok(Scenario {
+            target_message: message,
+            target_group: group,
+            ..same
         })
     }
 

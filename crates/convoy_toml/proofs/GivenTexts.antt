@@ -7,6 +7,7 @@ use Rattle.convoy_scenario.specs.Laws.{DraftsGiveScenarios}
 use Rattle.convoy_scenario.specs.Numbering.{scenario_of_draft}
 use Rattle.convoy_scenario.specs.Scenario.{Scenario}
 use Rattle.convoy_scenario.specs.WellFormed.{IsScenario}
+use Rattle.convoy_toml.specs.declared.target.TargetKey.TheVariants.{Required}
 use Rattle.convoy_toml.specs.Reading.{InputView, table_of_text, input_of_written, input_of_table, input_of_text, scenario_of_input, scenario_of_text}
 use Rattle.convoy_toml.specs.Shape.{Written, written_of_table}
 use Rattle.convoy_toml.specs.Times.{draft_of_written}
@@ -27,8 +28,8 @@ input_of_draft written draft = scenario_of_draft draft >>= λ scenario. Ok (reco
 
 of_input : (drafts : DraftsGiveScenarios) (text : List ℕ) (input : InputView) → input_of_text text ≡ Ok input → IsScenario input.scenario
 of_input drafts text input e =
-    let table = after_ok (table_of_text text) input_of_table input e in
-    let written = after_ok (written_of_table table.0) input_of_written input table.2 in
+    let table = after_ok (table_of_text text) (input_of_table Required) input e in
+    let written = after_ok (written_of_table Required table.0) input_of_written input table.2 in
     let draft = after_ok (draft_of_written written.0.scenario) (input_of_draft written.0) input written.2 in
     let given = after_ok (scenario_of_draft draft.0) (λ scenario. Ok (record { scenario = scenario; schedule = written.0.schedule; order = written.0.order })) input draft.2 in
     let is : ◌≡◌ {A = Result InputView ScenarioFault} (Ok (record { scenario = given.0; schedule = written.0.schedule; order = written.0.order })) (Ok input) = given.2 in

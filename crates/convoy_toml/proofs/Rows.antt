@@ -1,8 +1,8 @@
 -- Worked rows: what the definitions of the reader give for some tables.
-use Rattle.std.proofs.Common.{◌≡◌, refl, true, pos, negsuc, [], ◌∷◌, Option, Some, None, ℕ, ℤ, List, Result, Ok, Err, codes}
+use Rattle.std.proofs.Common.{◌≡◌, refl, true, false, pos, negsuc, [], ◌∷◌, Option, Some, None, ℕ, ℤ, List, Result, Ok, Err, codes}
 use Rattle.toml.specs.Data.{Data, Items, no_items, item, Members, no_members, member, string, integer, boolean, array, table}
 use Rattle.convoy_scenario.specs.declared.fault.ScenarioFault.{ScenarioFault}
-use Rattle.convoy_scenario.specs.declared.fault.ScenarioFault.TheVariants.{Shape, NotWhole, OverLimit}
+use Rattle.convoy_scenario.specs.declared.fault.ScenarioFault.TheVariants.{Shape, NotWhole, OverLimit, NoDestination, LinkToItself}
 use Rattle.convoy_scenario.specs.declared.fault.Key.TheVariants as key
 use Rattle.convoy_scenario.specs.declared.fault.Limit.TheVariants as limit
 use Rattle.convoy_scenario.specs.declared.sender.Sender.TheVariants.{Client}
@@ -11,7 +11,9 @@ use Rattle.convoy_scenario.specs.declared.time.Time.TheVariants.{Ticks, Real}
 use Rattle.convoy_scenario.specs.Durations.{duration_of}
 use Rattle.convoy_scenario.specs.Scenario.{Scenario, message_at}
 use Rattle.convoy_lines.specs.Results.{◌>>=◌}
+use Rattle.convoy_toml.specs.declared.target.TargetKey.TheVariants.{Required, Optional}
 use Rattle.convoy_toml.specs.Reading.{input_of_table, scenario_of_input}
+use Rattle.convoy_toml.specs.Shape.{link_of_table}
 use Rattle.convoy_toml.specs.Times.{divisor_within}
 
 -- a table of one message, with further members at the top, in the message and in the target
@@ -33,7 +35,7 @@ odd = member (codes "zone") (boolean true) no_members
 
 -- the scenario of a table
 abbrev scenario_of_table : Members → Result Scenario ScenarioFault
-scenario_of_table members = scenario_of_input (input_of_table members)
+scenario_of_table members = scenario_of_input (input_of_table Required members)
 
 table_read : scenario_of_table (top (one (message_table no_members)) (target_table no_members) no_members) ≡ Ok (record {
   time = Ticks;
@@ -72,7 +74,7 @@ odd_at_top = refl
 abbrev given : Items → Members → Members
 given delays more = member (codes "schedule") (array delays) more
 
-schedule_given : input_of_table (top (one (message_table no_members)) (target_table no_members) (given (item (integer (pos 3)) (item (integer (negsuc 4)) no_items)) no_members)) ≡ Ok (record {
+schedule_given : input_of_table Required (top (one (message_table no_members)) (target_table no_members) (given (item (integer (pos 3)) (item (integer (negsuc 4)) no_items)) no_members)) ≡ Ok (record {
   scenario = record {
     time = Ticks;
     tick = None;
@@ -114,13 +116,79 @@ link_no_table : scenario_of_table (links_given (item (table odd) (item (boolean 
 link_no_table = refl
 
 link_without_most : scenario_of_table (links_given (one (member (codes "least") (integer (pos 1)) (member (codes "to") (string (codes "a")) odd)))) ≡ Err (Shape key.Most)
+unfolding link_of_table
 link_without_most = refl
 
 link_after_target : scenario_of_table (top no_items (target_table odd) (member (codes "link") (boolean true) no_members)) ≡ Err (Shape key.Unknown)
 link_after_target = refl
 
 link_before_schedule : scenario_of_table (top no_items (target_table no_members) (member (codes "link") (array (one odd)) (member (codes "schedule") (boolean true) odd))) ≡ Err (Shape key.To)
+unfolding link_of_table
 link_before_schedule = refl
+
+-- ---- several links in one table
+
+-- what a table with this target of a link and further members gives
+abbrev linked : Data → Members → Result Scenario ScenarioFault
+linked to more = scenario_of_table (links_given (one (member (codes "to") to (member (codes "least") (integer (pos 1)) (member (codes "most") (integer (pos 2)) more)))))
+
+link_to_nothing : linked (array no_items) odd ≡ Err (Shape key.To)
+unfolding link_of_table
+link_to_nothing = refl
+
+link_to_number : linked (array (item (string (codes "a")) (item (integer (pos 1)) no_items))) odd ≡ Err (Shape key.To)
+unfolding link_of_table
+link_to_number = refl
+
+link_from_nothing : linked (integer (pos 1)) (member (codes "from") (array no_items) odd) ≡ Err (Shape key.From)
+unfolding link_of_table
+link_from_nothing = refl
+
+both_no_flag : linked (string (codes "a")) (member (codes "both") (string (codes "true")) odd) ≡ Err (Shape key.Both)
+unfolding link_of_table
+both_no_flag = refl
+
+both_of_clients : linked (string (codes "a")) (member (codes "both") (boolean true) odd) ≡ Err (Shape key.Both)
+unfolding link_of_table
+both_of_clients = refl
+
+both_before_unknown : linked (string (codes "a")) (member (codes "both") (boolean false) odd) ≡ Err (Shape key.Unknown)
+unfolding link_of_table
+both_before_unknown = refl
+
+link_to_itself_alone : linked (array (item (string (codes "a")) no_items)) (member (codes "from") (string (codes "a")) (member (codes "both") (boolean false) no_members)) ≡ Err LinkToItself
+unfolding link_of_table
+link_to_itself_alone = refl
+
+-- ---- the target left out
+
+-- a scenario of one message without a target, whatever else stands there
+abbrev untargeted : Members → Members
+untargeted more = member (codes "delay") (integer (pos 3)) (member (codes "groups") (array (item (string (codes "b")) (item (string (codes "a")) no_items)))
+    (member (codes "multicast") (array (one (message_table no_members))) more))
+
+target_left_out : scenario_of_input (input_of_table Optional (untargeted no_members)) ≡ Ok (record {
+  time = Ticks;
+  tick = None;
+  delay = 3;
+  groups = codes "b" ∷ codes "a" ∷ [];
+  links = [];
+  multicasts = record { name = codes "t"; sender = Client; destinations = 1 ∷ []; at = 0 } ∷ [];
+  target_message = 0;
+  target_group = 1;
+})
+target_left_out = refl
+
+target_needed : scenario_of_table (untargeted no_members) ≡ Err (Shape key.Target)
+target_needed = refl
+
+target_no_table : scenario_of_input (input_of_table Optional (untargeted (member (codes "target") (boolean true) no_members))) ≡ Err (Shape key.Target)
+target_no_table = refl
+
+target_without_destination :
+    scenario_of_input (input_of_table Optional (member (codes "delay") (integer (pos 3)) (member (codes "groups") (array (item (string (codes "a")) no_items))
+    (member (codes "multicast") (array (one (member (codes "at") (integer (pos 0)) (member (codes "name") (string (codes "t")) (member (codes "to") (array no_items) no_members))))) no_members)))) ≡ Err NoDestination
+target_without_destination = refl
 
 -- ---- how time goes
 
@@ -156,7 +224,7 @@ time_in_message = refl
 
 -- the order that a text gives beside the scenario
 abbrev order_read : Members → Result (Option (List ℤ)) ScenarioFault
-order_read more = input_of_table (top (one (message_table no_members)) (target_table no_members) more) >>= λ input. Ok input.order
+order_read more = input_of_table Required (top (one (message_table no_members)) (target_table no_members) more) >>= λ input. Ok input.order
 
 order_given : order_read (member (codes "order") (array (item (integer (pos 1)) (item (integer (negsuc 4)) no_items))) no_members) ≡ Ok (Some (pos 1 ∷ negsuc 4 ∷ []))
 order_given = refl

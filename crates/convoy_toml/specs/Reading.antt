@@ -6,6 +6,8 @@ use Rattle.toml.specs.Data.{Members}
 use Rattle.toml.specs.Parse.{parse_document}
 use Rattle.convoy_scenario.specs.declared.fault.ScenarioFault.{ScenarioFault}
 use Rattle.convoy_toml.specs.declared.input.Input.{Input}
+use Rattle.convoy_toml.specs.declared.target.TargetKey.{TargetKey}
+use Rattle.convoy_toml.specs.declared.target.TargetKey.TheVariants.{Required}
 use Rattle.convoy_scenario.specs.declared.fault.ScenarioFault.TheVariants.{NotToml}
 use Rattle.convoy_scenario.specs.Scenario.{Scenario}
 use Rattle.convoy_scenario.specs.Numbering.{scenario_of_draft}
@@ -30,21 +32,29 @@ input_of_written written = do
   scenario ← scenario_of_draft draft
   Ok (record { scenario = scenario; schedule = written.schedule; order = written.order })
 
--- what a table gives: its shape first, then what is said of that
-abbrev pub input_of_table : Members → Result InputView ScenarioFault
-input_of_table table = written_of_table table >>= input_of_written
+-- what a table gives, where the target has to be written or not: its shape first, then what is said of that
+abbrev pub input_of_table : TargetKey → Members → Result InputView ScenarioFault
+input_of_table key table = written_of_table key table >>= input_of_written
+
+-- what a text gives, where the target has to be written or not
+abbrev pub input_of_text_by : TargetKey → List ℕ → Result InputView ScenarioFault
+input_of_text_by key text = table_of_text text >>= input_of_table key
 
 -- what a text gives
 abbrev pub input_of_text : List ℕ → Result InputView ScenarioFault
-input_of_text text = table_of_text text >>= input_of_table
+input_of_text text = input_of_text_by Required text
 
 -- the scenario alone
 abbrev pub scenario_of_input : Result InputView ScenarioFault → Result Scenario ScenarioFault
 scenario_of_input given = result_map_both (λ g. g.scenario) (λ fault. fault) given
 
+-- the scenario of a text, where the target has to be written or not
+abbrev pub scenario_of_text_by : TargetKey → List ℕ → Result Scenario ScenarioFault
+scenario_of_text_by key text = scenario_of_input (input_of_text_by key text)
+
 -- the scenario of a text
 abbrev pub scenario_of_text : List ℕ → Result Scenario ScenarioFault
-scenario_of_text text = scenario_of_input (input_of_text text)
+scenario_of_text text = scenario_of_text_by Required text
 
 -- what was read, with schedule and order as lists
 abbrev pub input_read : Result Input ScenarioFault → Result InputView ScenarioFault

@@ -4,20 +4,22 @@ use Rattle.std.specs.BTreeMap.{BTreeMap}
 use Rattle.std.specs.declared.alloc.Global.{Global}
 use Rattle.toml.specs.View.{table_view}
 use Rattle.toml.specs.declared.value.Value.{Value}
-use Rattle.std.specs.Prelude.{Vec, String, map, ℕ, nat_le, Bool, true, ◌&&◌, if◌then◌else◌, ℤ, List, [], ◌∷◌, Option, Some, None, option_map, option_and_then, ok_or, unwrap_or, Result, Ok, Err}
+use Rattle.std.specs.Prelude.{Vec, String, map, ℕ, nat_le, Bool, true, false, not, ◌&&◌, if◌then◌else◌, ℤ, List, [], ◌∷◌, length, slice_index_or, Option, Some, None, is_some, option_map, option_and_then, ok_or, unwrap_or, Result, Ok, Err}
 use Rattle.std.specs.List.{list_any}
 use Rattle.std.specs.Option.{option_or}
 use Rattle.std.specs.Str.{bytes_eq}
-use Rattle.toml.specs.Data.{Data, Items, no_items, item, Members, no_members, member, get_member, as_str, as_integer, as_array, as_table}
+use Rattle.toml.specs.Data.{Data, Items, no_items, item, Members, no_members, member, get_member, as_str, as_integer, as_bool, as_array, as_table}
 use Rattle.convoy_lines.specs.Results.{◌>>=◌}
 use Rattle.convoy_scenario.specs.declared.fault.Key.{Key}
-use Rattle.convoy_scenario.specs.declared.fault.Key.TheVariants.{Time, Tick, Delay, Groups, Multicast, Name, From, To, At, Target, Message, Group, Link, Least, Most, Schedule, Order, Unknown}
+use Rattle.convoy_scenario.specs.declared.fault.Key.TheVariants.{Time, Tick, Delay, Groups, Multicast, Name, From, To, At, Target, Message, Group, Link, Least, Most, Both, Schedule, Order, Unknown}
 use Rattle.convoy_scenario.specs.declared.fault.ScenarioFault.{ScenarioFault}
 use Rattle.convoy_scenario.specs.declared.fault.ScenarioFault.TheVariants.{Shape}
 use Rattle.convoy_scenario.specs.declared.time.Time.{Time as AnyTime}
 use Rattle.convoy_scenario.specs.declared.time.Time.TheVariants.{Ticks, Real}
 use Rattle.convoy_scenario.specs.Durations.{duration_of}
 use Rattle.convoy_scenario.specs.Keys.{key_word, time_named}
+use Rattle.convoy_toml.specs.declared.target.TargetKey.{TargetKey}
+use Rattle.convoy_toml.specs.declared.target.TargetKey.TheVariants.{Required, Optional}
 use Rattle.convoy_toml.specs.declared.written.WrittenTime.{WrittenTime}
 use Rattle.convoy_toml.specs.declared.written.WrittenTime.TheVariants.{Count, Lasting}
 
@@ -28,12 +30,22 @@ pub record WrittenMessage : Type 0 where
   pub to : List (List ℕ)
   pub at : WrittenTime
 
--- a link as it is written: the group that sends (none for a client), the group that it leads to, and the least and the greatest delay
+-- where the links of a table lead: from the groups that send (none where the clients do) to these groups, and perhaps back as well
+pub record LinkEnds : Type 0 where
+  pub senders : Option (List (List ℕ))
+  pub to : List (List ℕ)
+  pub both : Bool
+
+-- a table of links as it is written: where they lead, and the least and the greatest delay
 pub record WrittenLink : Type 0 where
-  pub sender : Option (List ℕ)
-  pub to : List ℕ
+  pub ends : LinkEnds
   pub least : WrittenTime
   pub most : WrittenTime
+
+-- a target as it is written: the message of which the latency is asked, and the group
+pub record WrittenTarget : Type 0 where
+  pub message : List ℕ
+  pub group : List ℕ
 
 -- a scenario as it is written, with the length of a tick in nanoseconds where the key is there
 pub record WrittenScenario : Type 0 where
@@ -118,17 +130,44 @@ messages_of time (table ∷ tables) = do
   messages ← messages_of time tables
   Ok (message ∷ messages)
 
--- a link as it is written
-abbrev pub link_of_table : AnyTime → Members → Result WrittenLink ScenarioFault
+-- the list, if it has an item
+abbrev pub filled : {A : Type 0} → List A → Option (List A)
+filled xs = if nat_le 1 (length xs) then Some xs else None
+
+-- the names in an array, which has to have one
+abbrev pub names_in : Items → Option (List (List ℕ))
+names_in items = option_and_then filled (all_of as_str items)
+
+-- the names that a value tells: a text tells one, and an array of texts those in it
+abbrev pub as_names : Data → Option (List (List ℕ))
+as_names value = option_or (option_map (λ name. name ∷ []) (as_str value)) (option_and_then names_in (as_array value))
+
+-- whether links lead back as well: only where groups send, since nothing is sent to clients
+abbrev pub as_both : Bool → Data → Option Bool
+as_both groups_send value = option_and_then (λ both. if both && not groups_send then None else Some both) (as_bool value)
+
+-- whether the links of a table lead back as well; they do not where the key is absent
+abbrev pub both_of_table : Bool → Members → Result Bool ScenarioFault
+both_of_table groups_send table = wish Both (as_both groups_send) table >>= λ both. Ok (unwrap_or both false)
+
+-- where the links of a table lead
+abbrev pub ends_of_table : Members → Result LinkEnds ScenarioFault
+ends_of_table table = do
+  senders ← wish From as_names table
+  to ← need To as_names table
+  both ← both_of_table (is_some senders) table
+  Ok (record { senders = senders; to = to; both = both })
+
+-- a table of links as it is written
+unfoldable pub link_of_table : AnyTime → Members → Result WrittenLink ScenarioFault
 link_of_table time table = do
-  sender ← wish From as_str table
-  to ← need To as_str table
+  ends ← ends_of_table table
   least ← need Least (as_when time) table
   most ← need Most (as_when time) table
-  _ ← need_only (From ∷ To ∷ Least ∷ Most ∷ []) table
-  Ok (record { sender = sender; to = to; least = least; most = most })
+  _ ← need_only (From ∷ To ∷ Both ∷ Least ∷ Most ∷ []) table
+  Ok (record { ends = ends; least = least; most = most })
 
--- the links, unless one is at fault
+-- the tables of links, unless one is at fault
 abbrev pub links_of : AnyTime → List Members → Result (List WrittenLink) ScenarioFault
 links_of time [] = Ok []
 links_of time (table ∷ tables) = do
@@ -136,25 +175,42 @@ links_of time (table ∷ tables) = do
   links ← links_of time tables
   Ok (link ∷ links)
 
--- the links of a scenario's table; none where the key is absent
+-- the tables of links of a scenario's table; none where the key is absent
 abbrev pub links_of_table : AnyTime → Members → Result (List WrittenLink) ScenarioFault
 links_of_table time table = wish_all Link as_table table >>= λ tables. links_of time (unwrap_or tables [])
 
+-- the target that is written in a scenario's table
+abbrev pub written_target : Members → Result WrittenTarget ScenarioFault
+written_target table = do
+  target ← need Target as_table table
+  message ← need Message as_str target
+  group ← need Group as_str target
+  _ ← need_only (Message ∷ Group ∷ []) target
+  Ok (record { message = message; group = group })
+
+-- the first message, at the first group that it goes to; where it goes nowhere, at the first group of all
+abbrev pub first_target : List (List ℕ) → List WrittenMessage → WrittenTarget
+first_target groups [] = record { message = []; group = [] }
+first_target groups (message ∷ messages) = record { message = message.name; group = slice_index_or message.to 0 (slice_index_or groups 0 []) }
+
+-- the target of a scenario's table: what is written, or the first target where that may be left out and is
+abbrev pub target_of_table : TargetKey → Members → List (List ℕ) → List WrittenMessage → Result WrittenTarget ScenarioFault
+target_of_table Required table groups messages = written_target table
+target_of_table Optional table groups messages =
+    if is_some (get_member (key_word Target) table) then written_target table else Ok (first_target groups messages)
+
 -- the scenario as it is written, whatever else stands in the table
-abbrev pub scenario_of_table : Members → Result WrittenScenario ScenarioFault
-scenario_of_table table = do
+abbrev pub scenario_of_table : TargetKey → Members → Result WrittenScenario ScenarioFault
+scenario_of_table key table = do
   time ← time_of_table table
   tick ← wish Tick (as_tick time) table
   delay ← need Delay (as_when time) table
   groups ← need_all Groups as_str table
   tables ← need_all Multicast as_table table
   messages ← messages_of time tables
-  target ← need Target as_table table
-  target_message ← need Message as_str target
-  target_group ← need Group as_str target
-  _ ← need_only (Message ∷ Group ∷ []) target
+  target ← target_of_table key table groups messages
   links ← links_of_table time table
-  Ok (record { time = time; tick = tick; delay = delay; groups = groups; links = links; messages = messages; target_message = target_message; target_group = target_group })
+  Ok (record { time = time; tick = tick; delay = delay; groups = groups; links = links; messages = messages; target_message = target.message; target_group = target.group })
 
 -- what is written in a scenario's table: the scenario, and the delays of a schedule and the ranks of its moments where they are given
 pub record Written : Type 0 where
@@ -163,9 +219,9 @@ pub record Written : Type 0 where
   pub order : Option (List ℤ)
 
 -- what is written in the table, which has no other key
-abbrev pub written_of_table : Members → Result Written ScenarioFault
-written_of_table table = do
-  scenario ← scenario_of_table table
+abbrev pub written_of_table : TargetKey → Members → Result Written ScenarioFault
+written_of_table key table = do
+  scenario ← scenario_of_table key table
   schedule ← wish_all Schedule as_integer table
   order ← wish_all Order as_integer table
   _ ← need_only (Time ∷ Tick ∷ Delay ∷ Groups ∷ Multicast ∷ Target ∷ Link ∷ Schedule ∷ Order ∷ []) table

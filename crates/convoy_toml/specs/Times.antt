@@ -6,9 +6,10 @@ use Rattle.convoy_scenario.specs.declared.fault.Key.{Key}
 use Rattle.convoy_scenario.specs.declared.fault.Key.TheVariants.{Tick, Delay, At, Least, Most}
 use Rattle.convoy_scenario.specs.declared.fault.ScenarioFault.{ScenarioFault}
 use Rattle.convoy_scenario.specs.declared.fault.ScenarioFault.TheVariants.{Shape, NotWhole}
-use Rattle.convoy_scenario.specs.Draft.{Draft, DraftLink, DraftMessage}
+use Rattle.convoy_scenario.specs.Draft.{Draft, DraftMessage}
 use Rattle.convoy_toml.specs.declared.written.WrittenTime.{WrittenTime}
 use Rattle.convoy_toml.specs.declared.written.WrittenTime.TheVariants.{Count, Lasting}
+use Rattle.convoy_toml.specs.Links.{Bundle, links_of_bundles}
 use Rattle.convoy_toml.specs.Shape.{WrittenScenario, WrittenLink, WrittenMessage}
 
 -- the time is a number of ticks
@@ -26,7 +27,7 @@ abbrev pub length_of : WrittenTime → ℕ
 length_of (Count ticks) = 0
 length_of (Lasting length) = length
 
--- the least and the greatest delay of each link
+-- the least and the greatest delay of each table of links
 abbrev pub times_of_links : List WrittenLink → List WrittenTime
 times_of_links [] = []
 times_of_links (link ∷ links) = link.least ∷ link.most ∷ times_of_links links
@@ -90,26 +91,27 @@ draft_messages_of tick (message ∷ messages) = do
   others ← draft_messages_of tick messages
   Ok (first ∷ others)
 
--- a link in ticks
-abbrev pub draft_link_of : Option ℕ → WrittenLink → Result DraftLink ScenarioFault
-draft_link_of tick link = do
+-- the links of a table in ticks
+abbrev pub bundle_of : Option ℕ → WrittenLink → Result Bundle ScenarioFault
+bundle_of tick link = do
   least ← whole tick Least link.least
   most ← whole tick Most link.most
-  Ok (record { sender = link.sender; to = link.to; least = least; most = most })
+  Ok (record { ends = link.ends; least = least; most = most })
 
--- the links in ticks
-abbrev pub draft_links_of : Option ℕ → List WrittenLink → Result (List DraftLink) ScenarioFault
-draft_links_of tick [] = Ok []
-draft_links_of tick (link ∷ links) = do
-  first ← draft_link_of tick link
-  others ← draft_links_of tick links
+-- the links of all tables in ticks
+abbrev pub bundles_of : Option ℕ → List WrittenLink → Result (List Bundle) ScenarioFault
+bundles_of tick [] = Ok []
+bundles_of tick (link ∷ links) = do
+  first ← bundle_of tick link
+  others ← bundles_of tick links
   Ok (first ∷ others)
 
--- the scenario in ticks, or the first time that is no whole number of them
+-- the scenario in ticks, with each link that its tables write; or the first time that is no whole number of them; or too many links
 abbrev pub draft_of_written : WrittenScenario → Result Draft ScenarioFault
 draft_of_written scenario = do
   tick ← tick_of scenario
   delay ← whole tick Delay scenario.delay
   messages ← draft_messages_of tick scenario.messages
-  links ← draft_links_of tick scenario.links
+  bundles ← bundles_of tick scenario.links
+  links ← links_of_bundles bundles
   Ok (record { time = scenario.time; tick = tick; delay = delay; groups = scenario.groups; links = links; messages = messages; target_message = scenario.target_message; target_group = scenario.target_group })

@@ -2,10 +2,12 @@ ghost use Rattle.std.specs.Prelude.{◌≡◌, Ok, IfOk, option_map};
 ghost use Rattle.std.specs.Result.{result_map_both};
 ghost use Rattle.toml.specs.View.{table_view};
 ghost use Rattle.convoy_scenario.specs.Memory.{IsUnlessMemory};
-ghost use Rattle.convoy_toml.specs.Reading.{table_of_text, input_of_text, input_read, scenario_of_text, scenario_read};
+ghost use Rattle.convoy_toml.specs.declared.target.TargetKey.TheVariants.{Optional};
+ghost use Rattle.convoy_toml.specs.Reading.{table_of_text, input_of_text, input_of_text_by, input_read, scenario_of_text, scenario_of_text_by, scenario_read};
 
 use super::input::Input;
 use super::shape::written_of_table;
+use super::target::TargetKey;
 use super::times::draft_of_written;
 use super::written::WrittenInput;
 use convoy_scenario::{Scenario, ScenarioFault};
@@ -28,8 +30,39 @@ pub fn read_toml(alloc: Global, text: &[u8]) -> Result<Input, ScenarioFault>
     ensures given { IfOk result (λ input. input_of_text text.now
         ≡ Ok (record { scenario = input.scenario; schedule = option_map (λ delays. delays.items) input.schedule; order = option_map (λ ranks. ranks.items) input.order })) }
 {
+    read_by(alloc, text, TargetKey::Required)
+}
+
+/// Reads a scenario text as [`read_toml`] does, but takes one without a target too.
+///
+/// Where the table `target` is absent, the scenario asks of its first message at the first group that
+/// this goes to. A text that has it is read as by [`read_toml`] (`laws::targets_may_be_said`).
+pub fn read_toml_any_target(alloc: Global, text: &[u8]) -> Result<Input, ScenarioFault>
+    ensures scenario { IsUnlessMemory ScenarioFault.Memory
+        (scenario_of_text_by Optional text.now) (scenario_read result) }
+    ensures input { IsUnlessMemory ScenarioFault.Memory
+        (input_of_text_by Optional text.now) (input_read result) }
+    ensures read { IfOk result (λ input. scenario_of_text_by Optional text.now
+        ≡ Ok input.scenario) }
+    ensures given { IfOk result (λ input. input_of_text_by Optional text.now
+        ≡ Ok (record { scenario = input.scenario; schedule = option_map (λ delays. delays.items) input.schedule; order = option_map (λ ranks. ranks.items) input.order })) }
+{
+    read_by(alloc, text, TargetKey::Optional)
+}
+
+/// Reads a scenario text, in which the target has to be written or not.
+fn read_by(alloc: Global, text: &[u8], target: TargetKey) -> Result<Input, ScenarioFault>
+    ensures scenario { IsUnlessMemory ScenarioFault.Memory
+        (scenario_of_text_by target text.now) (scenario_read result) }
+    ensures input { IsUnlessMemory ScenarioFault.Memory
+        (input_of_text_by target text.now) (input_read result) }
+    ensures read { IfOk result (λ input. scenario_of_text_by target text.now
+        ≡ Ok input.scenario) }
+    ensures given { IfOk result (λ input. input_of_text_by target text.now
+        ≡ Ok (record { scenario = input.scenario; schedule = option_map (λ delays. delays.items) input.schedule; order = option_map (λ ranks. ranks.items) input.order })) }
+{
     let table = read_table(alloc, text)?;
-    let written = written_of_table(alloc, &table)?;
+    let written = written_of_table(alloc, &table, target)?;
     let WrittenInput {
         scenario,
         schedule,

@@ -1,4 +1,4 @@
-ghost use Rattle.std.specs.Prelude.{◌≡◌, map, option_map, ok_or};
+ghost use Rattle.std.specs.Prelude.{◌≡◌, map, is_some, option_map, ok_or};
 ghost use Rattle.std.specs.List.{list_any};
 ghost use Rattle.std.specs.Str.{bytes_eq};
 ghost use Rattle.std.specs.Result.{result_map_both};
@@ -6,9 +6,13 @@ ghost use Rattle.toml.specs.Data.{as_integer, as_str, as_array, as_table, get_me
 ghost use Rattle.toml.specs.View.{view, array_view, table_view};
 ghost use Rattle.convoy_scenario.specs.Keys.{key_word};
 ghost use Rattle.convoy_scenario.specs.Memory.{IsUnlessMemory};
-ghost use Rattle.convoy_toml.specs.Shape.{all_of, as_duration, as_when, as_tick, need, need_all, wish, wish_all, has_only, need_only, time_of_table, message_of_table, messages_of, link_of_table, links_of, links_of_table, scenario_of_table, written_of_table, listed, listed_if_there, tables_listed};
+ghost use Rattle.convoy_toml.specs.Shape.{all_of, as_duration, as_when, as_tick, need, need_all, wish, wish_all, names_in, as_names, as_both, both_of_table, ends_of_table, has_only, need_only, time_of_table, message_of_table, messages_of, link_of_table, links_of, links_of_table, written_target, target_of_table, scenario_of_table, written_of_table, listed, listed_if_there, tables_listed};
 
-use super::written::{WrittenInput, WrittenLink, WrittenMulticast, WrittenScenario, WrittenTime};
+use super::target::{TargetKey, first_target};
+use super::written::{
+    LinkEnds, WrittenInput, WrittenLink, WrittenMulticast, WrittenScenario, WrittenTarget,
+    WrittenTime,
+};
 use convoy_scenario::{Duration, Key, Name, ScenarioFault, Time};
 use std::alloc::Global;
 use toml::value::Array;
@@ -252,20 +256,97 @@ fn multicasts_of(
     Ok(multicasts)
 }
 
+/// The names in an array, which has to have one.
+fn names_in(alloc: Global, items: &Array, key: Key) -> Result<Vec<Name>, ScenarioFault>
+    ensures { IsUnlessMemory ScenarioFault.Memory
+        (ok_or (names_in (array_view items.now)) (ScenarioFault.Shape key)) (listed result) }
+{
+    let names = names_of(alloc, items, key)?;
+    if 1 <= names.len() {
+        Ok(names)
+    } else {
+        Err(ScenarioFault::Shape(key))
+    }
+}
+
+/// The names that a value tells: a text tells one, and an array of texts those in it.
+fn names_told(alloc: Global, value: &Value, key: Key) -> Result<Vec<Name>, ScenarioFault>
+    ensures { IsUnlessMemory ScenarioFault.Memory
+        (ok_or (as_names (view value.now)) (ScenarioFault.Shape key)) (listed result) }
+{
+    match value.as_str() {
+        Some(text) => Ok(vec![in alloc; Name::new(alloc, text)?]?),
+        None => {
+            let items = value.as_array().ok_or(ScenarioFault::Shape(key))?;
+            names_in(alloc, items, key)
+        }
+    }
+}
+
+/// The groups from which the links of a table lead, or none where they lead from the clients.
+fn senders(alloc: Global, table: &Table) -> Result<Option<Vec<Name>>, ScenarioFault>
+    ensures { IsUnlessMemory ScenarioFault.Memory
+        (wish Key.From as_names (table_view table.now)) (listed_if_there result) }
+{
+    match value_at(table, Key::From) {
+        Some(value) => Ok(Some(names_told(alloc, value, Key::From)?)),
+        None => Ok(None),
+    }
+}
+
+/// The groups to which the links of a table lead.
+fn receivers(alloc: Global, table: &Table) -> Result<Vec<Name>, ScenarioFault>
+    ensures { IsUnlessMemory ScenarioFault.Memory
+        (need Key.To as_names (table_view table.now)) (listed result) }
+{
+    let value = value_at(table, Key::To).ok_or(ScenarioFault::Shape(Key::To))?;
+    names_told(alloc, value, Key::To)
+}
+
+/// Whether links lead back as well: only where groups send, since nothing is sent to clients.
+fn both_told(value: &Value, groups_send: bool) -> Option<bool>
+    ensures { result ≡ as_both groups_send (view value.now) }
+{
+    let both = value.as_bool()?;
+    if both && !groups_send {
+        None
+    } else {
+        Some(both)
+    }
+}
+
+/// Whether the links of a table lead back as well; they do not where the key is absent.
+fn both_of_table(table: &Table, groups_send: bool) -> Result<bool, ScenarioFault>
+    ensures { result ≡ both_of_table groups_send (table_view table.now) }
+{
+    match value_at(table, Key::Both) {
+        Some(value) => both_told(value, groups_send).ok_or(ScenarioFault::Shape(Key::Both)),
+        None => Ok(false),
+    }
+}
+
+/// Where the links of a table lead.
+fn ends_of_table(alloc: Global, table: &Table) -> Result<LinkEnds, ScenarioFault>
+    ensures { IsUnlessMemory ScenarioFault.Memory (ends_of_table (table_view table.now)) result }
+{
+    let senders = senders(alloc, table)?;
+    let to = receivers(alloc, table)?;
+    let both = both_of_table(table, senders.is_some())?;
+    Ok(LinkEnds { senders, to, both })
+}
+
+#[tactic(auto, unfolding(crate::specs::Shape::link_of_table))]
 fn link_of_table(alloc: Global, table: &Table, time: Time) -> Result<WrittenLink, ScenarioFault>
     ensures { IsUnlessMemory ScenarioFault.Memory (link_of_table time (table_view table.now)) result }
 {
-    let sender = sender(alloc, table)?;
-    let to = name(alloc, table, Key::To)?;
+    let ends = ends_of_table(alloc, table)?;
     let least = when(table, Key::Least, time)?;
     let most = when(table, Key::Most, time)?;
-    need_only(table, &[Key::From, Key::To, Key::Least, Key::Most])?;
-    Ok(WrittenLink {
-        sender,
-        to,
-        least,
-        most,
-    })
+    need_only(
+        table,
+        &[Key::From, Key::To, Key::Both, Key::Least, Key::Most],
+    )?;
+    Ok(WrittenLink { ends, least, most })
 }
 
 fn links_of(alloc: Global, tables: &[&Table], time: Time) -> Result<Vec<WrittenLink>, ScenarioFault>
@@ -279,7 +360,7 @@ fn links_of(alloc: Global, tables: &[&Table], time: Time) -> Result<Vec<WrittenL
     Ok(links)
 }
 
-/// The links of a scenario's table; none where the key is absent.
+/// The tables of links of a scenario's table; none where the key is absent.
 fn links_of_table(
     alloc: Global,
     table: &Table,
@@ -296,11 +377,48 @@ fn links_of_table(
     links_of(alloc, &tables, time)
 }
 
-/// What is written in a table, or the first key that is at fault (docs/FORMATS.md, "Scenario text").
-pub fn written_of_table(alloc: Global, table: &Table) -> Result<WrittenInput, ScenarioFault>
-    ensures { IsUnlessMemory ScenarioFault.Memory (written_of_table (table_view table.now)) result }
+/// The target that is written in a scenario's table.
+fn written_target(alloc: Global, table: &Table) -> Result<WrittenTarget, ScenarioFault>
+    ensures { IsUnlessMemory ScenarioFault.Memory (written_target (table_view table.now)) result }
 {
-    let scenario = scenario_of_table(alloc, table)?;
+    let target = inner_table(table, Key::Target)?;
+    let message = name(alloc, target, Key::Message)?;
+    let group = name(alloc, target, Key::Group)?;
+    need_only(target, &[Key::Message, Key::Group])?;
+    Ok(WrittenTarget { message, group })
+}
+
+/// The target of a scenario's table: what is written, or the first target where that may be left out and
+/// is.
+fn target_of_table(
+    alloc: Global,
+    table: &Table,
+    target: TargetKey,
+    groups: &[Name],
+    multicasts: &[WrittenMulticast],
+) -> Result<WrittenTarget, ScenarioFault>
+    ensures { IsUnlessMemory ScenarioFault.Memory
+        (target_of_table target (table_view table.now) groups.now multicasts.now) result }
+{
+    match target {
+        TargetKey::Optional if value_at(table, Key::Target).is_none() => {
+            Ok(first_target(alloc, groups, multicasts)?)
+        }
+        _ => written_target(alloc, table),
+    }
+}
+
+/// What is written in a table, in which the target has to be written or not; or the first key that is at
+/// fault (docs/FORMATS.md, "Scenario text").
+pub fn written_of_table(
+    alloc: Global,
+    table: &Table,
+    target: TargetKey,
+) -> Result<WrittenInput, ScenarioFault>
+    ensures { IsUnlessMemory ScenarioFault.Memory
+        (written_of_table target (table_view table.now)) result }
+{
+    let scenario = scenario_of_table(alloc, table, target)?;
     let schedule = integers(alloc, table, Key::Schedule)?;
     let order = integers(alloc, table, Key::Order)?;
     need_only(
@@ -325,8 +443,13 @@ pub fn written_of_table(alloc: Global, table: &Table) -> Result<WrittenInput, Sc
 }
 
 /// The scenario as it is written in a table, whatever else stands there.
-fn scenario_of_table(alloc: Global, table: &Table) -> Result<WrittenScenario, ScenarioFault>
-    ensures { IsUnlessMemory ScenarioFault.Memory (scenario_of_table (table_view table.now)) result }
+fn scenario_of_table(
+    alloc: Global,
+    table: &Table,
+    target: TargetKey,
+) -> Result<WrittenScenario, ScenarioFault>
+    ensures { IsUnlessMemory ScenarioFault.Memory
+        (scenario_of_table target (table_view table.now)) result }
 {
     let time = time_of_table(table)?;
     let tick = tick_of_table(table, time)?;
@@ -334,10 +457,7 @@ fn scenario_of_table(alloc: Global, table: &Table) -> Result<WrittenScenario, Sc
     let groups = names(alloc, table, Key::Groups)?;
     let tables = tables(alloc, table, Key::Multicast)?;
     let multicasts = multicasts_of(alloc, &tables, time)?;
-    let target = inner_table(table, Key::Target)?;
-    let target_message = name(alloc, target, Key::Message)?;
-    let target_group = name(alloc, target, Key::Group)?;
-    need_only(target, &[Key::Message, Key::Group])?;
+    let target = target_of_table(alloc, table, target, &groups, &multicasts)?;
     let links = links_of_table(alloc, table, time)?;
     Ok(WrittenScenario {
         time,
@@ -346,7 +466,7 @@ fn scenario_of_table(alloc: Global, table: &Table) -> Result<WrittenScenario, Sc
         groups,
         links,
         multicasts,
-        target_message,
-        target_group,
+        target_message: target.message,
+        target_group: target.group,
     })
 }

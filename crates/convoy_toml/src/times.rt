@@ -1,15 +1,15 @@
-ghost use Rattle.std.specs.Prelude.{◌≡◌, ◌≤◌, ◌++◌, map, IfOk, OnOk};
+ghost use Rattle.std.specs.Prelude.{◌≡◌, ◌≤◌, ◌++◌, map, option_map, IfOk, OnOk};
 ghost use Rattle.convoy_scenario.specs.declared.duration.TheConstants.{LONGEST_DURATION};
 ghost use Rattle.std.specs.List.{list_all};
 ghost use Rattle.convoy_scenario.specs.Memory.{IsUnlessMemory};
 ghost use Rattle.convoy_toml.specs.Shape.{listed};
-ghost use Rattle.convoy_toml.specs.Times.{times_of_links, is_count, is_lasting, length_of, divisor_of_all, times_of, tick_between, tick_of, ticks_in, ticks_of, whole, draft_message_of, draft_messages_of, draft_link_of, draft_links_of, draft_of_written};
+ghost use Rattle.convoy_toml.specs.Times.{times_of_links, is_count, is_lasting, length_of, divisor_of_all, times_of, tick_between, tick_of, ticks_in, ticks_of, whole, draft_message_of, draft_messages_of, bundle_of, bundles_of, draft_of_written};
 
+use super::bundle::Bundle;
 use super::divisor::common_divisor;
-use super::written::{WrittenLink, WrittenMulticast, WrittenScenario, WrittenTime};
-use convoy_scenario::{
-    DraftLink, DraftMulticast, DraftScenario, Duration, Key, Name, ScenarioFault,
-};
+use super::links::links_of_bundles;
+use super::written::{LinkEnds, WrittenLink, WrittenMulticast, WrittenScenario, WrittenTime};
+use convoy_scenario::{DraftMulticast, DraftScenario, Duration, Key, Name, ScenarioFault};
 use std::alloc::{AllocError, Global};
 
 impl WrittenTime {
@@ -61,7 +61,7 @@ fn push_issues(
     Ok(())
 }
 
-/// Appends the least and the greatest delay of each link.
+/// Appends the least and the greatest delay of each table of links.
 fn push_ranges(times: &mut Vec<WrittenTime>, links: &[WrittenLink]) -> Result<(), AllocError>
     ensures { OnOk result (times.new.items ≡ times.old.items ++ times_of_links links.now) }
 {
@@ -193,36 +193,35 @@ fn draft_multicasts_of(
     Ok(drafts)
 }
 
-/// A link in ticks, in memory of its own.
-fn draft_link_of(tick: Option<u64>, link: &WrittenLink) -> Result<DraftLink, ScenarioFault>
-    ensures { IsUnlessMemory ScenarioFault.Memory (draft_link_of tick link.now) result }
+/// The links of a table in ticks, in memory of their own.
+fn bundle_of(alloc: Global, tick: Option<u64>, link: &WrittenLink) -> Result<Bundle, ScenarioFault>
+    ensures { IsUnlessMemory ScenarioFault.Memory (bundle_of tick link.now) result }
 {
     let least = whole(tick, Key::Least, link.least)?;
     let most = whole(tick, Key::Most, link.most)?;
-    Ok(DraftLink {
-        sender: copy_sender(&link.sender)?,
-        to: link.to.copy()?,
+    Ok(Bundle {
+        ends: copy_ends(alloc, &link.ends)?,
         least,
         most,
     })
 }
 
-fn draft_links_of(
+fn bundles_of(
     alloc: Global,
     tick: Option<u64>,
     links: &[WrittenLink],
-) -> Result<Vec<DraftLink>, ScenarioFault>
-    ensures { IsUnlessMemory ScenarioFault.Memory (draft_links_of tick links.now) (listed result) }
+) -> Result<Vec<Bundle>, ScenarioFault>
+    ensures { IsUnlessMemory ScenarioFault.Memory (bundles_of tick links.now) (listed result) }
 {
-    let mut drafts = Vec::new(alloc);
+    let mut bundles = Vec::new(alloc);
     for link in links {
-        drafts.push(draft_link_of(tick, link)?)?;
+        bundles.push(bundle_of(alloc, tick, link)?)?;
     }
-    Ok(drafts)
+    Ok(bundles)
 }
 
-/// The scenario in ticks, or the first time that is no whole number of them (docs/FORMATS.md, "How faults
-/// are found").
+/// The scenario in ticks, with each link that its tables write; or the first time that is no whole number
+/// of ticks, or that there are too many links (docs/FORMATS.md, "How faults are found").
 pub fn draft_of_written(
     alloc: Global,
     scenario: WrittenScenario,
@@ -233,7 +232,8 @@ pub fn draft_of_written(
     let length = length_of(&tick);
     let delay = whole(length, Key::Delay, scenario.delay)?;
     let multicasts = draft_multicasts_of(alloc, length, &scenario.multicasts)?;
-    let links = draft_links_of(alloc, length, &scenario.links)?;
+    let bundles = bundles_of(alloc, length, &scenario.links)?;
+    let links = links_of_bundles(alloc, &bundles)?;
     Ok(DraftScenario {
         time: scenario.time,
         tick,
@@ -252,6 +252,28 @@ fn copy_sender(sender: &Option<Name>) -> Result<Option<Name>, AllocError>
 {
     match sender {
         Some(name) => Ok(Some(name.copy()?)),
+        None => Ok(None),
+    }
+}
+
+/// The same ends, in memory of their own.
+fn copy_ends(alloc: Global, ends: &LinkEnds) -> Result<LinkEnds, AllocError>
+    ensures { IfOk result (λ copy. copy ≡ ends.now) }
+{
+    Ok(LinkEnds {
+        senders: copy_senders(alloc, &ends.senders)?,
+        to: copy_names(alloc, &ends.to)?,
+        both: ends.both,
+    })
+}
+
+/// The same names, in memory of their own, if there are any.
+fn copy_senders(alloc: Global, senders: &Option<Vec<Name>>) -> Result<Option<Vec<Name>>, AllocError>
+    ensures { IfOk result (λ copies. option_map (λ names. names.items) copies
+        ≡ option_map (λ names. names.items) senders.now) }
+{
+    match senders {
+        Some(names) => Ok(Some(copy_names(alloc, names)?)),
         None => Ok(None),
     }
 }

@@ -33,13 +33,36 @@ impl Model for WrittenMulticast {
     } };
 }
 
-/// A link as it is written: what goes from the sender to the group `to` takes `least` to `most`, be
-/// these a range or not.
+/// Where the links of a table lead.
+#[derive(Debug, Drop)]
+pub struct LinkEnds {
+    /// The groups that send, or none where the clients do.
+    pub senders: Option<Vec<Name>>,
+    /// The groups that they lead to.
+    pub to: Vec<Name>,
+    /// Whether they lead back as well, which those of clients do not.
+    pub both: bool,
+}
+
+impl Model for LinkEnds {
+    ghost use Rattle.std.specs.Prelude.{option_map};
+    ghost use Rattle.convoy_toml.specs.Shape.{LinkEnds};
+
+    ghost Value = { LinkEnds };
+
+    ghost view = { λ e. record {
+      senders = option_map (λ names. names.items) e.senders;
+      to = e.to.items;
+      both = e.both;
+    } };
+}
+
+/// A table of links as it is written: what goes by one of them takes `least` to `most`, be these a range
+/// or not.
 #[derive(Debug, Drop)]
 pub struct WrittenLink {
-    /// The group that sends, or none where a client does.
-    pub sender: Option<Name>,
-    pub to: Name,
+    /// Where they lead.
+    pub ends: LinkEnds,
     /// The least delay.
     pub least: WrittenTime,
     /// The greatest delay.
@@ -52,11 +75,27 @@ impl Model for WrittenLink {
     ghost Value = { WrittenLink };
 
     ghost view = { λ l. record {
-      sender = l.sender;
-      to = l.to;
+      ends = l.ends;
       least = l.least;
       most = l.most;
     } };
+}
+
+/// A target as it is written.
+#[derive(Debug, Drop)]
+pub struct WrittenTarget {
+    /// The name of the message of which the latency is asked.
+    pub message: Name,
+    /// The name of the group at which it is asked.
+    pub group: Name,
+}
+
+impl Model for WrittenTarget {
+    ghost use Rattle.convoy_toml.specs.Shape.{WrittenTarget};
+
+    ghost Value = { WrittenTarget };
+
+    ghost view = { λ t. record { message = t.message; group = t.group } };
 }
 
 /// A scenario as it is written, before its times are put into ticks.
@@ -70,7 +109,7 @@ pub struct WrittenScenario {
     pub delay: WrittenTime,
     /// The names of the groups, in the order of their numbers.
     pub groups: Vec<Name>,
-    /// The links, in any order.
+    /// The tables of links, in their order.
     pub links: Vec<WrittenLink>,
     /// The messages, in the order of their numbers.
     pub multicasts: Vec<WrittenMulticast>,

@@ -1,0 +1,26 @@
+-- A scenario with another target is well formed.
+use Rattle.std.proofs.Common.{◌<◌, ℕ, length}
+use Rattle.convoy_scenario.specs.Scenario.{GoesTo, Scenario}
+use Rattle.convoy_scenario.specs.Targets.{with_target}
+use Rattle.convoy_scenario.specs.WellFormed.{IsScenario}
+
+pub with_target_formed : (scenario : Scenario) (m g : ℕ) → IsScenario scenario → m < length scenario.multicasts → GoesTo scenario m g →
+    IsScenario (with_target scenario m g)
+with_target_formed scenario m g is known addressed = record {
+  delay_low = is.delay_low;
+  delay_high = is.delay_high;
+  delay_whole = is.delay_whole;
+  tick = is.tick;
+  groups_low = is.groups_low;
+  groups_high = is.groups_high;
+  multicasts_low = is.multicasts_low;
+  multicasts_high = is.multicasts_high;
+  group_names = is.group_names;
+  group_names_differ = is.group_names_differ;
+  message_names_differ = is.message_names_differ;
+  links = is.links;
+  ascending = is.ascending;
+  messages = is.messages;
+  target = known;
+  addressed = addressed;
+}

@@ -1,0 +1,47 @@
+ghost use Rattle.std.specs.Prelude.{◌≡◌, [], slice_index_or, IfOk};
+ghost use Rattle.convoy_toml.specs.Shape.{first_target};
+
+use super::written::{WrittenMulticast, WrittenTarget};
+use convoy_scenario::Name;
+use std::alloc::{AllocError, Global};
+
+/// Whether a scenario text has to name its target.
+#[derive(Clone, Copy, Debug, PartialEq, Eq)]
+pub enum TargetKey {
+    /// The table `target` has to be there.
+    Required,
+    /// It may be left out: the target is then the first message, at the first group that it goes to.
+    Optional,
+}
+
+/// The first message, at the first group that it goes to; where it goes nowhere, at the first group of
+/// all.
+pub fn first_target(
+    alloc: Global,
+    groups: &[Name],
+    multicasts: &[WrittenMulticast],
+) -> Result<WrittenTarget, AllocError>
+    ensures { IfOk result (λ target. target ≡ first_target groups.now multicasts.now) }
+{
+    match multicasts.first() {
+        Some(multicast) => Ok(WrittenTarget {
+            message: multicast.name.copy()?,
+            group: first_of(alloc, &multicast.to, groups)?,
+        }),
+        None => Ok(WrittenTarget {
+            message: Name::new(alloc, "")?,
+            group: Name::new(alloc, "")?,
+        }),
+    }
+}
+
+/// The first of the names, or of the others where there are none; else a name without a letter.
+fn first_of(alloc: Global, names: &[Name], others: &[Name]) -> Result<Name, AllocError>
+    ensures { IfOk result (λ name. name
+        ≡ slice_index_or names.now 0 (slice_index_or others.now 0 [])) }
+{
+    match names.first().or(others.first()) {
+        Some(name) => name.copy(),
+        None => Name::new(alloc, ""),
+    }
+}
