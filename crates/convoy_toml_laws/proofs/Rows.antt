@@ -1,0 +1,47 @@
+-- A worked row: the text that is written of a scenario in real time, and what it is read as.
+use Rattle.std.proofs.Common.{◌≡◌, ℕ, List, [], ◌∷◌, codes, Some, Ok, refl, replicate}
+use Rattle.std.specs.Fmt.{digits}
+use Rattle.std.specs.Str.{chars, is_utf8}
+use Rattle.toml.proofs.OnLiterals.{toml_on_literals}
+use Rattle.convoy_scenario.specs.declared.sender.Sender.TheVariants.{Client, Group}
+use Rattle.convoy_scenario.specs.declared.time.Time.TheVariants.{Real}
+use Rattle.convoy_scenario.specs.Durations.{duration_of}
+use Rattle.convoy_scenario.specs.Scenario.{Scenario}
+use Rattle.convoy_packets.specs.Assignment.{Schedule}
+use Rattle.convoy_packets.specs.Order.{Order}
+use Rattle.convoy_packets.specs.OrderLists.{marks_of}
+use Rattle.convoy_toml.specs.Reading.{input_of_text}
+use Rattle.convoy_toml.specs.Shape.{link_of_table}
+use Rattle.convoy_toml_writer.specs.Text.{head_text, link_text, message_text, order_text, sender_text, target_text, tick_text, toml_text}
+use Rattle.convoy_toml_laws.specs.Laws.{input_for}
+
+-- two groups with a link each way and one of the clients, a message of a client, and one of a group
+abbrev scenario : Scenario
+scenario = record {
+  time = Real;
+  tick = Some 50_000;
+  delay = 40;
+  groups = codes "a" ∷ codes "b-2" ∷ [];
+  links = record { sender = Client; to = 0; least = 2; most = 3 } ∷ record { sender = Group 0; to = 1; least = 4; most = 40 } ∷ [];
+  multicasts = record { name = codes "t"; sender = Client; destinations = 0 ∷ 1 ∷ []; at = 0 } ∷ record { name = codes "y"; sender = Group 0; destinations = 1 ∷ []; at = 12 } ∷ [];
+  target_message = 0;
+  target_group = 1;
+}
+
+-- the commit of the first message at the second group comes last in its tick
+abbrev order : Order
+order = record { arrivals = 0 ∷ 0 ∷ replicate 126 0; commits = 0 ∷ 7 ∷ replicate 126 0 }
+
+abbrev schedule : Schedule
+schedule = record { delays = 2 ∷ 5 ∷ 4 ∷ 40 ∷ 40 ∷ []; order = order }
+
+abbrev text : List ℕ
+text = codes "time = \"real\"\ntick = \"50 us\"\ndelay = 40\ngroups = [\"a\", \"b-2\"]\nschedule = [2, 5, 4, 40, 40]\norder = [0, 0, 0, 7, 0, 0]\n\n[[link]]\nto = \"a\"\nleast = 2\nmost = 3\n\n[[link]]\nfrom = \"a\"\nto = \"b-2\"\nleast = 4\nmost = 40\n\n[[multicast]]\nname = \"t\"\nto = [\"a\", \"b-2\"]\nat = 0\n\n[[multicast]]\nname = \"y\"\nfrom = \"a\"\nto = [\"b-2\"]\nat = 12\n\n[target]\nmessage = \"t\"\ngroup = \"b-2\"\n"
+
+written : toml_text scenario schedule ≡ text
+unfolding toml_text head_text tick_text order_text link_text message_text sender_text target_text digits marks_of
+written = refl
+
+read : input_of_text text ≡ Ok (input_for scenario schedule)
+unfolding toml_on_literals is_utf8 chars link_of_table duration_of marks_of
+read = refl

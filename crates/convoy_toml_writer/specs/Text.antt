@@ -1,0 +1,92 @@
+-- The text of a scenario with a schedule: a document in TOML, the one that is written of them.
+use Rattle.std.specs.Prelude.{ℕ, List, [], ◌∷◌, ◌++◌, map, if◌then◌else◌, Option, Some, None, codes, decimal}
+use Rattle.std.specs.List.{flat_map}
+use Rattle.convoy_scenario.specs.declared.sender.Sender.{Sender}
+use Rattle.convoy_scenario.specs.declared.sender.Sender.TheVariants.{Client, Group}
+use Rattle.convoy_scenario.specs.declared.time.Time.{Time}
+use Rattle.convoy_scenario.specs.declared.time.Time.TheVariants.{Ticks, Real}
+use Rattle.convoy_scenario.specs.Durations.{count_of, unit_of, unit_word}
+use Rattle.convoy_scenario.specs.Scenario.{Link, Message, Scenario, group_name_at, message_at}
+use Rattle.convoy_packets.specs.Assignment.{Schedule}
+use Rattle.convoy_packets.specs.Order.{Order}
+use Rattle.convoy_packets.specs.OrderLists.{is_no_order, ranks_of}
+
+-- a further word of a list, after a comma
+abbrev pub further : List ℕ → List ℕ
+further word = codes ", " ++ word
+
+-- words with commas between them
+abbrev pub listed : List (List ℕ) → List ℕ
+listed [] = []
+listed (word ∷ words) = word ++ flat_map further words
+
+-- a name in quotes: names have no byte that would have to be escaped there
+abbrev pub quoted : List ℕ → List ℕ
+quoted name = codes "\"" ++ (name ++ codes "\"")
+
+-- names of groups, with commas between them
+abbrev pub names_text : Scenario → List ℕ → List ℕ
+names_text scenario groups = listed (map (λ g. quoted (group_name_at scenario g)) groups)
+
+-- numbers, with commas between them
+abbrev pub numbers_text : List ℕ → List ℕ
+numbers_text numbers = listed (map decimal numbers)
+
+-- the line that says that time is real; whole ticks have none
+abbrev pub time_text : Time → List ℕ
+time_text Ticks = []
+time_text Real = codes "time = \"real\"\n"
+
+-- the line of the length of a tick, where that is known
+unfoldable pub tick_text : Option ℕ → List ℕ
+tick_text None = []
+tick_text (Some tick) = codes "tick = \"" ++ (decimal (count_of tick) ++ (codes " " ++ (unit_word (unit_of tick) ++ codes "\"\n")))
+
+-- the line of the ranks of an order of ties, where they are not all 0
+unfoldable pub order_text : Scenario → Order → List ℕ
+order_text scenario order = if is_no_order order then [] else codes "order = [" ++ (numbers_text (ranks_of scenario order) ++ codes "]\n")
+
+-- the lines above all tables: how time goes, D, the groups, and the schedule; all times are numbers of ticks
+unfoldable pub head_text : Scenario → Schedule → List ℕ
+head_text scenario schedule =
+    time_text scenario.time
+    ++ (tick_text scenario.tick
+    ++ (codes "delay = " ++ (decimal scenario.delay
+    ++ (codes "\ngroups = [" ++ (listed (map quoted scenario.groups)
+    ++ (codes "]\nschedule = [" ++ (numbers_text schedule.delays
+    ++ (codes "]\n" ++ order_text scenario schedule.order))))))))
+
+-- the line of the group that sends; a client has none
+unfoldable pub sender_text : Scenario → Sender → List ℕ
+sender_text scenario Client = []
+sender_text scenario (Group g) = codes "from = \"" ++ (group_name_at scenario g ++ codes "\"\n")
+
+-- the table of a link, after an empty line
+unfoldable pub link_text : Scenario → Link → List ℕ
+link_text scenario link =
+    codes "\n[[link]]\n" ++ (sender_text scenario link.sender
+    ++ (codes "to = \"" ++ (group_name_at scenario link.to
+    ++ (codes "\"\nleast = " ++ (decimal link.least
+    ++ (codes "\nmost = " ++ (decimal link.most ++ codes "\n")))))))
+
+-- the table of a message, after an empty line
+unfoldable pub message_text : Scenario → Message → List ℕ
+message_text scenario message =
+    codes "\n[[multicast]]\nname = \"" ++ (message.name
+    ++ (codes "\"\n" ++ (sender_text scenario message.sender
+    ++ (codes "to = [" ++ (names_text scenario message.destinations
+    ++ (codes "]\nat = " ++ (decimal message.at ++ codes "\n")))))))
+
+-- the table of the target, after an empty line
+unfoldable pub target_text : Scenario → List ℕ
+target_text scenario =
+    codes "\n[target]\nmessage = \"" ++ ((message_at scenario scenario.target_message).name
+    ++ (codes "\"\ngroup = \"" ++ (group_name_at scenario scenario.target_group ++ codes "\"\n")))
+
+-- The text of a scenario with a schedule.
+unfoldable pub toml_text : Scenario → Schedule → List ℕ
+toml_text scenario schedule =
+    head_text scenario schedule
+    ++ (flat_map (link_text scenario) scenario.links
+    ++ (flat_map (message_text scenario) scenario.multicasts
+    ++ target_text scenario))

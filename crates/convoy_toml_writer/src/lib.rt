@@ -1,0 +1,7 @@
+//! Scenarios as text: the document in TOML of a scenario with a schedule, which `convoy_toml` reads.
+#![tactic(auto)]
+
+pub use writing::write_toml;
+
+mod lists;
+mod writing;

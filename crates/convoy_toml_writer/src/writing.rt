@@ -1,0 +1,175 @@
+ghost use Rattle.std.specs.Prelude.{◌≡◌, ◌++◌, ◌<◌, length, IfOk, OnErr, OnOk, string_bytes};
+ghost use Rattle.std.specs.List.{flat_map};
+ghost use Rattle.convoy_scenario.specs.Scenario.{message_at};
+ghost use Rattle.convoy_toml_writer.specs.Text.{
+  head_text,
+  link_text,
+  message_text,
+  order_text,
+  sender_text,
+  target_text,
+  tick_text,
+  time_text,
+  toml_text,
+};
+
+use super::lists::{all_names_text, group_name, names_text, numbers_text};
+use convoy_packets::{Order, Schedule};
+use convoy_scenario::{Duration, Link, Scenario, Sender, Time};
+use std::alloc::{AllocError, Global};
+
+/// Appends the text of a scenario with a schedule, which reads as that scenario with that schedule
+/// (docs/FORMATS.md, "Scenario text"): all times are numbers of ticks. The keys `schedule` and `order`
+/// stand above the tables, `order` only where a rank of it is not 0. Where memory runs out, `out` stays as
+/// it was.
+pub fn write_toml(
+    scenario: &Scenario,
+    schedule: &Schedule,
+    out: &mut Vec<u8>,
+) -> Result<(), AllocError>
+    ensures ok { OnOk result (out.new.items ≡ out.old.items ++ toml_text scenario.now schedule.now) }
+    ensures err { OnErr result (out.new.items ≡ out.old.items) }
+{
+    let text = document(*out.allocator(), scenario, schedule)?;
+    out.extend_from_slice(text.as_bytes())
+}
+
+/// The whole text.
+#[tactic(auto, unfolding(crate::specs::Text::toml_text))]
+fn document(alloc: Global, scenario: &Scenario, schedule: &Schedule) -> Result<String, AllocError>
+    ensures { IfOk result (λ text. string_bytes text ≡ toml_text scenario.now schedule.now) }
+{
+    let head = head_text(alloc, scenario, schedule)?;
+    let links = links_text(alloc, scenario)?;
+    let messages = messages_text(alloc, scenario)?;
+    let target = target_text(alloc, scenario)?;
+    format!(in alloc; "{head}{links}{messages}{target}")
+}
+
+/// The lines above all tables.
+#[tactic(auto, unfolding(crate::specs::Text::head_text))]
+fn head_text(alloc: Global, scenario: &Scenario, schedule: &Schedule) -> Result<String, AllocError>
+    ensures { IfOk result (λ text. string_bytes text ≡ head_text scenario.now schedule.now) }
+{
+    let time = time_text(scenario.time());
+    let tick = tick_text(alloc, scenario.tick())?;
+    let delay = scenario.delay();
+    let groups = all_names_text(alloc, scenario)?;
+    let delays = numbers_text(alloc, schedule.delays())?;
+    let order = order_text(alloc, scenario, schedule.order())?;
+    format!(in alloc;
+        "{time}{tick}delay = {delay}\ngroups = [{groups}]\nschedule = [{delays}]\n{order}"
+    )
+}
+
+/// The line that says that time is real; whole ticks have none.
+fn time_text(time: Time) -> &'static str
+    ensures { result.now ≡ time_text time }
+{
+    match time {
+        Time::Ticks => "",
+        Time::Real => "time = \"real\"\n",
+    }
+}
+
+/// The line of the length of a tick, where that is known.
+#[tactic(auto, unfolding(crate::specs::Text::tick_text))]
+fn tick_text(alloc: Global, tick: Option<Duration>) -> Result<String, AllocError>
+    ensures { IfOk result (λ text. string_bytes text ≡ tick_text tick) }
+{
+    match tick {
+        Some(tick) => {
+            let (count, unit) = (tick.count(), tick.unit().word());
+            format!(in alloc; "tick = \"{count} {unit}\"\n")
+        }
+        None => Ok(String::new(alloc)),
+    }
+}
+
+/// The line of the ranks of an order of ties, where they are not all 0.
+#[tactic(auto, unfolding(crate::specs::Text::order_text))]
+fn order_text(alloc: Global, scenario: &Scenario, order: &Order) -> Result<String, AllocError>
+    ensures { IfOk result (λ text. string_bytes text ≡ order_text scenario.now order.now) }
+{
+    if order.is_none() {
+        return Ok(String::new(alloc));
+    }
+    let ranks = order.ranks(alloc, scenario)?;
+    let ranks = numbers_text(alloc, &ranks)?;
+    format!(in alloc; "order = [{ranks}]\n")
+}
+
+/// The tables of all links.
+fn links_text(alloc: Global, scenario: &Scenario) -> Result<String, AllocError>
+    ensures { IfOk result (λ text. string_bytes text
+        ≡ flat_map (link_text scenario.now) scenario.now.links) }
+{
+    let mut text = String::new(alloc);
+    for link in scenario.links() {
+        let table = link_text(alloc, scenario, link)?;
+        text.push_str(table.as_str())?;
+    }
+    Ok(text)
+}
+
+/// The table of a link.
+#[tactic(auto, unfolding(crate::specs::Text::link_text))]
+fn link_text(alloc: Global, scenario: &Scenario, link: &Link) -> Result<String, AllocError>
+    ensures { IfOk result (λ text. string_bytes text ≡ link_text scenario.now link.now) }
+{
+    let from = sender_text(alloc, scenario, link.sender)?;
+    let to = group_name(scenario, link.to);
+    let (least, most) = (link.least, link.most);
+    format!(in alloc; "\n[[link]]\n{from}to = \"{to}\"\nleast = {least}\nmost = {most}\n")
+}
+
+/// The line of the group that sends; a client has none.
+#[tactic(auto, unfolding(crate::specs::Text::sender_text))]
+fn sender_text(alloc: Global, scenario: &Scenario, sender: Sender) -> Result<String, AllocError>
+    ensures { IfOk result (λ text. string_bytes text ≡ sender_text scenario.now sender) }
+{
+    match sender {
+        Sender::Client => Ok(String::new(alloc)),
+        Sender::Group(group) => {
+            let name = group_name(scenario, group);
+            format!(in alloc; "from = \"{name}\"\n")
+        }
+    }
+}
+
+/// The tables of all messages.
+fn messages_text(alloc: Global, scenario: &Scenario) -> Result<String, AllocError>
+    ensures { IfOk result (λ text. string_bytes text
+        ≡ flat_map (message_text scenario.now) scenario.now.multicasts) }
+{
+    let mut text = String::new(alloc);
+    for message in 0..scenario.message_count() {
+        let table = message_text(alloc, scenario, message)?;
+        text.push_str(table.as_str())?;
+    }
+    Ok(text)
+}
+
+/// The table of a message.
+#[tactic(auto, unfolding(crate::specs::Text::message_text))]
+fn message_text(alloc: Global, scenario: &Scenario, message: usize) -> Result<String, AllocError>
+    requires { message < length scenario.now.multicasts }
+    ensures { IfOk result (λ text. string_bytes text
+        ≡ message_text scenario.now (message_at scenario.now message)) }
+{
+    let name = scenario.message_name(message);
+    let from = sender_text(alloc, scenario, scenario.sender(message))?;
+    let to = names_text(alloc, scenario, scenario.destinations(message))?;
+    let at = scenario.issue_tick(message);
+    format!(in alloc; "\n[[multicast]]\nname = \"{name}\"\n{from}to = [{to}]\nat = {at}\n")
+}
+
+/// The table of the target.
+#[tactic(auto, unfolding(crate::specs::Text::target_text))]
+fn target_text(alloc: Global, scenario: &Scenario) -> Result<String, AllocError>
+    ensures { IfOk result (λ text. string_bytes text ≡ target_text scenario.now) }
+{
+    let message = scenario.message_name(scenario.target_message());
+    let group = group_name(scenario, scenario.target_group());
+    format!(in alloc; "\n[target]\nmessage = \"{message}\"\ngroup = \"{group}\"\n")
+}
