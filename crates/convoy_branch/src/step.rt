@@ -6,11 +6,12 @@ ghost use Rattle.convoy_sim.specs.Record.{attained_by};
 ghost use Rattle.convoy_intervals.specs.Boxes.{IsBox, IsPoint, greatest_of};
 ghost use Rattle.convoy_intervals.specs.Boxes.{CanSplit};
 ghost use Rattle.convoy_branch.specs.declared.bounds.Bounds.{Bounds};
-ghost use Rattle.convoy_branch.specs.Steps.{IsFate, IsStep, IsTriedIf, StaysOpen};
+ghost use Rattle.convoy_branch.specs.Steps.{IsFate, IsStep, IsTriedIf, StaysOpen, known_after};
 ghost use Rattle.convoy_branch.specs.Looks.{IsLook};
 
 use super::bounds::Bounds;
 use convoy_certificate::Node;
+use convoy_chains::place_by_leads;
 use convoy_intervals::laws::members_are_assignments;
 use convoy_intervals::{DelayBox, Tracked};
 use convoy_packets::laws::fixed_order_is_order;
@@ -84,7 +85,10 @@ pub fn step_branch(
     };
     let fate = match look.leaf {
         Some(leaf) => Fate::Turned(Turn::Closed(leaf)),
-        None => open_fate(instance, branch)?,
+        None => {
+            let known = known_after(&look.found, seen);
+            open_fate(alloc, instance, branch, known, bounds)?
+        }
     };
     Ok(Step {
         found: look.found,
@@ -157,15 +161,35 @@ fn try_greatest(
     Ok(Some(Record::of(instance, schedule)))
 }
 
-/// What becomes of a box that no bound closes, nor leads: its halves, where it can be split. Where
-/// memory runs out the box comes back as it was.
-fn open_fate(instance: &Instance, branch: Tracked) -> Result<Fate, (Tracked, AllocError)>
+/// The greatest latency that is known after a look, where `seen` was known before it, in ticks.
+fn known_after(found: &Option<Record>, seen: u32) -> u32
+    ensures { result ≡ known_after seen found.now }
+{
+    match found {
+        None => seen,
+        Some(found) => found.latency(),
+    }
+}
+
+/// What becomes of a box that no bound closes, nor leads, for the latency that is known, in ticks: its
+/// halves, where it can be split. Where memory runs out the box comes back as it was.
+fn open_fate(
+    alloc: Global,
+    instance: &Instance,
+    branch: Tracked,
+    latency: u32,
+    bounds: Bounds,
+) -> Result<Fate, (Tracked, AllocError)>
     requires of_scenario { branch.scenario ≡ instance.now }
-    ensures value { (bounds : Bounds) (known : ℕ) → StaysOpen bounds instance.now branch.delay_box known
-        → IfOk result (λ fate. IsFate bounds instance.now branch.delay_box known fate) }
+    ensures value { (by : Bounds) (known : ℕ) → StaysOpen by instance.now branch.delay_box known
+        → IfOk result (λ fate. IsFate by instance.now branch.delay_box known fate) }
     ensures back { IfErr result (λ refused. refused.0 ≡ branch) }
 {
-    match place_to_split(instance.table(), branch.delay_box()) {
+    let place = match place_to_split(alloc, instance, branch.delay_box(), latency, bounds) {
+        Ok(place) => place,
+        Err(error) => return Err((branch, error)),
+    };
+    match place {
         None => Ok(point_fate(instance, branch)),
         Some((packet, at)) => {
             let (lower, upper) = branch.halves(instance, usize::from(packet), at)?;
@@ -193,9 +217,33 @@ fn point_fate(instance: &Instance, branch: Tracked) -> Fate
     }
 }
 
-/// Where to split a box: the packet of the widest range, the first where several are as wide, and
-/// the middle of its range in ticks, rounded down. None where each packet has one delay left.
-fn place_to_split(table: &PacketTable, branch: &DelayBox) -> Option<(u16, u16)>
+/// Where to split a box that is not closed for the latency that is known, in ticks: by leads where the
+/// chain that keeps it open says so, and else in the middle of the widest range. None where each packet
+/// has one delay left. The error is that memory ran out.
+fn place_to_split(
+    alloc: Global,
+    instance: &Instance,
+    branch: &DelayBox,
+    latency: u32,
+    bounds: Bounds,
+) -> Result<Option<(u16, u16)>, AllocError>
+    requires inside { IsBox instance.now branch.now }
+    ensures point { IfOk result (λ found. IsNone found ↔ IsPoint branch.now) }
+    ensures part { IfOk result
+        (λ found. IfSome found (λ place. CanSplit branch.now place.0 place.1)) }
+{
+    if bounds == Bounds::Lead {
+        let place = place_by_leads(alloc, instance, branch, latency)?;
+        if place.is_some() {
+            return Ok(place);
+        }
+    }
+    Ok(middle_of_widest(instance.table(), branch))
+}
+
+/// The packet of the widest range of a box, the first where several are as wide, and the middle of its
+/// range in ticks, rounded down. None where each packet has one delay left.
+fn middle_of_widest(table: &PacketTable, branch: &DelayBox) -> Option<(u16, u16)>
     requires one_each { length branch.now ≡ length table.now.ranges }
     ensures point { IsNone result ↔ IsPoint branch.now }
     ensures part { IfSome result (λ place. CanSplit branch.now place.0 place.1) }

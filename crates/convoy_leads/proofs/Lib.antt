@@ -6,6 +6,7 @@ pub mod LedLaw
 pub mod ClosingLaws
 pub mod LedTests
 pub mod Rivals
+pub mod Known
 pub mod Loops
 pub mod CoveredTicks
 pub mod SteadyStarts

@@ -18,6 +18,8 @@ pub use Rattle.convoy_sure.specs.SureLeads
 pub mod Leads
 pub mod Closing
 pub mod Laws
+-- What is told of a box that leads leave open.
+pub mod Openings
 -- Words of the crate's own parts: no promise rests on them.
 pub mod Below
 pub mod Mosts

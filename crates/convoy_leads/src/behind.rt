@@ -42,7 +42,12 @@ impl Scratch {
 
 impl<'a> Facts<'a> {
     /// What is sure of a message at the target's group.
-    fn sure_of(&self, alloc: Global, windows: &Windows, n: usize) -> Result<Sure, AllocError>
+    pub(crate) fn sure_of(
+        &self,
+        alloc: Global,
+        windows: &Windows,
+        n: usize,
+    ) -> Result<Sure, AllocError>
         requires { n < length self.now.scenario.now.multicasts }
         ensures { IfOk result (λ sure. sure ≡ sure_of self.now.scenario.now
             (tables_by windows.now).times n) }
@@ -58,7 +63,7 @@ impl<'a> Facts<'a> {
     }
 
     /// Whether a message surely arrives at the target's group after the target.
-    fn arrives_behind(&self, windows: &Windows, n: usize) -> bool
+    pub(crate) fn arrives_behind(&self, windows: &Windows, n: usize) -> bool
         requires { n < length self.now.scenario.now.multicasts }
         ensures { result ≡ is_earlier self.now.scenario.now.time
             ((tables_by windows.now).times.greatest_arrival self.now.scenario.now.target_message
@@ -161,7 +166,7 @@ impl<'a> Facts<'a> {
 
     /// Whether a message surely arrives after the target is committed, or its stamp is surely greater
     /// than the target's.
-    fn is_behind(
+    pub(crate) fn is_behind(
         &self,
         windows: &Windows,
         n: usize,
@@ -329,7 +334,7 @@ impl<'a> Facts<'a> {
 
     /// The messages that may arrive at the target's group by when the target is committed there at the
     /// latest.
-    fn rivals(&self, windows: &Windows) -> Messages
+    pub(crate) fn rivals(&self, windows: &Windows) -> Messages
         ensures { result ≡ rivals self.now.scenario.now (tables_by windows.now).times }
     {
         let group = target_group(self.scenario);

@@ -16,7 +16,7 @@ use std::alloc::AllocError;
 
 impl<'a> Setting<'a> {
     /// The last tick at which the target can arrive at a group.
-    fn last_arrival(&self) -> u32
+    pub(crate) fn last_arrival(&self) -> u32
         ensures value { result ≡ last_arrival self.now.scenario.now
             (tables_by self.now.windows.now).times }
         ensures fits { result ≤ LAST_ARRIVAL }
@@ -59,7 +59,7 @@ impl<'a> Setting<'a> {
     }
 
     /// Whether a group is the target's, or the stamp of the target there is surely less.
-    fn is_no_danger(&self, starts: &[Start], group: usize) -> bool
+    pub(crate) fn is_no_danger(&self, starts: &[Start], group: usize) -> bool
         requires { group < MOST_GROUPS }
         ensures { result ≡ ((group == self.now.scenario.now.target_group)
             || is_surely_less self.now.scenario.now
@@ -103,7 +103,7 @@ impl<'a> Setting<'a> {
 
 /// The first tick at which a commit is past each arrival by that tick: in whole ticks that tick itself,
 /// and in real time the next one.
-fn first_past(time: Time, tick: u32) -> u32
+pub(crate) fn first_past(time: Time, tick: u32) -> u32
     requires { tick ≤ LAST_ARRIVAL }
     ensures { result ≡ first_past time tick }
 {

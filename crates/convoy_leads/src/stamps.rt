@@ -18,14 +18,14 @@ use convoy_sim::next_arrival;
 use convoy_sure::{Messages, destinations, lead_at, top_of};
 
 /// Whether a start may come before message `q` arrives at a group by that tick.
-fn may_precede(time: Time, q: usize, group: usize, tick: u32, start: &Start) -> bool
+pub(crate) fn may_precede(time: Time, q: usize, group: usize, tick: u32, start: &Start) -> bool
     ensures { result ≡ may_precede time q group tick start.now }
 {
     start.group() == group && next_arrival(time, start.at()) <= tick && start.message() != q
 }
 
 /// Whether a proposal may have come from a group to another one by that tick.
-fn may_have_come(tick: u32, from: usize, group: usize) -> bool
+pub(crate) fn may_have_come(tick: u32, from: usize, group: usize) -> bool
     ensures { result ≡ may_have_come tick from group }
 {
     from != group && tick > 0
@@ -34,10 +34,10 @@ fn may_have_come(tick: u32, from: usize, group: usize) -> bool
 /// How a group's clock may rise by a start until a message arrives there: by the arrivals of these
 /// others, from that value to that clock, where no message that lowers the value is barred.
 #[derive(Drop)]
-struct Rise {
-    others: Messages,
-    value: u32,
-    clock: u32,
+pub(crate) struct Rise {
+    pub(crate) others: Messages,
+    pub(crate) value: u32,
+    pub(crate) clock: u32,
 }
 
 impl<'a> Setting<'a> {
@@ -63,7 +63,7 @@ impl<'a> Setting<'a> {
     }
 
     /// The clock of a group as message `q` arrives there by that tick, with no commit there before.
-    fn clock_alone(&self, q: usize, group: usize, tick: u32) -> u32
+    pub(crate) fn clock_alone(&self, q: usize, group: usize, tick: u32) -> u32
         requires group { group < MOST_GROUPS }
         ensures small { result ≤ u16.MAX }
         ensures value { result ≡ clock_alone self.now.scenario.now
@@ -75,7 +75,13 @@ impl<'a> Setting<'a> {
 
     /// The messages that may arrive at a group after a start, and before message `q`, which arrives
     /// there by that tick.
-    fn arrivals_after(&self, q: usize, group: usize, tick: u32, start: &Start) -> Messages
+    pub(crate) fn arrivals_after(
+        &self,
+        q: usize,
+        group: usize,
+        tick: u32,
+        start: &Start,
+    ) -> Messages
         requires group { group < MOST_GROUPS }
         ensures { result ≡ filter (λ z. not (z == start.now.message))
             (arrivals_since self.now.scenario.now (tables_by self.now.windows.now).times tick q group
@@ -87,7 +93,7 @@ impl<'a> Setting<'a> {
     }
 
     /// How the clock of a group may rise by a start until message `q` arrives there by that tick.
-    fn rise(&self, q: usize, group: usize, tick: u32, start: &Start) -> Rise
+    pub(crate) fn rise(&self, q: usize, group: usize, tick: u32, start: &Start) -> Rise
         requires group { group < MOST_GROUPS }
         ensures others { result.others ≡ filter (λ z. not (z == start.now.message))
             (arrivals_since self.now.scenario.now (tables_by self.now.windows.now).times tick q group

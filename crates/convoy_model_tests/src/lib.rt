@@ -1,9 +1,11 @@
-//! Tests of the model and what is computed over it: packets, runs, bounds, leads, what a seeker finds,
+//! Tests of the model and what is computed over it: packets, runs, bounds, leads and their chains, what a seeker finds,
 //! timelines and pictures.
 #![tactic(auto)]
 
 #[cfg(test)]
 mod boxes;
+#[cfg(test)]
+mod chains;
 #[cfg(test)]
 mod leads;
 #[cfg(test)]

@@ -7,13 +7,13 @@ use Rattle.convoy_intervals.specs.Laws.{MembersAreEnclosed}
 use Rattle.convoy_monotone.specs.Narrower.{IsInsideBox}
 use Rattle.convoy_monotone.specs.Laws.{InnerTablesAreNarrower}
 
-least_within : (outer inner : Box) → IsInsideBox outer inner → AreWithin outer (least_delays inner)
+pub least_within : (outer inner : Box) → IsInsideBox outer inner → AreWithin outer (least_delays inner)
 least_within [] [] inside = tt
 least_within [] (r ∷ rs) inside = absurd inside
 least_within (o ∷ os) [] inside = absurd inside
 least_within (o ∷ os) (r ∷ rs) inside = ((inside.0.0, omega (arith, inside.0.1, inside.0.2)), least_within os rs inside.1)
 
-greatest_within : (outer inner : Box) → IsInsideBox outer inner → AreWithin outer (greatest_delays inner)
+pub greatest_within : (outer inner : Box) → IsInsideBox outer inner → AreWithin outer (greatest_delays inner)
 greatest_within [] [] inside = tt
 greatest_within [] (r ∷ rs) inside = absurd inside
 greatest_within (o ∷ os) [] inside = absurd inside

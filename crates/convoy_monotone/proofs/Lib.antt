@@ -1,3 +1,11 @@
 pub mod InnerBoxes
 pub mod NarrowTables
 pub mod NarrowReaches
+pub mod Among
+pub mod Firsts
+pub mod TighterWindows
+pub mod LastFirst
+pub mod TighterSure
+pub mod TighterStamps
+pub mod TighterStarts
+pub mod ClosedInside

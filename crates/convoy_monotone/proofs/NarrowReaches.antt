@@ -1,5 +1,5 @@
 -- Reaches over narrower tables are smaller, and more messages surely arrive before another one: so what is surely behind the target stays so.
-use Rattle.std.proofs.Common.{◌≡◌, ℕ, ◌+◌, ◌≤◌, nat_le, nat_lt, ◌==◌, Bool, true, ◌&&◌, ◌||◌, not, inl, inr, List, [], ◌∷◌, length, map, filter, fold, refl, ap, subst, arith}
+use Rattle.std.proofs.Common.{◌≡◌, ℕ, ◌+◌, ◌≤◌, nat_le, nat_lt, ◌==◌, true, ◌&&◌, ◌||◌, not, inl, inr, List, [], ◌∷◌, length, map, fold, refl, subst, arith}
 use Rattle.std.specs.List.{Contains}
 use Rattle.std.proofs.lemmas.Bool.{cases_Bool, and_from, and_parts, or_cases, or_left, or_right, eqb-true}
 use Rattle.std.proofs.lemmas.Bool.Decides.{nat_tests}
@@ -11,7 +11,7 @@ use Rattle.convoy_sim.specs.declared.timestamp.Timestamp.{Timestamp}
 use Rattle.convoy_sim.specs.Moments.{next_arrival}
 use Rattle.convoy_sim.specs.Stamps.{is_less, later, no_stamp}
 use Rattle.convoy_sim.specs.Delivery.{addressed_to}
-use Rattle.convoy_sim.proofs.Membership.{IsIn, filter_keeps, filter_drops, in-filter, in_of_filter, in-map, in_of_map, contains-in, in_of_contains}
+use Rattle.convoy_sim.proofs.Membership.{IsIn, in-filter, in_of_filter, in-map, in_of_map, contains-in, in_of_contains}
 use Rattle.convoy_sim.proofs.Addressed.{goes_from_in, goes_of_addressed}
 use Rattle.convoy_intervals.specs.Bounds.{Tables}
 use Rattle.convoy_stamps.specs.declared.pair.Pair.{Pair}
@@ -21,20 +21,8 @@ use Rattle.convoy_stamps.specs.StampBounds.{sure_before, lowest_stamp, highest_s
 use Rattle.convoy_stamps.specs.Laws.{ReachIsClosed, ReachIsLeast}
 use Rattle.convoy_stamps.proofs.Pairs.{goes_of_pair}
 use Rattle.convoy_monotone.specs.Narrower.{AreNarrower}
+use Rattle.convoy_monotone.proofs.Among.{no_fewer}
 use Rattle.convoy_monotone.proofs.NarrowTables.{le_apart, lt_apart}
-
--- a weaker test passes no fewer elements
-no_fewer : {X : Type 0} (p q : X → Bool) (xs : List X) → ((x : X) → IsIn x xs → p x ≡ true → q x ≡ true) → length (filter p xs) ≤ length (filter q xs)
-no_fewer p q [] h = omega arith
-no_fewer p q (x ∷ xs) h =
-    let rest = no_fewer p q xs (λ y i. h y (inr i)) in
-    elim (cases_Bool (p x)) [
-      | inl e ↦ omega (arith, ap length (filter_keeps p x xs e), ap length (filter_keeps q x xs (h x (inl refl) e)))
-      | inr e ↦ elim (cases_Bool (q x)) [
-        | inl f ↦ omega (arith, ap length (filter_drops p x xs e), ap length (filter_keeps q x xs f))
-        | inr f ↦ omega (arith, ap length (filter_drops p x xs e), ap length (filter_drops q x xs f))
-      ]
-    ]
 
 next_rises : (time : Time) (a b : ℕ) → a ≤ b → next_arrival time a ≤ next_arrival time b
 next_rises Ticks a b l = omega arith

@@ -20,7 +20,7 @@ pub lt_apart : (a b low high : ℕ) → low ≤ a → b ≤ high → nat_lt a b 
 lt_apart a b low high l h t = grind (arith, nat_tests, l, h, t)
 
 module _ (scenario : Scenario) (outer inner : Tables) (well : IsScenario scenario) (narrow : AreNarrower scenario outer inner) where
-  rival_too : (n : ℕ) → IsIn n (rivals scenario inner) → GoesTo scenario n scenario.target_group × IsIn n (rivals scenario outer)
+  pub rival_too : (n : ℕ) → IsIn n (rivals scenario inner) → GoesTo scenario n scenario.target_group × IsIn n (rivals scenario outer)
   rival_too n i =
       let t : ℕ = scenario.target_message in
       let g : ℕ = scenario.target_group in

@@ -1,10 +1,11 @@
--- What is proved of boxes inside other boxes. Each is the one clause of the function of its name in the crate's module `laws`.
-use Rattle.std.specs.Prelude.{◌≤◌}
+-- What is proved of boxes inside other boxes, and of the latencies for which leads close a box. Each is the one clause of the function of its name in the crate's module `laws`.
+use Rattle.std.specs.Prelude.{ℕ, ◌≤◌, IsTrue}
 use Rattle.convoy_scenario.specs.Scenario.{Scenario}
 use Rattle.convoy_scenario.specs.WellFormed.{IsScenario}
-use Rattle.convoy_intervals.specs.Boxes.{Box}
+use Rattle.convoy_intervals.specs.Boxes.{Box, AreRanges}
 use Rattle.convoy_intervals.specs.Bounds.{Tables, tables_of, plain_bound_over, plain_bound}
 use Rattle.convoy_stamps.specs.StampBounds.{stamp_bound_over, stamp_bound}
+use Rattle.convoy_leads.specs.Closing.{closes_by_leads}
 use Rattle.convoy_monotone.specs.Narrower.{IsInsideBox, AreNarrower}
 
 -- the tables of a box inside another one are narrower than those of the other one
@@ -43,3 +44,30 @@ StampBoundFalls =
     → IsScenario scenario
     → IsInsideBox outer inner
     → stamp_bound scenario inner ≤ stamp_bound scenario outer
+
+-- leads close a box inside another one for each latency for which they close that one
+abbrev pub LeadsCloseInside : Type 0
+LeadsCloseInside =
+    (scenario : Scenario) (outer inner : Box) (latency : ℕ)
+    → IsScenario scenario
+    → IsInsideBox outer inner
+    → IsTrue (closes_by_leads scenario outer latency)
+    → IsTrue (closes_by_leads scenario inner latency)
+
+-- leads that close a box for a latency close it for each greater one
+abbrev pub LeadsCloseForMore : Type 0
+LeadsCloseForMore =
+    (scenario : Scenario) (ranges : Box) (latency more : ℕ)
+    → IsScenario scenario
+    → AreRanges ranges
+    → latency ≤ more
+    → IsTrue (closes_by_leads scenario ranges latency)
+    → IsTrue (closes_by_leads scenario ranges more)
+
+-- leads close a box for each latency that is no less than its plain bound
+abbrev pub LeadsCloseFromPlain : Type 0
+LeadsCloseFromPlain =
+    (scenario : Scenario) (ranges : Box) (latency : ℕ)
+    → IsScenario scenario
+    → plain_bound scenario ranges ≤ latency
+    → IsTrue (closes_by_leads scenario ranges latency)

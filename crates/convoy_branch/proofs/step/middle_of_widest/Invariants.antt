@@ -1,6 +1,6 @@
 use Rattle.std.proofs.Common.{◌≡◌, ℕ, ◌+◌, ◌<◌, ◌≤◌, length}
 use Rattle.convoy_intervals.specs.Boxes.{range_at}
-use Rattle.convoy_branch.proofs.step.place_to_split.Given as goal
+use Rattle.convoy_branch.proofs.step.middle_of_widest.Given as goal
 
 abbrev pub invariant-loop-packet : goal.invariant-loop-packet
 invariant-loop-packet l = record {

@@ -1,6 +1,6 @@
 use Rattle.std.proofs.Common.{◌≡◌, arith, rules}
 use Rattle.std.proofs.lemmas.List.Elements.{All-from_get_or}
-use Rattle.convoy_branch.proofs.step.place_to_split.Goals as goal
+use Rattle.convoy_branch.proofs.step.middle_of_widest.Goals as goal
 
 pub returns-then-width-eq0-clause-point : goal.returns-then-width-eq0-clause-point
 returns-then-width-eq0-clause-point c =

@@ -1,0 +1,62 @@
+ghost use Rattle.std.specs.Prelude.{◌<◌, length, IfOk, IfSome};
+ghost use Rattle.convoy_intervals.specs.Boxes.{CanSplit, IsBox};
+ghost use Rattle.convoy_chains.specs.Chains.{IsWide};
+
+use super::want::Want;
+use super::wants::wants_of;
+use convoy_intervals::DelayBox;
+use convoy_leads::opening_of;
+use convoy_packets::Instance;
+use std::alloc::{AllocError, Global};
+
+/// Where to split a box that leads do not close for a latency in ticks: a packet, and the delay after
+/// which its range is to be split. None where the chain that keeps the box open speaks of no packet
+/// that may take several delays.
+///
+/// The packet is one of which two links of the chain want different delays, and its range is split
+/// halfway between them; or else it is any of which the chain speaks, and its range is split in the
+/// middle. Of several it is that of the widest range, and of these the first (docs/LEADS.md, "Where a
+/// box is split"). The error is that memory ran out; all that is taken is given back.
+pub fn place_by_leads(
+    alloc: Global,
+    instance: &Instance,
+    delay_box: &DelayBox,
+    latency: u32,
+) -> Result<Option<(u16, u16)>, AllocError>
+    requires inside { IsBox instance.now delay_box.now }
+    ensures part { IfOk result
+        (λ found. IfSome found (λ place. CanSplit delay_box.now place.0 place.1)) }
+{
+    let Some(opening) = opening_of(alloc, instance, delay_box, latency)? else {
+        return Ok(None);
+    };
+    let wants = wants_of(alloc, instance, &opening, latency)?;
+    Ok(place_by_wants(delay_box, &wants))
+}
+
+/// Where a box is to be split by what is wanted of its packets.
+fn place_by_wants(delay_box: &DelayBox, wants: &[Want]) -> Option<(u16, u16)>
+    ensures { IfSome result (λ place. CanSplit delay_box.now place.0 place.1) }
+{
+    let heaviest = heaviest_of(delay_box, wants)?;
+    let at = wants[heaviest].place(delay_box.range(heaviest));
+    let packet = u16::try_from(heaviest).ok()?;
+    Some((packet, at))
+}
+
+/// The first packet of which most is to be had from a split; none where nothing is to be had of any.
+fn heaviest_of(delay_box: &DelayBox, wants: &[Want]) -> Option<usize>
+    ensures wanted { IfSome result (λ packet. packet < length wants.now) }
+    ensures wide { IfSome result (λ packet. IsWide delay_box.now packet) }
+{
+    let mut heaviest = None;
+    let mut weight = 0;
+    for packet in 0..delay_box.len().min(wants.len()) {
+        let other = wants[packet].weight(delay_box.range(packet));
+        if other > weight {
+            heaviest = Some(packet);
+            weight = other;
+        }
+    }
+    heaviest
+}
