@@ -4,5 +4,6 @@ pub mod SameKinds
 pub mod WithinRanges
 pub mod Bound
 pub mod FourDelays
+pub mod Asked
 pub mod Passing
 pub mod Rows

@@ -5,3 +5,4 @@ pub use Rattle.convoy_sim.specs.Delivery
 pub use Rattle.convoy_sim.specs.Greatest
 -- The ceiling: a number that no latency exceeds, whatever traffic of a scenario's kinds of messages there is.
 pub mod Ceiling
+pub mod Targets

@@ -29,7 +29,7 @@ pub fn ceiling(scenario: &Scenario, message: usize, group: usize) -> u32
 }
 
 /// Whether a message goes to a group.
-fn goes_to(scenario: &Scenario, message: usize, group: usize) -> bool
+pub fn goes_to(scenario: &Scenario, message: usize, group: usize) -> bool
     requires { message < length scenario.now.multicasts }
     ensures { result ≡ is_addressed (message_at scenario.now message) group }
 {
@@ -37,7 +37,7 @@ fn goes_to(scenario: &Scenario, message: usize, group: usize) -> bool
 }
 
 /// The longest from the issue of a message to its commit at a group.
-fn longest_to_commit(scenario: &Scenario, message: usize, group: usize) -> u32
+pub fn longest_to_commit(scenario: &Scenario, message: usize, group: usize) -> u32
     requires { message < length scenario.now.multicasts }
     ensures value { result ≡ longest_to_commit scenario.now message group }
     ensures fits { result ≤ 2 * u16.MAX }
@@ -66,7 +66,7 @@ fn longest_after(scenario: &Scenario, group: usize) -> u32
 }
 
 /// The longest from the arrival of a message at a group to its commit there.
-fn longest_from_arrival(scenario: &Scenario, group: usize, message: usize) -> u32
+pub fn longest_from_arrival(scenario: &Scenario, group: usize, message: usize) -> u32
     requires { message < length scenario.now.multicasts }
     ensures value { result ≡ longest_from_arrival scenario.now group message }
     ensures fits { result ≤ 2 * u16.MAX }
@@ -87,7 +87,7 @@ fn longest_by(scenario: &Scenario, sender: Sender, group: usize, via: usize) -> 
 
 /// The least and the greatest delay from a sender to a group, in ticks; what a group sends to itself takes
 /// no time.
-fn delays_between(scenario: &Scenario, sender: Sender, to: usize) -> (u16, u16)
+pub fn delays_between(scenario: &Scenario, sender: Sender, to: usize) -> (u16, u16)
     ensures { result ≡ delays_between scenario.now sender to }
 {
     match sender {

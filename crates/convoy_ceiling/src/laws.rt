@@ -8,6 +8,7 @@ ghost use Rattle.convoy_ceiling.specs.Ceiling.{
   CeilingIsUpper,
   CeilingWithinFourDelays,
 };
+ghost use Rattle.convoy_ceiling.specs.Targets.{CeilingBoundsTraffic, OwnKindsAreTraffic};
 
 use convoy_packets::laws::{delays_are_within, fixed_order_is_order, unsent_takes_no_time};
 use convoy_sim::laws::traffic_delivery_bound;
@@ -50,3 +51,15 @@ pub fn ceiling_within_four_delays()
 pub fn ceiling_below_four_delays()
     ensures { CeilingBelowFourDelays }
 {}
+
+/// Each scenario is traffic of its own kinds of messages, in which the same is asked.
+pub fn own_kinds_are_traffic()
+    ensures { OwnKindsAreTraffic }
+{}
+
+/// In traffic that asks the same as a scenario no latency is above the scenario's ceiling.
+pub fn ceiling_bounds_traffic()
+    ensures { CeilingBoundsTraffic }
+{
+    ceiling_holds();
+}

@@ -5,6 +5,7 @@ pub use Rattle.convoy_scenario.specs.WellFormed
 pub use Rattle.convoy_scenario.specs.Draft
 pub use Rattle.convoy_scenario.specs.Numbering
 pub use Rattle.convoy_toml.specs.Reading
+pub use Rattle.convoy_toml_writer.specs.Text as ScenarioText
 pub use Rattle.convoy_scenario.specs.declared.fault.ScenarioFault
 pub use Rattle.convoy_scenario.specs.declared.time.Time
 -- the lines of a scenario in a certificate
@@ -30,6 +31,8 @@ pub use Rattle.convoy_sim.specs.Greatest
 pub use Rattle.convoy_finer.specs.FinerTicks
 -- the ceiling, in traffic of a scenario's kinds of messages
 pub use Rattle.convoy_ceiling.specs.Ceiling
+pub use Rattle.convoy_ceiling.specs.Targets
+pub use Rattle.convoy_traffic.specs.Finding
 -- certificates: their text, and when they are valid
 pub use Rattle.convoy_certificate.specs.Certificate
 pub use Rattle.convoy_certificate.specs.Text
