@@ -130,10 +130,7 @@ fn write_name(
     text: &mut String,
 ) -> Result<(), AllocError> {
     let (x, y) = (LEFT - ASIDE, sheet.y_of(lane).saturating_add(40));
-    let name = match lane.checked_sub(1) {
-        Some(group) => group_name(scenario, group),
-        None => "clients",
-    };
+    let name = lane_name(scenario, lane);
     let weight = if lane == lane_of(Sender::Group(scenario.target_group())) {
         "bold"
     } else {
@@ -150,25 +147,38 @@ fn write_name(
     )
 }
 
+/// The name of a lane.
+fn lane_name(scenario: &Scenario, lane: usize) -> &str {
+    match lane.checked_sub(1) {
+        Some(group) => group_name(scenario, group),
+        None => "clients",
+    }
+}
+
 /// A lane that far down: a line through each stretch, and two strokes in the middle of each cut.
 fn write_lane(sheet: &Sheet, down: u32, text: &mut String) -> Result<(), AllocError> {
-    let low = down.saturating_add(60);
     let mut end: Option<u32> = None;
     for stretch in sheet.scale.stretches() {
         let left = stretch.left.saturating_sub(80);
         if let Some(end) = end {
-            let middle = (end / 2).saturating_add(left / 2);
-            let (first, second) = (middle.saturating_sub(55), middle.saturating_sub(5));
-            write!(
-                text,
-                "<path d=\"M{first} {low}l60 -120M{second} {low}l60 -120\"/>\n"
-            )?;
+            write_cut(end, left, down, text)?;
         }
         let right = sheet.scale.right_of(stretch).saturating_add(80);
         write!(text, "<path d=\"M{left} {down}H{right}\"/>\n")?;
         end = Some(right);
     }
     Ok(())
+}
+
+/// Two strokes in the middle between the end of a line and the next one, that far down.
+fn write_cut(end: u32, left: u32, down: u32, text: &mut String) -> Result<(), AllocError> {
+    let low = down.saturating_add(60);
+    let middle = (end / 2).saturating_add(left / 2);
+    let (first, second) = (middle.saturating_sub(55), middle.saturating_sub(5));
+    write!(
+        text,
+        "<path d=\"M{first} {low}l60 -120M{second} {low}l60 -120\"/>\n"
+    )
 }
 
 /// The time from the commit of the target to its delivery, at its group.

@@ -34,14 +34,25 @@ pub(crate) fn legend(
     sheet: &Sheet,
 ) -> Result<String, AllocError> {
     let mut text = String::new(alloc);
-    let y = sheet.bottom.saturating_add(400);
-    write_colors(alloc, scenario, picture, y, &mut text)?;
-    write_lines(sheet, y.saturating_add(LINE), &mut text)?;
-    let waits = picture.why().holder.is_some();
-    write_signs(alloc, waits, y.saturating_add(LINE + LINE), &mut text)?;
-    let y = y.saturating_add(LINE + LINE + LINE);
-    write!(&mut text, "<text x=\"{MARGIN}\" y=\"{y}\">{NOTE}</text>\n")?;
+    write_legend(alloc, scenario, picture, sheet, &mut text)?;
     Ok(text)
+}
+
+/// The parts of the legend, one below the other.
+fn write_legend(
+    alloc: Global,
+    scenario: &Scenario,
+    picture: &Picture,
+    sheet: &Sheet,
+    text: &mut String,
+) -> Result<(), AllocError> {
+    let y = sheet.bottom.saturating_add(400);
+    write_colors(alloc, scenario, picture, y, text)?;
+    write_lines(sheet, y.saturating_add(LINE), text)?;
+    let waits = picture.why().holder.is_some();
+    write_signs(alloc, waits, y.saturating_add(LINE + LINE), text)?;
+    let y = y.saturating_add(LINE + LINE + LINE);
+    write!(text, "<text x=\"{MARGIN}\" y=\"{y}\">{NOTE}</text>\n")
 }
 
 /// The colours of the messages.
@@ -52,26 +63,44 @@ fn write_colors(
     down: u32,
     text: &mut String,
 ) -> Result<(), AllocError> {
-    let target = message_name(scenario, scenario.target_message());
-    let words = format!(in alloc; "{target}, whose delivery it is about")?;
-    let mut x = write_line(MARGIN, down, (color_of(Role::Target), PLAIN), &words, text)?;
+    let name = message_name(scenario, scenario.target_message());
+    let words = format!(in alloc; "{name}, whose delivery it is about")?;
+    let mut x = write_color(MARGIN, down, Role::Target, &words, text)?;
     if let Some(holder) = &picture.why().holder {
         let name = message_name(scenario, holder.message);
         let words = format!(in alloc; "{name}, which holds it back")?;
-        x = write_line(x, down, (color_of(Role::Holder), PLAIN), &words, text)?;
+        x = write_color(x, down, Role::Holder, &words, text)?;
     }
-    let _ = write_line(
-        x,
-        down,
-        (color_of(Role::Other), PLAIN),
-        "other messages",
-        text,
-    )?;
+    let _ = write_color(x, down, Role::Other, "other messages", text)?;
     Ok(())
+}
+
+/// A line in the colour of a role, with words; answers where the next sample stands.
+fn write_color(
+    across: u32,
+    down: u32,
+    role: Role,
+    words: &str,
+    text: &mut String,
+) -> Result<u32, AllocError> {
+    write_line(across, down, (color_of(role), PLAIN), words, text)
 }
 
 /// The lines of packets, and how many signs have no words.
 fn write_lines(sheet: &Sheet, down: u32, text: &mut String) -> Result<(), AllocError> {
+    let x = write_samples(down, text)?;
+    let wordless = sheet.wordless();
+    if wordless == 0 {
+        return Ok(());
+    }
+    write!(
+        text,
+        "<text x=\"{x}\" y=\"{down}\">signs without room for words: {wordless}</text>\n"
+    )
+}
+
+/// The lines of packets; answers where the next sample stands.
+fn write_samples(down: u32, text: &mut String) -> Result<u32, AllocError> {
     let mut x = MARGIN;
     for (style, words) in [
         (PLAIN, "a message on its way"),
@@ -80,14 +109,7 @@ fn write_lines(sheet: &Sheet, down: u32, text: &mut String) -> Result<(), AllocE
     ] {
         x = write_line(x, down, ("#000000", style), words, text)?;
     }
-    let wordless = sheet.wordless();
-    if wordless > 0 {
-        write!(
-            text,
-            "<text x=\"{x}\" y=\"{down}\">signs without room for words: {wordless}</text>\n"
-        )?;
-    }
-    Ok(())
+    Ok(x)
 }
 
 /// A line of that colour and style, with words; answers where the next sample stands.

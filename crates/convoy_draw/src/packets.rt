@@ -91,23 +91,32 @@ fn line(
         sheet.scale.place(flight.arrival, message),
         sheet.y_of(lane_of(Sender::Group(receiver_of(flight.packet)))),
     );
-    let width = if is_awaited(last, flight.number) {
-        THICK
-    } else {
-        ""
-    };
+    let width = width_for(last, flight.number);
     match flight.packet {
         Packet::Multicast { .. } => {
             format!(in alloc; r#"<path d="M{left} {from}L{right} {to}"{width}/>"#)
         }
-        Packet::Propose { .. } => {
-            let bend = (left / 2).saturating_add(right / 2).saturating_add(160);
-            let middle = (from / 2).saturating_add(to / 2);
-            format!(in alloc;
-                r#"<path d="M{left} {from}Q{bend} {middle} {right} {to}" stroke-dasharray="60 40"{width}/>"#
-            )
-        }
+        Packet::Propose { .. } => bent_line(alloc, (left, from), (right, to), width),
     }
+}
+
+/// A dashed line from a point to another, in a bow.
+fn bent_line(
+    alloc: Global,
+    (left, from): (u32, u32),
+    (right, to): (u32, u32),
+    width: &str,
+) -> Result<String, AllocError> {
+    let bend = (left / 2).saturating_add(right / 2).saturating_add(160);
+    let middle = (from / 2).saturating_add(to / 2);
+    format!(in alloc;
+        r#"<path d="M{left} {from}Q{bend} {middle} {right} {to}" stroke-dasharray="60 40"{width}/>"#
+    )
+}
+
+/// How wide the packet of that number is drawn, where that is not as the others of its role.
+fn width_for(last: &LastProposal, number: usize) -> &'static str {
+    if is_awaited(last, number) { THICK } else { "" }
 }
 
 /// Whether the delivery of the target waits for the packet of that number.

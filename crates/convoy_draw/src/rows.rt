@@ -33,11 +33,11 @@ impl Rows {
     /// Puts a word into the first row in which it has room, or into a new one; none where there are as
     /// many rows as there may be.
     pub(crate) fn put(&mut self, (start, end): (u32, u32)) -> Result<Option<usize>, AllocError> {
-        if let Some(row) = self.ends.iter().position(|last| *last < start) {
-            if let Some(last) = self.ends.get_mut(row) {
+        for (row, last) in self.ends.iter_mut().enumerate() {
+            if *last < start {
                 *last = end;
+                return Ok(Some(row));
             }
-            return Ok(Some(row));
         }
         if self.ends.len() >= self.most {
             return Ok(None);

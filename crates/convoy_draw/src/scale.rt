@@ -201,30 +201,28 @@ fn busy_stretches(
     spans: &[(u32, u32)],
     idle: u32,
 ) -> Result<Vec<Stretch>, AllocError> {
-    let mut stretches = Vec::new(alloc);
-    let mut open: Option<Stretch> = None;
+    let mut stretches: Vec<Stretch> = Vec::new(alloc);
     for (first, last) in spans {
-        open = match open {
-            Some(stretch) if *first <= stretch.last.saturating_add(idle) => Some(Stretch {
-                last: stretch.last.max(*last),
-                ..stretch
-            }),
-            other => {
-                if let Some(stretch) = other {
-                    stretches.push(stretch)?;
-                }
-                Some(Stretch {
-                    first: *first,
-                    last: *last,
-                    left: LEFT,
-                })
-            }
-        };
-    }
-    if let Some(stretch) = open {
-        stretches.push(stretch)?;
+        if !is_longer(&mut stretches, *first, *last, idle) {
+            stretches.push(Stretch {
+                first: *first,
+                last: *last,
+                left: LEFT,
+            })?;
+        }
     }
     Ok(stretches)
+}
+
+/// Makes the last stretch longer by a span that begins soon enough for that, and answers whether it does.
+fn is_longer(stretches: &mut [Stretch], first: u32, last: u32, idle: u32) -> bool {
+    match stretches.last_mut() {
+        Some(stretch) if first <= stretch.last.saturating_add(idle) => {
+            stretch.last = stretch.last.max(last);
+            true
+        }
+        _ => false,
+    }
 }
 
 /// How many cuts there are between so many stretches.

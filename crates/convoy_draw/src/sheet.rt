@@ -209,10 +209,19 @@ impl Sheet {
 
     /// How many marks have no words beside them.
     pub(crate) fn wordless(&self) -> usize {
-        let issues = self.issue_rows.iter().filter(|row| row.is_none()).count();
-        let entries = self.entry_rows.iter().filter(|row| row.is_none()).count();
-        issues.saturating_add(entries)
+        missing(&self.issue_rows).saturating_add(missing(&self.entry_rows))
     }
+}
+
+/// How many of these rows there are not.
+fn missing(rows: &[Option<usize>]) -> usize {
+    let mut count: usize = 0;
+    for row in rows {
+        if row.is_none() {
+            count = count.saturating_add(1);
+        }
+    }
+    count
 }
 
 /// The lane of a place: that of the clients comes first, and then the groups by number.

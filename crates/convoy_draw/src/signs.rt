@@ -163,18 +163,9 @@ pub(crate) fn labels(
     sheet: &Sheet,
 ) -> Result<String, AllocError> {
     let mut layers = Layers::new(alloc);
-    for message in 0..scenario.message_count() {
-        let label = issue_label(alloc, scenario, message)?;
-        let mark = issue_mark(scenario, message);
-        let words = words_at(alloc, sheet, &mark, sheet.issue_row(message), &label)?;
-        layers.push(Role::of(scenario, picture, message), &words)?;
-    }
+    push_issue_labels(&mut layers, alloc, scenario, picture, sheet)?;
     push_entry_labels(&mut layers, alloc, scenario, picture, sheet)?;
-    if let Some(mark) = wait_mark(scenario, picture) {
-        let label = wait_label(alloc, scenario, picture)?;
-        let words = words_at(alloc, sheet, &mark, sheet.wait_row(), &label)?;
-        layers.push(Role::Target, &words)?;
-    }
+    push_wait_label(&mut layers, alloc, scenario, picture, sheet)?;
     let text = layers.joined(
         alloc,
         r##"fill="#767676""##,
@@ -184,6 +175,39 @@ pub(crate) fn labels(
     format!(in alloc;
         r##"<g stroke="#ffffff" stroke-width="36" stroke-linejoin="round" paint-order="stroke">{text}</g>"##
     )
+}
+
+/// The words on messages where they are issued.
+fn push_issue_labels(
+    layers: &mut Layers,
+    alloc: Global,
+    scenario: &Scenario,
+    picture: &Picture,
+    sheet: &Sheet,
+) -> Result<(), AllocError> {
+    for message in 0..scenario.message_count() {
+        let label = issue_label(alloc, scenario, message)?;
+        let mark = issue_mark(scenario, message);
+        let words = words_at(alloc, sheet, &mark, sheet.issue_row(message), &label)?;
+        layers.push(Role::of(scenario, picture, message), &words)?;
+    }
+    Ok(())
+}
+
+/// The words that tell how long the target waits.
+fn push_wait_label(
+    layers: &mut Layers,
+    alloc: Global,
+    scenario: &Scenario,
+    picture: &Picture,
+    sheet: &Sheet,
+) -> Result<(), AllocError> {
+    let Some(mark) = wait_mark(scenario, picture) else {
+        return Ok(());
+    };
+    let label = wait_label(alloc, scenario, picture)?;
+    let words = words_at(alloc, sheet, &mark, sheet.wait_row(), &label)?;
+    layers.push(Role::Target, &words)
 }
 
 /// The words on what happens at groups.

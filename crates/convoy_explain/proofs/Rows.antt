@@ -20,7 +20,7 @@ use Rattle.convoy_explain.specs.PacketLists.{packet_line, packet_text, packets_t
 -- the base with every packet's delay three ticks, where y holds t back
 base_threes : text_of base (explanation_of base (in_fixed_order (replicate 8 3))) 1 ≡
     codes "t at a: at worst 12 ticks, from its issue at tick 0 to its delivery at tick 12" ++ 10 ∷ (
-    codes "committed at a at tick 6 with stamp 2.b, given by b at tick 3" ++ 10 ∷ (
+    codes "committed at a at tick 6 with stamp 2.b, given by b at tick 3, after x in a tie" ++ 10 ∷ (
     codes "held back by y, which came to a at tick 6 with stamp 2.a, before 2.b" ++ 10 ∷ (
     codes "y is committed at a at tick 12, when the last proposal comes:" ++ 10 ∷ (
     codes "  tick 6   a sends y to b, packet 5, 3 ticks" ++ 10 ∷ (
@@ -31,7 +31,7 @@ base_threes = refl
 
 swapped_threes : text_of swapped (explanation_of swapped (in_fixed_order (replicate 8 3))) 1_469 ≡
     codes "t at a: at worst 6 ticks, from its issue at tick 0 to its delivery at tick 6" ++ 10 ∷ (
-    codes "committed at a at tick 6 with stamp 2.b, given by b at tick 3" ++ 10 ∷ (
+    codes "committed at a at tick 6 with stamp 2.b, given by b at tick 3, after x in a tie" ++ 10 ∷ (
     codes "no message holds it back: it is delivered as it is committed" ++ 10 ∷ (
     codes "t is committed at a at tick 6, when the last proposal comes:" ++ 10 ∷ (
     codes "  tick 0   a client sends t to b, packet 1, 3 ticks" ++ 10 ∷ (

@@ -12,7 +12,7 @@ use Rattle.convoy_sim.specs.Delivery.{deliver}
 use Rattle.convoy_sim.specs.Laws.{FinalStampIsLocal, LocalStampNamesGroup}
 use Rattle.convoy_sim.proofs.Membership.{IsIn}
 use Rattle.convoy_sim.proofs.Addressed.{goes_from_in, number_of_goes}
-use Rattle.convoy_explain.specs.Causes.{awaited, explanation_of, holder_of, holder_with, is_last_ahead, is_real, is_tied_before, last_proposer, proposal_of, stamped_of, tied_before}
+use Rattle.convoy_explain.specs.Causes.{awaited, explanation_of, holder_of, holder_with, is_last_ahead, is_tied_before, last_proposer, proposal_of, stamped_of, tied_before}
 use Rattle.convoy_explain.specs.Laws.{HoldersHold, IsRightHolder, LastProposalsCommit}
 use Rattle.convoy_explain.specs.Told.{committed_told, delivered_told, explanation_told, final_told, holder_told, is_last_ahead_told, is_tied_before_told, last_proposer_told, proposal_told, propose_told, stamped_told, tied_before_told}
 
@@ -82,8 +82,7 @@ module _ (plan : Scenario) (schedule : Schedule) (run : Run) (told : IsRunOf pla
   tied_before-true : (m g : ℕ) → GoesTo plan m g → tied_before_told plan run m g ≡ tied_before plan schedule m g
   unfolding tied_before_told tied_before
   tied_before-true m g goes =
-      ap (λ found. cond (is_real plan.time) found None)
-      (find_same (is_tied_before_told plan run m g) (is_tied_before plan schedule m g) (message_numbers plan) (λ n i. tied-true m g n goes))
+      find_same (is_tied_before_told plan run m g) (is_tied_before plan schedule m g) (message_numbers plan) (λ n i. tied-true m g n goes)
 
   propose-true : (n g h : ℕ) → GoesTo plan n h → propose_told (packets_of plan) schedule run n g h ≡ propose_arrive plan schedule n g h
   unfolding delay_of

@@ -93,10 +93,9 @@ is_tied_before scenario schedule m g n =
     && (arrive scenario schedule n g == arrive scenario schedule m g)
     && is_less (local_stamp scenario schedule n g) (local_stamp scenario schedule m g)
 
--- the message that comes to group g in the tick in which message m does and before it, the first where there are several; none in whole ticks, where ties have no choice
+-- the message that comes to group g in the tick in which message m does and before it, the first where there are several
 unfoldable pub tied_before : Scenario → Schedule → ℕ → ℕ → Option ℕ
-tied_before scenario schedule m g =
-    if is_real scenario.time then find (is_tied_before scenario schedule m g) (message_numbers scenario) else None
+tied_before scenario schedule m g = find (is_tied_before scenario schedule m g) (message_numbers scenario)
 
 -- why message m is delivered at group g when it is
 abbrev pub explanation_at : Scenario → Schedule → ℕ → ℕ → Explanation

@@ -9,7 +9,7 @@ use Rattle.convoy_sim.specs.declared.run.Proposal.{Proposal}
 use Rattle.convoy_sim.specs.declared.timestamp.Timestamp.{Timestamp}
 use Rattle.convoy_sim.specs.Run.{Run, proposed_of, committed_of, delivered_of, final_stamp_of}
 use Rattle.convoy_sim.specs.Stamps.{is_less, no_stamp}
-use Rattle.convoy_explain.specs.Causes.{flight_in, holder_with, is_real}
+use Rattle.convoy_explain.specs.Causes.{flight_in, holder_with}
 use Rattle.convoy_explain.specs.declared.explanation.Explanation.{Explanation}
 use Rattle.convoy_explain.specs.declared.explanation.Holder.{Holder}
 use Rattle.convoy_explain.specs.declared.explanation.LastProposal.{LastProposal}
@@ -85,8 +85,7 @@ is_tied_before_told scenario run m g n =
 
 -- the message that comes to group g in the tick in which message m does and before it
 unfoldable pub tied_before_told : Scenario → Run → ℕ → ℕ → Option ℕ
-tied_before_told scenario run m g =
-    if is_real scenario.time then find (is_tied_before_told scenario run m g) (message_numbers scenario) else None
+tied_before_told scenario run m g = find (is_tied_before_told scenario run m g) (message_numbers scenario)
 
 -- why message m is delivered at group g when it is
 abbrev pub explanation_told_at : Scenario → List Packet → Schedule → Run → ℕ → ℕ → Explanation

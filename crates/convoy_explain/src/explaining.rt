@@ -4,7 +4,7 @@ ghost use Rattle.convoy_packets.specs.Table.{table_of};
 ghost use Rattle.convoy_packets.specs.declared.packet.Packet.TheVariants.{Multicast, Propose};
 ghost use Rattle.convoy_scenario.specs.Scenario.{message_at, is_addressed};
 ghost use Rattle.convoy_sim.specs.Run.{IsRunOf};
-ghost use Rattle.convoy_explain.specs.Causes.{explanation_of, flight_in, is_real};
+ghost use Rattle.convoy_explain.specs.Causes.{explanation_of, flight_in};
 ghost use Rattle.convoy_explain.specs.Told.{committed_told, delivered_told, explanation_told, final_told};
 ghost use Rattle.convoy_explain.specs.Told.{holder_told, holder_told_at, is_last_ahead_told};
 ghost use Rattle.convoy_explain.specs.Told.{last_proposal_told, last_proposer_told, propose_told};
@@ -13,7 +13,7 @@ ghost use Rattle.convoy_explain.specs.Told.{proposal_told, stamped_told, is_tied
 use super::explanation::{Explanation, Flight, Holder, LastProposal};
 use super::laws::{holders_hold, last_proposals_commit};
 use convoy_packets::{Instance, PacketTable, Schedule};
-use convoy_scenario::{Scenario, Time};
+use convoy_scenario::Scenario;
 use convoy_sim::laws::{final_stamp_is_local, local_stamp_names_group};
 use convoy_sim::{Proposal, Run, Timestamp};
 
@@ -92,30 +92,17 @@ fn is_last_ahead(scenario: &Scenario, run: &Run, message: usize, group: usize, o
         && committed(run, other, group) == delivered(run, message, group)
 }
 
-/// The message that comes to a group in the tick in which a message does, and before it, where time is
-/// real.
+/// The message that comes to a group in the tick in which a message does, and before it.
 #[tactic(auto, unfolding(crate::specs::Told::tied_before_told))]
 fn tied_before(scenario: &Scenario, run: &Run, message: usize, group: usize) -> Option<usize>
     ensures { result ≡ tied_before_told scenario.now run.now message group }
 {
-    if !is_real(scenario.time()) {
-        return None;
-    }
     for other in 0..scenario.message_count() {
         if is_tied_before(scenario, run, message, group, other) {
             return Some(other);
         }
     }
     None
-}
-
-fn is_real(time: Time) -> bool
-    ensures { result ≡ is_real time }
-{
-    match time {
-        Time::Ticks => false,
-        Time::Real => true,
-    }
 }
 
 /// Whether another message comes to a group in the tick in which a message does, and before it.

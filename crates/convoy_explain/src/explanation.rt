@@ -47,8 +47,8 @@ pub struct Explanation {
     pub committed: u32,
     /// The target's final stamp, and the tick at which the group that it names gave it.
     pub stamped: Proposal,
-    /// The message that comes to that group in the same tick as the target, and before it, where time is
-    /// real: the first by number, if there is one. The order of the two is a tie's.
+    /// The message that comes to that group in the same tick as the target, and before it: the first by
+    /// number, if there is one. The order of the two is a tie's.
     pub tied: Option<usize>,
     /// The message that holds the target back up to its delivery: one that is committed in that tick
     /// and came with a stamp less than the final one of the target. None where the target is delivered

@@ -38,6 +38,14 @@ impl fmt::Display for Line<'_> {
     }
 }
 
+impl Line<'_> {
+    /// The packet that the line splits, and after how many ticks; None where it is no split or not at
+    /// hand.
+    pub(crate) fn split(&self) -> Option<(usize, u16)> {
+        split_of(self.text?)
+    }
+}
+
 impl<'a> Body<'a> {
     /// The body of a certificate of which that many bytes are at hand, all if it is whole; None where
     /// its schedule is not among them.

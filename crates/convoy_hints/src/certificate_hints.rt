@@ -4,7 +4,7 @@ use super::tree_hints::hint_for_refused;
 use convoy_certificate::{TextFault, read};
 use convoy_checker::{Refusal, Refused};
 use convoy_packets::Instance;
-use convoy_scenario::ScenarioFault;
+use convoy_scenario::{Scenario, ScenarioFault};
 use convoy_scenario_hints::{
     Quoted, hint_for_bytes, hint_for_damage, hint_for_order, hint_for_schedule, hint_for_sketch,
     is_meant_as_certificate, is_meant_as_scenario, with_label,
@@ -41,7 +41,7 @@ fn hint_for_refused_text(
     match hint_for_damage(alloc, text)? {
         Some(hint) => Ok(Some(hint)),
         None if is_meant_as_certificate(text) => hint_for_lines(alloc, text, whole, fault),
-        None => Ok(Some(hint_for_other_text(alloc, text)?)),
+        None => hint_for_other_text(alloc, text).map(Some),
     }
 }
 
@@ -93,15 +93,16 @@ fn hint_for_lines(
     }
     match fault {
         TextFault::Line(number, expected) if whole || is_ended(words, number) => {
-            Ok(Some(hint_for_line(alloc, words, number, expected)?))
+            hint_for_line(alloc, words, number, expected).map(Some)
         }
         TextFault::Line(_, _) | TextFault::TreeCount | TextFault::Memory => Ok(None),
         TextFault::Scenario(fault) => hint_for_scenario_lines(alloc, words, fault),
         TextFault::Schedule => hint_for_schedule_lines(alloc, text),
-        TextFault::AfterEnd => Ok(Some(String::from_str(
+        TextFault::AfterEnd => String::from_str(
             alloc,
             "something follows the line 'end': cut the text after that line",
-        )?)),
+        )
+        .map(Some),
     }
 }
 
@@ -123,12 +124,18 @@ fn hint_for_cut_bytes(
     if !whole && text.len().saturating_sub(offset) < LONGEST_CHARACTER {
         return Ok(None);
     }
-    Ok(Some(hint_for_bytes(alloc, text, offset)?))
+    hint_for_bytes(alloc, text, offset).map(Some)
 }
 
 /// Whether the text has the end of its line of that number, from 1.
 fn is_ended(text: &str, number: usize) -> bool {
-    text.bytes().filter(|byte| *byte == b'\n').count() >= number
+    let mut ends: usize = 0;
+    for byte in text.bytes() {
+        if byte == b'\n' {
+            ends = ends.saturating_add(1);
+        }
+    }
+    ends >= number
 }
 
 /// The line of that number, from 1, without the byte 10 that ends it; None where the text ends before it.
@@ -155,20 +162,40 @@ fn hint_for_schedule_lines(alloc: Global, text: &[u8]) -> Result<Option<String>,
         return Ok(None);
     };
     let _ = reader.line();
-    let delays = numbers_of(alloc, reader.line().unwrap_or(b""))?;
+    let delays = reader.line().unwrap_or(b"");
+    let ranks = reader.line().unwrap_or(b"");
     let instance = Instance::of(alloc, scenario)?;
-    let hint = hint_for_schedule(alloc, &instance, &delays)?;
-    if hint.is_some() || !has_order(text) {
-        return Ok(hint);
+    match hint_for_delays(alloc, &instance, delays)? {
+        None if has_order(text) => hint_for_ranks(alloc, instance.scenario(), ranks),
+        hint => Ok(hint),
     }
-    let ranks = numbers_of(alloc, reader.line().unwrap_or(b""))?;
-    if let Some(hint) = hint_for_order(alloc, instance.scenario(), &ranks)? {
-        return Ok(Some(hint));
+}
+
+/// What is wrong with the delays of a line.
+fn hint_for_delays(
+    alloc: Global,
+    instance: &Instance,
+    line: &[u8],
+) -> Result<Option<String>, AllocError> {
+    let delays = numbers_of(alloc, line)?;
+    hint_for_schedule(alloc, instance, &delays)
+}
+
+/// What is wrong with the ranks of a line, the delays before it being right.
+fn hint_for_ranks(
+    alloc: Global,
+    scenario: &Scenario,
+    line: &[u8],
+) -> Result<Option<String>, AllocError> {
+    let ranks = numbers_of(alloc, line)?;
+    match hint_for_order(alloc, scenario, &ranks)? {
+        Some(hint) => Ok(Some(hint)),
+        None => String::from_str(
+            alloc,
+            "the ranks are all 0, and the line is to be 'order' alone",
+        )
+        .map(Some),
     }
-    Ok(Some(String::from_str(
-        alloc,
-        "the ranks are all 0, and the line is to be 'order' alone",
-    )?))
 }
 
 /// The first lines of certificates.

@@ -56,10 +56,10 @@ pub fn hint_for_length(alloc: Global, text: &[u8], most: usize) -> Result<String
     )
 }
 
-/// Whether a line of the text is the one between two scenarios.
+/// Whether a line of the text is one between two scenarios.
 fn has_divider(text: &[u8]) -> bool {
-    text.split(|byte| *byte == b'\n')
-        .any(|line| line == b"---".as_slice())
+    text.split(|byte| *byte == b'\n').any(|line| line == b"---".as_slice()
+        || line.starts_with(b"--- ".as_slice()))
 }
 
 /// What to do with too many jobs, in one line `hint: ..`.

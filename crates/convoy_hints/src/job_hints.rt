@@ -1,15 +1,9 @@
+use super::dividers::hint_for_dividers;
 use convoy_scenario::ScenarioFault;
 use convoy_scenario_hints::{hint_for_fault, noun};
 use convoy_streams::{JobFault, Splitter};
 use convoy_toml::read_toml;
 use std::alloc::{AllocError, Global};
-
-/// A job of a batch: its number, and the number of its first line in the text, both from 1.
-#[derive(Clone, Copy, Drop)]
-struct Place {
-    job: usize,
-    line: usize,
-}
 
 /// What is wrong with the jobs of a batch, in a line `hint: job ..` for each that has a fault. Each has
 /// at most `longest` bytes. The text may have been cut, where it is not `whole`: of the job that was cut
@@ -20,73 +14,140 @@ pub fn hint_for_batch(
     whole: bool,
     longest: usize,
 ) -> Result<Option<String>, AllocError> {
-    let mut hints = String::new(alloc);
-    let mut splitter = Splitter::new(alloc, longest);
-    let mut place = Place { job: 1, line: 1 };
-    let mut line: usize = 1;
+    let mut jobs = Jobs::of(alloc, text, longest);
     for byte in text {
-        if *byte == b'\n' {
-            line = line.saturating_add(1);
-        }
-        if splitter.take(*byte) {
-            add_hint(alloc, place, splitter.job(), longest, &mut hints)?;
-            splitter.start_next();
-            place = next(place, line);
-        }
+        jobs.take(*byte)?;
     }
-    if !whole {
-        if splitter.job() == Err(JobFault::TooLong) {
-            add_hint(alloc, place, splitter.job(), longest, &mut hints)?;
-        }
-    } else {
-        if splitter.finish() {
-            add_hint(alloc, place, splitter.job(), longest, &mut hints)?;
-            splitter.start_next();
-            place = next(place, line.saturating_add(1));
-        }
-        add_hint(alloc, place, splitter.job(), longest, &mut hints)?;
+    if whole {
+        jobs.finish()?;
+    } else if jobs.splitter.job() == Err(JobFault::TooLong) {
+        jobs.add_hint()?;
     }
-    Ok((!hints.is_empty()).then_some(hints))
+    Ok((!jobs.hints.is_empty()).then_some(jobs.hints))
 }
 
-/// The place of the next job, which begins at that line.
-fn next(place: Place, line: usize) -> Place {
-    Place {
-        job: place.job.saturating_add(1),
-        line,
-    }
+/// A job of a batch: its number and the number of its first line, both from 1, and the place in the text at
+/// which it begins.
+#[derive(Clone, Copy, Drop)]
+struct Place {
+    job: usize,
+    line: usize,
+    start: usize,
 }
 
-/// Adds the hint for a job, where there is one.
-fn add_hint(
+/// The jobs of a text that is taken byte by byte, and the hints for those that have ended.
+#[derive(Drop)]
+struct Jobs<'a> {
     alloc: Global,
-    place: Place,
-    job: Result<&[u8], JobFault>,
+    text: &'a [u8],
     longest: usize,
-    hints: &mut String,
-) -> Result<(), AllocError> {
-    let hint = match job {
-        Ok(text) => hint_for_job(alloc, text)?,
-        Err(JobFault::TooLong) => {
-            let bytes = noun(longest == 1, "byte", "bytes");
-            Some(format!(in alloc;
-                "it has more than {longest} {bytes}, which is the most that is read"
-            )?)
+    splitter: Splitter,
+    /// The job under way.
+    place: Place,
+    /// How many bytes were taken.
+    taken: usize,
+    /// The line of the next byte.
+    line: usize,
+    hints: String,
+}
+
+impl<'a> Jobs<'a> {
+    /// The jobs of that text, of which nothing was taken yet.
+    fn of(alloc: Global, text: &'a [u8], longest: usize) -> Jobs<'a> {
+        Jobs {
+            alloc,
+            text,
+            longest,
+            splitter: Splitter::new(alloc, longest),
+            place: Place {
+                job: 1,
+                line: 1,
+                start: 0,
+            },
+            taken: 0,
+            line: 1,
+            hints: String::new(alloc),
         }
-        Err(JobFault::Memory) => None,
-    };
-    if let Some(hint) = hint {
-        let (job, line) = (place.job, place.line);
-        let told = format!(in alloc; "hint: job {job}, which begins at line {line}: {hint}\n")?;
-        hints.push_str(told.as_str())?;
     }
-    Ok(())
+
+    /// Takes the next byte of the text.
+    fn take(&mut self, byte: u8) -> Result<(), AllocError> {
+        let was_named = self.is_named();
+        let ends = self.splitter.take(byte);
+        self.taken = self.taken.saturating_add(1);
+        if byte == b'\n' {
+            self.line = self.line.saturating_add(1);
+        }
+        if ends {
+            self.add_hint()?;
+            self.start_next();
+        } else if self.is_named() && !was_named {
+            self.begin(self.place.job);
+        }
+        Ok(())
+    }
+
+    /// The text is over.
+    fn finish(&mut self) -> Result<(), AllocError> {
+        if self.splitter.finish() {
+            self.add_hint()?;
+            self.line = self.line.saturating_add(1);
+            self.start_next();
+        }
+        self.add_hint()
+    }
+
+    /// Whether the job under way has a label.
+    fn is_named(&self) -> bool {
+        !self.splitter.label().is_empty()
+    }
+
+    /// Starts the next job, after a divider.
+    fn start_next(&mut self) {
+        self.splitter.start_next();
+        self.begin(self.place.job.saturating_add(1));
+    }
+
+    /// The text of the job of that number begins here.
+    fn begin(&mut self, job: usize) {
+        self.place = Place {
+            job,
+            line: self.line,
+            start: self.taken,
+        };
+    }
+
+    /// Adds the hint for the job that ended, where there is one.
+    fn add_hint(&mut self) -> Result<(), AllocError> {
+        let alloc = self.alloc;
+        let label = std::str::from_utf8(self.splitter.label()).unwrap_or("");
+        let hint = match self.splitter.job() {
+            Ok(text) => hint_for_job(alloc, label, text)?,
+            Err(JobFault::TooLong) => {
+                let raw = self.text.get(self.place.start..self.taken).unwrap_or(&[]);
+                Some(hint_for_long_job(alloc, raw, self.longest)?)
+            }
+            Err(JobFault::Memory) => None,
+        };
+        if let Some(hint) = hint {
+            let (job, line) = (self.place.job, self.place.line);
+            let space = if label.is_empty() { "" } else { " " };
+            let told = format!(in alloc;
+                "hint: job {job}{space}{label}, which begins at line {line}: {hint}\n"
+            )?;
+            self.hints.push_str(told.as_str())?;
+        }
+        Ok(())
+    }
 }
 
 /// What is wrong with the scenario of a job; None where nothing is. Lines are counted within the job.
-fn hint_for_job(alloc: Global, text: &[u8]) -> Result<Option<String>, AllocError> {
+fn hint_for_job(alloc: Global, label: &str, text: &[u8]) -> Result<Option<String>, AllocError> {
     match read_toml(alloc, text) {
         Ok(_) | Err(ScenarioFault::Memory) => Ok(None),
+        Err(_) if text.iter().all(|byte| byte.is_ascii_whitespace()) => {
+            Ok(Some(hint_for_nothing(alloc, label)?))
+        }
         Err(fault) => match hint_for_dividers(alloc, text)? {
             Some(hint) => Ok(Some(hint)),
             None => hint_for_fault(alloc, text, fault),
@@ -94,20 +155,24 @@ fn hint_for_job(alloc: Global, text: &[u8]) -> Result<Option<String>, AllocError
     }
 }
 
-/// What is wrong with the lines around a job, or in it, that are to divide the jobs.
-fn hint_for_dividers(alloc: Global, text: &[u8]) -> Result<Option<String>, AllocError> {
-    if text.iter().all(|byte| byte.is_ascii_whitespace()) {
+/// What is wrong with a job that has no scenario.
+fn hint_for_nothing(alloc: Global, label: &str) -> Result<String, AllocError> {
+    if label.is_empty() {
         let hint =
             "it is empty: a line '---' stands between two scenarios, and not before the first or after the last";
-        return Ok(Some(String::from_str(alloc, hint)?));
+        return String::from_str(alloc, hint);
     }
-    let mut lines = text.split(|byte| *byte == b'\n');
-    let Some(before) = lines.position(|line| line == b"---\r".as_slice()) else {
-        return Ok(None);
-    };
-    let line = before.saturating_add(1);
+    format!(in alloc; "it is empty: no scenario stands after the line '--- {label}'")
+}
+
+/// What is wrong with a job that is too long, which begins so. Lines that were to divide it may be the cause.
+fn hint_for_long_job(alloc: Global, text: &[u8], longest: usize) -> Result<String, AllocError> {
+    let bytes = noun(longest == 1, "byte", "bytes");
     let hint = format!(in alloc;
-        "line {line} is '---' with a carriage return after it: between two scenarios stands '---' alone"
+        "it has more than {longest} {bytes}, which is the most that is read"
     )?;
-    Ok(Some(hint))
+    match hint_for_dividers(alloc, text)? {
+        Some(cause) => format!(in alloc; "{hint}; {cause}"),
+        None => Ok(hint),
+    }
 }

@@ -4,20 +4,21 @@
 #![tactic(auto)]
 
 pub use certificate_hints::hint_for_certificate;
-pub use convoy_scenario_hints::hint_for_scenario;
+pub use convoy_scenario_hints::{hint_for_run, hint_for_scenario};
 pub use device_hints::{
     hint_for_jobs, hint_for_length, hint_for_reading, hint_for_writing, line_for_file,
 };
 pub use job_hints::hint_for_batch;
 pub use search_hints::{
-    hint_for_both, hint_for_first, hint_for_leads, hint_for_limit, hint_for_real_time,
-    hint_for_tickets, is_in_real_time,
+    hint_for_both, hint_for_ceiling, hint_for_first, hint_for_leads, hint_for_limit,
+    hint_for_real_time, hint_for_tickets, is_in_real_time,
 };
 pub use word_hints::hint_for_words;
 
 mod body;
 mod certificate_hints;
 mod device_hints;
+mod dividers;
 mod job_hints;
 mod lines;
 mod paths;

@@ -42,14 +42,14 @@ pub(crate) fn scenario_in(alloc: Global, text: &[u8]) -> Option<(Scenario, LineR
 
 /// The numbers in a line `schedule` or `order`; none where its bytes are not UTF-8.
 pub(crate) fn numbers_of(alloc: Global, line: &[u8]) -> Result<Vec<i64>, AllocError> {
-    match std::str::from_utf8(line) {
-        Ok(line) => line
-            .split(' ')
-            .skip(1)
-            .map(|word| number_of(word))
-            .collect(alloc),
-        Err(_) => Ok(Vec::new(alloc)),
+    let mut numbers = Vec::new(alloc);
+    let Ok(line) = std::str::from_utf8(line) else {
+        return Ok(numbers);
+    };
+    for word in line.split(' ').skip(1) {
+        numbers.push(number_of(word))?;
     }
+    Ok(numbers)
 }
 
 /// Adds what a line says.

@@ -1,6 +1,6 @@
 use convoy_scenario::Time;
 use convoy_scenario_hints::noun;
-use convoy_toml::read_toml;
+use convoy_toml::read_toml_any_target;
 use std::alloc::{AllocError, Global};
 
 /// What an answer of `first` is, for a person who did not ask for it by that word, in one line `hint: ..`.
@@ -8,6 +8,19 @@ pub fn hint_for_first(alloc: Global) -> Result<String, AllocError> {
     String::from_str(
         alloc,
         "hint: this is one schedule alone, that of the least delays: 'convoy latency' finds the greatest latency\n",
+    )
+}
+
+/// What to do where the traffic that was found by so many simulations at most does not attain the ceiling,
+/// in one line `hint: ..`: to rely on the ceiling, or to let more schedules be tried.
+pub fn hint_for_ceiling(alloc: Global, simulations: u64, most: u64) -> Result<String, AllocError> {
+    let rest = if simulations < most {
+        format!(in alloc; ", and with more schedules, as with '--seek {most}', some traffic may")?
+    } else {
+        String::new(alloc)
+    };
+    format!(in alloc;
+        "hint: no latency is above the ceiling; the traffic that was found does not attain it{rest}\n"
     )
 }
 
@@ -34,16 +47,26 @@ pub fn hint_for_both(
     by_leads: u64,
     most: u64,
 ) -> Result<String, AllocError> {
-    let and = format!(in alloc; " by plain bounds and {by_leads} by leads")?;
-    let rest = if by_leads < most {
-        let highest = by_plain.saturating_add(most);
-        format!(in alloc; "{and}: '--limit {highest}' allows the most by leads")?
-    } else {
-        format!(in alloc;
-            "{and}: no latency is above the second number, and '--bounds stamp --limit 4000000' may bring the two nearer"
-        )?
-    };
+    let rest = rest_of_both(alloc, by_plain, by_leads, most)?;
     hint_for_search(alloc, by_plain, rest.as_str())
+}
+
+/// How the line of such a search goes on after its tickets by plain bounds.
+fn rest_of_both(
+    alloc: Global,
+    by_plain: u64,
+    by_leads: u64,
+    most: u64,
+) -> Result<String, AllocError> {
+    if by_leads < most {
+        let highest = by_plain.saturating_add(most);
+        return format!(in alloc;
+            " by plain bounds and {by_leads} by leads: '--limit {highest}' allows the most by leads"
+        );
+    }
+    format!(in alloc;
+        " by plain bounds and {by_leads} by leads: no latency is above the second number, and '--bounds stamp --limit 4000000' may bring the two nearer"
+    )
 }
 
 /// What to do where a search by leads did not end with that many tickets, of `most` that it may have, in
@@ -67,26 +90,36 @@ pub fn hint_for_real_time(
     by_leads: u64,
     most: u64,
 ) -> Result<String, AllocError> {
-    let rest = if by_leads == 0 {
-        String::from_str(alloc, "with '--bounds lead' it mostly does")?
-    } else if by_leads < most {
+    let way = way_in_real_time(alloc, by_bounds, by_leads, most)?;
+    format!(in alloc; "hint: the search in real time did not end: {way}\n")
+}
+
+/// What to do where such a search did not end.
+fn way_in_real_time(
+    alloc: Global,
+    by_bounds: u64,
+    by_leads: u64,
+    most: u64,
+) -> Result<String, AllocError> {
+    if by_leads == 0 {
+        return String::from_str(alloc, "with '--bounds lead' it mostly does");
+    }
+    if by_leads < most {
         let noun = noun(by_leads == 1, "ticket", "tickets");
         let highest = by_bounds.saturating_add(most);
-        format!(in alloc;
+        return format!(in alloc;
             "where it has spent its {by_leads} {noun} by leads, '--limit {highest}' allows the most; else more schedules, as with '--seek 1000000', may raise the first number"
-        )?
-    } else {
-        String::from_str(
-            alloc,
-            "no latency is above the second number, and more schedules, as with '--seek 1000000', may raise the first",
-        )?
-    };
-    format!(in alloc; "hint: the search in real time did not end: {rest}\n")
+        );
+    }
+    String::from_str(
+        alloc,
+        "no latency is above the second number, and more schedules, as with '--seek 1000000', may raise the first",
+    )
 }
 
 /// Whether a text is that of a scenario in real time. Not so where memory ran out.
 pub fn is_in_real_time(alloc: Global, text: &[u8]) -> bool {
-    match read_toml(alloc, text) {
+    match read_toml_any_target(alloc, text) {
         Ok(input) => input.scenario.time() == Time::Real,
         Err(_) => false,
     }

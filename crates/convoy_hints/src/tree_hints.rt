@@ -1,6 +1,6 @@
 use super::body::{Body, Line, split_of};
 use super::lines::scenario_in;
-use super::paths::{path_to, range_along};
+use super::paths::{Half, path_to, range_along};
 use convoy_checker::Refused;
 use convoy_packets::PacketTable;
 use convoy_scenario_hints::noun;
@@ -18,17 +18,17 @@ pub(crate) fn hint_for_refused(
         return Ok(None);
     };
     match refused {
-        Refused::Latency(simulated) => Ok(Some(hint_for_latency(alloc, &body, simulated)?)),
+        Refused::Latency(simulated) => hint_for_latency(alloc, &body, simulated).map(Some),
         Refused::Split(node) => hint_for_split(alloc, &body, node),
         Refused::TreeCount => hint_for_count(alloc, &body),
         Refused::BoundLeaf(node, bound) => {
-            Ok(Some(hint_for_bound(alloc, &body, node, "plain", bound)?))
+            hint_for_bound(alloc, &body, node, "plain", bound).map(Some)
         }
         Refused::PointLeaf(node) => hint_for_point(alloc, &body, node),
         Refused::StampLeaf(node, bound) => {
-            Ok(Some(hint_for_bound(alloc, &body, node, "stamp", bound)?))
+            hint_for_bound(alloc, &body, node, "stamp", bound).map(Some)
         }
-        Refused::LeadLeaf(node) => Ok(Some(hint_for_lead(alloc, &body, node)?)),
+        Refused::LeadLeaf(node) => hint_for_lead(alloc, &body, node).map(Some),
         Refused::Memory => Ok(None),
     }
 }
@@ -50,33 +50,42 @@ fn hint_for_split(
     node: usize,
 ) -> Result<Option<String>, AllocError> {
     let line = body.line_of(node);
-    let Some((packet, at)) = line.text.and_then(|text| split_of(text)) else {
-        let hint = format!(in alloc;
+    let Some((packet, at)) = line.split() else {
+        return format!(in alloc;
             "{line} splits a packet that the scenario does not have, or after a delay at which its range there can't be split"
-        )?;
-        return Ok(Some(hint));
+        ).map(Some);
     };
     let Some(table) = packets_of(alloc, body)? else {
         return Ok(None);
     };
     let Some(range) = table.ranges().get(packet).copied() else {
-        return Ok(Some(hint_for_packet(alloc, &line, packet, table.len())?));
+        return hint_for_packet(alloc, &line, packet, table.len()).map(Some);
     };
     let path = path_to(alloc, body, node)?;
-    let (least, most) = range_along(&path, packet, range);
+    let taken = range_along(&path, packet, range);
+    hint_for_delay(alloc, &line, packet, at, taken).map(Some)
+}
+
+/// A line splits a packet after a delay at which its range there, from the first number to the second,
+/// can't be split.
+fn hint_for_delay(
+    alloc: Global,
+    line: &Line<'_>,
+    packet: usize,
+    at: u16,
+    (least, most): (u16, u16),
+) -> Result<String, AllocError> {
     let ticks = noun(at == 1, "tick", "ticks");
     if least == most {
         let taken = noun(least == 1, "tick", "ticks");
-        let hint = format!(in alloc;
+        return format!(in alloc;
             "{line} splits packet {packet} after {at} {ticks}, and there it takes {least} {taken} in each schedule"
-        )?;
-        return Ok(Some(hint));
+        );
     }
     let last = most.saturating_sub(1);
-    let hint = format!(in alloc;
+    format!(in alloc;
         "{line} splits packet {packet} after {at} {ticks}, and there it takes {least} to {most} ticks: A may be {least} to {last}"
-    )?;
-    Ok(Some(hint))
+    )
 }
 
 /// The packets of the scenario; None where its lines have a fault.
@@ -115,18 +124,10 @@ fn hint_for_count(alloc: Global, body: &Body<'_>) -> Result<Option<String>, Allo
     for (node, text) in body.text.lines().skip(body.head).enumerate() {
         let line = body.head.saturating_add(node).saturating_add(1);
         if text == "end" {
-            let leaves = noun(open == 1, "leaf is", "leaves are");
-            let hint = format!(in alloc;
-                "line {line}, \"end\", comes before the tree is whole: at least {open} {leaves} missing"
-            )?;
-            return Ok(Some(hint));
+            return hint_for_end(alloc, line, open).map(Some);
         }
         if open == 0 {
-            let line = body.line_of(node);
-            let hint = format!(in alloc;
-                "{line} comes after the tree is whole: 'end' is to stand there"
-            )?;
-            return Ok(Some(hint));
+            return hint_for_further(alloc, &body.line_of(node)).map(Some);
         }
         open = if split_of(text).is_some() {
             open.saturating_add(1)
@@ -135,6 +136,19 @@ fn hint_for_count(alloc: Global, body: &Body<'_>) -> Result<Option<String>, Allo
         };
     }
     Ok(None)
+}
+
+/// The nodes end in that line, though so many leaves are missing at least.
+fn hint_for_end(alloc: Global, line: usize, open: usize) -> Result<String, AllocError> {
+    let leaves = noun(open == 1, "leaf is", "leaves are");
+    format!(in alloc;
+        "line {line}, \"end\", comes before the tree is whole: at least {open} {leaves} missing"
+    )
+}
+
+/// A node comes after the tree is whole.
+fn hint_for_further(alloc: Global, line: &Line<'_>) -> Result<String, AllocError> {
+    format!(in alloc; "{line} comes after the tree is whole: 'end' is to stand there")
 }
 
 /// The bound of a leaf is above the stated latency.
@@ -160,31 +174,54 @@ fn hint_for_point(
     node: usize,
 ) -> Result<Option<String>, AllocError> {
     let line = body.line_of(node);
-    let stated = body.latency;
-    let stating = body.latency_line;
     if line.text.is_none() {
-        let hint = format!(in alloc;
-            "{line} closes a box of several schedules, or of one whose latency is above the {stated} that line {stating} states"
-        )?;
-        return Ok(Some(hint));
+        return hint_for_box(alloc, body, &line, "several schedules, or of one").map(Some);
     }
     let Some(table) = packets_of(alloc, body)? else {
         return Ok(None);
     };
     let path = path_to(alloc, body, node)?;
-    for (packet, range) in table.ranges().iter().enumerate() {
-        let (least, most) = range_along(&path, packet, *range);
+    match first_open(table.ranges(), &path) {
+        Some((packet, taken)) => hint_for_range(alloc, &line, packet, taken).map(Some),
+        None => hint_for_box(alloc, body, &line, "one schedule,").map(Some),
+    }
+}
+
+/// A point leaf closes a box that is told so, with a schedule whose latency is above the stated one.
+fn hint_for_box(
+    alloc: Global,
+    body: &Body<'_>,
+    line: &Line<'_>,
+    schedules: &'static str,
+) -> Result<String, AllocError> {
+    let stated = body.latency;
+    let stating = body.latency_line;
+    format!(in alloc;
+        "{line} closes a box of {schedules} whose latency is above the {stated} that line {stating} states"
+    )
+}
+
+/// The first packet with several delays at the end of a path, and the least and the greatest of them.
+fn first_open(ranges: &[(u16, u16)], path: &[Half]) -> Option<(usize, (u16, u16))> {
+    for (packet, range) in ranges.iter().enumerate() {
+        let (least, most) = range_along(path, packet, *range);
         if least < most {
-            let hint = format!(in alloc;
-                "{line} closes a box of one schedule alone, and in its box packet {packet} takes {least} to {most} ticks"
-            )?;
-            return Ok(Some(hint));
+            return Some((packet, (least, most)));
         }
     }
-    let hint = format!(in alloc;
-        "{line} closes a box of one schedule, whose latency is above the {stated} that line {stating} states"
-    )?;
-    Ok(Some(hint))
+    None
+}
+
+/// The box of a point leaf has several schedules, since a packet has these delays there.
+fn hint_for_range(
+    alloc: Global,
+    line: &Line<'_>,
+    packet: usize,
+    (least, most): (u16, u16),
+) -> Result<String, AllocError> {
+    format!(in alloc;
+        "{line} closes a box of one schedule alone, and in its box packet {packet} takes {least} to {most} ticks"
+    )
 }
 
 /// A lead leaf names a latency above the stated one, or one for which leads don't close its box.
@@ -192,7 +229,7 @@ fn hint_for_lead(alloc: Global, body: &Body<'_>, node: usize) -> Result<String, 
     let line = body.line_of(node);
     let stated = body.latency;
     let stating = body.latency_line;
-    let Some(named) = line.text.and_then(|text| lead_of(text)) else {
+    let Some(named) = lead_of(&line) else {
         return format!(in alloc;
             "{line} names a latency above the {stated} that line {stating} states, or one for which leads do not close its box"
         );
@@ -207,7 +244,7 @@ fn hint_for_lead(alloc: Global, body: &Body<'_>, node: usize) -> Result<String, 
     )
 }
 
-/// The latency that a lead leaf names; None where the line is none.
-fn lead_of(line: &str) -> Option<u32> {
-    line.strip_prefix("c ")?.parse().ok()
+/// The latency that a lead leaf names; None where the line is none or not at hand.
+fn lead_of(line: &Line<'_>) -> Option<u32> {
+    line.text?.strip_prefix("c ")?.parse().ok()
 }

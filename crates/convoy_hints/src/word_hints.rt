@@ -3,19 +3,26 @@ use std::alloc::{AllocError, Global};
 use std::convert::AsStr;
 
 /// The commands, each of which reads a text.
-const COMMANDS: [&str; 10] = [
-    "analyse", "explain", "draw", "latency", "batch", "check", "first", "simulate", "timeline",
-    "packets",
+const COMMANDS: [&str; 13] = [
+    "analyse", "explain", "draw", "latency", "ceiling", "survey", "batch", "check", "scenario",
+    "first", "simulate", "timeline", "packets",
 ];
 
 /// The options that have a value.
-const WITH_VALUE: [&str; 4] = ["--limit", "--seek", "--bounds", "--workers"];
+const WITH_VALUE: [&str; 5] = ["--limit", "--seek", "--bounds", "--workers", "--format"];
 
 /// The options that have none.
-const WITHOUT_VALUE: [&str; 2] = ["--progress", "--quiet"];
+const WITHOUT_VALUE: [&str; 3] = ["--progress", "--status", "--quiet"];
 
 /// Options by which other programs let a file be named, and this one does not.
 const FILE_OPTIONS: [&str; 4] = ["-i", "-f", "--input", "--file"];
+
+/// Options by which other programs let a format be chosen, and the formats.
+const FORMAT_OPTIONS: [(&str, &str); 3] = [
+    ("--text", "text"),
+    ("--csv", "csv"),
+    ("--json", "json"),
+];
 
 /// What the next word of a command line is the value of.
 #[derive(Clone, Copy, Debug)]
@@ -35,6 +42,10 @@ struct Sorted<'a> {
     settings: Vec<&'a str>,
     /// The file that an option is to name.
     by_option: Option<&'a str>,
+    /// Whether an option names a format.
+    names_format: bool,
+    /// Whether an option is itself a format.
+    is_format: bool,
     /// Whether there is an option of which nothing is known.
     is_strange: bool,
 }
@@ -46,6 +57,8 @@ impl<'a> Sorted<'a> {
             operands: Vec::new(alloc),
             settings: Vec::new(alloc),
             by_option: None,
+            names_format: false,
+            is_format: false,
             is_strange: false,
         };
         let mut due = None;
@@ -76,17 +89,32 @@ impl<'a> Sorted<'a> {
             self.by_option = Some(value.unwrap_or("FILE"));
             return Ok(value.is_none().then_some(Due::File));
         }
+        if let Some(format) = format_of(word) {
+            self.is_format = true;
+            self.settings.push("--format")?;
+            self.settings.push(format)?;
+            return Ok(None);
+        }
         let has_value = WITH_VALUE.contains(&name);
         if !has_value && !WITHOUT_VALUE.contains(&name) {
             self.is_strange = true;
             return Ok(None);
         }
+        self.names_format = self.names_format || name == "--format";
         self.settings.push(word)?;
         Ok((has_value && value.is_none()).then_some(Due::Setting))
     }
 
-    /// The command that is named, or the one that most people ask for.
+    /// The command that is named, or the one that most people ask for: of a table that is `survey`.
     fn command(&self) -> &'a str {
+        if self.is_misformatted() {
+            return "survey";
+        }
+        self.named_command()
+    }
+
+    /// The command that is named, or the one that most people ask for.
+    fn named_command(&self) -> &'a str {
         for operand in &self.operands {
             if is_command(operand) {
                 return operand;
@@ -95,8 +123,13 @@ impl<'a> Sorted<'a> {
         "latency"
     }
 
-    /// What is wrong with how a file is named, and the file that is meant.
-    fn mistake(&self) -> Option<(&'static str, &'a str)> {
+    /// Whether a format is named of which the command knows nothing, or by an option that there is not.
+    fn is_misformatted(&self) -> bool {
+        self.is_format || self.names_format && self.named_command() != "survey"
+    }
+
+    /// What is wrong with how a file or a format is named, and the file that is meant, if one is.
+    fn mistake(&self) -> Option<(&'static str, Option<&'a str>)> {
         let operands = self.operands.as_slice();
         if self.is_strange
             || matches!(operands, [word, ..] if !is_command(word) && !is_file(word))
@@ -104,18 +137,24 @@ impl<'a> Sorted<'a> {
             return None;
         }
         match (self.by_option, operands) {
-            (Some(file), _) => Some(("a file is named without an option", file)),
+            (Some(file), _) => Some(("a file is named without an option", Some(file))),
             (None, [command, file, _, ..]) if is_command(command) => {
-                Some(("one run reads one file", file))
+                Some(("one run reads one file", Some(file)))
             }
-            (None, [file, ..]) if is_file(file) => Some(("a file stands after a command", file)),
+            (None, [file, ..]) if is_file(file) => {
+                Some(("a file stands after a command", Some(file)))
+            }
+            (None, [_, rest @ ..]) if self.is_misformatted() => Some((
+                "'survey' alone writes a table, in the format that '--format' names",
+                rest.first().copied(),
+            )),
             _ => None,
         }
     }
 }
 
-/// What to write in place of a command line that is rejected for how it names a file, in one line
-/// `hint: ..`. None where that is not what is wrong, or not all.
+/// What to write in place of a command line that is rejected for how it names a file or a format, in one
+/// line `hint: ..`. None where that is not what is wrong, or not all.
 pub fn hint_for_words<S: AsStr>(alloc: Global, words: &[S]) -> Result<Option<String>, AllocError> {
     let sorted = Sorted::of(alloc, words)?;
     let Some((mistake, file)) = sorted.mistake() else {
@@ -127,9 +166,11 @@ pub fn hint_for_words<S: AsStr>(alloc: Global, words: &[S]) -> Result<Option<Str
         line.push_str(" ")?;
         line.push_str(setting)?;
     }
-    let file = shown(alloc, file)?;
-    line.push_str(" ")?;
-    line.push_str(file.as_str())?;
+    if let Some(file) = file {
+        let file = shown(alloc, file)?;
+        line.push_str(" ")?;
+        line.push_str(file.as_str())?;
+    }
     line.push_str("\n")?;
     Ok(Some(line))
 }
@@ -141,6 +182,16 @@ fn shown(alloc: Global, file: &str) -> Result<String, AllocError> {
     }
     let file = Quoted(file);
     format!(in alloc; "{file}")
+}
+
+/// The format that an option is, by which other programs let it be chosen.
+fn format_of(option: &str) -> Option<&'static str> {
+    for (name, format) in FORMAT_OPTIONS {
+        if name == option {
+            return Some(format);
+        }
+    }
+    None
 }
 
 /// Whether a word is a command.

@@ -15,7 +15,7 @@ pub fn hint_for_damage(alloc: Global, text: &[u8]) -> Result<Option<String>, All
     } else {
         return Ok(None);
     };
-    Ok(Some(String::from_str(alloc, hint)?))
+    String::from_str(alloc, hint).map(Some)
 }
 
 /// Where the bytes of a text are not UTF-8, after the first `offset` of them, which are: the line, from 1.
@@ -36,8 +36,12 @@ pub fn hint_for_bytes(alloc: Global, text: &[u8], offset: usize) -> Result<Strin
 
 /// Whether the first line ends with a carriage return.
 fn has_carriage_returns(text: &[u8]) -> bool {
-    match text.iter().position(|byte| *byte == b'\n') {
-        Some(end) => text.iter().take(end).last() == Some(&b'\r'),
-        None => text.ends_with(b"\r"),
+    let mut last = 0;
+    for byte in text {
+        if *byte == b'\n' {
+            break;
+        }
+        last = *byte;
     }
+    last == b'\r'
 }

@@ -50,19 +50,24 @@ const _: () = prove!(LONGEST_DURATION == 1_000_000_000_000_000);
 
 /// What follows the digits and points at the head of a text, without spaces around it.
 fn unit_in(text: &str) -> &str {
-    let end = text
-        .bytes()
-        .position(|byte| !byte.is_ascii_digit() && byte != b'.')
-        .unwrap_or(text.len());
+    let end = number_end(text, true);
     text.get(end..).unwrap_or("").trim()
+}
+
+/// How many digits stand at the head of a text; points among them count too if it `has_points`.
+fn number_end(text: &str, has_points: bool) -> usize {
+    for (place, byte) in text.bytes().enumerate() {
+        let is_point = has_points && byte == b'.';
+        if !byte.is_ascii_digit() && !is_point {
+            return place;
+        }
+    }
+    text.len()
 }
 
 /// Whether the digits at the head of a text are too many of the unit.
 fn is_too_long(text: &str, unit: TimeUnit) -> bool {
-    let end = text
-        .bytes()
-        .position(|byte| !byte.is_ascii_digit())
-        .unwrap_or(text.len());
+    let end = number_end(text, false);
     match text.get(..end).unwrap_or("").parse::<u64>() {
         Ok(count) => count.saturating_mul(unit.nanoseconds()) > LONGEST_DURATION,
         Err(_) => true,

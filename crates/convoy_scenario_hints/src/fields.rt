@@ -6,6 +6,9 @@ pub(crate) enum Kind {
     Time,
     Text,
     Texts,
+    /// A text, or an array of texts that is not empty.
+    Names,
+    Flag,
     Integers,
     Table,
     Tables,
@@ -120,18 +123,24 @@ pub(crate) const LINKS: [Field; 1] = [Field {
 }];
 
 /// The keys of a link.
-pub(crate) const LINK_KEYS: [Field; 4] = [
+pub(crate) const LINK_KEYS: [Field; 5] = [
     Field {
         key: "from",
-        kind: Kind::Text,
+        kind: Kind::Names,
         is_needed: false,
         sample: "from = \"a\"",
     },
     Field {
         key: "to",
-        kind: Kind::Text,
+        kind: Kind::Names,
         is_needed: true,
         sample: "to = \"b\"",
+    },
+    Field {
+        key: "both",
+        kind: Kind::Flag,
+        is_needed: false,
+        sample: "both = true",
     },
     Field {
         key: "least",

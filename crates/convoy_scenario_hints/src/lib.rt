@@ -9,7 +9,9 @@ pub use damage::{hint_for_bytes, hint_for_damage};
 pub use inputs::{is_meant_as_certificate, is_meant_as_scenario};
 pub use part::{Part, PartKind};
 pub use quoting::Quoted;
-pub use scenario_hints::{hint_for_fault, hint_for_scenario, hint_for_sketch, with_label};
+pub use scenario_hints::{
+    hint_for_fault, hint_for_run, hint_for_scenario, hint_for_sketch, with_label,
+};
 pub use schedules::{hint_for_order, hint_for_schedule};
 pub use sketch::{Link, Multicast, Sketch};
 

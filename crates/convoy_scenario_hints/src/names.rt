@@ -16,21 +16,33 @@ pub(crate) fn hint_for_bad_name(
 
 /// Which name of a group is none, and why.
 fn hint_for_bad_group(alloc: Global, groups: &[&str]) -> Result<Option<String>, AllocError> {
-    for (place, name) in groups.iter().enumerate() {
-        let place = Ordinal(place.saturating_add(1));
-        if *name == "client" {
-            let hint = format!(in alloc;
-                "the {place} group is named \"client\", which is the word for the clients: a multicast without 'from' is a client's"
-            )?;
-            return Ok(Some(hint));
-        }
-        if let Some(why) = what_is_bad(name) {
-            let name = Quoted(name);
-            let hint = format!(in alloc; "the name of the {place} group ({name}) {why}: {RULE}")?;
+    for (before, name) in groups.iter().enumerate() {
+        if let Some(hint) = hint_for_group_name(alloc, before, name)? {
             return Ok(Some(hint));
         }
     }
     Ok(None)
+}
+
+/// Why the name of a group with so many before it is none.
+fn hint_for_group_name(
+    alloc: Global,
+    before: usize,
+    name: &str,
+) -> Result<Option<String>, AllocError> {
+    let place = Ordinal(before.saturating_add(1));
+    if name == "client" {
+        return format!(in alloc;
+            "the {place} group is named \"client\", which is the word for the clients: a multicast without 'from' is a client's"
+        ).map(Some);
+    }
+    match what_is_bad(name) {
+        Some(why) => {
+            let name = Quoted(name);
+            format!(in alloc; "the name of the {place} group ({name}) {why}: {RULE}").map(Some)
+        }
+        None => Ok(None),
+    }
 }
 
 /// Which name of a message is none, and why.
@@ -41,8 +53,7 @@ fn hint_for_bad_message(
     for multicast in multicasts {
         if let Some(why) = what_is_bad(multicast.name) {
             let part = multicast.part;
-            let hint = format!(in alloc; "the name of {part} {why}: {RULE}")?;
-            return Ok(Some(hint));
+            return format!(in alloc; "the name of {part} {why}: {RULE}").map(Some);
         }
     }
     Ok(None)
@@ -77,35 +88,75 @@ pub(crate) fn hint_for_double_name(
     sketch: &Sketch<'_>,
 ) -> Result<Option<String>, AllocError> {
     if let Some((first, second)) = first_double(&sketch.groups) {
-        let name = Quoted(sketch.groups.get(first).copied().unwrap_or(""));
-        let first = Ordinal(first.saturating_add(1));
-        let second = Ordinal(second.saturating_add(1));
-        let hint = format!(in alloc; "the {first} and the {second} group have one name, {name}")?;
-        return Ok(Some(hint));
+        return hint_for_double_group(alloc, &sketch.groups, first, second).map(Some);
     }
-    let names: Vec<&str> = sketch.multicasts.iter().map(|m| m.name).collect(alloc)?;
-    if let Some((first, second)) = first_double(&names) {
-        let (Some(first), Some(second)) = (
-            sketch.multicasts.get(first),
-            sketch.multicasts.get(second),
-        ) else {
-            return Ok(None);
-        };
-        let (first, second) = (first.part, second.part);
-        let hint = format!(in alloc; "{first} and {second} have one name")?;
-        return Ok(Some(hint));
+    match hint_for_double_message(alloc, &sketch.multicasts)? {
+        Some(hint) => Ok(Some(hint)),
+        None => hint_for_double_link(alloc, sketch),
     }
-    hint_for_double_link(alloc, sketch)
 }
 
-/// The places of the first name that stands there a second time, and of that second one.
+/// The groups at these two places have one name.
+fn hint_for_double_group(
+    alloc: Global,
+    groups: &[&str],
+    first: usize,
+    second: usize,
+) -> Result<String, AllocError> {
+    let name = Quoted(groups.get(first).copied().unwrap_or(""));
+    let first = Ordinal(first.saturating_add(1));
+    let second = Ordinal(second.saturating_add(1));
+    format!(in alloc; "the {first} and the {second} group have one name, {name}")
+}
+
+/// Which two messages have one name.
+fn hint_for_double_message(
+    alloc: Global,
+    multicasts: &[Multicast<'_>],
+) -> Result<Option<String>, AllocError> {
+    let Some((first, second)) = first_double(&names_of(alloc, multicasts)?) else {
+        return Ok(None);
+    };
+    match (multicasts.get(first), multicasts.get(second)) {
+        (Some(first), Some(second)) => {
+            let (first, second) = (first.part, second.part);
+            format!(in alloc; "{first} and {second} have one name").map(Some)
+        }
+        _ => Ok(None),
+    }
+}
+
+/// The names of messages, in their order.
+pub(crate) fn names_of<'a>(
+    alloc: Global,
+    multicasts: &[Multicast<'a>],
+) -> Result<Vec<&'a str>, AllocError> {
+    let mut names = Vec::new(alloc);
+    for multicast in multicasts {
+        names.push(multicast.name)?;
+    }
+    Ok(names)
+}
+
+/// The places of the first name that stands there a second time: the first one, and that.
 pub(crate) fn first_double(names: &[&str]) -> Option<(usize, usize)> {
     for (second, name) in names.iter().enumerate() {
-        if let Some(first) = names.iter().take(second).position(|other| other == name) {
+        let first = place_of(name, names);
+        if first < second {
             return Some((first, second));
         }
     }
     None
+}
+
+/// The place of a name among these, or how many there are where it is none of them.
+fn place_of(name: &str, names: &[&str]) -> usize {
+    for (place, other) in names.iter().enumerate() {
+        if *other == name {
+            return place;
+        }
+    }
+    names.len()
 }
 
 /// Which two links lead from one sender to one group.
@@ -117,23 +168,35 @@ fn hint_for_double_link(alloc: Global, sketch: &Sketch<'_>) -> Result<Option<Str
             .take(second)
             .find(|other| is_same_pair(other, link));
         if let Some(first) = first {
-            let (first, second) = (first.part, link.part);
-            let to = Quoted(link.to);
-            let hint = match link.sender {
-                Some(sender) => {
-                    let sender = Quoted(sender);
-                    format!(in alloc;
-                        "{first} and {second} both lead from {sender} to {to}: write one with the whole range"
-                    )?
-                }
-                None => format!(in alloc;
-                    "{first} and {second} both lead from the clients to {to}: write one with the whole range"
-                )?,
-            };
-            return Ok(Some(hint));
+            return Ok(Some(hint_for_same_pair(alloc, first, link)?));
         }
     }
     Ok(None)
+}
+
+/// That two links lead from one sender to one group, be they of two tables or of one.
+fn hint_for_same_pair(
+    alloc: Global,
+    first: &Link<'_>,
+    second: &Link<'_>,
+) -> Result<String, AllocError> {
+    let to = Quoted(second.to);
+    let sender = match second.sender {
+        Some(sender) => {
+            let sender = Quoted(sender);
+            format!(in alloc; "{sender}")?
+        }
+        None => String::from_str(alloc, "the clients")?,
+    };
+    let (one, other) = (first.part, second.part);
+    if one.place == other.place {
+        return format!(in alloc;
+            "{one} leads from {sender} to {to} twice: name each group once, and leave 'both' out where 'from' and 'to' have the same groups"
+        );
+    }
+    format!(in alloc;
+        "{one} and {other} both lead from {sender} to {to}: write one with the whole range"
+    )
 }
 
 /// Whether two links lead from one sender to one group.

@@ -1,6 +1,9 @@
 use super::durations::Length;
-use super::sketch::{Link, Sketch};
-use convoy_scenario::{Duration, GREATEST_AT, Limit, MOST_GROUPS, MOST_MULTICASTS};
+use super::sketch::{Link, Multicast, Sketch};
+use convoy_scenario::{
+    Duration, GREATEST_AT, GREATEST_DELAY, Limit, MOST_GROUPS, MOST_MULTICASTS, Time,
+};
+use convoy_toml::MOST_WRITTEN_LINKS;
 use std::alloc::{AllocError, Global};
 
 /// Which number is outside its limit, and what the limit is.
@@ -10,20 +13,18 @@ pub(crate) fn hint_for_limit(
     limit: Limit,
 ) -> Result<Option<String>, AllocError> {
     match limit {
-        Limit::Delay => Ok(Some(hint_for_delay(alloc, sketch)?)),
+        Limit::Delay => hint_for_delay(alloc, sketch).map(Some),
         Limit::Groups => {
             let count = sketch.groups.len();
-            let hint = format!(in alloc;
-                "there are {count} groups, and there may be 1 to {MOST_GROUPS}"
-            )?;
-            Ok(Some(hint))
+            format!(in alloc; "there are {count} groups, and there may be 1 to {MOST_GROUPS}").map(
+                Some,
+            )
         }
         Limit::Multicasts => {
             let count = sketch.multicasts.len();
-            let hint = format!(in alloc;
+            format!(in alloc;
                 "there are {count} multicasts, and there may be 1 to {MOST_MULTICASTS}"
-            )?;
-            Ok(Some(hint))
+            ).map(Some)
         }
         Limit::At => hint_for_at(alloc, sketch),
         Limit::Link => hint_for_range(alloc, sketch),
@@ -38,34 +39,44 @@ fn hint_for_delay(alloc: Global, sketch: &Sketch<'_>) -> Result<String, AllocErr
             "'delay' is {delay}, and may be 1 to {greatest}: a packet takes at least a tick"
         );
     }
-    match sketch
-        .tick
-        .and_then(|tick| larger_tick(delay, tick, greatest))
-    {
-        Some(larger) => hint_for_larger_tick(alloc, sketch, larger),
-        None => format!(in alloc;
-            "'delay' is {delay}, and may be 1 to {greatest}: choose a larger tick, so that the greatest delay is at most {greatest} ticks"
-        ),
+    if sketch.time == Time::Ticks && delay <= i64::from(GREATEST_DELAY) {
+        return hint_for_whole_ticks(alloc, delay, greatest);
     }
+    let Some(tick) = sketch.tick else {
+        return hint_for_many_ticks(alloc, delay, greatest);
+    };
+    match larger_tick(delay, tick, greatest) {
+        Some(larger) => hint_for_larger_tick(alloc, delay, greatest, tick, larger),
+        None => hint_for_many_ticks(alloc, delay, greatest),
+    }
+}
+
+/// That the greatest delay is too many whole ticks, and not too many where time is real.
+fn hint_for_whole_ticks(alloc: Global, delay: i64, greatest: u16) -> Result<String, AllocError> {
+    format!(in alloc;
+        "'delay' is {delay}, and may be 1 to {greatest} in whole ticks: write 'time = \"real\"', where it may be up to {GREATEST_DELAY}"
+    )
+}
+
+/// That the greatest delay is too many ticks, where it is not told which tick would do.
+fn hint_for_many_ticks(alloc: Global, delay: i64, greatest: u16) -> Result<String, AllocError> {
+    format!(in alloc;
+        "'delay' is {delay}, and may be 1 to {greatest}: choose a larger tick; ranges that are not whole numbers of it grow, and the answer with them"
+    )
 }
 
 /// That the greatest delay is too many ticks, and which tick would do.
 fn hint_for_larger_tick(
     alloc: Global,
-    sketch: &Sketch<'_>,
+    delay: i64,
+    greatest: u16,
+    tick: Duration,
     larger: Duration,
 ) -> Result<String, AllocError> {
-    let (delay, greatest) = (sketch.delay, sketch.time.greatest_delay());
-    let larger = Length(larger);
-    match sketch.tick {
-        Some(tick) => {
-            let tick = Length(tick);
-            format!(in alloc;
-                "'delay' is {delay} ticks of {tick}, and may be 1 to {greatest}: choose a larger tick, as 'tick = \"{larger}\"', and durations that are whole numbers of it"
-            )
-        }
-        None => format!(in alloc; "'delay' is {delay}, and may be 1 to {greatest}"),
-    }
+    let (tick, larger) = (Length(tick), Length(larger));
+    format!(in alloc;
+        "'delay' is {delay} ticks of {tick}, and may be 1 to {greatest}: choose a larger tick, as 'tick = \"{larger}\"', and durations that are whole numbers of it"
+    )
 }
 
 /// A round tick, of which so many ticks are no more than the greatest delay: the least of 1, 2 or 5, with
@@ -93,35 +104,45 @@ fn hint_for_long_tick(alloc: Global, tick: Option<Duration>) -> Result<Option<St
         return Ok(None);
     };
     let tick = Length(tick);
-    let hint = format!(in alloc;
+    format!(in alloc;
         "a tick lasts {tick}, and may be at most 4294967295 of the greatest unit that divides it: round it"
-    )?;
-    Ok(Some(hint))
+    ).map(Some)
 }
 
 fn hint_for_at(alloc: Global, sketch: &Sketch<'_>) -> Result<Option<String>, AllocError> {
-    let Some(multicast) = sketch
-        .multicasts
-        .iter()
-        .find(|m| m.at < 0 || m.at > i64::from(GREATEST_AT))
-    else {
-        return Ok(None);
-    };
-    let part = multicast.part;
-    let at = multicast.at;
-    let hint = match sketch.tick {
+    for multicast in &sketch.multicasts {
+        if multicast.at < 0 || multicast.at > i64::from(GREATEST_AT) {
+            return hint_for_issue(alloc, multicast, sketch.tick).map(Some);
+        }
+    }
+    Ok(None)
+}
+
+/// That a message is issued before tick 0, or too late.
+fn hint_for_issue(
+    alloc: Global,
+    multicast: &Multicast<'_>,
+    tick: Option<Duration>,
+) -> Result<String, AllocError> {
+    let (part, at) = (multicast.part, multicast.at);
+    match tick {
         Some(tick) => {
             let tick = Length(tick);
             format!(in alloc;
                 "'at' in {part} is {at} ticks of {tick}, and may be 0 to {GREATEST_AT}: choose a larger tick, or take the same from each 'at'"
-            )?
+            )
         }
-        None => format!(in alloc; "'at' in {part} is {at}, and may be 0 to {GREATEST_AT}")?,
-    };
-    Ok(Some(hint))
+        None => format!(in alloc; "'at' in {part} is {at}, and may be 0 to {GREATEST_AT}"),
+    }
 }
 
 fn hint_for_range(alloc: Global, sketch: &Sketch<'_>) -> Result<Option<String>, AllocError> {
+    if sketch.links.len() > MOST_WRITTEN_LINKS {
+        let hint = format!(in alloc;
+            "the links are more than {MOST_WRITTEN_LINKS}: name each group once in 'from', and once in 'to'"
+        )?;
+        return Ok(Some(hint));
+    }
     let delay = sketch.delay;
     let Some(link) = sketch.links.iter().find(|link| link.least < 1
         || link.most < link.least

@@ -42,14 +42,26 @@ pub struct Part<'a> {
 
 impl fmt::Display for Part<'_> {
     fn fmt<W: fmt::Write>(&self, f: &mut fmt::Formatter<W>) -> fmt::Result {
+        self.write_which(f)?;
+        self.write_where(f)
+    }
+}
+
+impl Part<'_> {
+    /// Writes which one of its kind it is: `the 2nd multicast`.
+    fn write_which<W: fmt::Write>(&self, f: &mut fmt::Formatter<W>) -> fmt::Result {
         let kind = self.kind.word();
         match self.place {
             Some(place) => {
                 let place = Ordinal(place.saturating_add(1));
-                write!(f, "the {place} {kind}")?;
+                write!(f, "the {place} {kind}")
             }
-            None => write!(f, "the {kind}")?,
+            None => write!(f, "the {kind}"),
         }
+    }
+
+    /// Writes its name and its line, as far as it has them: ` ("t", line 9)`.
+    fn write_where<W: fmt::Write>(&self, f: &mut fmt::Formatter<W>) -> fmt::Result {
         match (self.name, self.line) {
             (Some(name), Some(line)) => {
                 let name = Quoted(name);

@@ -14,14 +14,20 @@ pub struct Quoted<'a>(pub &'a str);
 impl fmt::Display for Quoted<'_> {
     fn fmt<W: fmt::Write>(&self, f: &mut fmt::Formatter<W>) -> fmt::Result {
         f.write_str("\"")?;
-        for character in self.0.chars().take(MOST_SHOWN) {
-            show(f, character)?;
-        }
-        if self.0.chars().nth(MOST_SHOWN).is_some() {
-            f.write_str("...")?;
-        }
+        show_front(f, self.0)?;
         f.write_str("\"")
     }
+}
+
+/// Writes the first characters of a text, and dots where it has more.
+fn show_front<W: fmt::Write>(formatter: &mut fmt::Formatter<W>, text: &str) -> fmt::Result {
+    for (place, character) in text.chars().enumerate() {
+        if place >= MOST_SHOWN {
+            return formatter.write_str("...");
+        }
+        show(formatter, character)?;
+    }
+    Ok(())
 }
 
 /// Writes a character, or its escape.
@@ -40,16 +46,23 @@ pub(crate) struct Names<'a>(pub(crate) &'a [&'a str]);
 
 impl fmt::Display for Names<'_> {
     fn fmt<W: fmt::Write>(&self, f: &mut fmt::Formatter<W>) -> fmt::Result {
-        for (place, name) in self.0.iter().take(MOST_NAMES).enumerate() {
-            if place > 0 {
-                f.write_str(", ")?;
+        for (place, name) in self.0.iter().enumerate() {
+            write_comma(f, place)?;
+            if place >= MOST_NAMES {
+                return f.write_str("...");
             }
             let name = Quoted(name);
             write!(f, "{name}")?;
         }
-        if self.0.len() > MOST_NAMES {
-            f.write_str(", ...")?;
-        }
+        Ok(())
+    }
+}
+
+/// Writes what stands before the word at a place of a list.
+fn write_comma<W: fmt::Write>(formatter: &mut fmt::Formatter<W>, place: usize) -> fmt::Result {
+    if place > 0 {
+        formatter.write_str(", ")
+    } else {
         Ok(())
     }
 }
@@ -79,9 +92,7 @@ pub(crate) struct Words<'a>(pub(crate) &'a [&'a str]);
 impl fmt::Display for Words<'_> {
     fn fmt<W: fmt::Write>(&self, f: &mut fmt::Formatter<W>) -> fmt::Result {
         for (place, word) in self.0.iter().enumerate() {
-            if place > 0 {
-                f.write_str(", ")?;
-            }
+            write_comma(f, place)?;
             write!(f, "'{word}'")?;
         }
         Ok(())

@@ -1,4 +1,4 @@
-use super::names::first_double;
+use super::names::{first_double, names_of};
 use super::near::nearest;
 use super::part::{Part, PartKind};
 use super::quoting::{Names, Quoted};
@@ -19,20 +19,22 @@ pub(crate) fn hint_for_unknown_group(
     sketch: &Sketch<'_>,
 ) -> Result<Option<String>, AllocError> {
     let stray = stray_in_multicasts(sketch)
-        .or_else(|| stray_in_target(sketch))
-        .or_else(|| stray_in_links(sketch));
+        .or(stray_in_target(sketch))
+        .or(stray_in_links(sketch));
     match stray {
-        Some(stray) => Ok(Some(hint_for_stray(alloc, stray, sketch)?)),
+        Some(stray) => hint_for_stray(alloc, stray, &sketch.groups).map(Some),
         None => Ok(None),
     }
 }
 
 /// The first name in a multicast that is that of no group.
 fn stray_in_multicasts<'a>(sketch: &Sketch<'a>) -> Option<Stray<'a>> {
-    sketch
-        .multicasts
-        .iter()
-        .find_map(|multicast| stray_in_multicast(multicast, &sketch.groups))
+    for multicast in &sketch.multicasts {
+        if let Some(stray) = stray_in_multicast(multicast, &sketch.groups) {
+            return Some(stray);
+        }
+    }
+    None
 }
 
 /// The name in a multicast that is none of the groups'.
@@ -42,9 +44,13 @@ fn stray_in_multicast<'a>(multicast: &Multicast<'a>, groups: &[&str]) -> Option<
         let key = "from";
         return Some(Stray { name, key, part });
     }
-    let name = multicast.to.iter().find(|name| !groups.contains(*name))?;
-    let key = "to";
-    Some(Stray { name, key, part })
+    for name in &multicast.to {
+        if let Some(name) = unknown(Some(*name), groups) {
+            let key = "to";
+            return Some(Stray { name, key, part });
+        }
+    }
+    None
 }
 
 /// The name of the target's group, where it is that of no group.
@@ -62,10 +68,12 @@ fn stray_in_target<'a>(sketch: &Sketch<'a>) -> Option<Stray<'a>> {
 
 /// The first name in a link that is that of no group.
 fn stray_in_links<'a>(sketch: &Sketch<'a>) -> Option<Stray<'a>> {
-    sketch
-        .links
-        .iter()
-        .find_map(|link| stray_in_link(link, &sketch.groups))
+    for link in &sketch.links {
+        if let Some(stray) = stray_in_link(link, &sketch.groups) {
+            return Some(stray);
+        }
+    }
+    None
 }
 
 /// The name in a link that is none of the groups'.
@@ -82,29 +90,42 @@ fn stray_in_link<'a>(link: &Link<'a>, groups: &[&str]) -> Option<Stray<'a>> {
 
 /// The name, where it is none of these.
 fn unknown<'a>(name: Option<&'a str>, names: &[&str]) -> Option<&'a str> {
-    name.filter(|name| !names.contains(name))
+    match name {
+        Some(name) if !names.contains(&name) => Some(name),
+        _ => None,
+    }
 }
 
 /// A name is that of none of the groups.
-fn hint_for_stray(
-    alloc: Global,
-    stray: Stray<'_>,
-    sketch: &Sketch<'_>,
-) -> Result<String, AllocError> {
+fn hint_for_stray(alloc: Global, stray: Stray<'_>, groups: &[&str]) -> Result<String, AllocError> {
     let Stray { name, key, part } = stray;
-    let shown = Quoted(name);
     if name == "client" && key == "from" {
+        let shown = Quoted(name);
         return format!(in alloc;
             "'{key}' in {part} is {shown}, which is no group: leave the key '{key}' out where clients send"
         );
     }
-    if let Some(near) = nearest(alloc, name, &sketch.groups)? {
-        let near = Quoted(near);
-        return format!(in alloc;
-            "'{key}' in {part} names {shown}, which is no group: did you mean {near}?"
-        );
+    match nearest(alloc, name, groups)? {
+        Some(near) => hint_for_near_group(alloc, stray, near),
+        None => hint_for_no_group(alloc, stray, groups),
     }
-    let groups = Names(&sketch.groups);
+}
+
+/// A name is that of no group, and near to that of one.
+fn hint_for_near_group(alloc: Global, stray: Stray<'_>, near: &str) -> Result<String, AllocError> {
+    let Stray { name, key, part } = stray;
+    let (shown, near) = (Quoted(name), Quoted(near));
+    format!(in alloc; "'{key}' in {part} names {shown}, which is no group: did you mean {near}?")
+}
+
+/// A name is that of no group, and near to none.
+fn hint_for_no_group(
+    alloc: Global,
+    stray: Stray<'_>,
+    groups: &[&str],
+) -> Result<String, AllocError> {
+    let Stray { name, key, part } = stray;
+    let (shown, groups) = (Quoted(name), Names(groups));
     format!(in alloc; "'{key}' in {part} names {shown}, which is no group: the groups are {groups}")
 }
 
@@ -113,12 +134,13 @@ pub(crate) fn hint_for_no_destination(
     alloc: Global,
     sketch: &Sketch<'_>,
 ) -> Result<Option<String>, AllocError> {
-    let Some(multicast) = sketch.multicasts.iter().find(|m| m.to.is_empty()) else {
-        return Ok(None);
-    };
-    let part = multicast.part;
-    let hint = format!(in alloc; "'to' in {part} is empty: name at least one group")?;
-    Ok(Some(hint))
+    for multicast in &sketch.multicasts {
+        if multicast.to.is_empty() {
+            let part = multicast.part;
+            return format!(in alloc; "'to' in {part} is empty: name at least one group").map(Some);
+        }
+    }
+    Ok(None)
 }
 
 /// Which message names a destination twice.
@@ -128,13 +150,17 @@ pub(crate) fn hint_for_double_destination(
 ) -> Result<Option<String>, AllocError> {
     for multicast in &sketch.multicasts {
         if let Some((first, _)) = first_double(&multicast.to) {
-            let part = multicast.part;
-            let name = Quoted(multicast.to.get(first).copied().unwrap_or(""));
-            let hint = format!(in alloc; "'to' in {part} names {name} twice")?;
-            return Ok(Some(hint));
+            let name = multicast.to.get(first).copied().unwrap_or("");
+            return hint_for_twice(alloc, multicast.part, name).map(Some);
         }
     }
     Ok(None)
+}
+
+/// A message names a destination twice.
+fn hint_for_twice(alloc: Global, part: Part<'_>, name: &str) -> Result<String, AllocError> {
+    let name = Quoted(name);
+    format!(in alloc; "'to' in {part} names {name} twice")
 }
 
 /// The target's message is no message.
@@ -142,23 +168,36 @@ pub(crate) fn hint_for_unknown_target(
     alloc: Global,
     sketch: &Sketch<'_>,
 ) -> Result<Option<String>, AllocError> {
-    let names: Vec<&str> = sketch.multicasts.iter().map(|m| m.name).collect(alloc)?;
-    let shown = Quoted(sketch.target_message);
-    let hint = match nearest(alloc, sketch.target_message, &names)? {
-        Some(near) => {
-            let near = Quoted(near);
-            format!(in alloc;
-                "'message' in the target names {shown}, which is no message: did you mean {near}?"
-            )?
-        }
-        None => {
-            let names = Names(&names);
-            format!(in alloc;
-                "'message' in the target names {shown}, which is no message: the messages are {names}"
-            )?
-        }
-    };
-    Ok(Some(hint))
+    let names = names_of(alloc, &sketch.multicasts)?;
+    hint_for_no_message(alloc, sketch.target_message, &names).map(Some)
+}
+
+/// The name in the target is that of none of the messages.
+fn hint_for_no_message(alloc: Global, name: &str, names: &[&str]) -> Result<String, AllocError> {
+    match nearest(alloc, name, names)? {
+        Some(near) => hint_for_near_message(alloc, name, near),
+        None => hint_for_strange_message(alloc, name, names),
+    }
+}
+
+/// The name in the target is that of no message, and near to that of one.
+fn hint_for_near_message(alloc: Global, name: &str, near: &str) -> Result<String, AllocError> {
+    let (shown, near) = (Quoted(name), Quoted(near));
+    format!(in alloc;
+        "'message' in the target names {shown}, which is no message: did you mean {near}?"
+    )
+}
+
+/// The name in the target is that of no message, and near to none.
+fn hint_for_strange_message(
+    alloc: Global,
+    name: &str,
+    names: &[&str],
+) -> Result<String, AllocError> {
+    let (shown, names) = (Quoted(name), Names(names));
+    format!(in alloc;
+        "'message' in the target names {shown}, which is no message: the messages are {names}"
+    )
 }
 
 /// The target's message does not go to the target's group.
@@ -166,24 +205,22 @@ pub(crate) fn hint_for_target_not_addressed(
     alloc: Global,
     sketch: &Sketch<'_>,
 ) -> Result<Option<String>, AllocError> {
-    let Some(multicast) = target_of(sketch) else {
-        return Ok(None);
-    };
-    let part = multicast.part;
-    let to = Names(&multicast.to);
-    let group = Quoted(sketch.target_group);
-    let hint = format!(in alloc;
-        "the target asks for {part} at {group}, and it goes to {to} alone"
-    )?;
-    Ok(Some(hint))
+    for multicast in &sketch.multicasts {
+        if multicast.name == sketch.target_message {
+            return hint_for_elsewhere(alloc, multicast, sketch.target_group).map(Some);
+        }
+    }
+    Ok(None)
 }
 
-/// The first multicast of the target's name.
-fn target_of<'s, 'a>(sketch: &'s Sketch<'a>) -> Option<&'s Multicast<'a>> {
-    sketch
-        .multicasts
-        .iter()
-        .find(|m| m.name == sketch.target_message)
+/// A message does not go to the target's group.
+fn hint_for_elsewhere(
+    alloc: Global,
+    multicast: &Multicast<'_>,
+    group: &str,
+) -> Result<String, AllocError> {
+    let (part, group, to) = (multicast.part, Quoted(group), Names(&multicast.to));
+    format!(in alloc; "the target asks for {part} at {group}, and it goes to {to} alone")
 }
 
 /// Which link leads to its own sender.
@@ -191,17 +228,13 @@ pub(crate) fn hint_for_link_to_itself(
     alloc: Global,
     sketch: &Sketch<'_>,
 ) -> Result<Option<String>, AllocError> {
-    let Some(link) = sketch
-        .links
-        .iter()
-        .find(|link| link.sender == Some(link.to))
-    else {
-        return Ok(None);
-    };
-    let part = link.part;
-    let to = Quoted(link.to);
-    let hint = format!(in alloc;
-        "{part} leads from {to} to {to}: what a group sends to itself is no packet"
-    )?;
-    Ok(Some(hint))
+    for link in &sketch.links {
+        if link.sender == Some(link.to) {
+            let (part, to) = (link.part, Quoted(link.to));
+            return format!(in alloc;
+                "{part} leads from {to} to {to}: what a group sends to itself is no packet"
+            ).map(Some);
+        }
+    }
+    Ok(None)
 }

@@ -19,19 +19,19 @@ use convoy_toml::{Input, read_toml};
 use std::alloc::{AllocError, Global};
 use toml::de::Error;
 
-/// What is wrong with the text of a scenario, in one line `hint: ..`: with the fault that it has, or
-/// else with its schedule or the order of its ties. None where nothing is, or where nothing can be said beyond the fault.
-pub fn hint_for_scenario(alloc: Global, text: &[u8]) -> Result<Option<String>, AllocError> {
-    let hint = match read_toml(alloc, text) {
-        Ok(input) => hint_for_input(alloc, input)?,
-        Err(fault) => hint_for_fault(alloc, text, fault)?,
-    };
+/// What is wrong with the text of a scenario that has that fault, in one line `hint: ..`. None where nothing
+/// can be said beyond the fault.
+pub fn hint_for_scenario(
+    alloc: Global,
+    text: &[u8],
+    fault: ScenarioFault,
+) -> Result<Option<String>, AllocError> {
+    let hint = hint_for_fault(alloc, text, fault)?;
     with_label(alloc, hint)
 }
 
-/// What is wrong with the text of a scenario that has that fault, without the label of a hint: for a
-/// text that is one of several, as a job of a batch, whose lines are counted from 1. None where nothing
-/// can be said beyond the fault.
+/// The same without the label of a hint: for a text that is one of several, as a job of a batch, whose lines
+/// are counted from 1.
 pub fn hint_for_fault(
     alloc: Global,
     text: &[u8],
@@ -44,6 +44,15 @@ pub fn hint_for_fault(
     }
 }
 
+/// What is wrong with the schedule that stands beside a scenario, or else with the order of its ties, in one
+/// line `hint: ..`. None where nothing is, or where the text is that of no scenario.
+pub fn hint_for_run(alloc: Global, text: &[u8]) -> Result<Option<String>, AllocError> {
+    match read_toml(alloc, text) {
+        Ok(input) => with_label(alloc, hint_for_input(alloc, input)?),
+        Err(_) => Ok(None),
+    }
+}
+
 /// What is wrong with the schedule of a scenario without a fault, or with the order of its ties.
 fn hint_for_input(alloc: Global, input: Input) -> Result<Option<String>, AllocError> {
     let Input {
@@ -52,21 +61,30 @@ fn hint_for_input(alloc: Global, input: Input) -> Result<Option<String>, AllocEr
         order,
     } = input;
     let instance = Instance::of(alloc, scenario)?;
-    if let Some(delays) = schedule {
-        if let Some(hint) = hint_for_schedule(alloc, &instance, &delays)? {
-            return Ok(Some(hint));
-        }
-    }
-    match order {
-        Some(ranks) => hint_for_order(alloc, instance.scenario(), &ranks),
-        None => Ok(None),
+    hint_for_lists(alloc, &instance, &schedule, &order)
+}
+
+/// What is wrong with the delays that are given for a scenario, or else with its ranks.
+fn hint_for_lists(
+    alloc: Global,
+    instance: &Instance,
+    schedule: &Option<Vec<i64>>,
+    order: &Option<Vec<i64>>,
+) -> Result<Option<String>, AllocError> {
+    let hint = match schedule {
+        Some(delays) => hint_for_schedule(alloc, instance, delays)?,
+        None => None,
+    };
+    match (hint, order) {
+        (None, Some(ranks)) => hint_for_order(alloc, instance.scenario(), ranks),
+        (hint, _) => Ok(hint),
     }
 }
 
 /// A hint as a line of its own, `hint: ` before it and byte 10 at its end; None where there is none.
 pub fn with_label(alloc: Global, hint: Option<String>) -> Result<Option<String>, AllocError> {
     match hint {
-        Some(hint) => Ok(Some(format!(in alloc; "hint: {hint}\n")?)),
+        Some(hint) => format!(in alloc; "hint: {hint}\n").map(Some),
         None => Ok(None),
     }
 }
@@ -77,11 +95,11 @@ fn hint_for_text(alloc: Global, text: &[u8]) -> Result<Option<String>, AllocErro
         return Ok(Some(hint));
     }
     if is_meant_as_certificate(text) {
-        return Ok(Some(hint_for_given_certificate(alloc, text)?));
+        return hint_for_given_certificate(alloc, text).map(Some);
     }
     match std::str::from_utf8(text) {
         Ok(words) => hint_for_grammar(alloc, words),
-        Err(error) => Ok(Some(hint_for_bytes(alloc, text, error.valid_up_to())?)),
+        Err(error) => hint_for_bytes(alloc, text, error.valid_up_to()).map(Some),
     }
 }
 
@@ -98,10 +116,13 @@ fn hint_for_given_certificate(alloc: Global, text: &[u8]) -> Result<String, Allo
 
 /// Where a text of UTF-8 is not TOML.
 fn hint_for_grammar(alloc: Global, text: &str) -> Result<Option<String>, AllocError> {
-    if let Some(before) = text.lines().position(|line| line == "---") {
+    if let Some(before) = text
+        .lines()
+        .position(|line| line == "---" || line.starts_with("--- "))
+    {
         let line = before.saturating_add(1);
         let hint = format!(in alloc;
-            "line {line} is '---', which stands between scenarios: 'convoy batch' reads several"
+            "line {line} begins with '---', which stands between scenarios: 'convoy batch' reads several"
         )?;
         return Ok(Some(hint));
     }
@@ -120,8 +141,7 @@ fn hint_for_error(alloc: Global, text: &str, error: &Error) -> Result<Option<Str
     let (line, column) = (spot.line, spot.column);
     let words = Quoted(text.lines().nth(line.saturating_sub(1)).unwrap_or(""));
     let message = error.message();
-    let hint = format!(in alloc; "line {line}, column {column}, in {words}: {message}")?;
-    Ok(Some(hint))
+    format!(in alloc; "line {line}, column {column}, in {words}: {message}").map(Some)
 }
 
 /// What is wrong with the table of a scenario.
@@ -137,7 +157,7 @@ fn hint_for_table(
         return Ok(None);
     };
     match fault {
-        ScenarioFault::Shape(_) => hint_for_shape(alloc, text, &table),
+        ScenarioFault::Shape(key) => hint_for_shape(alloc, text, &table, key),
         ScenarioFault::NotWhole(_) => hint_for_part_of_tick(alloc, text, &table),
         fault => hint_for_sketch(alloc, &sketch_of_table(alloc, text, &table)?, fault),
     }

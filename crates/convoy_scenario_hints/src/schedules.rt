@@ -15,35 +15,48 @@ pub fn hint_for_schedule(
 ) -> Result<Option<String>, AllocError> {
     let table = instance.table();
     if delays.len() != table.len() {
-        let (found, wanted) = (delays.len(), table.len());
-        let delays = noun(found == 1, "delay", "delays");
-        let packets = noun(wanted == 1, "packet", "packets");
-        let which = noun(wanted == 1, "which it is", "which they are");
-        let hint = format!(in alloc;
-            "the schedule has {found} {delays}, and the scenario has {wanted} {packets}: 'convoy packets' tells {which}"
-        )?;
-        return Ok(Some(hint));
+        return hint_for_length(alloc, delays.len(), table.len()).map(Some);
     }
-    let Some(packet) = first_outside(table.ranges(), delays) else {
-        return Ok(None);
-    };
-    let delay = delays.get(packet).copied().unwrap_or(0);
-    let mut lines = Vec::new(alloc);
-    write_packets(instance, &mut lines)?;
-    match line_at(&lines, packet) {
-        Some(line) => {
-            let ticks = noun(delay == 1, "tick", "ticks");
-            let hint = format!(in alloc; "the schedule gives {delay} {ticks} to {line}")?;
-            Ok(Some(hint))
-        }
+    match first_outside(table.ranges(), delays) {
+        Some((packet, delay)) => hint_for_outside(alloc, instance, packet, delay),
         None => Ok(None),
     }
 }
 
-/// The place of the first delay that is outside its range.
-fn first_outside(ranges: &[(u16, u16)], delays: &[i64]) -> Option<usize> {
-    ranges.iter().zip(delays).position(|((least, most), delay)| *delay < i64::from(*least)
-        || i64::from(*most) < *delay)
+/// There are too many delays, or too few.
+fn hint_for_length(alloc: Global, found: usize, wanted: usize) -> Result<String, AllocError> {
+    let delays = noun(found == 1, "delay", "delays");
+    let packets = noun(wanted == 1, "packet", "packets");
+    let which = noun(wanted == 1, "which it is", "which they are");
+    format!(in alloc;
+        "the schedule has {found} {delays}, and the scenario has {wanted} {packets}: 'convoy packets' tells {which}"
+    )
+}
+
+/// A packet may not take its delay.
+fn hint_for_outside(
+    alloc: Global,
+    instance: &Instance,
+    packet: usize,
+    delay: i64,
+) -> Result<Option<String>, AllocError> {
+    let mut lines = Vec::new(alloc);
+    write_packets(instance, &mut lines)?;
+    let Some(line) = line_at(&lines, packet) else {
+        return Ok(None);
+    };
+    let ticks = noun(delay == 1, "tick", "ticks");
+    format!(in alloc; "the schedule gives {delay} {ticks} to {line}").map(Some)
+}
+
+/// The first delay that is outside its range, after its place.
+fn first_outside(ranges: &[(u16, u16)], delays: &[i64]) -> Option<(usize, i64)> {
+    for (packet, ((least, most), delay)) in ranges.iter().zip(delays).enumerate() {
+        if *delay < i64::from(*least) || i64::from(*most) < *delay {
+            return Some((packet, *delay));
+        }
+    }
+    None
 }
 
 /// The line of a text at a place from 0.
@@ -68,22 +81,29 @@ pub fn hint_for_order(
     ranks: &[i64],
 ) -> Result<Option<String>, AllocError> {
     if scenario.time() == Time::Ticks {
-        return Ok(Some(String::from_str(
-            alloc,
-            "ties have no order in whole ticks: write 'time = \"real\"', or leave 'order' out",
-        )?));
+        let hint =
+            "ties have no order in whole ticks: write 'time = \"real\"', or leave 'order' out";
+        return String::from_str(alloc, hint).map(Some);
     }
     let moments = moments_of(alloc, scenario)?;
+    hint_for_ranks(alloc, &moments, ranks)
+}
+
+/// What is wrong with the ranks of what happens in a run.
+fn hint_for_ranks(
+    alloc: Global,
+    moments: &[Moment<'_>],
+    ranks: &[i64],
+) -> Result<Option<String>, AllocError> {
     if ranks.len() != moments.len() {
-        return Ok(Some(hint_for_count(alloc, ranks.len(), moments.len())?));
+        return hint_for_count(alloc, ranks.len(), moments.len()).map(Some);
     }
-    let Some(place) = first_too_great(ranks) else {
-        return Ok(None);
-    };
-    match (ranks.get(place), moments.get(place)) {
-        (Some(rank), Some(moment)) => Ok(Some(hint_for_rank(alloc, *rank, *moment)?)),
-        _ => Ok(None),
+    for (rank, moment) in ranks.iter().zip(moments) {
+        if *rank < 0 || i64::from(GREATEST_RANK) < *rank {
+            return hint_for_rank(alloc, *rank, *moment).map(Some);
+        }
     }
+    Ok(None)
 }
 
 /// There are too many ranks, or too few.
@@ -106,13 +126,6 @@ fn hint_for_rank(alloc: Global, rank: i64, moment: Moment<'_>) -> Result<String,
     format!(in alloc;
         "the order gives the rank {rank} to the {what} of {message} at {group}, and ranks are 0 to {GREATEST_RANK}"
     )
-}
-
-/// The place of the first number that is no rank.
-fn first_too_great(ranks: &[i64]) -> Option<usize> {
-    ranks
-        .iter()
-        .position(|rank| *rank < 0 || i64::from(GREATEST_RANK) < *rank)
 }
 
 /// What happens in a run of the scenario, in the order in which ranks are listed.

@@ -8,17 +8,70 @@ use super::near::nearest;
 use super::part::{Part, PartKind};
 use super::quoting::{Quoted, Words};
 use super::times::{duration_in, hint_for_mixture, time_of_table};
-use convoy_scenario::{Duration, Time};
+use convoy_scenario::{Duration, Key, Time};
 use std::alloc::{AllocError, Global};
 use toml::value::Array;
 use toml::{Table, Value};
 
-/// What is wrong with the keys of a scenario: the first key that is absent, of another kind or
-/// unknown, in the order in which keys are asked for.
+/// What is looked at in the keys of a scenario at a time.
+#[derive(Clone, Copy, PartialEq, Eq)]
+enum Step {
+    TimeKey,
+    Time,
+    Tick,
+    Head,
+    Multicasts,
+    TargetKey,
+    Target,
+    LinkKey,
+    Links,
+    Schedule,
+    Unknown,
+    Mixture,
+}
+
+/// The steps in the order in which keys are asked for.
+const STEPS: [Step; 12] = [
+    Step::TimeKey,
+    Step::Time,
+    Step::Tick,
+    Step::Head,
+    Step::Multicasts,
+    Step::TargetKey,
+    Step::Target,
+    Step::LinkKey,
+    Step::Links,
+    Step::Schedule,
+    Step::Unknown,
+    Step::Mixture,
+];
+
+/// What is wrong with the keys of a scenario of which that key has a fault: the first key that is absent, of
+/// another kind or unknown, in the order in which keys are asked for. Where the fault is not the target's, it
+/// need not be there.
 pub(crate) fn hint_for_shape(
     alloc: Global,
     text: &str,
     table: &Table,
+    key: Key,
+) -> Result<Option<String>, AllocError> {
+    for step in STEPS {
+        if step == Step::TargetKey && key != Key::Target {
+            continue;
+        }
+        if let Some(hint) = hint_for_step(alloc, text, table, step)? {
+            return Ok(Some(hint));
+        }
+    }
+    Ok(None)
+}
+
+/// What is wrong with the keys that a step looks at.
+fn hint_for_step(
+    alloc: Global,
+    text: &str,
+    table: &Table,
+    step: Step,
 ) -> Result<Option<String>, AllocError> {
     let top = Part {
         kind: PartKind::Scenario,
@@ -26,39 +79,21 @@ pub(crate) fn hint_for_shape(
         name: None,
         line: None,
     };
-    if let Some(hint) = hint_for_keys(alloc, table, &TIME, &top, table)? {
-        return Ok(Some(hint));
-    }
-    if let Some(hint) = hint_for_time(alloc, table)? {
-        return Ok(Some(hint));
-    }
-    if let Some(hint) = hint_for_tick(alloc, table, &top)? {
-        return Ok(Some(hint));
-    }
-    if let Some(hint) = hint_for_keys(alloc, table, &HEAD, &top, table)? {
-        return Ok(Some(hint));
-    }
-    if let Some(hint) = hint_for_tables(alloc, text, table, PartKind::Multicast, &MULTICAST_KEYS)? {
-        return Ok(Some(hint));
-    }
-    if let Some(hint) = hint_for_keys(alloc, table, &TARGET, &top, table)? {
-        return Ok(Some(hint));
-    }
-    if let Some(hint) = hint_for_target(alloc, text, table)? {
-        return Ok(Some(hint));
-    }
-    if let Some(hint) = hint_for_keys(alloc, table, &LINKS, &top, table)? {
-        return Ok(Some(hint));
-    }
-    if let Some(hint) = hint_for_tables(alloc, text, table, PartKind::Link, &LINK_KEYS)? {
-        return Ok(Some(hint));
-    }
-    if let Some(hint) = hint_for_keys(alloc, table, &SCHEDULE, &top, table)? {
-        return Ok(Some(hint));
-    }
-    match hint_for_unknown(alloc, table, &TOP_WORDS, &top)? {
-        Some(hint) => Ok(Some(hint)),
-        None => hint_for_mixture(alloc, text, table),
+    match step {
+        Step::TimeKey => hint_for_keys(alloc, table, &TIME, &top, table),
+        Step::Time => hint_for_time(alloc, table),
+        Step::Tick => hint_for_tick(alloc, table, &top),
+        Step::Head => hint_for_keys(alloc, table, &HEAD, &top, table),
+        Step::Multicasts => {
+            hint_for_tables(alloc, text, table, PartKind::Multicast, &MULTICAST_KEYS)
+        }
+        Step::TargetKey => hint_for_keys(alloc, table, &TARGET, &top, table),
+        Step::Target => hint_for_target(alloc, text, table),
+        Step::LinkKey => hint_for_keys(alloc, table, &LINKS, &top, table),
+        Step::Links => hint_for_tables(alloc, text, table, PartKind::Link, &LINK_KEYS),
+        Step::Schedule => hint_for_keys(alloc, table, &SCHEDULE, &top, table),
+        Step::Unknown => hint_for_unknown(alloc, table, &TOP_WORDS, &top),
+        Step::Mixture => hint_for_mixture(alloc, text, table),
     }
 }
 
@@ -72,20 +107,27 @@ fn hint_for_tick(
         return Ok(None);
     };
     if time_of_table(table) == Time::Ticks {
-        return Ok(Some(String::from_str(
-            alloc,
-            "'tick' is the length of a tick where time is real: write 'time = \"real\"', or leave it out",
-        )?));
+        let hint =
+            "'tick' is the length of a tick where time is real: write 'time = \"real\"', or leave it out";
+        return String::from_str(alloc, hint).map(Some);
     }
-    let Some(text) = value.as_str() else {
-        return Ok(Some(hint_for_kind(alloc, &TICK, value, top)?));
-    };
+    match value.as_str() {
+        Some(text) => hint_for_length(alloc, text, top),
+        None => hint_for_kind(alloc, &TICK, value, top).map(Some),
+    }
+}
+
+/// What is wrong with a text that is to be the length of a tick.
+fn hint_for_length(
+    alloc: Global,
+    text: &str,
+    top: &Part<'_>,
+) -> Result<Option<String>, AllocError> {
     match Duration::read(text.as_bytes()) {
-        None => Ok(Some(hint_for_duration(alloc, "tick", top, text)?)),
-        Some(length) if length.nanoseconds() == 0 => Ok(Some(String::from_str(
-            alloc,
-            "'tick' is 0, and a tick lasts 1 ns or more",
-        )?)),
+        None => hint_for_duration(alloc, "tick", top, text).map(Some),
+        Some(length) if length.nanoseconds() == 0 => {
+            String::from_str(alloc, "'tick' is 0, and a tick lasts 1 ns or more").map(Some)
+        }
         Some(_) => Ok(None),
     }
 }
@@ -98,18 +140,22 @@ fn hint_for_time(alloc: Global, table: &Table) -> Result<Option<String>, AllocEr
     if Time::named(word).is_some() {
         return Ok(None);
     }
+    hint_for_time_word(alloc, word).map(Some)
+}
+
+/// A word is none for how time goes.
+fn hint_for_time_word(alloc: Global, word: &str) -> Result<String, AllocError> {
     let shown = Quoted(word);
     let kinds = [Time::Ticks.word(), Time::Real.word()];
-    let hint = match nearest(alloc, word, &kinds)? {
+    match nearest(alloc, word, &kinds)? {
         Some(near) => {
             let near = Quoted(near);
-            format!(in alloc; "'time' is {shown}: did you mean {near}?")?
+            format!(in alloc; "'time' is {shown}: did you mean {near}?")
         }
         None => format!(in alloc;
             "'time' is {shown}: write 'time = \"real\"', or 'time = \"ticks\"', which is so without the key"
-        )?,
-    };
-    Ok(Some(hint))
+        ),
+    }
 }
 
 /// What is wrong with the keys of the target.
@@ -185,6 +231,12 @@ fn hint_for_table(
     hint_for_unknown(alloc, table, &words, part)
 }
 
+/// Whether a table of links from the clients asks for the ways back.
+fn leads_back_to_clients(table: &Table) -> bool {
+    let both = table.get("both").and_then(Value::as_bool);
+    both == Some(true) && !table.contains_key("from")
+}
+
 /// The first of the keys that is absent though it is needed, or of another kind.
 fn hint_for_keys(
     alloc: Global,
@@ -196,13 +248,19 @@ fn hint_for_keys(
     let time = time_of_table(top);
     for field in fields {
         match table.get(field.key) {
+            Some(_) if field.kind == Kind::Flag && leads_back_to_clients(table) => {
+                let hint = format!(in alloc;
+                    "'both' in {part} is true, and nothing is sent to clients: name the groups in 'from', or leave 'both' out"
+                )?;
+                return Ok(Some(hint));
+            }
             Some(value) if is_of(value, field.kind, time) => {}
             Some(value) if field.kind == Kind::Time => {
-                return Ok(Some(hint_for_when(alloc, field, value, part, time)?));
+                return hint_for_when(alloc, field, value, part, time).map(Some);
             }
-            Some(value) => return Ok(Some(hint_for_kind(alloc, field, value, part)?)),
+            Some(value) => return hint_for_kind(alloc, field, value, part).map(Some),
             None if field.is_needed => {
-                return Ok(Some(hint_for_absent(alloc, field, table, part, top)?));
+                return hint_for_absent(alloc, field, table, part, top).map(Some);
             }
             None => {}
         }
@@ -217,9 +275,19 @@ fn is_of(value: &Value, kind: Kind, time: Time) -> bool {
         Kind::Time => value.is_integer() || (time == Time::Real && duration_in(value).is_some()),
         Kind::Text => value.is_str(),
         Kind::Table => value.is_table(),
+        Kind::Flag => value.is_bool(),
+        Kind::Names => is_names(value),
         Kind::Texts => are_all(value, Kind::Text),
         Kind::Integers => are_all(value, Kind::Integer),
         Kind::Tables => are_all(value, Kind::Table),
+    }
+}
+
+/// Whether the value is a text, or an array of texts that is not empty.
+fn is_names(value: &Value) -> bool {
+    match value {
+        Value::Array(items) => !items.is_empty() && odd_item(items, Kind::Text).is_none(),
+        value => value.is_str(),
     }
 }
 
@@ -284,31 +352,31 @@ fn hint_for_kind(
     }
 }
 
-/// What is found where a value of that kind is to stand: `is a string`, or `has a string in it`.
+/// What is found where a value of that kind is to stand: `is a string`, `is empty`, or `has a string in
+/// it`.
 fn what_is_found(alloc: Global, value: &Value, kind: Kind) -> Result<String, AllocError> {
-    match value
-        .as_array()
-        .and_then(|items| odd_item(items, kind_of_items(kind)))
-    {
+    let (Some(items), Some(inner)) = (value.as_array(), kind_of_items(kind)) else {
+        let found = value.type_str();
+        let article = article_of(found);
+        return format!(in alloc; "is {article} {found}");
+    };
+    match odd_item(items, inner) {
         Some(item) => {
             let odd = item.type_str();
             let article = article_of(odd);
             format!(in alloc; "has {article} {odd} in it")
         }
-        None => {
-            let found = value.type_str();
-            let article = article_of(found);
-            format!(in alloc; "is {article} {found}")
-        }
+        None => String::from_str(alloc, "is empty"),
     }
 }
 
-/// The kind of the items of an array of that kind.
-fn kind_of_items(kind: Kind) -> Kind {
+/// The kind of the items of an array of that kind, if there are such arrays.
+fn kind_of_items(kind: Kind) -> Option<Kind> {
     match kind {
-        Kind::Texts => Kind::Text,
-        Kind::Integers => Kind::Integer,
-        _ => Kind::Table,
+        Kind::Texts | Kind::Names => Some(Kind::Text),
+        Kind::Integers => Some(Kind::Integer),
+        Kind::Tables => Some(Kind::Table),
+        _ => None,
     }
 }
 
@@ -318,6 +386,8 @@ fn words_for(kind: Kind) -> &'static str {
         Kind::Integer | Kind::Time => "an integer",
         Kind::Text => "a string",
         Kind::Texts => "an array of strings",
+        Kind::Names => "a string or an array of strings",
+        Kind::Flag => "true or false",
         Kind::Integers => "an array of integers",
         Kind::Table => "a table",
         Kind::Tables => "an array of tables",
@@ -340,23 +410,47 @@ fn hint_for_absent(
     part: &Part<'_>,
     top: &Table,
 ) -> Result<String, AllocError> {
-    let Field {
-        key,
-        kind: _,
-        is_needed: _,
-        sample,
-    } = *field;
     if table.is_empty() && part.kind == PartKind::Scenario {
         return String::from_str(
             alloc,
             "the input has no key: a scenario is read from a file, as by 'convoy latency scenario.toml', or from standard input",
         );
     }
-    let words: Vec<&str> = table.keys().map(|word| word.as_str()).collect(alloc)?;
-    if let Some(near) = nearest(alloc, key, &words)? {
-        let near = Quoted(near);
-        return format!(in alloc; "{part} has no key '{key}', but {near}: did you mean '{key}'?");
+    let words = keys_of(alloc, table)?;
+    match nearest(alloc, field.key, &words)? {
+        Some(near) => hint_for_near_key(alloc, field.key, near, part),
+        None => hint_for_no_key(alloc, field, part, top),
     }
+}
+
+/// The keys of a table, in their order.
+fn keys_of(alloc: Global, table: &Table) -> Result<Vec<&str>, AllocError> {
+    let mut words = Vec::new(alloc);
+    for word in table.keys() {
+        words.push(word.as_str())?;
+    }
+    Ok(words)
+}
+
+/// A key is absent that has to be there, and a near one is there.
+fn hint_for_near_key(
+    alloc: Global,
+    key: &str,
+    near: &str,
+    part: &Part<'_>,
+) -> Result<String, AllocError> {
+    let near = Quoted(near);
+    format!(in alloc; "{part} has no key '{key}', but {near}: did you mean '{key}'?")
+}
+
+/// A key is absent that has to be there, and no near one is there.
+fn hint_for_no_key(
+    alloc: Global,
+    field: &Field,
+    part: &Part<'_>,
+    top: &Table,
+) -> Result<String, AllocError> {
+    let (key, sample) = (field.key, field.sample);
     if part.kind == PartKind::Scenario && stands_below(top, key) {
         return format!(in alloc;
             "'{key}' stands below the header of a table, and so belongs to that: write it above the first header"
@@ -367,11 +461,30 @@ fn hint_for_absent(
 
 /// Whether the key stands in a table below the top.
 fn stands_below(top: &Table, key: &str) -> bool {
-    top.values().any(|value| match value {
-        Value::Table(table) => table.contains_key(key),
-        Value::Array(items) => items.iter().any(|item| has_key(item, key)),
-        _ => false,
-    })
+    for value in top.values() {
+        if stands_in(value, key) {
+            return true;
+        }
+    }
+    false
+}
+
+/// Whether the value is a table with that key, or an array with such a table in it.
+fn stands_in(value: &Value, key: &str) -> bool {
+    match value {
+        Value::Array(items) => stands_in_item(items, key),
+        value => has_key(value, key),
+    }
+}
+
+/// Whether an item is a table with that key.
+fn stands_in_item(items: &[Value], key: &str) -> bool {
+    for item in items {
+        if has_key(item, key) {
+            return true;
+        }
+    }
+    false
 }
 
 /// Whether the value is a table with that key.
@@ -389,28 +502,50 @@ fn hint_for_unknown(
     words: &[&str],
     part: &Part<'_>,
 ) -> Result<Option<String>, AllocError> {
-    let Some(word) = table
-        .keys()
-        .map(|word| word.as_str())
-        .find(|word| !words.contains(word))
-    else {
-        return Ok(None);
-    };
-    let shown = Quoted(word);
-    if part.kind != PartKind::Scenario && TOP_WORDS.contains(&word) {
-        let hint = format!(in alloc;
-            "'{word}' stands below the header of {part}, and so belongs to that: write it above the first header"
-        )?;
-        return Ok(Some(hint));
+    for word in table.keys() {
+        let word = word.as_str();
+        if !is_among(word, words) {
+            return hint_for_other_key(alloc, word, words, part).map(Some);
+        }
     }
-    let hint = match nearest(alloc, word, words)? {
-        Some(near) => format!(in alloc;
-            "{part} has an unknown key, {shown}: did you mean '{near}'?"
-        )?,
+    Ok(None)
+}
+
+/// Whether a word is one of these.
+fn is_among(word: &str, words: &[&str]) -> bool {
+    words.contains(&word)
+}
+
+/// A key is none of those that the table may have.
+fn hint_for_other_key(
+    alloc: Global,
+    word: &str,
+    words: &[&str],
+    part: &Part<'_>,
+) -> Result<String, AllocError> {
+    if part.kind != PartKind::Scenario && TOP_WORDS.contains(&word) {
+        return format!(in alloc;
+            "'{word}' stands below the header of {part}, and so belongs to that: write it above the first header"
+        );
+    }
+    hint_for_strange_key(alloc, word, words, part)
+}
+
+/// A key is none of any table.
+fn hint_for_strange_key(
+    alloc: Global,
+    word: &str,
+    words: &[&str],
+    part: &Part<'_>,
+) -> Result<String, AllocError> {
+    let shown = Quoted(word);
+    match nearest(alloc, word, words)? {
+        Some(near) => {
+            format!(in alloc; "{part} has an unknown key, {shown}: did you mean '{near}'?")
+        }
         None => {
             let keys = Words(words);
-            format!(in alloc; "{part} has an unknown key, {shown}: its keys are {keys}")?
+            format!(in alloc; "{part} has an unknown key, {shown}: its keys are {keys}")
         }
-    };
-    Ok(Some(hint))
+    }
 }

@@ -2,6 +2,7 @@ use super::part::{Part, PartKind};
 use super::shape::part_of;
 use super::times::{spells_of_table, tick_of, ticks_at, time_of_table};
 use convoy_scenario::{Duration, Time};
+use convoy_toml::MOST_WRITTEN_LINKS;
 use std::alloc::{AllocError, Global};
 use toml::{Table, Value};
 
@@ -42,7 +43,7 @@ pub struct Multicast<'a> {
     pub at: i64,
 }
 
-/// A link as it is written.
+/// A link as it is written, one of several perhaps in one table.
 #[derive(Drop)]
 pub struct Link<'a> {
     /// Where it stands.
@@ -63,7 +64,6 @@ pub(crate) fn sketch_of_table<'a>(
     text: &str,
     table: &'a Table,
 ) -> Result<Sketch<'a>, AllocError> {
-    let target = table.get("target").and_then(Value::as_table);
     let tick = tick_of(table, &spells_of_table(alloc, text, table)?);
     let length = match &tick {
         Some(tick) => tick.nanoseconds(),
@@ -76,13 +76,17 @@ pub(crate) fn sketch_of_table<'a>(
         groups: texts_of(alloc, array_at(table, "groups"))?,
         multicasts: multicasts_of_table(alloc, text, table, length)?,
         links: links_of_table(alloc, text, table, length)?,
-        target_message: target
-            .and_then(|inner| text_at(inner, "message"))
-            .unwrap_or(""),
-        target_group: target
-            .and_then(|inner| text_at(inner, "group"))
-            .unwrap_or(""),
+        target_message: target_text(table, "message"),
+        target_group: target_text(table, "group"),
     })
+}
+
+/// The text at a key of the target; empty where there is none.
+fn target_text<'a>(table: &'a Table, key: &str) -> &'a str {
+    match table.get("target").and_then(Value::as_table) {
+        Some(target) => text_at(target, key).unwrap_or(""),
+        None => "",
+    }
 }
 
 /// The multicasts that are written in the table of a scenario.
@@ -103,7 +107,7 @@ fn multicasts_of_table<'a>(
     Ok(multicasts)
 }
 
-/// The links that are written in the table of a scenario.
+/// The links that are written in the table of a scenario; where these are too many, not all of them.
 fn links_of_table<'a>(
     alloc: Global,
     text: &str,
@@ -113,9 +117,13 @@ fn links_of_table<'a>(
     let mut links = Vec::new(alloc);
     let items = array_at(table, "link");
     for (place, item) in items.iter().enumerate() {
+        if links.len() > MOST_WRITTEN_LINKS {
+            break;
+        }
         if let Value::Table(inner) = item {
             let part = part_of(text, PartKind::Link, place, items.len(), inner);
-            links.push(link_of_table(inner, part, tick))?;
+            let mut more = links_in(alloc, inner, part, tick)?;
+            links.append(&mut more)?;
         }
     }
     Ok(links)
@@ -136,13 +144,87 @@ fn multicast_of_table<'a>(
     })
 }
 
-fn link_of_table<'a>(table: &'a Table, part: Part<'a>, tick: u64) -> Link<'a> {
-    Link {
-        part,
-        sender: text_at(table, "from"),
-        to: text_at(table, "to").unwrap_or(""),
-        least: ticks_at(table, "least", tick),
-        most: ticks_at(table, "most", tick),
+/// The links that one table writes, without those from a group to itself, unless there are no others.
+fn links_in<'a>(
+    alloc: Global,
+    table: &'a Table,
+    part: Part<'a>,
+    tick: u64,
+) -> Result<Vec<Link<'a>>, AllocError> {
+    let least = ticks_at(table, "least", tick);
+    let most = ticks_at(table, "most", tick);
+    let ways = ways_in(alloc, table)?;
+    let keeps_all = ways.len() > MOST_WRITTEN_LINKS
+        || !ways.iter().any(|way| way.leads_elsewhere());
+    let mut links = Vec::new(alloc);
+    for way in &ways {
+        if keeps_all || way.leads_elsewhere() {
+            links.push(Link {
+                part,
+                sender: way.sender,
+                to: way.to,
+                least,
+                most,
+            })?;
+        }
+    }
+    Ok(links)
+}
+
+/// From where to where a link leads; without a sender from the clients.
+#[derive(Clone, Copy, Drop)]
+struct Way<'a> {
+    sender: Option<&'a str>,
+    to: &'a str,
+}
+
+impl Way<'_> {
+    /// Whether it leads to another place than its sender.
+    fn leads_elsewhere(&self) -> bool {
+        self.sender != Some(self.to)
+    }
+}
+
+/// From where to where the links of a table lead; of more than there may be, the first ones.
+fn ways_in<'a>(alloc: Global, table: &'a Table) -> Result<Vec<Way<'a>>, AllocError> {
+    let to = names_at(alloc, table, "to")?;
+    let groups = names_at(alloc, table, "from")?;
+    let mut ways = Vec::new(alloc);
+    if !table.contains_key("from") {
+        add_ways(&mut ways, None, &to)?;
+    }
+    for group in &groups {
+        add_ways(&mut ways, Some(*group), &to)?;
+    }
+    if table.get("both").and_then(Value::as_bool) == Some(true) {
+        for group in &to {
+            add_ways(&mut ways, Some(*group), &groups)?;
+        }
+    }
+    Ok(ways)
+}
+
+/// Adds the ways from one place to each of the groups, unless there are too many already.
+fn add_ways<'a>(
+    ways: &mut Vec<Way<'a>>,
+    sender: Option<&'a str>,
+    names: &[&'a str],
+) -> Result<(), AllocError> {
+    for name in names {
+        if ways.len() > MOST_WRITTEN_LINKS {
+            break;
+        }
+        let to = *name;
+        ways.push(Way { sender, to })?;
+    }
+    Ok(())
+}
+
+/// The names at a key, where one text stands or an array.
+fn names_at<'a>(alloc: Global, table: &'a Table, key: &str) -> Result<Vec<&'a str>, AllocError> {
+    match text_at(table, key) {
+        Some(text) => Vec::from_slice(alloc, &[text]),
+        None => texts_of(alloc, array_at(table, key)),
     }
 }
 

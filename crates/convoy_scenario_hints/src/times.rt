@@ -143,22 +143,48 @@ pub(crate) fn hint_for_part_of_tick(
     text: &str,
     table: &Table,
 ) -> Result<Option<String>, AllocError> {
-    let spells = spells_of_table(alloc, text, table)?;
-    let tick = match table.get("tick").and_then(duration_in) {
-        Some(tick) => tick.nanoseconds(),
-        None => return Ok(None),
-    };
-    let Some(spell) = spells.iter().find(|spell| is_no_whole(spell, tick)) else {
-        return Ok(None);
-    };
+    match written_tick(table) {
+        Some(tick) => {
+            let spells = spells_of_table(alloc, text, table)?;
+            hint_for_no_whole(alloc, &spells, tick.nanoseconds())
+        }
+        None => Ok(None),
+    }
+}
+
+/// The length of a tick as it is written.
+fn written_tick(table: &Table) -> Option<Duration> {
+    duration_in(table.get("tick")?)
+}
+
+/// Which of the times is no whole number of ticks of so many nanoseconds.
+fn hint_for_no_whole(
+    alloc: Global,
+    spells: &[Spell<'_>],
+    tick: u64,
+) -> Result<Option<String>, AllocError> {
+    for spell in spells {
+        if is_no_whole(spell, tick) {
+            let way = way_out(alloc, spells, tick)?;
+            return hint_for_spell(alloc, spell, tick, &way).map(Some);
+        }
+    }
+    Ok(None)
+}
+
+/// A time is no whole number of ticks, and what the way out is.
+fn hint_for_spell(
+    alloc: Global,
+    spell: &Spell<'_>,
+    tick: u64,
+    way: &str,
+) -> Result<String, AllocError> {
     let (key, part) = (spell.key, spell.part);
-    let length = shown(alloc, tick)?;
     let written = Quoted(spell.value.as_str().unwrap_or(""));
-    let way = way_out(alloc, &spells, tick)?;
-    let hint = format!(in alloc;
+    let length = shown(alloc, tick)?;
+    format!(in alloc;
         "'{key}' in {part} is {written}, which is no whole number of ticks of {length}: {way}"
-    )?;
-    Ok(Some(hint))
+    )
 }
 
 /// Whether a time is a duration that is no whole number of ticks.
@@ -174,7 +200,7 @@ fn way_out(alloc: Global, spells: &[Spell<'_>], tick: u64) -> Result<String, All
     let Some(divisor) = divisor_of(spells) else {
         return String::from_str(alloc, ROUNDED);
     };
-    let has_counts = spells.iter().any(|spell| spell.value.is_integer());
+    let has_counts = first_count(spells).is_some();
     let smaller = if has_counts {
         common_divisor(divisor, tick)
     } else {
@@ -204,7 +230,12 @@ fn is_length_of_tick(nanoseconds: u64) -> bool {
 
 /// Whether a time would be more ticks than it may be, by a smaller tick than this one.
 fn has_too_many(spells: &[Spell<'_>], tick: u64, smaller: u64) -> bool {
-    spells.iter().any(|spell| ticks_by(spell.value, tick, smaller) > most_ticks(spell.key))
+    for spell in spells {
+        if ticks_by(spell.value, tick, smaller) > most_ticks(spell.key) {
+            return true;
+        }
+    }
+    false
 }
 
 /// How many ticks a time would be by a smaller tick that goes into it, where a number counts ticks of the
@@ -236,15 +267,31 @@ pub(crate) fn hint_for_mixture(
     table: &Table,
 ) -> Result<Option<String>, AllocError> {
     let spells = spells_of_table(alloc, text, table)?;
-    let count = spells.iter().find(|spell| spell.value.is_integer());
-    let lasting = spells.iter().find(|spell| spell.value.is_str());
-    let (Some(count), Some(lasting)) = (count, lasting) else {
-        return Ok(None);
-    };
+    match (first_count(&spells), first_lasting(&spells)) {
+        (Some(count), Some(lasting)) => hint_for_two_kinds(alloc, count, lasting).map(Some),
+        _ => Ok(None),
+    }
+}
+
+/// The first time that is a number of ticks.
+fn first_count<'s, 'a>(spells: &'s [Spell<'a>]) -> Option<&'s Spell<'a>> {
+    spells.iter().find(|spell| spell.value.is_integer())
+}
+
+/// The first time that is a duration.
+fn first_lasting<'s, 'a>(spells: &'s [Spell<'a>]) -> Option<&'s Spell<'a>> {
+    spells.iter().find(|spell| spell.value.is_str())
+}
+
+/// A time is a number of ticks, and another one a duration.
+fn hint_for_two_kinds(
+    alloc: Global,
+    count: &Spell<'_>,
+    lasting: &Spell<'_>,
+) -> Result<String, AllocError> {
     let (key, part) = (count.key, count.part);
     let (other, there) = (lasting.key, lasting.part);
-    let hint = format!(in alloc;
+    format!(in alloc;
         "'{key}' in {part} is a number of ticks, and '{other}' in {there} is a duration: write 'tick = \"..\"', the length of a tick, or all times as durations"
-    )?;
-    Ok(Some(hint))
+    )
 }

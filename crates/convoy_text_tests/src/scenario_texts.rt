@@ -2,7 +2,7 @@
 
 use super::scenarios::base_messages;
 use convoy_scenario::{Key, Limit, Scenario, ScenarioFault, ScenarioParts, Sender, Time};
-use convoy_toml::read_toml;
+use convoy_toml::{read_toml, read_toml_any_target};
 use std::alloc::Global;
 use std::process::Abort;
 use std::test::Fail;
@@ -246,6 +246,41 @@ fn order_of_ties(rt: HostRuntime) -> Result<(), Fail> {
         read_toml(alloc, other.as_bytes()).err(),
         Some(ScenarioFault::Shape(Key::Order))
     );
+    Ok(())
+}
+
+#[test]
+fn links_in_one_table(rt: HostRuntime) -> Result<(), Fail> {
+    let alloc = rt.alloc();
+    let links = "from = [\"a\", \"b\"]\nto = [\"a\", \"b\"]\nleast = 2\nmost = 3\n";
+    let text = format!(in alloc; "{BASE}[[link]]\n{links}")?;
+    let scenario = read_toml(alloc, text.as_bytes())?.scenario;
+    assert_eq!(rt; scenario.link_count(), 2);
+    assert_eq!(rt; scenario.range_between(Sender::Group(0), 1), (2, 3));
+    assert_eq!(rt; scenario.range_between(Sender::Group(1), 0), (2, 3));
+    assert_eq!(rt; scenario.range_between(Sender::Client, 0), (1, 3));
+    let twice = format!(in alloc; "{text}both = true\n")?;
+    assert_eq!(rt;
+        read_toml(alloc, twice.as_bytes()).err(),
+        Some(ScenarioFault::DoubleName)
+    );
+    Ok(())
+}
+
+#[test]
+fn target_left_out(rt: HostRuntime) -> Result<(), Fail> {
+    let alloc = rt.alloc();
+    let (text, _) = BASE.split_once("[target]").ok_or("a target")?;
+    assert_eq!(rt;
+        read_toml(alloc, text.as_bytes()).err(),
+        Some(ScenarioFault::Shape(Key::Target))
+    );
+    let first = read_toml_any_target(alloc, text.as_bytes())?.scenario;
+    assert_eq!(rt; first.target_message(), 0);
+    assert_eq!(rt; first.target_group(), 1);
+    let written = read_toml_any_target(alloc, BASE.as_bytes())?.scenario;
+    assert_eq!(rt; written.target_message(), 1);
+    assert_eq!(rt; written.target_group(), 0);
     Ok(())
 }
 

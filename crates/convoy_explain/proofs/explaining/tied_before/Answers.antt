@@ -1,5 +1,4 @@
-use Rattle.std.proofs.Common.{◌≡◌, ◌∙◌, ◌<◌, length, sym}
-use Rattle.std.proofs.lemmas.Bool.{cond-true}
+use Rattle.std.proofs.Common.{◌∙◌, ◌<◌, length, sym}
 use Rattle.convoy_explain.specs.Told.{tied_before_told, is_tied_before_told}
 use Rattle.convoy_explain.proofs.Finding.{find-after, find-here}
 use Rattle.convoy_explain.proofs.explaining.tied_before.Goals as goal
@@ -10,8 +9,7 @@ returns-then-is_tied_before c =
     let less : c.loop-other.other < length c.args.scenario.now.multicasts = rw c.message_count-other-end.ensures.value at c.loop-other-test.true in
     let found = find-here (is_tied_before_told c.args.scenario.now c.args.run.now c.args.message c.args.group)
     c.loop-other.other (length c.args.scenario.now.multicasts) less (sym c.is_tied_before.ensures ∙ c.if-is_tied_before.true) in
-    let real = rw c.time.ensures.value at (sym c.is_real.ensures ∙ c.if-not-is_real.false) in
-    rw (cond-true _ _ _ real) (sym found ∙ c.loop-other.invariant)
+    sym found ∙ c.loop-other.invariant
 
 pub loop-other-preserved : goal.loop-other-preserved
 loop-other-preserved c =
