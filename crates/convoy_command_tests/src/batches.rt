@@ -3,7 +3,8 @@
 use super::cases::{READS, options};
 use super::failing::{FailingSink, FailingSource};
 use super::texts::{BASE, LONE};
-use convoy_commands::{DEFAULT_LIMIT, Done, Fault, ReadFault, SliceSource, VecSink, run_batch};
+use convoy_batch::run_batch;
+use convoy_commands::{DEFAULT_LIMIT, Fault, ReadFault, SearchEnd, SliceSource, VecSink};
 use std::alloc::{AllocError, Global};
 use std::sync::Wait;
 use std::test::Fail;
@@ -20,7 +21,7 @@ fn told_in_pieces<R: Threads + Wait + Sync>(
     alloc: Global,
     text: &str,
     piece: usize,
-) -> Result<(Option<Done>, Vec<u8>), AllocError> {
+) -> Result<(Option<SearchEnd>, Vec<u8>), AllocError> {
     let mut source = SliceSource::new(text.as_bytes(), piece.max(1));
     let mut sink = VecSink::new(alloc, 7);
     let options = options(DEFAULT_LIMIT, READS);
@@ -34,8 +35,22 @@ fn batch_of_three(rt: HostRuntime) -> Result<(), Fail> {
     let batch = batch_of(alloc, BASE, "delay =\n", LONE)?;
     let want = b"job 1\ngreatest 12\njob 2\nfault 1 not TOML\njob 3\ngreatest 0\n";
     for piece in [1, 7, 4_096] {
-        let (done, told) = told_in_pieces(&rt, alloc, batch.as_str(), piece)?;
-        assert_eq!(rt; done, Some(Done::Fine), "at {piece}");
+        let (end, told) = told_in_pieces(&rt, alloc, batch.as_str(), piece)?;
+        assert_eq!(rt; end, Some(SearchEnd::Faulty), "at {piece}");
+        assert_eq!(rt; told.as_slice(), want.as_slice(), "at {piece}");
+    }
+    Ok(())
+}
+
+/// How a batch ended with labels before its jobs, the first one's before all else.
+#[test]
+fn batch_with_labels(rt: HostRuntime) -> Result<(), Fail> {
+    let alloc = rt.alloc();
+    let batch = format!(in alloc; "--- lone\n{LONE}--- base\n{BASE}")?;
+    let want = b"job 1 lone\ngreatest 0\njob 2 base\ngreatest 12\n";
+    for piece in [1, 4_096] {
+        let (end, told) = told_in_pieces(&rt, alloc, batch.as_str(), piece)?;
+        assert_eq!(rt; end, Some(SearchEnd::Exact), "at {piece}");
         assert_eq!(rt; told.as_slice(), want.as_slice(), "at {piece}");
     }
     Ok(())
@@ -109,12 +124,12 @@ fn batch_memory(rt: HostRuntime) {
     let mut source = SliceSource::new(b"---\ndelay =\n", 4_096);
     let mut sink = VecSink::new(alloc, 4_096);
     match run_batch(&rt, alloc, &mut source, &mut sink, &options(1, READS)) {
-        Ok(Done::Fine) => {
+        Ok(SearchEnd::Faulty) => {
             assert!(rt; sink.bytes().starts_with(b"job 1\nfault "));
             assert!(rt; sink.bytes().ends_with(b"\n"));
         }
         // A sink in memory fails where memory runs out in it.
         Err(Fault::Memory | Fault::Write) => assert!(rt; sink.bytes().is_empty()),
-        Ok(Done::Open | Done::Refused(_)) | Err(_) => assert!(rt; false, "another end"),
+        Ok(SearchEnd::Exact | SearchEnd::Open) | Err(_) => assert!(rt; false, "another end"),
     }
 }

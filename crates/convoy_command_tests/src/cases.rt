@@ -1,8 +1,8 @@
 //! Each command but `batch`, with a text, and what it answers.
 
 use super::texts::{
-    BASE, CERTIFICATE_OF_BASE, CERTIFICATE_OF_SWAPPED, FIRST_OF_BASE, PACKETS_OF_BASE,
-    TIED_IN_ORDER, TIMELINE_OF_BASE, WHY_BASE,
+    BASE, CEILING_OF_BASE, CERTIFICATE_OF_BASE, CERTIFICATE_OF_SWAPPED, FIRST_OF_BASE,
+    PACKETS_OF_BASE, TIED_IN_ORDER, TIMELINE_OF_BASE, WHY_BASE,
 };
 use convoy_commands::{
     Asking, Command, DEFAULT_LIMIT, Direct, Done, Fault, Goal, MOST_TICKETS, NoGate, Options, Sink,
@@ -27,6 +27,7 @@ pub(crate) enum Asked {
     Draw,
     Analyse,
     Latency,
+    Ceiling,
 }
 
 /// A command is asked of a text, and answers this.
@@ -36,7 +37,7 @@ pub(crate) struct Case {
     pub(crate) told: &'static str,
 }
 
-pub(crate) const CASES: [Case; 10] = [
+pub(crate) const CASES: [Case; 11] = [
     Case {
         asked: Asked::First,
         text: BASE,
@@ -66,6 +67,11 @@ pub(crate) const CASES: [Case; 10] = [
         asked: Asked::Latency,
         text: BASE,
         told: "greatest 12\n",
+    },
+    Case {
+        asked: Asked::Ceiling,
+        text: BASE,
+        told: CEILING_OF_BASE,
     },
     Case {
         asked: Asked::Analyse,
@@ -107,6 +113,7 @@ fn command_of(asked: Asked, reads: u64) -> Command {
         Asked::Check => Command::Direct(Direct::Ask(Asking::Check)),
         Asked::Explain => Command::Direct(Direct::Ask(Asking::Explain)),
         Asked::Draw => Command::Direct(Direct::Ask(Asking::Draw)),
+        Asked::Ceiling => Command::Direct(Direct::Ceiling(100)),
         Asked::Analyse => Command::Search(Goal::Certificate, options(DEFAULT_LIMIT, reads)),
         Asked::Latency => {
             Command::Search(Goal::Latency, options(DEFAULT_LIMIT, reads).seeking(100))

@@ -80,6 +80,36 @@ message = \"t\"
 group = \"a\"
 ";
 
+/// The ceiling of the base scenario, and traffic that attains it: y comes to a as t is committed there, and x
+/// comes to b before t does.
+pub(crate) const CEILING_OF_BASE: &str = "\
+ceiling 12
+attained 12
+delay = 3
+groups = [\"a\", \"b\"]
+schedule = [3, 3, 3, 1, 3, 3, 3, 3]
+
+[[multicast]]
+name = \"y\"
+from = \"a\"
+to = [\"a\", \"b\"]
+at = 6
+
+[[multicast]]
+name = \"x\"
+to = [\"b\"]
+at = 2
+
+[[multicast]]
+name = \"t\"
+to = [\"a\", \"b\"]
+at = 0
+
+[target]
+message = \"t\"
+group = \"a\"
+";
+
 /// What `first` writes for the base scenario.
 pub(crate) const FIRST_OF_BASE: &str = "attained 2\nschedule 1 1 1 1 1 1 1 1\n";
 
@@ -132,7 +162,7 @@ end
 /// What `explain` writes for that certificate.
 pub(crate) const WHY_BASE: &str = "\
 t at a: at worst 12 ticks, from its issue at tick 0 to its delivery at tick 12
-committed at a at tick 6 with stamp 2.b, given by b at tick 3
+committed at a at tick 6 with stamp 2.b, given by b at tick 3, after x in a tie
 held back by y, which came to a at tick 6 with stamp 2.a, before 2.b
 y is committed at a at tick 12, when the last proposal comes:
   tick 6   a sends y to b, packet 5, 3 ticks

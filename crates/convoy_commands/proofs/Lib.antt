@@ -1,8 +1,6 @@
 pub mod Acceptance
 pub mod AskTexts
-pub mod BatchFailures
-pub mod BatchRuns
-pub mod Blocks
+pub mod CeilingTexts
 pub mod CheckTexts
 pub mod CommandTexts
 pub mod DrawTexts
@@ -13,3 +11,4 @@ pub mod NoDevice
 pub mod Refusals
 pub mod Starts
 pub mod TellTexts
+pub mod WrittenTexts

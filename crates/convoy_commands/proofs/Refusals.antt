@@ -4,27 +4,26 @@ use Rattle.convoy_streams.specs.declared.reading.ReadFault.{ReadFault}
 use Rattle.convoy_streams.specs.declared.reading.ReadFault.TheVariants as reading
 use Rattle.convoy_streams.specs.Devices.{Answer}
 use Rattle.convoy_streams.specs.Reads.{ReadsText, StopsReading}
-use Rattle.convoy_commands.specs.declared.done.Done.{Done}
 use Rattle.convoy_commands.specs.declared.fault.Fault.{Fault}
 use Rattle.convoy_commands.specs.declared.fault.Fault.TheVariants.{Memory, Write}
 use Rattle.convoy_commands.specs.Faults.{told_of_reading}
-use Rattle.convoy_commands.specs.Replies.{Reply, Rule, SaysUnlessMemory}
+use Rattle.convoy_commands.specs.Replies.{ReplyWith, RuleOf, SaysUnlessMemory}
 use Rattle.convoy_commands.specs.Runs.{RunsTo, WritesReply}
 
 -- Where reading stopped, nothing was written.
-pub unread_run : (longest : ℕ) (says : Rule) (most_reads : ℕ) (reads : List Answer) (cause : ReadFault) →
+pub unread_run : {End : Type 0} (longest : ℕ) (says : RuleOf End) (most_reads : ℕ) (reads : List Answer) (cause : ReadFault) →
     StopsReading longest most_reads reads cause → RunsTo longest says most_reads reads [] (Err (told_of_reading cause))
 unread_run longest says most_reads reads reading.Memory stop = (inl stop, refl)
 unread_run longest says most_reads reads cause stop = (inl (record { cause = cause; stopped = stop; told = refl }), refl)
 
 -- a fault that is not want of memory is one that the rule allows
-from_text : (says : Rule) (text : List ℕ) (fault : Fault) → (fault ≡ Memory → ⊥) →
+from_text : {End : Type 0} (says : RuleOf End) (text : List ℕ) (fault : Fault) → (fault ≡ Memory → ⊥) →
     SaysUnlessMemory says text (Err fault) → says text (Err fault)
 from_text says text fault other (inl allowed) = allowed
 from_text says text fault other (inr is) = absurd (other cc)
 
 -- Where a text was read, and its answer is a fault or memory ran out, nothing was written.
-refused_run : (longest : ℕ) (says : Rule) (most_reads : ℕ) (reads : List Answer) (text : List ℕ) (fault : Fault) →
+refused_run : {End : Type 0} (longest : ℕ) (says : RuleOf End) (most_reads : ℕ) (reads : List Answer) (text : List ℕ) (fault : Fault) →
     (says text (Err Write) → ⊥) → ReadsText longest reads text → SaysUnlessMemory says text (Err fault) →
     RunsTo longest says most_reads reads [] (Err fault)
 refused_run longest says most_reads reads text Memory sane read allowed = (inr (text, read), refl)
@@ -33,11 +32,11 @@ refused_run longest says most_reads reads text other sane read allowed =
     (inr (record { text = text; read = read; allowed = from_text says text _ (λ is. cc) allowed }), refl)
 
 -- Where a text was read and the reply to it is allowed, the run ends by what becomes of the reply.
-pub replied_run : (longest : ℕ) (says : Rule) (most_reads : ℕ) (reads writes : List Answer) (text : List ℕ) (reply : Reply) (result : Result Done Fault) →
+pub replied_run : {End : Type 0} (longest : ℕ) (says : RuleOf End) (most_reads : ℕ) (reads writes : List Answer) (text : List ℕ) (reply : ReplyWith End) (result : Result End Fault) →
     (says text (Err Write) → ⊥) → ReadsText longest reads text → SaysUnlessMemory says text reply → WritesReply reply writes result →
     RunsTo longest says most_reads reads writes result
-replied_run longest says most_reads reads writes text (Err refused) result sane read allowed wrote =
-    subst (λ (ended : Result Done Fault). RunsTo longest says most_reads reads writes ended) (sym wrote.0)
+replied_run {End} longest says most_reads reads writes text (Err refused) result sane read allowed wrote =
+    subst (λ (ended : Result End Fault). RunsTo longest says most_reads reads writes ended) (sym wrote.0)
     (subst (λ (gone : List Answer). RunsTo longest says most_reads reads gone (Err refused)) (sym wrote.1)
     (refused_run longest says most_reads reads text refused sane read allowed))
 replied_run longest says most_reads reads writes text (Ok (done, out)) (Ok ended) sane read (inl allowed) wrote =

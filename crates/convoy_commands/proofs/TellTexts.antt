@@ -21,7 +21,7 @@ use Rattle.convoy_commands.specs.declared.fault.OrderFault.TheVariants.{InTicks}
 use Rattle.convoy_commands.specs.Schedules.{chosen_order, chosen_schedule, order_in, scheduled_of_input, scheduled_of_text, scheduled_with}
 use Rattle.convoy_commands.specs.Faults.{told_of, told_of_list, told_of_order}
 use Rattle.convoy_commands.specs.declared.telling.Telling.{Telling}
-use Rattle.convoy_commands.specs.declared.telling.Telling.TheVariants.{Simulate, Timeline, Packets}
+use Rattle.convoy_commands.specs.declared.telling.Telling.TheVariants.{Simulate, Timeline, Packets, Toml}
 use Rattle.convoy_commands.specs.Tells.{job_told, packets_told, scheduled_told, text_told}
 use Rattle.convoy_commands.proofs.NoDevice.{IsNoDevice, no_device_in_made, no_device_in_order, no_device_in_scenario, no_device_in_schedule}
 
@@ -114,3 +114,4 @@ unfolding scheduled_told
 job_no_device Simulate text fault is = made_no_device (text_told Simulate) text fault is
 job_no_device Timeline text fault is = made_no_device (text_told Timeline) text fault is
 job_no_device Packets text fault is = packets_no_device text fault is
+job_no_device Toml text fault is = made_no_device (text_told Toml) text fault is

@@ -4,11 +4,12 @@ use Rattle.convoy_branch.specs.Options.{Settings}
 use Rattle.convoy_commands.specs.declared.command.Command.{Command}
 use Rattle.convoy_commands.specs.declared.command.Command.TheVariants as commands
 use Rattle.convoy_commands.specs.declared.command.Direct.{Direct}
-use Rattle.convoy_commands.specs.declared.command.Direct.TheVariants.{First, Tell, Ask}
+use Rattle.convoy_commands.specs.declared.command.Direct.TheVariants.{First, Tell, Ask, Ceiling}
 use Rattle.convoy_commands.specs.declared.command.Goal.{Goal}
 use Rattle.convoy_commands.specs.declared.command.Goal.TheVariants.{Certificate, Latency}
 use Rattle.convoy_commands.specs.declared.limits.TheConstants.{LONGEST_CERTIFICATE, LONGEST_JOB}
 use Rattle.convoy_commands.specs.Asks.{AskSays}
+use Rattle.convoy_commands.specs.Ceilings.{CeilingSays}
 use Rattle.convoy_commands.specs.First.{FirstSays}
 use Rattle.convoy_commands.specs.Replies.{Rule}
 use Rattle.convoy_commands.specs.Searches.{AnalyseSays, LatencySays}
@@ -19,6 +20,7 @@ abbrev pub direct_says : Direct → Rule
 direct_says First = FirstSays
 direct_says (Tell telling) = TellSays telling
 direct_says (Ask asking) = AskSays asking
+direct_says (Ceiling simulations) = CeilingSays
 
 -- the rule of a search
 abbrev pub search_says : Goal → Settings → Rule
@@ -35,6 +37,7 @@ abbrev pub direct_longest : Direct → ℕ
 direct_longest First = LONGEST_JOB
 direct_longest (Tell telling) = LONGEST_CERTIFICATE
 direct_longest (Ask asking) = LONGEST_CERTIFICATE
+direct_longest (Ceiling simulations) = LONGEST_JOB
 
 -- how many bytes the text of a command has at most
 abbrev pub longest_for : Command → ℕ

@@ -9,8 +9,8 @@ use Rattle.convoy_scenario.specs.declared.fault.Limit.{Limit}
 use Rattle.convoy_scenario.specs.declared.fault.Limit.TheVariants as limits
 use Rattle.convoy_scenario.specs.declared.fault.ScenarioFault.{ScenarioFault}
 use Rattle.convoy_scenario.specs.declared.fault.ScenarioFault.TheVariants as scenario
-use Rattle.convoy_commands.specs.declared.fault.Ending.{Ending}
-use Rattle.convoy_commands.specs.declared.fault.Ending.TheVariants as endings
+use Rattle.convoy_commands.specs.declared.fault.FaultEnding.{FaultEnding}
+use Rattle.convoy_commands.specs.declared.fault.FaultEnding.TheVariants as endings
 use Rattle.convoy_commands.specs.declared.fault.OrderFault.TheVariants as orders
 use Rattle.convoy_commands.specs.declared.fault.Fault.{Fault}
 use Rattle.convoy_commands.specs.declared.fault.Fault.TheVariants.{Scenario, Schedule, Order, Reading, Write, TooManyJobs, Memory}
@@ -62,12 +62,12 @@ row_of (Reading reading.Memory) = memory_row
 row_of Memory = memory_row
 
 -- what ends a fault's text
-abbrev pub ending_text : Ending → List ℕ
+abbrev pub ending_text : FaultEnding → List ℕ
 ending_text (endings.Word word) = word.now
 ending_text (endings.Number value) = decimal value
 
 -- the word at the end is a short one
-abbrev pub IsShortEnding : Ending → Type 0
+abbrev pub IsShortEnding : FaultEnding → Type 0
 IsShortEnding (endings.Word word) = length word.now ≤ 64
 IsShortEnding (endings.Number value) = Unit {0}
 

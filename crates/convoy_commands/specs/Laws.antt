@@ -1,14 +1,17 @@
--- Laws of runs.
+-- Laws of runs, and of texts that one command writes and another reads.
 use Rattle.std.specs.Prelude.{◌≡◌, ℕ, List, Result, Ok, Err}
+use Rattle.convoy_scenario.specs.Scenario.{Scenario}
+use Rattle.convoy_scenario.specs.WellFormed.{IsScenario}
+use Rattle.convoy_packets.specs.Assignment.{IsAssignment, Schedule}
+use Rattle.convoy_toml_writer.specs.Text.{toml_text}
 use Rattle.convoy_streams.specs.declared.reading.ReadFault.TheVariants.{Read}
 use Rattle.convoy_streams.specs.Devices.{Answer, failures}
-use Rattle.convoy_branch.specs.Options.{Settings}
 use Rattle.convoy_commands.specs.declared.done.Done.{Done}
 use Rattle.convoy_commands.specs.declared.fault.Fault.{Fault}
 use Rattle.convoy_commands.specs.declared.fault.Fault.TheVariants.{Reading, Write}
-use Rattle.convoy_commands.specs.Batches.{BatchRunsTo}
 use Rattle.convoy_commands.specs.Replies.{Rule}
 use Rattle.convoy_commands.specs.Runs.{RunsTo}
+use Rattle.convoy_commands.specs.Schedules.{scheduled_of_text}
 
 -- how often a result says that the source failed
 abbrev pub told_reads : Result Done Fault → ℕ
@@ -32,8 +35,8 @@ FailuresAreTold longest says =
     (most_reads : ℕ) (reads writes : List Answer) (result : Result Done Fault) →
     RunsTo longest says most_reads reads writes result → TellsFailures reads writes result
 
--- It is so in runs of a batch with these settings.
-abbrev pub BatchFailuresAreTold : Settings → Type 0
-BatchFailuresAreTold settings =
-    (most_reads : ℕ) (reads writes : List Answer) (result : Result Done Fault) →
-    BatchRunsTo settings most_reads reads writes result → TellsFailures reads writes result
+-- where the text is read that is written of a scenario with a schedule, a run is told of that scenario and that schedule
+abbrev pub WrittenTextsAreTold : Type 0
+WrittenTextsAreTold =
+    (scenario : Scenario) (schedule : Schedule) → IsScenario scenario → IsAssignment scenario schedule →
+    scheduled_of_text (toml_text scenario schedule) ≡ Ok (record { scenario = scenario; schedule = schedule })

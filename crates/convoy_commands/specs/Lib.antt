@@ -7,7 +7,6 @@ pub use Rattle.convoy_toml.specs.Reading
 pub use Rattle.convoy_scenario.specs.Keys
 pub use Rattle.convoy_toml.specs.Shape
 pub use Rattle.convoy_scenario.specs.Memory
-pub use Rattle.convoy_streams.specs.Jobs
 pub use Rattle.convoy_streams.specs.Devices
 pub use Rattle.convoy_streams.specs.Reads
 pub use Rattle.convoy_streams.specs.Writes
@@ -19,6 +18,11 @@ pub use Rattle.convoy_packets.specs.Table
 pub use Rattle.convoy_sim.specs.Delivery
 pub use Rattle.convoy_sim.specs.Scheduled
 pub use Rattle.convoy_sim.specs.Greatest
+pub use Rattle.convoy_sim.specs.Record
+pub use Rattle.convoy_ceiling.specs.Ceiling
+pub use Rattle.convoy_ceiling.specs.Targets
+pub use Rattle.convoy_traffic.specs.Finding
+pub use Rattle.convoy_toml_writer.specs.Text as ScenarioText
 pub use Rattle.convoy_timeline.specs.Timeline
 pub use Rattle.convoy_explain.specs.Causes
 pub use Rattle.convoy_explain.specs.Explanations
@@ -50,9 +54,8 @@ pub mod Explains
 pub mod Draws
 pub mod Asks
 pub mod Searches
+pub mod Ceilings
 pub mod Commands
 pub mod Runs
-pub mod Batches
+pub mod SearchEnds
 pub mod Laws
--- how a batch goes on from job to job
-pub mod BatchSteps

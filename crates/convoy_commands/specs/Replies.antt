@@ -7,16 +7,24 @@ use Rattle.convoy_commands.specs.declared.done.Done.TheVariants.{Fine}
 use Rattle.convoy_commands.specs.declared.fault.Fault.{Fault}
 use Rattle.convoy_commands.specs.declared.fault.Fault.TheVariants.{Memory}
 
--- how the command ends and what it writes, or a fault
+-- how something ends, and what it writes, or a fault
+abbrev pub ReplyWith : Type 0 → Type 0
+ReplyWith End = Result (End × List ℕ) Fault
+
+-- which replies may be given for which texts
+abbrev pub RuleOf : Type 0 → Type 1
+RuleOf End = List ℕ → ReplyWith End → Type 0
+
+-- how a command ends and what it writes, or a fault
 abbrev pub Reply : Type 0
-Reply = Result (Done × List ℕ) Fault
+Reply = ReplyWith Done
 
 -- which replies a command may give for which texts
 abbrev pub Rule : Type 1
-Rule = List ℕ → Reply → Type 0
+Rule = RuleOf Done
 
 -- what is answered, its vector as the list of its bytes
-abbrev pub reply_of : Result (Done × Vec ℕ Global) Fault → Reply
+abbrev pub reply_of : {End : Type 0} → Result (End × Vec ℕ Global) Fault → ReplyWith End
 reply_of result = result_map_both (λ answer. (answer.0, answer.1.items)) (λ fault. fault) result
 
 -- what is written where all is well
@@ -32,5 +40,5 @@ abbrev pub IsReply : Reply → Reply → Type 0
 IsReply want reply = (reply ≡ want) ⊎ (reply ≡ Err Memory)
 
 -- the rule allows the reply, unless memory ran out
-abbrev pub SaysUnlessMemory : Rule → Rule
+abbrev pub SaysUnlessMemory : {End : Type 0} → RuleOf End → RuleOf End
 SaysUnlessMemory says text reply = says text reply ⊎ (reply ≡ Err Memory)

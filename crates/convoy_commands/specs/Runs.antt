@@ -1,4 +1,4 @@
--- What a run of a command does, from the bytes that come to the bytes that go out.
+-- What a run does that reads a text and then writes what is replied to it, as each command but `batch`: from the bytes that come to the bytes that go out.
 use Rattle.std.specs.Prelude.{◌≡◌, ◌⊎◌, ℕ, ◌≤◌, List, [], length, Result, Ok, Err}
 use Rattle.std.specs.List.{FoldsTo}
 use Rattle.convoy_streams.specs.declared.reading.ReadFault.{ReadFault}
@@ -6,14 +6,13 @@ use Rattle.convoy_streams.specs.declared.reading.ReadFault.TheVariants as readin
 use Rattle.convoy_streams.specs.Devices.{Answer}
 use Rattle.convoy_streams.specs.Reads.{ReadsText, StopsReading}
 use Rattle.convoy_streams.specs.Writes.{WritesAll, FailsWithin}
-use Rattle.convoy_commands.specs.declared.done.Done.{Done}
 use Rattle.convoy_commands.specs.declared.fault.Fault.{Fault}
 use Rattle.convoy_commands.specs.declared.fault.Fault.TheVariants.{Memory, Write}
 use Rattle.convoy_commands.specs.Faults.{told_of_reading}
-use Rattle.convoy_commands.specs.Replies.{Reply, Rule}
+use Rattle.convoy_commands.specs.Replies.{ReplyWith, RuleOf}
 
 -- the reads gave a text whole, of at most so many bytes, and the rule allows this reply to it
-pub record Replied (longest : ℕ) (says : Rule) (reads : List Answer) (reply : Reply) : Type 0 where
+pub record Replied {End : Type 0} (longest : ℕ) (says : RuleOf End) (reads : List Answer) (reply : ReplyWith End) : Type 0 where
   pub text : List ℕ
   pub read : ReadsText longest reads text
   pub allowed : says text reply
@@ -26,13 +25,13 @@ pub record IsUnread (longest most_reads : ℕ) (reads : List Answer) (fault : Fa
 
 -- What a run gives, by what its reads and its writes answered, where the input has at most so many
 -- bytes and at most so many reads are made.
-abbrev pub RunsTo : ℕ → Rule → ℕ → List Answer → List Answer → Result Done Fault → Type 0
+abbrev pub RunsTo : {End : Type 0} → ℕ → RuleOf End → ℕ → List Answer → List Answer → Result End Fault → Type 0
 -- all that is to be written went out
-RunsTo longest says most_reads reads writes (Ok done) =
-    (out : List ℕ) × Replied longest says reads (Ok (done, out)) × WritesAll out writes
+RunsTo longest says most_reads reads writes (Ok end) =
+    (out : List ℕ) × Replied longest says reads (Ok (end, out)) × WritesAll out writes
 -- a front of it went out, and then the sink failed
-RunsTo longest says most_reads reads writes (Err Write) =
-    (done : Done) × (out : List ℕ) × Replied longest says reads (Ok (done, out)) × FailsWithin out writes
+RunsTo {End} longest says most_reads reads writes (Err Write) =
+    (end : End) × (out : List ℕ) × Replied longest says reads (Ok (end, out)) × FailsWithin out writes
 -- memory ran out, in reading or after the text was read, and nothing was written
 RunsTo longest says most_reads reads writes (Err Memory) =
     (StopsReading longest most_reads reads reading.Memory ⊎ ((text : List ℕ) × ReadsText longest reads text)) × (writes ≡ [])
@@ -41,16 +40,16 @@ RunsTo longest says most_reads reads writes (Err fault) =
     (IsUnread longest most_reads reads fault ⊎ Replied longest says reads (Err fault)) × (writes ≡ [])
 
 -- what becomes of a reply at the sink: all of its text goes out, or a front of it and then the sink fails, or, where it is a fault, nothing
-abbrev pub WritesReply : Reply → List Answer → Result Done Fault → Type 0
-WritesReply (Ok (done, out)) writes (Ok ended) = (ended ≡ done) × WritesAll out writes
-WritesReply (Ok (done, out)) writes (Err fault) = (fault ≡ Write) × FailsWithin out writes
+abbrev pub WritesReply : {End : Type 0} → ReplyWith End → List Answer → Result End Fault → Type 0
+WritesReply (Ok (end, out)) writes (Ok ended) = (ended ≡ end) × WritesAll out writes
+WritesReply (Ok (end, out)) writes (Err fault) = (fault ≡ Write) × FailsWithin out writes
 WritesReply (Err refused) writes result = (result ≡ Err refused) × (writes ≡ [])
 
 -- Over a source and a sink that may answer so, from their old states to their new ones, there is
 -- a run that gives this result.
-pub record IsRun {S K : Type 0} (longest : ℕ) (says : Rule) (most_reads : ℕ)
+pub record IsRun {End S K : Type 0} (longest : ℕ) (says : RuleOf End) (most_reads : ℕ)
     (may_read : S → Answer → S → Type 0) (may_write : K → Answer → K → Type 0)
-    (source new_source : S) (sink new_sink : K) (result : Result Done Fault) : Type 0 where
+    (source new_source : S) (sink new_sink : K) (result : Result End Fault) : Type 0 where
   pub reads : List Answer
   pub writes : List Answer
   pub read : FoldsTo may_read source reads new_source

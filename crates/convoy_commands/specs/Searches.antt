@@ -2,7 +2,9 @@
 use Rattle.std.specs.Prelude.{◌≡◌, ◌≢◌, ◌⊎◌, ℕ, ◌≤◌, false, List, ◌++◌, length, None, Result, Ok, Err}
 use Rattle.std.specs.List.{list_any}
 use Rattle.convoy_scenario.specs.Scenario.{Scenario}
-use Rattle.convoy_toml.specs.Reading.{scenario_of_text}
+use Rattle.convoy_toml.specs.declared.target.TargetKey.{TargetKey}
+use Rattle.convoy_toml.specs.declared.target.TargetKey.TheVariants.{Required}
+use Rattle.convoy_toml.specs.Reading.{scenario_of_text, scenario_of_text_by}
 use Rattle.convoy_scenario.specs.WellFormed.{IsScenario}
 use Rattle.convoy_scenario.specs.declared.fault.ScenarioFault.{ScenarioFault}
 use Rattle.convoy_packets.specs.Assignment.{Schedule, IsAssignment}
@@ -30,11 +32,15 @@ use Rattle.convoy_commands.specs.Faults.{told_of}
 use Rattle.convoy_commands.specs.Lines.{accepted_line, greatest_line, open_line, schedule_text}
 use Rattle.convoy_commands.specs.Replies.{Rule}
 
--- The text has this fault.
-pub record IsFaulty (text : List ℕ) (fault : Fault) : Type 0 where
+-- The text has this fault, where the target has to be written or not.
+pub record IsFaultyBy (key : TargetKey) (text : List ℕ) (fault : Fault) : Type 0 where
   pub cause : ScenarioFault
-  pub found : scenario_of_text text ≡ Err cause
+  pub found : scenario_of_text_by key text ≡ Err cause
   pub told : fault ≡ told_of cause
+
+-- The text has this fault.
+abbrev pub IsFaulty : List ℕ → Fault → Type 0
+IsFaulty text fault = IsFaultyBy Required text fault
 
 -- what a search by one kind of bounds, or both ways, answers
 abbrev pub IsOutcomeBy : Ways → Scenario → ℕ → ℕ → Outcome → Type 0

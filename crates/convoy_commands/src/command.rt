@@ -8,6 +8,7 @@ ghost use Rattle.convoy_commands.specs.Runs.{IsRun};
 
 use super::analyse::analyse_answer;
 use super::asking::{Asking, ask};
+use super::ceiling::ceiling_answer;
 use super::done::Done;
 use super::fault::Fault;
 use super::first::first_answer;
@@ -40,6 +41,8 @@ pub enum Direct {
     Tell(Telling),
     /// What is asked of a certificate.
     Ask(Asking),
+    /// The ceiling of a scenario, and traffic that is sought by so many simulations at most.
+    Ceiling(u64),
 }
 
 /// What a search is for.
@@ -95,7 +98,7 @@ fn longest_of(command: Direct) -> usize
     ensures { result ≡ direct_longest command }
 {
     match command {
-        Direct::First => LONGEST_JOB,
+        Direct::First | Direct::Ceiling(_) => LONGEST_JOB,
         Direct::Tell(_) | Direct::Ask(_) => LONGEST_CERTIFICATE,
     }
 }
@@ -108,6 +111,7 @@ fn answer_of(alloc: Global, command: Direct, text: &[u8]) -> Result<(Done, Vec<u
         Direct::First => fine(first_answer(alloc, text)),
         Direct::Tell(telling) => tell(alloc, telling, text),
         Direct::Ask(asking) => ask(alloc, asking, text),
+        Direct::Ceiling(simulations) => ceiling_answer(alloc, simulations, text),
     }
 }
 

@@ -30,7 +30,7 @@ pub enum Fault {
     /// The sink failed in its last write, or took none of the bytes offered.
     #[error("the output could not be written")]
     Write,
-    /// The input of a batch has more than `MOST_JOBS` jobs.
+    /// The input of a batch has more jobs than a batch may have.
     #[error("there are too many jobs")]
     TooManyJobs,
     /// Memory ran out, which says nothing of the input.
@@ -118,13 +118,14 @@ pub(crate) fn fault_of_order(cause: ListFault) -> Fault
 }
 
 /// What ends a fault's text, after its phrase.
-pub(crate) enum Ending {
+#[derive(Clone, Copy, Debug)]
+pub enum FaultEnding {
     Word(&'static str),
     Number(usize),
 }
 
 /// The end of a phrase that is the whole text.
-const NOTHING: Ending = Ending::Word("");
+const NOTHING: FaultEnding = FaultEnding::Word("");
 
 /// Appends the line of a fault: `fault`, its number, its text, and byte 10 (docs/FORMATS.md,
 /// "Faults"). Where memory runs out the vector is as it was.
@@ -139,15 +140,15 @@ pub fn fault_line(fault: &Fault, out: &mut Vec<u8>) -> Result<(), AllocError>
 fn line_of(alloc: Global, fault: &Fault) -> Result<String, AllocError>
     ensures { IfOk result (λ line. string_bytes line ≡ fault_line_of fault.now) }
 {
-    let (number, phrase, ending) = row(fault);
+    let (number, phrase, ending) = fault_row(fault);
     match ending {
-        Ending::Word(word) => format!(in alloc; "fault {number} {phrase}{word}\n"),
-        Ending::Number(value) => format!(in alloc; "fault {number} {phrase}{value}\n"),
+        FaultEnding::Word(word) => format!(in alloc; "fault {number} {phrase}{word}\n"),
+        FaultEnding::Number(value) => format!(in alloc; "fault {number} {phrase}{value}\n"),
     }
 }
 
-/// A fault's number, and its text: a phrase and what ends it.
-pub(crate) fn row(fault: &Fault) -> (u8, &'static str, Ending)
+/// A fault's number, and its text: a phrase and what ends it (docs/FORMATS.md, "Faults").
+pub fn fault_row(fault: &Fault) -> (u8, &'static str, FaultEnding)
     ensures number { result.0 ≡ (row_of fault.now).0 }
     ensures text { result.1.now ++ ending_text result.2 ≡ (row_of fault.now).1 }
     ensures short { (length result.1.now ≤ 64) × IsShortEnding result.2 }
@@ -156,11 +157,15 @@ pub(crate) fn row(fault: &Fault) -> (u8, &'static str, Ending)
         Fault::Scenario(cause) => scenario_row(*cause),
         Fault::Schedule(ListFault::Length) => (12, "schedule length", NOTHING),
         Fault::Schedule(ListFault::Range(packet)) => {
-            (13, "delay out of range ", Ending::Number(*packet))
+            (13, "delay out of range ", FaultEnding::Number(*packet))
         }
         Fault::Order(OrderFault::InTicks) => (15, "order in ticks", NOTHING),
         Fault::Order(OrderFault::Length) => (16, "order length", NOTHING),
-        Fault::Order(OrderFault::Rank(place)) => (17, "rank out of range ", Ending::Number(*place)),
+        Fault::Order(OrderFault::Rank(place)) => (
+            17,
+            "rank out of range ",
+            FaultEnding::Number(*place),
+        ),
         Fault::Reading(ReadFault::Read) => (40, "read failed", NOTHING),
         Fault::Write => (41, "write failed", NOTHING),
         Fault::Reading(ReadFault::TooLong(_)) => (42, "job too long", NOTHING),
@@ -175,16 +180,20 @@ pub(crate) fn row(fault: &Fault) -> (u8, &'static str, Ending)
 }
 
 /// The same of a fault of the scenario, in a text of its own or in a certificate.
-pub(crate) fn scenario_row(fault: ScenarioFault) -> (u8, &'static str, Ending)
+pub(crate) fn scenario_row(fault: ScenarioFault) -> (u8, &'static str, FaultEnding)
     ensures number { result.0 ≡ (row_of_scenario fault).0 }
     ensures text { result.1.now ++ ending_text result.2 ≡ (row_of_scenario fault).1 }
     ensures short { (length result.1.now ≤ 64) × IsShortEnding result.2 }
 {
     match fault {
         ScenarioFault::NotToml => (1, "not TOML", NOTHING),
-        ScenarioFault::Shape(key) => (2, "shape of ", Ending::Word(key.word())),
-        ScenarioFault::NotWhole(key) => (18, "not whole ", Ending::Word(key.word())),
-        ScenarioFault::OverLimit(limit) => (3, "over limit ", Ending::Word(word_of_limit(limit))),
+        ScenarioFault::Shape(key) => (2, "shape of ", FaultEnding::Word(key.word())),
+        ScenarioFault::NotWhole(key) => (18, "not whole ", FaultEnding::Word(key.word())),
+        ScenarioFault::OverLimit(limit) => (
+            3,
+            "over limit ",
+            FaultEnding::Word(word_of_limit(limit)),
+        ),
         ScenarioFault::BadName => (4, "bad name", NOTHING),
         ScenarioFault::DoubleName => (5, "double name", NOTHING),
         ScenarioFault::UnknownGroup => (6, "unknown group", NOTHING),

@@ -14,8 +14,10 @@ use std::alloc::{AllocError, Global};
 use std::sync::Wait;
 use std::thread::Threads;
 
-/// What is written for a text, and how the command ends.
-pub(crate) fn latency_answer<R: Threads + Wait + Sync, W: Watch + Sync>(
+/// What `latency` writes for a text, and how it ends. Of the search it is told as it goes on, to
+/// [`NoGate`](convoy_branch::NoGate) where nobody cares. The faults are those of
+/// [`run_latency`](super::run_latency) that a text can have.
+pub fn latency_answer<R: Threads + Wait + Sync, W: Watch + Sync>(
     rt: &R,
     alloc: Global,
     text: &[u8],

@@ -2,7 +2,6 @@
 #![tactic(auto)]
 
 pub use asking::Asking;
-pub use batch::{MOST_JOBS, run_batch};
 pub use calls::{run_analyse, run_check, run_first, run_latency, run_simulate, run_timeline};
 pub use command::{Command, Direct, Goal, run, run_search};
 pub use convoy_branch::{
@@ -16,16 +15,19 @@ pub use convoy_streams::{
     write_all,
 };
 pub use done::Done;
-pub use fault::{Fault, OrderFault, fault_line};
+pub use fault::{Fault, FaultEnding, OrderFault, fault_line, fault_row};
+pub use latency::latency_answer;
 pub use limits::{LONGEST_CERTIFICATE, LONGEST_JOB};
+pub use search::search_instance;
+pub use search_end::SearchEnd;
 pub use telling::Telling;
 pub use watch::Watch;
+pub use writing::write_reply;
 
 mod analyse;
 mod asking;
-mod batch;
-mod block;
 mod calls;
+mod ceiling;
 mod command;
 mod done;
 mod fault;
@@ -37,6 +39,7 @@ mod lines;
 mod refusal;
 mod scheduled;
 mod search;
+mod search_end;
 mod telling;
 mod watch;
 mod writing;

@@ -2,6 +2,7 @@ ghost use Rattle.std.specs.Prelude.{◌≡◌, ◌*◌, ◌∷◌, [], ◌++◌,
 ghost use Rattle.std.specs.List.{flat_map};
 ghost use Rattle.convoy_lines.specs.Texts.{spaced};
 ghost use Rattle.convoy_scenario.specs.Durations.{count_of};
+ghost use Rattle.convoy_commands.specs.Ceilings.{ceiling_line};
 ghost use Rattle.convoy_commands.specs.Lines.{greatest_line, in_unit, open_line};
 
 use convoy_lines::{push_further_word, push_number};
@@ -22,6 +23,22 @@ pub(crate) fn push_greatest(
     out.extend_from_slice(b"greatest ")?;
     push_number(out, latency)?;
     push_one_in_unit(tick, latency, out)?;
+    out.push(b'\n')?;
+    Ok(())
+}
+
+/// Appends the line of a ceiling, in ticks and, where the length of a tick is known, in its unit.
+#[tactic(auto, using(std::proofs::lemmas::List::append_assoc))]
+pub(crate) fn push_ceiling(
+    tick: Option<Duration>,
+    ceiling: u32,
+    out: &mut Vec<u8>,
+) -> Result<(), AllocError>
+    ensures { OnOk result (out.new.items ≡ out.old.items ++ ceiling_line tick ceiling) }
+{
+    out.extend_from_slice(b"ceiling ")?;
+    push_number(out, ceiling)?;
+    push_one_in_unit(tick, ceiling, out)?;
     out.push(b'\n')?;
     Ok(())
 }

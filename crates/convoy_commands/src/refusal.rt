@@ -1,7 +1,7 @@
 ghost use Rattle.std.specs.Prelude.{◌≡◌, ◌++◌, OnOk, OnErr, IfOk, string_bytes};
 ghost use Rattle.convoy_commands.specs.Refusals.{line_word, refused_line, row_of_check, row_of_refusal, row_of_text, scenario_text};
 
-use super::fault::{Ending, scenario_row};
+use super::fault::{FaultEnding, scenario_row};
 use convoy_certificate::TextFault;
 use convoy_checker::{Refusal, Refused};
 use convoy_scenario::ScenarioFault;
@@ -45,8 +45,10 @@ fn line_of_scenario(alloc: Global, fault: ScenarioFault) -> Result<String, Alloc
 {
     let (number, phrase, ending) = scenario_row(fault);
     match ending {
-        Ending::Word(word) => format!(in alloc; "refused 21 scenario {number} {phrase}{word}\n"),
-        Ending::Number(value) => format!(in alloc;
+        FaultEnding::Word(word) => format!(in alloc;
+            "refused 21 scenario {number} {phrase}{word}\n"
+        ),
+        FaultEnding::Number(value) => format!(in alloc;
             "refused 21 scenario {number} {phrase}{value}\n"
         ),
     }

@@ -30,14 +30,17 @@ pub(crate) fn search_text<R: Threads + Wait + Sync, W: Watch + Sync>(
 {
     let scenario = read_toml(alloc, text)?.scenario;
     let instance = Instance::of(alloc, scenario)?;
-    let outcome = search(rt, alloc, &instance, options, watch);
+    let outcome = search_instance(rt, alloc, &instance, options, watch);
     watch.ends();
     Ok((instance, outcome?))
 }
 
-/// The search of a scenario. Where one ticket does not end it, a good schedule is sought first, by the
-/// options' number of simulations, and the search starts from that (docs/PROTOCOL.md, "Seeking").
-fn search<R: Threads + Wait + Sync, W: Watch + Sync>(
+/// Searches for the greatest latency of an instance as `latency` does: by the options' limit of tickets,
+/// by their bounds or both ways, and with their number of workers. Where one ticket does not end the
+/// search, a good schedule is sought first, by the options' number of simulations, and the search starts
+/// from that (docs/PROTOCOL.md, "Seeking"). Who watches is told as it begins, and not as it ends. Fails
+/// where memory runs out, and else never.
+pub fn search_instance<R: Threads + Wait + Sync, W: Watch + Sync>(
     rt: &R,
     alloc: Global,
     instance: &Instance,

@@ -3,7 +3,7 @@ ghost use Rattle.std.specs.Result.{result_map_both};
 ghost use Rattle.convoy_certificate.specs.Reading.{certificate_of};
 ghost use Rattle.convoy_explain.specs.PacketLists.{packets_text};
 ghost use Rattle.convoy_commands.specs.declared.fault.Fault.TheVariants.{Memory};
-ghost use Rattle.convoy_commands.specs.declared.telling.Telling.TheVariants.{Packets, Simulate, Timeline};
+ghost use Rattle.convoy_commands.specs.declared.telling.Telling.TheVariants.{Packets, Simulate, Timeline, Toml};
 ghost use Rattle.convoy_commands.specs.Inputs.{reply_of_job, reply_of_reading};
 ghost use Rattle.convoy_commands.specs.Memory.{IsUnlessMemory};
 ghost use Rattle.convoy_commands.specs.Replies.{IsReply, SaysUnlessMemory, reply_of};
@@ -22,6 +22,7 @@ use convoy_sim::{latency, simulate};
 use convoy_streams::ReadFault;
 use convoy_timeline::write_timeline;
 use convoy_toml::read_toml;
+use convoy_toml_writer::write_toml;
 use std::alloc::{AllocError, Global};
 
 /// What is to be told of a scenario or of a certificate.
@@ -33,6 +34,8 @@ pub enum Telling {
     Timeline,
     /// The packets, with their ranges; those of a certificate also with the delays of its schedule.
     Packets,
+    /// The scenario and that schedule, in TOML.
+    Toml,
 }
 
 /// How a command that tells this ends for a text, and what is written for it.
@@ -74,7 +77,9 @@ fn told_of_job(alloc: Global, telling: Telling, text: &[u8]) -> Result<Vec<u8>, 
         (result_map_both (λ answer. answer.items) (λ fault. fault) result) }
 {
     match telling {
-        Telling::Simulate | Telling::Timeline => told_with_schedule(alloc, telling, text),
+        Telling::Simulate | Telling::Timeline | Telling::Toml => {
+            told_with_schedule(alloc, telling, text)
+        }
         Telling::Packets => told_without_schedule(alloc, text),
     }
 }
@@ -115,6 +120,7 @@ fn told(alloc: Global, telling: Telling, scheduled: &Scheduled) -> Result<Vec<u8
         Telling::Simulate => told_latency(alloc, scheduled),
         Telling::Timeline => told_timeline(alloc, scheduled),
         Telling::Packets => told_packets(alloc, scheduled),
+        Telling::Toml => told_toml(alloc, scheduled),
     }
 }
 
@@ -148,5 +154,18 @@ fn told_packets(alloc: Global, scheduled: &Scheduled) -> Result<Vec<u8>, AllocEr
     let (instance, schedule) = (scheduled.instance(), scheduled.schedule());
     let mut text = Vec::new(alloc);
     write_scheduled_packets(instance, schedule, &mut text)?;
+    Ok(text)
+}
+
+/// The scenario and the schedule.
+fn told_toml(alloc: Global, scheduled: &Scheduled) -> Result<Vec<u8>, AllocError>
+    ensures { IfOk result (λ text. text.items ≡ text_told Toml scheduled.now) }
+{
+    let mut text = Vec::new(alloc);
+    write_toml(
+        scheduled.instance().scenario(),
+        scheduled.schedule(),
+        &mut text,
+    )?;
     Ok(text)
 }

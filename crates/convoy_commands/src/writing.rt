@@ -2,22 +2,21 @@ ghost use Rattle.convoy_streams.specs.Devices.{HasRun};
 ghost use Rattle.convoy_commands.specs.Replies.{reply_of};
 ghost use Rattle.convoy_commands.specs.Runs.{WritesReply};
 
-use super::done::Done;
 use super::fault::Fault;
 use convoy_streams::{DeviceFailed, Sink, write_all};
 
-/// Writes what a command answers. Where that is a fault nothing is written; `Fault::Write` where the
-/// sink fails.
-pub(crate) fn write_reply<K: Sink>(
+/// Writes what is replied to a text, and answers how that ends. Where the reply is a fault nothing is
+/// written, and that is the fault; `Fault::Write` where the sink fails, after a front of the text.
+pub fn write_reply<E: Drop, K: Sink>(
     sink: &mut K,
-    answer: Result<(Done, Vec<u8>), Fault>,
-) -> Result<Done, Fault>
+    reply: Result<(E, Vec<u8>), Fault>,
+) -> Result<E, Fault>
     ensures { HasRun K.writes sink.old sink.new
-        (λ answers. WritesReply (reply_of answer) answers result) }
+        (λ answers. WritesReply (reply_of reply) answers result) }
 {
-    let (done, text) = answer?;
+    let (end, text) = reply?;
     match write_all(sink, &text) {
-        Ok(()) => Ok(done),
+        Ok(()) => Ok(end),
         Err(DeviceFailed) => Err(Fault::Write),
     }
 }

@@ -1,6 +1,6 @@
 -- What is proved of calls and of jobs. Each is the one clause of the function of its name in the crate's module `laws`.
 use Rattle.std.specs.Prelude.{◌≡◌, ℕ, ◌<◌, List, [], ◌∷◌, ◌++◌, length, All}
-use Rattle.convoy_streams.specs.Jobs.{ended_jobs}
+use Rattle.convoy_streams.specs.Jobs.{Job, ended_jobs}
 use Rattle.convoy_streams.specs.Devices.{Answer, Moved, IsPiece, joined}
 
 -- If each call moved a piece, and one call more moves some bytes, then each has moved a piece, and together they moved what was moved before and then those bytes.
@@ -11,4 +11,4 @@ PiecesGoOn =
 
 -- a job that a divider has ended stays as it is, however the text goes on
 abbrev pub EndedJobsStay : Type 0
-EndedJobsStay = (text more : List ℕ) → (jobs : List (List ℕ)) × (ended_jobs (text ++ more) ≡ ended_jobs text ++ jobs)
+EndedJobsStay = (text more : List ℕ) → (jobs : List Job) × (ended_jobs (text ++ more) ≡ ended_jobs text ++ jobs)

@@ -3,6 +3,7 @@
 #![tactic(auto)]
 
 pub use device::{DeviceFailed, Sink, Source};
+pub use label::LONGEST_LABEL;
 pub use memory::{SliceSource, VecSink};
 pub use reading::{BUFFER_LENGTH, ReadFault, read_piece, read_to_end};
 pub use splitter::{JobFault, Splitter};
@@ -10,6 +11,7 @@ pub use stream::{StreamSink, StreamSource};
 pub use writing::write_all;
 
 mod device;
+mod label;
 pub mod laws;
 mod line;
 mod memory;

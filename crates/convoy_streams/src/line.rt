@@ -1,5 +1,7 @@
 ghost use Rattle.std.specs.Prelude.{◌≡◌};
-ghost use Rattle.convoy_streams.specs.Steps.{dashes_of, step_of};
+ghost use Rattle.convoy_streams.specs.Steps.{adds_if, front_of, is_whole, step_of, waits_for};
+
+use super::label::{LONGEST_LABEL, is_label_byte};
 
 /// How much of a divider the line that is being read is.
 #[derive(Clone, Copy, Debug)]
@@ -7,7 +9,10 @@ pub(crate) enum Line {
     Start,
     OneDash,
     TwoDashes,
-    Divider,
+    /// It is a divider without a label, if it ends here.
+    Dashes,
+    /// Three dashes and a space, and what has come of a label.
+    Named,
     /// It is none, however it goes on.
     Other,
 }
@@ -19,43 +24,77 @@ pub(crate) enum Step {
     Ends,
     /// The line is still the front of a divider.
     Waits(Line),
+    /// It is one more byte of the label.
+    Adds,
     /// The line belongs to a job.
     Keeps(Line),
 }
 
 impl Line {
-    /// The dashes that the line is, where it is the front of a divider.
-    pub(crate) fn dashes(self) -> &'static [u8]
-        ensures { result.now ≡ dashes_of self }
+    /// The front of a divider that the line is, without what has come of a label.
+    pub(crate) fn front(self) -> &'static [u8]
+        ensures { result.now ≡ front_of self }
     {
         match self {
             Line::Start | Line::Other => b"",
             Line::OneDash => b"-",
             Line::TwoDashes => b"--",
-            Line::Divider => b"---",
+            Line::Dashes => b"---",
+            Line::Named => b"--- ",
         }
     }
 
-    /// What the next byte does.
-    pub(crate) fn step(self, byte: u8) -> Step
-        ensures { result ≡ step_of self byte }
+    /// Whether the line is a whole divider, where so many bytes of a label have come.
+    pub(crate) fn is_whole(self, named: usize) -> bool
+        ensures { result ≡ is_whole self named }
+    {
+        match self {
+            Line::Dashes => true,
+            Line::Named => named != 0,
+            Line::Start | Line::OneDash | Line::TwoDashes | Line::Other => false,
+        }
+    }
+
+    /// What the next byte does, where so many bytes of a label have come.
+    pub(crate) fn step(self, named: usize, byte: u8) -> Step
+        ensures { result ≡ step_of self named byte }
     {
         if byte == b'\n' {
-            return match self {
-                Line::Divider => Step::Ends,
-                Line::Start | Line::OneDash | Line::TwoDashes | Line::Other => {
-                    Step::Keeps(Line::Start)
-                }
+            return if self.is_whole(named) {
+                Step::Ends
+            } else {
+                Step::Keeps(Line::Start)
             };
         }
-        if byte != b'-' {
-            return Step::Keeps(Line::Other);
-        }
         match self {
-            Line::Start => Step::Waits(Line::OneDash),
-            Line::OneDash => Step::Waits(Line::TwoDashes),
-            Line::TwoDashes => Step::Waits(Line::Divider),
-            Line::Divider | Line::Other => Step::Keeps(Line::Other),
+            Line::Start => waits_for(byte == b'-', Line::OneDash),
+            Line::OneDash => waits_for(byte == b'-', Line::TwoDashes),
+            Line::TwoDashes => waits_for(byte == b'-', Line::Dashes),
+            Line::Dashes => waits_for(byte == b' ', Line::Named),
+            Line::Named => adds_if(is_label_byte(byte) && named < LONGEST_LABEL),
+            Line::Other => Step::Keeps(Line::Other),
         }
+    }
+}
+
+/// What a byte does that is to be the next one of a divider.
+fn waits_for(is_next: bool, line: Line) -> Step
+    ensures { result ≡ waits_for is_next line }
+{
+    if is_next {
+        Step::Waits(line)
+    } else {
+        Step::Keeps(Line::Other)
+    }
+}
+
+/// What a byte does with which a label may go on, or may not.
+fn adds_if(may_go_on: bool) -> Step
+    ensures { result ≡ adds_if may_go_on }
+{
+    if may_go_on {
+        Step::Adds
+    } else {
+        Step::Keeps(Line::Other)
     }
 }

@@ -5,13 +5,13 @@ use Rattle.convoy_commands.proofs.fault.line_of.Goals as goal
 pub returns-in-Word : goal.returns-in-Word
 unfolding fault_line_of
 returns-in-Word c =
-    let row = c.row-number.ensures in
+    let row = c.fault_row-number.ensures in
     let text = rw c.in-Word.is at row.text in
     simp (sym row.number, sym text, append_assoc) c.format.ensures.ok
 
 pub returns-in-Number : goal.returns-in-Number
 unfolding fault_line_of
 returns-in-Number c =
-    let row = c.row-number.ensures in
+    let row = c.fault_row-number.ensures in
     let text = rw c.in-Number.is at row.text in
     simp (sym row.number, sym text, append_assoc) c.format-in-Number.ensures.ok

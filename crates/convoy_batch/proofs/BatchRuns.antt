@@ -1,0 +1,182 @@
+-- How the run of a batch ends, from what was read so far and the blocks that went out.
+use Rattle.std.proofs.Common.{◌≡◌, inl, inr, ℕ, ◌+◌, ◌<◌, ◌≤◌, List, [], ◌∷◌, ◌++◌, length, get_or, take, drop, Result, Ok, Err, refl, ap, sym, ◌∙◌, append_assoc, arith, length-append, take-append-drop}
+use Rattle.std.specs.List.{FoldsTo}
+use Rattle.std.proofs.lemmas.List.{take_more}
+use Rattle.std.proofs.lemmas.List.Elements.{All-nil}
+use Rattle.std.proofs.lemmas.Fn.{FoldsTo-push}
+use Rattle.convoy_streams.specs.declared.reading.ReadFault.TheVariants.{Read, TooManyReads}
+use Rattle.convoy_streams.specs.Jobs.{ended_jobs}
+use Rattle.convoy_streams.specs.Laws.{EndedJobsStay, PiecesGoOn}
+use Rattle.convoy_streams.specs.Devices.{Answer, Moved, Failed, HasRun, IsPiece}
+use Rattle.convoy_branch.specs.Options.{Settings}
+use Rattle.convoy_batch.specs.declared.batch.Batch.{Batch}
+use Rattle.convoy_commands.specs.declared.fault.Fault.{Fault}
+use Rattle.convoy_commands.specs.declared.fault.Fault.TheVariants.{Reading, Write, TooManyJobs}
+use Rattle.convoy_commands.specs.declared.search_end.SearchEnd.{SearchEnd}
+use Rattle.convoy_commands.specs.declared.search_end.SearchEnd.TheVariants.{Exact}
+use Rattle.convoy_batch.specs.Batches.{EndsSo, IsBatchRun, ReadsAll, ReadsOn}
+use Rattle.convoy_batch.specs.BatchSteps.{EndsBatch, IsUnderWay, StopsAnswering}
+use Rattle.convoy_batch.proofs.Blocks.{stops_among}
+
+-- one byte more of a piece
+pub byte_taken : (text piece : List ℕ) (i : ℕ) → i < length piece → (text ++ take i piece) ++ get_or piece i 0 ∷ [] ≡ text ++ take (i + 1) piece
+byte_taken text piece i below = append_assoc text (take i piece) (get_or piece i 0 ∷ []) ∙ ap (λ x. text ++ x) (sym (take_more piece i 0 below))
+
+-- to stop in a piece is to stop among the jobs of the whole piece
+pub stops_in_piece : EndedJobsStay → {K : Type 0} (settings : Settings) (may_write : K → Answer → K → Type 0) (start new : K) (text piece : List ℕ) (i : ℕ) (fault : Fault) →
+    i < length piece → StopsAnswering settings may_write start new (ended_jobs ((text ++ take i piece) ++ get_or piece i 0 ∷ [])) fault →
+    StopsAnswering settings may_write start new (ended_jobs (text ++ piece)) fault
+stops_in_piece stay settings may_write start new text piece i fault below stop =
+    let front = (text ++ take i piece) ++ get_or piece i 0 ∷ [] in
+    let more = stay front (drop (i + 1) piece) in
+    let whole : text ++ piece ≡ front ++ drop (i + 1) piece =
+    ap (λ x. text ++ x) (sym (take-append-drop (i + 1) piece)) ∙ sym (append_assoc text (take (i + 1) piece) (drop (i + 1) piece))
+    ∙ ap (λ x. x ++ drop (i + 1) piece) (sym (byte_taken text piece i below)) in
+    stops_among settings may_write start new (ended_jobs front) more.0 (ended_jobs (text ++ piece)) fault stop (ap ended_jobs whole ∙ more.1)
+
+-- so many reads led from the one state of the source to the other, and gave this piece by piece
+pub record HasReadOn {S : Type 0} (reads : S → Answer → S → Type 0) (old : S) (text : List ℕ) (count : ℕ) (new : S) : Type 0 where
+  pub answers : List Answer
+  pub calls : FoldsTo reads old answers new
+  pub given : ReadsOn answers text
+  pub made : length answers ≡ count
+
+-- no read yet
+pub nothing_read : {S : Type 0} (reads : S → Answer → S → Type 0) (source : S) → HasReadOn reads source [] 0 source
+nothing_read reads source = record { answers = []; calls = refl; given = record { each = All-nil IsPiece; whole = refl }; made = refl }
+
+-- what was read, and a piece more
+more_given : PiecesGoOn → (answers : List Answer) (text more : List ℕ) → ReadsOn answers text → 0 < length more →
+    ReadsOn (answers ++ Moved more ∷ []) (text ++ more)
+more_given go_on answers text more given some =
+    let both = go_on answers more given.each some in
+    record { each = both.0; whole = rw (both.1, given.whole) refl }
+
+-- one more piece
+pub one_more_read : PiecesGoOn → {S : Type 0} (reads : S → Answer → S → Type 0) (old mid new : S) (text more : List ℕ) (count : ℕ) →
+    HasReadOn reads old text count mid → reads mid (Moved more) new → 0 < length more → HasReadOn reads old (text ++ more) (count + 1) new
+one_more_read go_on reads old mid new text more count p moved some = record {
+  answers = p.answers ++ Moved more ∷ [];
+  calls = FoldsTo-push reads old p.answers mid (Moved more) new p.calls moved;
+  given = more_given go_on p.answers text more p.given some;
+  made = omega (arith, length-append p.answers (Moved more ∷ []), p.made);
+}
+
+-- no block yet
+pub no_blocks : {K : Type 0} (settings : Settings) (may_write : K → Answer → K → Type 0) (start : K) (end : SearchEnd) → end ≡ Exact →
+    HasRun may_write start start (λ answers. EndsSo settings [] answers end)
+no_blocks settings may_write start end is = record {
+  answers = [];
+  calls = refl;
+  says = record { answered = record { replies = []; allowed = tt; written = record { each = All-nil IsPiece; whole = refl } }; end_is = is };
+}
+
+module _ {S K : Type 0} (reads : S → Answer → S → Type 0) (writes : K → Answer → K → Type 0) (settings : Settings) (most count : ℕ) (source mid new : S) (sink now : K)
+    (bytes : List ℕ) (batch : Batch) (p : HasReadOn reads source bytes count mid) (u : IsUnderWay settings writes sink now bytes batch) (below : count < most) where
+  few : (answer : Answer) → length (p.answers ++ answer ∷ []) ≤ most
+  few answer = omega (arith, length-append p.answers (answer ∷ []), p.made)
+
+  calls : (answer : Answer) → reads mid answer new → FoldsTo reads source (p.answers ++ answer ∷ []) new
+  calls answer moved = FoldsTo-push reads source p.answers mid answer new p.calls moved
+
+  -- a read failed
+  pub by_failure : reads mid Failed new → IsBatchRun settings most reads writes source new sink now (Err (Reading Read))
+  by_failure failed = record {
+    reads = p.answers ++ Failed ∷ [];
+    writes = u.ready.wrote.answers;
+    read = calls Failed failed;
+    few = few Failed;
+    wrote = u.ready.wrote.calls;
+    outcome = (bytes, record { pieces = p.answers; last = refl; given = p.given }, u.ready.few, u.ready.wrote.says.answered);
+  }
+
+  to_end : ReadsAll (p.answers ++ Moved [] ∷ []) bytes
+  to_end = record { pieces = p.answers; last = refl; given = p.given }
+
+  -- the text ended, and all went out
+  by_end : (more : List ℕ) (last : K) (end : SearchEnd) → reads mid (Moved more) new → length more ≡ 0 → EndsBatch settings writes sink last bytes (Ok end) →
+      IsBatchRun settings most reads writes source new sink last (Ok end)
+  by_end (b ∷ more) last end moved none ends = absurd (omega arith)
+  by_end [] last end moved none ends = record {
+    reads = p.answers ++ Moved [] ∷ [];
+    writes = ends.1.answers;
+    read = calls (Moved []) moved;
+    few = few (Moved []);
+    wrote = ends.1.calls;
+    outcome = (bytes, to_end, omega (arith, ends.0), ends.1.says);
+  }
+
+  -- the text ended, and not all went out
+  by_fault : (more : List ℕ) (last : K) (fault : Fault) → reads mid (Moved more) new → length more ≡ 0 → EndsBatch settings writes sink last bytes (Err fault) →
+      IsBatchRun settings most reads writes source new sink last (Err fault)
+  by_fault (b ∷ more) last fault moved none ends = absurd (omega arith)
+  by_fault [] last Write moved none ends = record {
+    reads = p.answers ++ Moved [] ∷ [];
+    writes = ends.answers;
+    read = calls (Moved []) moved;
+    few = few (Moved []);
+    wrote = ends.calls;
+    outcome = (bytes, inr (to_end, ends.says));
+  }
+  by_fault [] last TooManyJobs moved none ends = record {
+    reads = p.answers ++ Moved [] ∷ [];
+    writes = ends.1.answers;
+    read = calls (Moved []) moved;
+    few = few (Moved []);
+    wrote = ends.1.calls;
+    outcome = record {
+      bytes = [];
+      before = bytes;
+      last = to_end;
+      few = u.ready.few;
+      outcome = inr (bytes, to_end, ends.0, ends.1.says);
+    };
+  }
+  by_fault [] last other moved none ends = absurd ends
+
+  -- the text ended
+  pub by_finish : (more : List ℕ) (last : K) (result : Result SearchEnd Fault) → reads mid (Moved more) new → length more ≡ 0 → EndsBatch settings writes sink last bytes result →
+      IsBatchRun settings most reads writes source new sink last result
+  by_finish more last (Ok end) moved none ends = by_end more last end moved none ends
+  by_finish more last (Err fault) moved none ends = by_fault more last fault moved none ends
+
+  -- answering stopped in a piece
+  pub in_piece : PiecesGoOn → (more : List ℕ) (last : K) (fault : Fault) → reads mid (Moved more) new → 0 < length more →
+      StopsAnswering settings writes sink last (ended_jobs (bytes ++ more)) fault →
+      IsBatchRun settings most reads writes source new sink last (Err fault)
+  in_piece go_on more last Write moved some stop = record {
+    reads = p.answers ++ Moved more ∷ [];
+    writes = stop.answers;
+    read = calls (Moved more) moved;
+    few = few (Moved more);
+    wrote = stop.calls;
+    outcome = (bytes ++ more, inl (more_given go_on p.answers bytes more p.given some, stop.says));
+  }
+  in_piece go_on more last TooManyJobs moved some stop = record {
+    reads = p.answers ++ Moved more ∷ [];
+    writes = stop.answers;
+    read = calls (Moved more) moved;
+    few = few (Moved more);
+    wrote = stop.calls;
+    outcome = record {
+      bytes = more;
+      before = bytes;
+      last = record { pieces = p.answers; last = refl; given = p.given };
+      few = u.ready.few;
+      outcome = inl (bytes ++ more, more_given go_on p.answers bytes more p.given some, stop.says);
+    };
+  }
+  in_piece go_on more last other moved some stop = absurd stop
+
+-- as many reads as there may be gave no end
+pub by_reads : {S K : Type 0} (reads : S → Answer → S → Type 0) (writes : K → Answer → K → Type 0) (settings : Settings) (most count : ℕ) (source mid : S) (sink now : K)
+    (bytes : List ℕ) (batch : Batch) → HasReadOn reads source bytes count mid → IsUnderWay settings writes sink now bytes batch → count ≡ most →
+    IsBatchRun settings most reads writes source mid sink now (Err (Reading TooManyReads))
+by_reads reads writes settings most count source mid sink now bytes batch p u all = record {
+  reads = p.answers;
+  writes = u.ready.wrote.answers;
+  read = p.calls;
+  few = omega (arith, p.made, all);
+  wrote = u.ready.wrote.calls;
+  outcome = (bytes, p.given, p.made ∙ all, u.ready.few, u.ready.wrote.says.answered);
+}

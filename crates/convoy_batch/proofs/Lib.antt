@@ -1,0 +1,3 @@
+pub mod BatchFailures
+pub mod BatchRuns
+pub mod Blocks

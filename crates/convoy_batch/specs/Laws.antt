@@ -1,0 +1,21 @@
+-- What is proved of runs of batches.
+use Rattle.std.specs.Prelude.{ℕ, List, Result, Ok, Err}
+use Rattle.convoy_streams.specs.Devices.{Answer}
+use Rattle.convoy_branch.specs.Options.{Settings}
+use Rattle.convoy_commands.specs.declared.done.Done.{Done}
+use Rattle.convoy_commands.specs.declared.done.Done.TheVariants.{Fine}
+use Rattle.convoy_commands.specs.declared.fault.Fault.{Fault}
+use Rattle.convoy_commands.specs.declared.search_end.SearchEnd.{SearchEnd}
+use Rattle.convoy_commands.specs.Laws.{TellsFailures}
+use Rattle.convoy_batch.specs.Batches.{BatchRunsTo}
+
+-- a run of a batch that gave its blocks, however their jobs ended, is one that ended well
+abbrev pub batch_done : Result SearchEnd Fault → Result Done Fault
+batch_done (Ok end) = Ok Fine
+batch_done (Err fault) = Err fault
+
+-- It is so in runs of a batch with these settings.
+abbrev pub BatchFailuresAreTold : Settings → Type 0
+BatchFailuresAreTold settings =
+    (most_reads : ℕ) (reads writes : List Answer) (result : Result SearchEnd Fault) →
+    BatchRunsTo settings most_reads reads writes result → TellsFailures reads writes (batch_done result)

@@ -1,0 +1,14 @@
+-- what a reader has to know of the crates below
+pub use Rattle.convoy_streams.specs.Jobs
+pub use Rattle.convoy_streams.specs.Devices
+pub use Rattle.convoy_streams.specs.Writes
+pub use Rattle.convoy_branch.specs.Options
+pub use Rattle.convoy_commands.specs.Faults
+pub use Rattle.convoy_commands.specs.Replies
+pub use Rattle.convoy_commands.specs.SearchEnds
+pub use Rattle.convoy_commands.specs.Searches
+-- what a reader has to believe: what a batch writes, and what its run does at its devices
+pub mod Batches
+pub mod Laws
+-- how a batch goes on from job to job
+pub mod BatchSteps

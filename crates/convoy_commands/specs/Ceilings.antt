@@ -1,0 +1,45 @@
+-- What the command `ceiling` writes.
+use Rattle.std.specs.Prelude.{◌≡◌, ℕ, ◌≤◌, ◌==◌, if◌then◌else◌, List, [], ◌∷◌, ◌++◌, Option, Ok, Err, codes, decimal}
+use Rattle.convoy_lines.specs.Texts.{ended, line_of}
+use Rattle.convoy_scenario.specs.Scenario.{Scenario}
+use Rattle.convoy_scenario.specs.WellFormed.{IsScenario}
+use Rattle.convoy_toml.specs.Reading.{scenario_of_text}
+use Rattle.convoy_toml_writer.specs.Text.{toml_text}
+use Rattle.convoy_sim.specs.Record.{Record}
+use Rattle.convoy_ceiling.specs.Ceiling.{IsUpperInTraffic, ceiling_of}
+use Rattle.convoy_traffic.specs.Finding.{IsFound}
+use Rattle.convoy_commands.specs.declared.done.Done.{Done}
+use Rattle.convoy_commands.specs.declared.done.Done.TheVariants.{Fine, Open}
+use Rattle.convoy_commands.specs.Lines.{attained_line, in_unit}
+use Rattle.convoy_commands.specs.Replies.{Rule}
+use Rattle.convoy_commands.specs.Searches.{IsFaulty}
+
+-- a ceiling, in ticks and in the unit of a tick
+abbrev pub ceiling_line : Option ℕ → ℕ → List ℕ
+ceiling_line tick ceiling = ended (line_of (codes "ceiling") (decimal ceiling ∷ in_unit tick (ceiling ∷ [])))
+
+-- the ceiling of a scenario, the latency that was found in traffic, and that traffic with its schedule as a scenario's text
+abbrev pub ceiling_text : Scenario → Record → List ℕ
+ceiling_text scenario found =
+    ceiling_line scenario.tick (ceiling_of scenario) ++ (attained_line found.latency ++ toml_text found.scenario found.schedule)
+
+-- how the command ends: well where the latency is the ceiling
+abbrev pub ceiling_ends : Scenario → Record → Done
+ceiling_ends scenario found = if found.latency == ceiling_of scenario then Fine else Open
+
+-- What is written is the ceiling of the scenario that was read, above which no message of the target's kind has a latency in any traffic of the scenario's kinds, and traffic of these kinds, in which the same is asked, with a schedule that has the latency that is told.
+pub record IsCeilingTold (text out : List ℕ) (done : Done) : Type 0 where
+  pub scenario : Scenario
+  pub read : scenario_of_text text ≡ Ok scenario
+  pub lawful : IsScenario scenario
+  pub safe : IsUpperInTraffic scenario scenario.target_message scenario.target_group (ceiling_of scenario)
+  pub traffic : Record
+  pub found : IsFound scenario traffic.scenario traffic
+  pub within : traffic.latency ≤ ceiling_of scenario
+  pub written : out ≡ ceiling_text scenario traffic
+  pub ended : done ≡ ceiling_ends scenario traffic
+
+-- what `ceiling` may answer
+abbrev pub CeilingSays : Rule
+CeilingSays text (Ok (done, out)) = IsCeilingTold text out done
+CeilingSays text (Err fault) = IsFaulty text fault

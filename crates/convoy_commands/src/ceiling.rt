@@ -1,0 +1,75 @@
+ghost use Rattle.std.specs.Prelude.{◌≡◌, ◌==◌, IfOk, if◌then◌else◌};
+ghost use Rattle.convoy_scenario.specs.WellFormed.{IsScenario};
+ghost use Rattle.convoy_ceiling.specs.Ceiling.{IsUpperInTraffic, ceiling_of};
+ghost use Rattle.convoy_commands.specs.declared.done.Done.TheVariants.{Fine, Open};
+ghost use Rattle.convoy_commands.specs.Ceilings.{CeilingSays, ceiling_text};
+ghost use Rattle.convoy_commands.specs.Replies.{SaysUnlessMemory, reply_of};
+
+use super::done::Done;
+use super::fault::Fault;
+use super::lines::push_ceiling;
+use convoy_ceiling::ceiling;
+use convoy_lines::push_number_line;
+use convoy_scenario::Scenario;
+use convoy_toml::read_toml;
+use convoy_toml_writer::write_toml;
+use convoy_traffic::{Found, seek_traffic};
+use std::alloc::{AllocError, Global};
+
+/// What is written for a text, and how the command ends, where traffic is sought by so many simulations
+/// at most.
+pub(crate) fn ceiling_answer(
+    alloc: Global,
+    simulations: u64,
+    text: &[u8],
+) -> Result<(Done, Vec<u8>), Fault>
+    ensures { SaysUnlessMemory CeilingSays text.now (reply_of result) }
+{
+    let input = read_toml(alloc, text)?;
+    let scenario = input.scenario;
+    let ceiling = target_ceiling(&scenario);
+    let found = seek_traffic(alloc, &scenario, simulations)?;
+    let out = told(alloc, &scenario, ceiling, &found)?;
+    let latency = found.record.latency();
+    let done = ending(ceiling, latency);
+    Ok((done, out))
+}
+
+/// The ceiling of the target of a scenario.
+fn target_ceiling(scenario: &Scenario) -> u32
+    ensures value { result ≡ ceiling_of scenario.now }
+    ensures lawful { IsScenario scenario.now }
+    ensures safe { IsUpperInTraffic scenario.now scenario.now.target_message scenario.now.target_group
+        (ceiling_of scenario.now) }
+{
+    ceiling(scenario, scenario.target_message(), scenario.target_group())
+}
+
+/// How the command ends: well where the latency is the ceiling.
+fn ending(ceiling: u32, latency: u32) -> Done
+    ensures { result ≡ (if latency == ceiling then Fine else Open) }
+{
+    if latency == ceiling {
+        Done::Fine
+    } else {
+        Done::Open
+    }
+}
+
+/// The ceiling of a scenario, and the traffic that was found.
+fn told(
+    alloc: Global,
+    scenario: &Scenario,
+    ceiling: u32,
+    found: &Found,
+) -> Result<Vec<u8>, AllocError>
+    requires ceiling { ceiling ≡ ceiling_of scenario.now }
+    requires traffic { found.now.record.scenario ≡ found.now.traffic }
+    ensures { IfOk result (λ text. text.items ≡ ceiling_text scenario.now found.now.record) }
+{
+    let mut text = Vec::new(alloc);
+    push_ceiling(scenario.tick(), ceiling, &mut text)?;
+    push_number_line(&mut text, "attained", found.record.latency())?;
+    write_toml(found.traffic.scenario(), found.record.schedule(), &mut text)?;
+    Ok(text)
+}
