@@ -1,0 +1,42 @@
+-- What a survey of a scenario writes.
+use Rattle.std.specs.Prelude.{◌≡◌, ℕ, List, map, Ok, Err}
+use Rattle.std.specs.List.{All, list_any}
+use Rattle.convoy_scenario.specs.Scenario.{Scenario}
+use Rattle.convoy_scenario.specs.Targets.{targets_of}
+use Rattle.convoy_scenario.specs.WellFormed.{IsScenario}
+use Rattle.convoy_toml.specs.declared.target.TargetKey.TheVariants.{Optional}
+use Rattle.convoy_toml.specs.Reading.{scenario_of_text_by}
+use Rattle.convoy_branch.specs.Options.{Settings}
+use Rattle.convoy_tables.specs.declared.format.Format.{Format}
+use Rattle.convoy_tables.specs.Formats.{table_text}
+use Rattle.convoy_commands.specs.declared.search_end.SearchEnd.{SearchEnd}
+use Rattle.convoy_commands.specs.Replies.{RuleOf}
+use Rattle.convoy_commands.specs.SearchEnds.{end_by}
+use Rattle.convoy_commands.specs.Searches.{IsFaultyBy}
+use Rattle.convoy_survey.specs.declared.finding.Surveyed.{Surveyed}
+use Rattle.convoy_survey.specs.Cells.{table_of}
+use Rattle.convoy_survey.specs.Findings.{IsSurveyed, is_fault, is_open, target_of}
+
+-- There is a row for each message at each group that it goes to, in their order, and each has what was found of that target.
+pub record AreSurveyed (settings : Settings) (scenario : Scenario) (rows : List Surveyed) : Type 0 where
+  pub targets : map target_of rows ≡ targets_of scenario
+  pub found : All (IsSurveyed settings scenario) rows
+
+-- how a survey with these rows ends: a fault comes before a search that did not end
+abbrev pub end_of : List Surveyed → SearchEnd
+end_of rows = end_by (list_any (λ row. is_fault row.finding) rows) (list_any (λ row. is_open row.finding) rows)
+
+-- THE HEADLINE. What is written is the table of these rows of the scenario that was read, where the target may be left out, in this format, and the end is told by them.
+pub record IsSurvey (format : Format) (settings : Settings) (text : List ℕ) (end : SearchEnd) (out : List ℕ) : Type 0 where
+  pub scenario : Scenario
+  pub rows : List Surveyed
+  pub read : scenario_of_text_by Optional text ≡ Ok scenario
+  pub lawful : IsScenario scenario
+  pub surveyed : AreSurveyed settings scenario rows
+  pub written : out ≡ table_text format (table_of scenario rows)
+  pub ends : end ≡ end_of rows
+
+-- what a survey may answer for a text
+abbrev pub SurveySays : Format → Settings → RuleOf SearchEnd
+SurveySays format settings text (Ok (end, out)) = IsSurvey format settings text end out
+SurveySays format settings text (Err fault) = IsFaultyBy Optional text fault

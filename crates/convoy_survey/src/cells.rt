@@ -1,0 +1,172 @@
+//! The cells of a survey's table.
+
+ghost use Rattle.std.specs.Prelude.{◌≡◌, ◌≤◌, ◌∷◌, [], ◌++◌, OnOk, IfOk, option_and_then};
+ghost use Rattle.convoy_scenario.specs.Durations.{count_of};
+ghost use Rattle.convoy_scenario.specs.Scenario.{group_name_at, message_at};
+ghost use Rattle.convoy_scenario.specs.declared.duration.TheConstants.{MOST_UNITS};
+ghost use Rattle.convoy_survey.specs.Findings.{cause_of, nodes_of};
+ghost use Rattle.convoy_survey.specs.Cells.{cause_cells, cells_of, count_cell, name_cell, name_cells, tick_cells, time_cell, time_cells};
+
+use super::finding::{Finding, Surveyed};
+use convoy_scenario::{Duration, Scenario};
+use convoy_tables::{Cell, Row};
+use std::alloc::{AllocError, Global};
+
+/// The cells of a row.
+pub(crate) fn cells_of(
+    alloc: Global,
+    scenario: &Scenario,
+    row: &Surveyed,
+) -> Result<Row, AllocError>
+    ensures { IfOk result (λ cells. cells ≡ cells_of scenario.now row.now) }
+{
+    let mut cells = Row::new(alloc);
+    push_names(alloc, scenario, row, &mut cells)?;
+    push_ticks(alloc, row.finding, &mut cells)?;
+    push_times(alloc, scenario, row.finding, &mut cells)?;
+    push_cause(alloc, scenario, row.finding, &mut cells)?;
+    Ok(cells)
+}
+
+/// Puts the message, the group and what is known at the end of a row.
+fn push_names(
+    alloc: Global,
+    scenario: &Scenario,
+    row: &Surveyed,
+    cells: &mut Row,
+) -> Result<(), AllocError>
+    ensures { OnOk result (cells.new ≡ cells.old ++ name_cells scenario.now row.now) }
+{
+    cells.push(Cell::word(alloc, message_name(scenario, row.message))?)?;
+    cells.push(Cell::word(alloc, group_name(scenario, row.group))?)?;
+    cells.push(Cell::word(alloc, row.finding.answer())?)
+}
+
+/// Puts the least and the most that the greatest latency may be, in ticks, at the end of a row.
+fn push_ticks(alloc: Global, finding: Finding, cells: &mut Row) -> Result<(), AllocError>
+    ensures { OnOk result (cells.new ≡ cells.old ++ tick_cells finding) }
+{
+    push_count(alloc, finding.least().map(u64::from), cells)?;
+    push_count(alloc, finding.most().map(u64::from), cells)
+}
+
+/// Puts the same in the unit of a tick, where its length is known, at the end of a row.
+fn push_times(
+    alloc: Global,
+    scenario: &Scenario,
+    finding: Finding,
+    cells: &mut Row,
+) -> Result<(), AllocError>
+    ensures { OnOk result (cells.new ≡ cells.old ++ time_cells scenario.now.tick finding) }
+{
+    let Some(tick) = scenario.tick() else {
+        return Ok(());
+    };
+    push_time(alloc, tick, finding.least(), cells)?;
+    push_time(alloc, tick, finding.most(), cells)
+}
+
+/// Puts ticks of that length in their unit at the end of a row.
+fn push_time(
+    alloc: Global,
+    tick: Duration,
+    ticks: Option<u32>,
+    cells: &mut Row,
+) -> Result<(), AllocError>
+    requires { count_of tick ≤ MOST_UNITS }
+    ensures { OnOk result (cells.new ≡ cells.old ++ time_cell tick ticks ∷ []) }
+{
+    match ticks {
+        Some(ticks) => push_count(alloc, Some(u64::from(ticks) * tick.count()), cells),
+        None => push_count(alloc, None, cells),
+    }
+}
+
+/// Puts the message that holds the target back, the one after which it gets its stamp in a tie, and the
+/// number of nodes at the end of a row.
+fn push_cause(
+    alloc: Global,
+    scenario: &Scenario,
+    finding: Finding,
+    cells: &mut Row,
+) -> Result<(), AllocError>
+    ensures { OnOk result (cells.new ≡ cells.old ++ cause_cells scenario.now finding) }
+{
+    push_name(alloc, scenario, rival_of(finding), cells)?;
+    push_name(alloc, scenario, tied_of(finding), cells)?;
+    push_count(alloc, nodes_of(finding), cells)
+}
+
+fn rival_of(finding: Finding) -> Option<usize>
+    ensures { result ≡ option_and_then (λ cause. cause.rival) (cause_of finding) }
+{
+    match finding.cause() {
+        Some(cause) => cause.rival,
+        None => None,
+    }
+}
+
+fn tied_of(finding: Finding) -> Option<usize>
+    ensures { result ≡ option_and_then (λ cause. cause.tied) (cause_of finding) }
+{
+    match finding.cause() {
+        Some(cause) => cause.tied,
+        None => None,
+    }
+}
+
+fn nodes_of(finding: Finding) -> Option<u64>
+    ensures { result ≡ nodes_of finding }
+{
+    match finding.nodes() {
+        Some(nodes) => Some(nodes as u64),
+        None => None,
+    }
+}
+
+/// Puts a number that may not be known at the end of a row.
+fn push_count(alloc: Global, count: Option<u64>, cells: &mut Row) -> Result<(), AllocError>
+    ensures { OnOk result (cells.new ≡ cells.old ++ count_cell count ∷ []) }
+{
+    match count {
+        Some(count) => cells.push(Cell::number(alloc, count)?),
+        None => cells.push(Cell::nothing(alloc)),
+    }
+}
+
+/// Puts the name of a message that there may not be at the end of a row.
+fn push_name(
+    alloc: Global,
+    scenario: &Scenario,
+    message: Option<usize>,
+    cells: &mut Row,
+) -> Result<(), AllocError>
+    ensures { OnOk result (cells.new ≡ cells.old ++ name_cell scenario.now message ∷ []) }
+{
+    match message {
+        Some(message) => cells.push(Cell::word(alloc, message_name(scenario, message))?),
+        None => cells.push(Cell::nothing(alloc)),
+    }
+}
+
+/// The name of a message, and none for a message that the scenario has not.
+fn message_name(scenario: &Scenario, message: usize) -> &str
+    ensures { result.now ≡ (message_at scenario.now message).name }
+{
+    if message < scenario.message_count() {
+        scenario.message_name(message)
+    } else {
+        ""
+    }
+}
+
+/// The name of a group, and none for a group that the scenario has not.
+fn group_name(scenario: &Scenario, group: usize) -> &str
+    ensures { result.now ≡ group_name_at scenario.now group }
+{
+    if group < scenario.group_count() {
+        scenario.group_name(group)
+    } else {
+        ""
+    }
+}

@@ -1,0 +1,107 @@
+ghost use Rattle.std.specs.Prelude.{◌≡◌, IfOk, Ok};
+ghost use Rattle.std.specs.List.{list_any};
+ghost use Rattle.convoy_scenario.specs.Memory.{IsUnlessMemory};
+ghost use Rattle.convoy_toml.specs.declared.target.TargetKey.TheVariants.{Optional};
+ghost use Rattle.convoy_toml.specs.Reading.{scenario_of_text_by};
+ghost use Rattle.convoy_commands.specs.declared.limits.TheConstants.{LONGEST_JOB};
+ghost use Rattle.convoy_commands.specs.Replies.{SaysUnlessMemory, reply_of};
+ghost use Rattle.convoy_commands.specs.Runs.{IsRun};
+ghost use Rattle.convoy_survey.specs.Findings.{is_fault, is_open};
+ghost use Rattle.convoy_survey.specs.Surveys.{SurveySays, end_of};
+
+use super::finding::Surveyed;
+use super::rows::survey;
+use super::table::table_of;
+use convoy_branch::Options;
+use convoy_commands::{Fault, LONGEST_JOB, SearchEnd, Watch, write_reply};
+use convoy_scenario::{Scenario, ScenarioFault};
+use convoy_streams::{Sink, Source, read_to_end};
+use convoy_tables::{Format, write_table};
+use convoy_toml::read_toml_any_target;
+use std::alloc::Global;
+use std::sync::Wait;
+use std::thread::Threads;
+
+/// The command `survey`: reads a scenario to the end of the source, in at most `options.most_reads()`
+/// reads, and writes a table with a row for each message at each group that it goes to
+/// (docs/FORMATS.md, "Survey"); what is asked in the text does not matter, and may be left out. The numbers of a row are those that
+/// [`latency`](convoy_commands::run_latency) writes for the scenario with that target. Each search is
+/// watched, by [`NoGate`](convoy_branch::NoGate) where nobody cares.
+///
+/// Nothing is written before all rows are known. A row for which memory runs out has that fault in place
+/// of numbers, and the survey goes on. Faults of the whole are `Fault::Scenario`, where the text is that of
+/// no scenario; `Fault::Reading`, where the input is not read to its end, or has more than
+/// [`LONGEST_JOB`] bytes; `Fault::Write` where the sink fails, after a front of the table; and
+/// `Fault::Memory`.
+pub fn run_survey<R: Threads + Wait + Sync, S: Source, K: Sink, W: Watch + Sync>(
+    rt: &R,
+    alloc: Global,
+    format: Format,
+    options: &Options,
+    source: &mut S,
+    sink: &mut K,
+    watch: &W,
+) -> Result<SearchEnd, Fault>
+    ensures { IsRun LONGEST_JOB (SurveySays format options.now) options.now.most_reads
+        S.reads K.writes source.old source.new sink.old sink.new result }
+{
+    let text = read_to_end(alloc, source, LONGEST_JOB, options.most_reads())?;
+    write_reply(
+        sink,
+        survey_answer(rt, alloc, format, &text, options, watch),
+    )
+}
+
+/// How a survey of a text ends, and its table.
+fn survey_answer<R: Threads + Wait + Sync, W: Watch + Sync>(
+    rt: &R,
+    alloc: Global,
+    format: Format,
+    text: &[u8],
+    options: &Options,
+    watch: &W,
+) -> Result<(SearchEnd, Vec<u8>), Fault>
+    ensures { SaysUnlessMemory (SurveySays format options.now) text.now (reply_of result) }
+{
+    let scenario = read_scenario(alloc, text)?;
+    // A scenario is well formed.
+    let _count = scenario.message_count();
+    let rows = survey(rt, alloc, &scenario, options, watch)?;
+    let table = table_of(alloc, &scenario, &rows)?;
+    let mut written = Vec::new(alloc);
+    write_table(&table, format, &mut written)?;
+    Ok((end_of(&rows), written))
+}
+
+/// The scenario of a text in which the target may be left out.
+fn read_scenario(alloc: Global, text: &[u8]) -> Result<Scenario, ScenarioFault>
+    ensures unless_memory { IsUnlessMemory ScenarioFault.Memory (scenario_of_text_by Optional text.now) result }
+    ensures read { IfOk result (λ scenario. scenario_of_text_by Optional text.now ≡ Ok scenario) }
+{
+    Ok(read_toml_any_target(alloc, text)?.scenario)
+}
+
+/// How a survey with these rows ends.
+fn end_of(rows: &[Surveyed]) -> SearchEnd
+    ensures { result ≡ end_of rows.now }
+{
+    if has_fault(rows) {
+        SearchEnd::Faulty
+    } else if has_open(rows) {
+        SearchEnd::Open
+    } else {
+        SearchEnd::Exact
+    }
+}
+
+fn has_fault(rows: &[Surveyed]) -> bool
+    ensures { result ≡ list_any (λ row. is_fault row.finding) rows.now }
+{
+    rows.iter().any(|row| row.finding.is_fault())
+}
+
+fn has_open(rows: &[Surveyed]) -> bool
+    ensures { result ≡ list_any (λ row. is_open row.finding) rows.now }
+{
+    rows.iter().any(|row| row.finding.is_open())
+}

@@ -1,0 +1,85 @@
+ghost use Rattle.std.specs.Prelude.{◌<◌, length, IfOk};
+ghost use Rattle.convoy_scenario.specs.Scenario.{GoesTo};
+ghost use Rattle.convoy_scenario.specs.Targets.{with_target};
+ghost use Rattle.convoy_commands.specs.Searches.{IsEnd};
+ghost use Rattle.convoy_survey.specs.Findings.{IsFinding};
+
+use super::cause::cause_of;
+use super::finding::Finding;
+use convoy_branch::{Options, Outcome};
+use convoy_commands::{Watch, search_instance};
+use convoy_packets::Instance;
+use convoy_scenario::Scenario;
+use std::alloc::{AllocError, Global};
+use std::sync::Wait;
+use std::thread::Threads;
+
+/// What a search finds of the latency of a message at a group that it goes to.
+pub(crate) fn find<R: Threads + Wait + Sync, W: Watch + Sync>(
+    rt: &R,
+    alloc: Global,
+    scenario: &Scenario,
+    message: usize,
+    group: usize,
+    options: &Options,
+    watch: &W,
+) -> Finding
+    requires known { message < length scenario.now.multicasts }
+    requires addressed { GoesTo scenario.now message group }
+    ensures { IsFinding options.now (with_target scenario.now message group) result }
+{
+    match search_target(rt, alloc, scenario, message, group, options, watch) {
+        Ok(finding) => finding,
+        Err(AllocError) => Finding::OutOfMemory,
+    }
+}
+
+/// The same, where there is memory for it.
+fn search_target<R: Threads + Wait + Sync, W: Watch + Sync>(
+    rt: &R,
+    alloc: Global,
+    scenario: &Scenario,
+    message: usize,
+    group: usize,
+    options: &Options,
+    watch: &W,
+) -> Result<Finding, AllocError>
+    requires known { message < length scenario.now.multicasts }
+    requires addressed { GoesTo scenario.now message group }
+    ensures { IfOk result (IsFinding options.now (with_target scenario.now message group)) }
+{
+    let instance = Instance::of(alloc, scenario.with_target(message, group)?)?;
+    let outcome = search_instance(rt, alloc, &instance, options, watch);
+    watch.ends();
+    finding_of(alloc, &instance, options, outcome?)
+}
+
+/// What was found of an instance by a search that ended so.
+fn finding_of(
+    alloc: Global,
+    instance: &Instance,
+    options: &Options,
+    outcome: Outcome,
+) -> Result<Finding, AllocError>
+    requires { IsEnd options.now instance.now outcome }
+    ensures { IfOk result (IsFinding options.now instance.now) }
+{
+    match outcome {
+        Outcome::Proved { certificate, .. } => {
+            let cause = cause_of(alloc, instance, certificate.schedule())?;
+            Ok(Finding::Greatest {
+                latency: certificate.latency(),
+                cause,
+                nodes: certificate.nodes().len(),
+            })
+        }
+        Outcome::Open { best, upper, .. } => {
+            let cause = cause_of(alloc, instance, best.schedule())?;
+            Ok(Finding::Open {
+                least: best.latency(),
+                most: upper,
+                cause,
+            })
+        }
+    }
+}

@@ -1,0 +1,3 @@
+-- what a reader has to believe: what a table is, and how it is written
+pub mod Tables
+pub mod Formats

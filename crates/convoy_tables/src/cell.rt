@@ -1,0 +1,87 @@
+ghost use Rattle.std.specs.Prelude.{◌≡◌, IfOk};
+ghost use Rattle.convoy_tables.specs.Tables.{nothing, number, shown, word};
+
+use std::alloc::{AllocError, Global};
+use std::marker::Model;
+
+/// What a cell has.
+#[derive(Clone, Copy, Debug, PartialEq, Eq)]
+pub enum Kind {
+    Word,
+    Number,
+    Nothing,
+}
+
+/// A cell of a table.
+#[derive(Debug, Drop)]
+pub struct Cell {
+    kind: Kind,
+    text: String,
+}
+
+impl Model for Cell {
+    ghost use Rattle.std.specs.Prelude.{string_bytes};
+    ghost use Rattle.convoy_tables.specs.Tables.{Cell};
+
+    ghost Value = { Cell };
+
+    ghost view = { λ c. record { kind = c.kind; text = string_bytes c.text } };
+}
+
+impl Cell {
+    /// A cell with a word, or with several. Fails where memory runs out, and else never.
+    pub fn word(alloc: Global, text: &str) -> Result<Cell, AllocError>
+        ensures { IfOk result (λ cell. cell ≡ word text.now) }
+    {
+        let text = String::from_str(alloc, text)?;
+        Ok(Cell {
+            kind: Kind::Word,
+            text,
+        })
+    }
+
+    /// A cell with a number. Fails where memory runs out, and else never.
+    pub fn number(alloc: Global, value: u64) -> Result<Cell, AllocError>
+        ensures { IfOk result (λ cell. cell ≡ number value) }
+    {
+        let text = format!(in alloc; "{value}")?;
+        Ok(Cell {
+            kind: Kind::Number,
+            text,
+        })
+    }
+
+    /// A cell with nothing in it.
+    pub fn nothing(alloc: Global) -> Cell
+        ensures { result ≡ nothing }
+    {
+        Cell {
+            kind: Kind::Nothing,
+            text: String::new(alloc),
+        }
+    }
+
+    /// What the cell has.
+    pub fn kind(&self) -> Kind
+        ensures { result ≡ self.now.kind }
+    {
+        self.kind
+    }
+
+    /// Its word, or its number in digits; no text where it has nothing.
+    pub fn text(&self) -> &str
+        ensures { result.now ≡ self.now.text }
+    {
+        self.text.as_str()
+    }
+
+    /// What stands for it in aligned columns.
+    pub(crate) fn shown(&self) -> &str
+        ensures { result.now ≡ shown self.now }
+    {
+        match self.kind() {
+            Kind::Word | Kind::Number => self.text(),
+            Kind::Nothing => "-",
+        }
+    }
+}

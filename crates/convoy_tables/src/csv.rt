@@ -1,0 +1,53 @@
+//! Fields of CSV.
+
+ghost use Rattle.std.specs.Prelude.{◌≡◌, ◌++◌, OnOk};
+ghost use Rattle.std.specs.List.{flat_map, list_any};
+ghost use Rattle.convoy_tables.specs.Formats.{csv_byte, csv_field, needs_quotes};
+
+use std::alloc::AllocError;
+
+/// Appends a field, in quotes where it needs them.
+pub(crate) fn push_csv_field(text: &[u8], out: &mut Vec<u8>) -> Result<(), AllocError>
+    ensures { OnOk result (out.new.items ≡ out.old.items ++ csv_field text.now) }
+{
+    if !is_to_be_quoted(text) {
+        return out.extend_from_slice(text);
+    }
+    out.push(b'"')?;
+    push_csv_bytes(text, out)?;
+    Ok(out.push(b'"')?)
+}
+
+/// Whether a field is put in quotes.
+fn is_to_be_quoted(text: &[u8]) -> bool
+    ensures { result ≡ list_any needs_quotes text.now }
+{
+    text.iter().any(|byte| needs_quotes(*byte))
+}
+
+/// Whether a byte has a field put in quotes.
+fn needs_quotes(byte: u8) -> bool
+    ensures { result ≡ needs_quotes byte }
+{
+    byte == b'"' || byte == b',' || byte == b'\n' || byte == b'\r'
+}
+
+/// Appends bytes of a field in quotes.
+fn push_csv_bytes(text: &[u8], out: &mut Vec<u8>) -> Result<(), AllocError>
+    ensures { OnOk result (out.new.items ≡ out.old.items ++ flat_map csv_byte text.now) }
+{
+    for byte in text {
+        push_csv_byte(*byte, out)?;
+    }
+    Ok(())
+}
+
+/// Appends a byte of a field in quotes.
+fn push_csv_byte(byte: u8, out: &mut Vec<u8>) -> Result<(), AllocError>
+    ensures { OnOk result (out.new.items ≡ out.old.items ++ csv_byte byte) }
+{
+    if byte == b'"' {
+        return out.extend_from_slice(b"\"\"");
+    }
+    Ok(out.push(byte)?)
+}

@@ -1,0 +1,96 @@
+use super::cell::Cell;
+use std::alloc::{AllocError, Global};
+use std::marker::Model;
+
+/// The cells of one row of a table, in the order of its columns.
+#[derive(Debug, Drop)]
+pub struct Row {
+    cells: Vec<Cell>,
+}
+
+impl Model for Row {
+    ghost use Rattle.std.specs.Prelude.{List};
+    ghost use Rattle.convoy_tables.specs.Tables.{Cell};
+
+    ghost Value = { List Cell };
+
+    ghost view = { λ r. r.cells.items };
+}
+
+impl Row {
+    ghost use Rattle.std.specs.Prelude.{◌≡◌, ◌∷◌, [], ◌++◌, OnOk};
+
+    /// A row without cells yet.
+    pub fn new(alloc: Global) -> Row
+        ensures { result ≡ [] }
+    {
+        Row {
+            cells: Vec::new(alloc),
+        }
+    }
+
+    /// Puts a cell at the end of the row. Fails where memory runs out, and else never.
+    pub fn push(&mut self, cell: Cell) -> Result<(), AllocError>
+        ensures { OnOk result (self.new ≡ self.old ++ cell ∷ []) }
+    {
+        Ok(self.cells.push(cell)?)
+    }
+
+    /// The cells.
+    pub fn cells(&self) -> &[Cell]
+        ensures { result.now ≡ self.now }
+    {
+        self.cells.as_slice()
+    }
+}
+
+/// A table: the names of its columns, and its rows. A row has as many cells as there are columns; those
+/// beyond have columns without a name.
+#[derive(Debug, Drop)]
+pub struct Table {
+    columns: Row,
+    rows: Vec<Row>,
+}
+
+impl Model for Table {
+    ghost use Rattle.convoy_tables.specs.Tables.{Table};
+
+    ghost Value = { Table };
+
+    ghost view = { λ t. record { columns = t.columns; rows = t.rows.items } };
+}
+
+impl Table {
+    ghost use Rattle.std.specs.Prelude.{◌≡◌, ◌∷◌, [], ◌++◌, OnOk};
+
+    /// A table with columns of these names, and without rows yet.
+    pub fn new(alloc: Global, columns: Row) -> Table
+        ensures { result ≡ record { columns = columns; rows = [] } }
+    {
+        Table {
+            columns,
+            rows: Vec::new(alloc),
+        }
+    }
+
+    /// Puts a row at the end of the table. Fails where memory runs out, and else never.
+    pub fn push(&mut self, row: Row) -> Result<(), AllocError>
+        ensures { OnOk result (self.new ≡ record self.old { rows = self.old.rows ++ row ∷ [] }) }
+    {
+        Ok(self.rows.push(row)?)
+    }
+
+    /// The names of the columns.
+    pub fn columns(&self) -> &[Cell]
+        ensures { result.now ≡ self.now.columns }
+    {
+        self.columns.cells()
+    }
+
+    /// The rows.
+    pub fn rows(&self) -> &[Row]
+        ensures { result.now ≡ self.now.rows }
+    {
+        self.rows.as_slice()
+    }
+}
