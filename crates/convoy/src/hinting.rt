@@ -1,19 +1,19 @@
 //! What the program writes to standard error, for people: a line before it waits for a terminal, why a file
 //! could not be read, and a hint where it has no answer, or an open one (docs/HINTS.md).
 
-use super::REJECTED;
 use super::ending::End;
-use super::judge::Verdict;
 use super::kept::{KeptReader, KeptWriter};
+use convoy_arguments::{REJECTED, Task, Verdict};
+use convoy_batch::MOST_JOBS;
 use convoy_commands::{
-    Bounds, Command, Direct, Done, Fault, LONGEST_JOB, MOST_JOBS, Options, ReadFault, Ways,
-    lead_share, plain_share,
+    Bounds, Command, Direct, Done, Fault, LONGEST_JOB, MOST_SIMULATIONS, Options, ReadFault,
+    SearchEnd, Ways, lead_share, plain_share,
 };
 use convoy_hints::{
-    hint_for_batch, hint_for_both, hint_for_certificate, hint_for_first, hint_for_jobs,
-    hint_for_leads, hint_for_length, hint_for_limit, hint_for_reading, hint_for_real_time,
-    hint_for_scenario, hint_for_tickets, hint_for_words, hint_for_writing, is_in_real_time,
-    line_for_file,
+    hint_for_batch, hint_for_both, hint_for_ceiling, hint_for_certificate, hint_for_first,
+    hint_for_jobs, hint_for_leads, hint_for_length, hint_for_limit, hint_for_reading,
+    hint_for_real_time, hint_for_run, hint_for_scenario, hint_for_tickets, hint_for_words,
+    hint_for_writing, is_in_real_time, line_for_file,
 };
 use std::alloc::{AllocError, Global};
 use std::convert::AsStr;
@@ -37,8 +37,7 @@ pub fn is_quiet<S: AsStr>(words: &[S]) -> bool {
 /// The line that is written before a terminal is read.
 pub fn greeting(alloc: Global, verdict: &Verdict) -> Result<Option<String>, AllocError> {
     let wanted = match verdict {
-        Verdict::Run { command, .. } => text_of(command),
-        Verdict::Batch { .. } => "scenarios",
+        Verdict::Ask { task, .. } => text_of(task),
         Verdict::Text { .. } | Verdict::Memory => return Ok(None),
     };
     let line = format!(in alloc;
@@ -47,12 +46,14 @@ pub fn greeting(alloc: Global, verdict: &Verdict) -> Result<Option<String>, Allo
     Ok(Some(line))
 }
 
-/// What a command reads, in words.
-fn text_of(command: &Command) -> &'static str {
-    match command {
-        Command::Direct(Direct::First) | Command::Search(..) => "a scenario",
-        Command::Direct(Direct::Ask(_)) => "a certificate",
-        Command::Direct(Direct::Tell(_)) => "a scenario or a certificate",
+/// What a task is for, in words.
+fn text_of(task: &Task) -> &'static str {
+    match task {
+        Task::Command(Command::Direct(Direct::First | Direct::Ceiling(_)) | Command::Search(..))
+        | Task::Survey { .. } => "a scenario",
+        Task::Command(Command::Direct(Direct::Ask(_))) => "a certificate",
+        Task::Command(Command::Direct(Direct::Tell(_))) => "a scenario or a certificate",
+        Task::Batch { .. } => "scenarios",
     }
 }
 
@@ -93,6 +94,10 @@ fn hint_for<R, W>(alloc: Global, ended: &Ended<'_, R, W>) -> Result<Option<Strin
         }
         Ok(End::Answered(Done::Open)) => hint_for_open(alloc, ended),
         Ok(End::Answered(Done::Fine)) => hint_for_answer(alloc, ended),
+        Ok(End::Searched(SearchEnd::Open)) if !is_batch(ended.verdict) => {
+            hint_for_open(alloc, ended)
+        }
+        Ok(End::Searched(_)) => hint_for_answer(alloc, ended),
         Err(fault) => hint_for_fault(alloc, ended, fault),
     }
 }
@@ -105,8 +110,11 @@ fn hint_for_fault<R, W>(
 ) -> Result<Option<String>, AllocError> {
     let reader = ended.reader;
     match fault {
-        Fault::Scenario(_) | Fault::Schedule(_) | Fault::Order(_) if reader.is_whole() => {
-            hint_for_scenario(alloc, reader.text())
+        Fault::Scenario(fault) if reader.is_whole() => {
+            hint_for_scenario(alloc, reader.text(), *fault)
+        }
+        Fault::Schedule(_) | Fault::Order(_) if reader.is_whole() => {
+            hint_for_run(alloc, reader.text())
         }
         Fault::Reading(ReadFault::Read) => match (ended.verdict.file(), reader.failure()) {
             (None, Some(error)) => Ok(Some(hint_for_reading(alloc, &error)?)),
@@ -128,16 +136,16 @@ fn hint_for_fault<R, W>(
     }
 }
 
-/// The hint for a search that did not end.
+/// The hint for a search that did not end, or traffic that does not attain the ceiling.
 fn hint_for_open<R, W>(
     alloc: Global,
     ended: &Ended<'_, R, W>,
 ) -> Result<Option<String>, AllocError> {
-    let Verdict::Run {
-        command: Command::Search(_, options),
-        ..
-    } = ended.verdict
-    else {
+    if let Some(simulations) = traffic_sought(ended.verdict) {
+        let hint = hint_for_ceiling(alloc, simulations, MOST_SIMULATIONS)?;
+        return Ok(Some(hint));
+    }
+    let Some(options) = options_of(ended.verdict) else {
         return Ok(None);
     };
     let hint = if is_in_real_time(alloc, ended.reader.text()) {
@@ -146,6 +154,39 @@ fn hint_for_open<R, W>(
         hint_in_ticks(alloc, options, ended.words)?
     };
     Ok(Some(hint))
+}
+
+/// By how many simulations at most traffic was sought, where the command line asks for ceilings.
+fn traffic_sought(verdict: &Verdict) -> Option<u64> {
+    match verdict {
+        Verdict::Ask {
+            task: Task::Command(Command::Direct(Direct::Ceiling(simulations))),
+            ..
+        } => Some(*simulations),
+        _ => None,
+    }
+}
+
+/// The options of the search, or of the searches, that the command line asks for.
+fn options_of(verdict: &Verdict) -> Option<&Options> {
+    match verdict {
+        Verdict::Ask {
+            task: Task::Command(Command::Search(_, options)) | Task::Survey { options, .. },
+            ..
+        } => Some(options),
+        _ => None,
+    }
+}
+
+/// Whether the command line asks for a batch.
+fn is_batch(verdict: &Verdict) -> bool {
+    matches!(
+        verdict,
+        Verdict::Ask {
+            task: Task::Batch { .. },
+            ..
+        }
+    )
 }
 
 /// The hint for a search in real time that did not end.
@@ -196,11 +237,12 @@ fn hint_for_answer<R, W>(
 ) -> Result<Option<String>, AllocError> {
     let reader = ended.reader;
     match ended.verdict {
-        Verdict::Batch { .. } => {
-            hint_for_batch(alloc, reader.text(), reader.is_whole(), LONGEST_JOB)
-        }
-        Verdict::Run {
-            command: Command::Direct(Direct::First),
+        Verdict::Ask {
+            task: Task::Batch { .. },
+            ..
+        } => hint_for_batch(alloc, reader.text(), reader.is_whole(), LONGEST_JOB),
+        Verdict::Ask {
+            task: Task::Command(Command::Direct(Direct::First)),
             ..
         } if !ended.words.iter().any(|word| word.as_str() == "first") => {
             Ok(Some(hint_for_first(alloc)?))

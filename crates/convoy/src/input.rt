@@ -1,21 +1,12 @@
 //! What a command reads: standard input, or a file.
 
-ghost use Rattle.std.specs.Prelude.{◌≡◌, IfOk, is_some, option_map};
-ghost use Rattle.convoy.specs.Inputs.{IsInput, IsNamed, file_in};
+ghost use Rattle.std.specs.Prelude.{is_some};
+ghost use Rattle.convoy.specs.Inputs.{IsInput};
 
-use std::alloc::{AllocError, Global};
 use std::fs::File;
 use std::io;
 use std::io::{Error, Read, Stdin};
 use std::rt::Files;
-
-/// What the command line says is to be read.
-#[derive(Debug, Drop)]
-pub enum Input {
-    Standard,
-    /// The file of this name.
-    File(String),
-}
 
 /// What is read.
 #[derive(Drop)]
@@ -24,29 +15,6 @@ pub enum InputReader<F> {
     File(F),
     /// A file that could not be opened, and why: each read fails for that reason.
     Unopened(Error),
-}
-
-impl Input {
-    /// The input of that name: standard input where there is none, or the name is `-`.
-    pub fn of(alloc: Global, name: Option<&str>) -> Result<Input, AllocError>
-        ensures { IfOk result (IsNamed (option_map (λ text. text.now) name.entry)) }
-    {
-        match name {
-            None => Ok(Input::Standard),
-            Some(name) if name == "-" => Ok(Input::Standard),
-            Some(name) => Ok(Input::File(String::from_str(alloc, name)?)),
-        }
-    }
-
-    /// The name of the file, where it is one.
-    pub fn file(&self) -> Option<&str>
-        ensures { option_map (λ text. text.now) result ≡ file_in self.now }
-    {
-        match self {
-            Input::Standard => None,
-            Input::File(name) => Some(name.as_str()),
-        }
-    }
 }
 
 /// Opens that file, or takes standard input where there is none.

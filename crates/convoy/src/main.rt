@@ -2,24 +2,29 @@
 //! writes is said by the functions of `convoy_commands`.
 #![tactic(auto)]
 
-ghost use Rattle.convoy.specs.Verdicts.{IsVerdict, Obeys, Tells};
-ghost use Rattle.convoy_commands.specs.Batches.{IsBatchRun};
+ghost use Rattle.convoy_arguments.specs.Verdicts.{HasReads, IsVerdict};
+ghost use Rattle.convoy_commands.specs.declared.limits.TheConstants.{LONGEST_JOB};
+ghost use Rattle.convoy_batch.specs.Batches.{IsBatchRun};
+ghost use Rattle.convoy_commands.specs.Runs.{IsRun};
+ghost use Rattle.convoy_survey.specs.Surveys.{SurveySays};
+ghost use Rattle.convoy.specs.Verdicts.{Obeys, Performs, Tells};
 
 mod ending;
 mod hinting;
 mod input;
-mod judge;
 mod kept;
 mod progress;
 
+use convoy_arguments::{MOST_READS, Task, Verdict, judge, judge_bytes};
+use convoy_batch::run_batch;
 use convoy_commands::{
-    Command, DeviceFailed, Done, Fault, Options, Sink, Source, StreamSink, StreamSource, Watch,
-    fault_line, run, run_batch, run_search, write_all,
+    Command, DeviceFailed, Fault, Options, SearchEnd, Sink, Source, StreamSink, StreamSource,
+    Watch, fault_line, run, run_search, write_all,
 };
+use convoy_survey::{Format, run_survey};
 use ending::End;
 use hinting::{Ended, greeting, is_quiet, tell_ended, write_line};
 use input::open_input;
-use judge::{Verdict, judge, judge_bytes};
 use kept::{KeptReader, KeptWriter};
 use progress::{Progress, screen_for};
 use std::alloc::Global;
@@ -30,17 +35,11 @@ use std::sync::Wait;
 use std::thread::Threads;
 use std::{env, io};
 
-/// How many reads of standard input one run makes at most.
-const MOST_READS: u64 = 134_217_728;
-
 /// The status of a run that gave its answer.
 const FINE: u8 = 0;
 
-/// The status of a run that ended with a fault.
+/// The status of a run that ended with a fault, or of which a job has one.
 const FAULT: u8 = 1;
-
-/// The status of a command line that is rejected.
-const REJECTED: u8 = 2;
 
 /// The status of a search that did not end within its limit.
 const OPEN: u8 = 3;
@@ -116,29 +115,51 @@ fn obey<R: Threads + Wait + Sync, S: Source, K: Sink, W: Watch + Sync>(
     ensures { Obeys S.reads K.writes verdict.now source.old source.new sink.old sink.new result }
 {
     match verdict {
-        Verdict::Run {
-            command: Command::Direct(command),
-            ..
-        } => {
-            let done = run(alloc, *command, source, sink, MOST_READS)?;
-            Ok(End::Answered(done))
-        }
-        Verdict::Run {
-            command: Command::Search(goal, options),
-            ..
-        } => {
-            let done = run_search(rt, alloc, *goal, options, source, sink, watch)?;
-            Ok(End::Answered(done))
-        }
-        Verdict::Batch { options, .. } => {
-            let done = answer_batch(rt, alloc, source, sink, options)?;
-            Ok(End::Answered(done))
-        }
+        Verdict::Ask { task, .. } => perform(rt, alloc, task, source, sink, watch),
         Verdict::Text { text, status } => match write_all(sink, text.as_bytes()) {
             Ok(()) => Ok(End::Told(*status)),
             Err(DeviceFailed) => Err(Fault::Write),
         },
         Verdict::Memory => Err(Fault::Memory),
+    }
+}
+
+/// Does a task.
+fn perform<R: Threads + Wait + Sync, S: Source, K: Sink, W: Watch + Sync>(
+    rt: &R,
+    alloc: Global,
+    task: &Task,
+    source: &mut S,
+    sink: &mut K,
+    watch: &W,
+) -> Result<End, Fault>
+    requires { HasReads task.now }
+    ensures { Performs S.reads K.writes task.now source.old source.new sink.old sink.new result }
+{
+    match task {
+        Task::Command(Command::Direct(command)) => {
+            let done = run(alloc, *command, source, sink, MOST_READS)?;
+            Ok(End::Answered(done))
+        }
+        Task::Command(Command::Search(goal, options)) => {
+            let done = run_search(rt, alloc, *goal, options, source, sink, watch)?;
+            Ok(End::Answered(done))
+        }
+        Task::Batch {
+            options,
+            tells_status,
+        } => {
+            let end = answer_batch(rt, alloc, source, sink, options)?;
+            Ok(End::of_batch(end, *tells_status))
+        }
+        Task::Survey {
+            format,
+            options,
+            ..
+        } => {
+            let end = answer_survey(rt, alloc, *format, options, source, sink, watch)?;
+            Ok(End::Searched(end))
+        }
     }
 }
 
@@ -150,11 +171,28 @@ fn answer_batch<R: Threads + Wait + Sync, S: Source, K: Sink>(
     source: &mut S,
     sink: &mut K,
     options: &Options,
-) -> Result<Done, Fault>
+) -> Result<SearchEnd, Fault>
     ensures { IsBatchRun options.now options.now.most_reads
         S.reads K.writes source.old source.new sink.old sink.new result }
 {
     run_batch(rt, alloc, source, sink, options)
+}
+
+/// Answers a survey. The buffer of one lies on the stack, and no other command is to have it there.
+#[inline(never)]
+fn answer_survey<R: Threads + Wait + Sync, S: Source, K: Sink, W: Watch + Sync>(
+    rt: &R,
+    alloc: Global,
+    format: Format,
+    options: &Options,
+    source: &mut S,
+    sink: &mut K,
+    watch: &W,
+) -> Result<SearchEnd, Fault>
+    ensures { IsRun LONGEST_JOB (SurveySays format options.now) options.now.most_reads
+        S.reads K.writes source.old source.new sink.old sink.new result }
+{
+    run_survey(rt, alloc, format, options, source, sink, watch)
 }
 
 /// Writes the line of a fault. Where memory runs out or the write fails, nothing more is written.

@@ -60,7 +60,7 @@ pub struct Progress<'a, R> {
     least: AtomicU32,
     /// The greatest number where no bound is known.
     most: AtomicU32,
-    /// Whether a line was told.
+    /// Whether a line was told of this search.
     told: AtomicBool,
 }
 
@@ -216,6 +216,7 @@ impl<'a, R: Clock> Watch for Progress<'a, R> {
             None => 0,
         };
         self.tick.store(nanoseconds, Ordering::Relaxed);
+        self.told.store(false, Ordering::Relaxed);
         self.start(bounds, limit, least, most.unwrap_or(u32::MAX));
     }
 

@@ -1,0 +1,35 @@
+-- What a command line asks for.
+use Rattle.std.specs.Prelude.{◌≡◌, ◌⊎◌, ℕ, List, Option, None}
+use Rattle.convoy_commands.specs.declared.command.Command.TheVariants.{Direct, Search}
+use Rattle.convoy_arguments.specs.declared.limits.TheConstants.{MOST_READS}
+use Rattle.convoy_arguments.specs.declared.task.Task.{Task}
+use Rattle.convoy_arguments.specs.declared.task.Task.TheVariants.{Command, Batch, Survey}
+use Rattle.convoy_arguments.specs.declared.verdict.Verdict.{Verdict}
+use Rattle.convoy_arguments.specs.declared.verdict.Verdict.TheVariants.{Ask, Text, Memory}
+use Rattle.convoy_arguments.specs.Inputs.{file_in}
+
+-- where the task has options of a search, they allow as many reads as all tasks have
+abbrev pub HasReads : Task → Type 0
+HasReads (Command (Direct command)) = Unit {0}
+HasReads (Command (Search goal options)) = options.most_reads ≡ MOST_READS
+HasReads (Batch options tells_status) = options.most_reads ≡ MOST_READS
+HasReads (Survey format options) = options.most_reads ≡ MOST_READS
+
+-- The program ends at once: with a text, which has the status of help or of a command line that is
+-- rejected, or for want of memory.
+abbrev pub EndsAtOnce : Verdict → Type 0
+EndsAtOnce (Ask task input) = ⊥
+EndsAtOnce (Text text status) = (status ≡ 0) ⊎ (status ≡ 2)
+EndsAtOnce Memory = Unit {0}
+
+-- a task on an input, or an end at once
+abbrev pub IsVerdict : Verdict → Type 0
+IsVerdict (Ask task input) = HasReads task
+IsVerdict (Text text status) = EndsAtOnce (Text text status)
+IsVerdict Memory = Unit {0}
+
+-- the file that is read, where one is
+abbrev pub file_of : Verdict → Option (List ℕ)
+file_of (Ask task input) = file_in input
+file_of (Text text status) = None
+file_of Memory = None

@@ -1,0 +1,272 @@
+//! What help tells of the program, of its commands and of their options.
+
+pub(crate) const ABOUT: &str =
+    "The greatest latency of Skeen's genuine atomic multicast, exact and proved";
+
+pub(crate) const LONG_ABOUT: &str = "\
+Convoy says how late, at worst, one message is delivered at one of its groups,
+over all delays of packets. A scenario names overlapping groups, the multicasts
+to them with the ticks at which they are issued, and the message and the group of
+which the latency is asked. With `time = \"real\"` in it time is real; without that
+key time goes in whole ticks, and what happens at once has a fixed order.
+  convoy analyse scenario.toml | convoy explain
+finds the greatest latency and tells why it is so late, and
+  convoy analyse scenario.toml | convoy draw > run.svg
+draws it.
+
+Each command reads one text: the file that is named after it, or standard input
+where none is, or where its name is `-`. That is a scenario, as TOML. The
+commands `check`, `explain` and `draw` read a certificate, which `analyse`
+writes; `simulate`, `timeline`, `packets` and `scenario` read either. The answer goes to
+standard output. Without a command word the command is `first`, and reads
+standard input.";
+
+pub(crate) const AFTER: &str = "\
+Example of a scenario:
+  time = \"real\"
+  delay = 3
+  groups = [\"a\", \"b\"]
+
+  [[multicast]]
+  name = \"x\"
+  to = [\"a\", \"b\"]
+  at = 0
+
+  [target]
+  message = \"x\"
+  group = \"a\"
+
+With it in a file scenario.toml, `convoy latency scenario.toml` writes
+  greatest 6
+and `convoy analyse scenario.toml | convoy check` writes
+  accepted 6
+
+Exit status:
+  0  an answer, or help
+  1  a fault, told in one line as 'fault NUMBER TEXT'; of `survey` also one in a
+     row, and of `batch --status` one of a scenario
+  2  the command line is rejected
+  3  a search that did not end within its limit, or a ceiling that was not attained;
+     of `batch` only with `--status`
+  4  a certificate that is refused";
+
+pub(crate) const ABOUT_FIRST: &str = "Writes the latency under the least delays, and those delays";
+
+pub(crate) const LONG_ABOUT_FIRST: &str = "\
+Reads a scenario and writes two lines: 'attained N', the latency of the target in
+ticks where each packet takes its least delay, and 'schedule' with the delay of
+each packet, in packet order. In real time a line 'order' follows, without ranks.
+
+That is one schedule, and not the worst: `latency` finds the greatest latency.";
+
+pub(crate) const ABOUT_SIMULATE: &str = "Writes the latency under a schedule, and that schedule";
+
+pub(crate) const LONG_ABOUT_SIMULATE: &str = "\
+Reads a scenario and writes two lines: 'latency N', the latency of the target in
+ticks under a schedule, and 'schedule' with the delay of each packet, in packet
+order. In real time a line 'order' follows.
+
+The schedule is the scenario's key `schedule`, an array with the delay of each
+packet in packet order, above the first table header:
+  schedule = [1, 3, 1, 2]
+Without that key each packet takes its least delay. In real time the key `order`
+tells in which order things happen at one group in one tick. It is an array with
+two ranks for each message at each group that it goes to, that of its arrival and
+that of its commit, from 0 to 255: the lesser rank is first, and of one rank what
+is first in whole ticks. Without that key all ranks are 0, for which the line
+'order' has none. In place of a scenario a certificate may be read: then schedule
+and order are the certificate's.";
+
+pub(crate) const ABOUT_TIMELINE: &str = "Writes what happens at each group under a schedule";
+
+pub(crate) const LONG_ABOUT_TIMELINE: &str = "\
+Reads a scenario and writes one line for each time that a group proposes a stamp
+for a message, commits the message or delivers it:
+  TICK GROUP KIND MESSAGE TIME.GROUP
+KIND is 'propose', 'commit' or 'deliver'. The stamp at the end is the local one
+of a proposal, else the message's final one. TICK counts ticks; where a tick has
+a length, a line that tells it comes first, as 'tick 50 us'.
+
+The schedule is that of the command `simulate`, and so is the order.";
+
+pub(crate) const ABOUT_PACKETS: &str = "Writes the packets of a scenario, with their ranges";
+
+pub(crate) const LONG_ABOUT_PACKETS: &str = "\
+Reads a scenario and writes one line for each of its packets, in the order in
+which schedules list their delays:
+  packet 0: x from client to b, 1 to 3 ticks
+  packet 4: proposal of t from b to a, 1 to 3 ticks
+In place of a scenario a certificate may be read: then each line ends with the
+delay of the packet in the certificate's schedule, as ', takes 3'.";
+
+pub(crate) const ABOUT_SCENARIO: &str = "Writes the scenario of a certificate as TOML";
+
+pub(crate) const LONG_ABOUT_SCENARIO: &str = "\
+Reads a certificate and writes its scenario as TOML, with its schedule in the key
+`schedule` and in real time its order of ties in the key `order`. All times are
+numbers of ticks. Other commands read that text: `simulate` tells the latency of the
+certificate, and `latency` finds it again.
+  convoy scenario certificate > scenario.toml
+In place of a certificate a scenario may be read, which is written in the same form,
+with the schedule that `simulate` would run.";
+
+pub(crate) const ABOUT_EXPLAIN: &str = "Tells why the latency of a certificate is what it is";
+
+pub(crate) const LONG_ABOUT_EXPLAIN: &str = "\
+Reads a certificate, checks it as the command `check` does, and tells in a few
+lines why the greatest latency is what it is: when the target is committed, which
+message holds it back and until when, and which packets it waits for.
+  convoy analyse scenario.toml | convoy explain
+
+A certificate that is refused is told in the line 'refused NUMBER TEXT'.";
+
+pub(crate) const ABOUT_DRAW: &str = "Draws the run of a certificate as an SVG image";
+
+pub(crate) const LONG_ABOUT_DRAW: &str = "\
+Reads a certificate, checks it as the command `check` does, and writes an SVG
+image of the run that has the greatest latency: the packets on their way from
+group to group, what each group does with each message, and what the target waits
+for.
+  convoy analyse scenario.toml | convoy draw > run.svg
+
+A certificate that is refused is told in the line 'refused NUMBER TEXT'.";
+
+pub(crate) const ABOUT_CHECK: &str = "Checks a certificate of the greatest latency";
+
+pub(crate) const LONG_ABOUT_CHECK: &str = "\
+Reads a certificate and writes one line:
+  accepted N
+The certificate is valid: N is the greatest latency of its scenario's target, in
+ticks, over all schedules. Or else:
+  refused NUMBER TEXT
+This is the first fault for which it is refused.
+
+A certificate is text, and its first line is one of 'convoy 1' to 'convoy 4'.
+Whoever made it need not be trusted.";
+
+pub(crate) const ABOUT_ANALYSE: &str = "Writes a certificate of the greatest latency";
+
+pub(crate) const LONG_ABOUT_ANALYSE: &str = "\
+Reads a scenario, searches for the greatest latency of the target over all
+schedules, and writes a certificate: the scenario, that latency, a schedule that
+has it, and a tree that shows that no schedule has a greater one. The command
+`check` checks it, and needs nothing of the search:
+  convoy analyse scenario.toml > certificate
+  convoy check certificate
+
+Where the search does not end, it writes two lines, and the exit status is 3:
+'open LEAST MOST', the least and the most that the greatest latency may be, in
+ticks, and 'schedule', of a schedule that has the latency LEAST. In real time a
+line 'order' follows, as with `simulate`.
+LEAST is then most likely the greatest latency; MOST is safe to rely on. With
+neither `--limit` nor `--bounds` the search mostly ends.";
+
+pub(crate) const ABOUT_LATENCY: &str = "Writes the greatest latency";
+
+pub(crate) const LONG_ABOUT_LATENCY: &str = "\
+Reads a scenario, searches for the greatest latency of the target over all
+schedules, and writes one line: 'greatest N', in ticks.
+  convoy latency scenario.toml
+Where a tick has a length, by the key `tick` or by times with units, the line
+goes on with the same in a unit of time, as in 'greatest 1630 163000 us'.
+The command `analyse` runs the same search, and writes why it is so.
+
+Where the search does not end, it writes 'open LEAST MOST', the least and the
+most that the greatest latency may be, both once more in that unit where a tick
+has a length, and the exit status is 3.
+LEAST is then most likely the greatest latency; MOST is safe to rely on. With
+neither `--limit` nor `--bounds` the search mostly ends.";
+
+pub(crate) const ABOUT_CEILING: &str =
+    "Writes a latency that no traffic exceeds, and traffic that attains it";
+
+pub(crate) const LONG_ABOUT_CEILING: &str = "\
+Reads a scenario, of which the messages are kinds here: how many of each there
+are and when they are issued does not matter. It writes 'ceiling U', in ticks: in
+no traffic of these kinds is a message of the target's kind later at the target's
+group than that after its issue. Where a tick has a length, the line goes on with
+the same in a unit of time.
+
+The second line is 'attained L', of traffic that was sought: below it stands that
+traffic, as a scenario with a schedule that has the latency L. So
+  convoy ceiling scenario.toml | tail -n +3 > traffic.toml
+makes a scenario that other commands read, as `simulate` and `analyse`. Where L
+is U no number below U is safe, and the exit status is 0; else it is 3.";
+
+pub(crate) const ABOUT_BATCH: &str = "Answers each of many scenarios as `latency` does";
+
+pub(crate) const LONG_ABOUT_BATCH: &str = "\
+Reads scenarios, at most 1000, with a line '---' between two of them, and writes a
+block for each: the line 'job K', with K from 1 on, and then what `latency` writes
+for that scenario alone, or the line of its fault.
+  convoy batch scenarios
+
+A line '--- NAME' divides as well, and names the scenario after it, whose block then
+begins with 'job K NAME'. It may also stand before the first. A name is one word.
+
+A scenario that is too long, or for which memory runs out, gets that fault as its
+block. Blocks are written as the scenarios come. The exit status is 0 whatever they
+say, unless `--status` is given.";
+
+pub(crate) const ABOUT_SURVEY: &str = "Tells the greatest latency of each message at each group";
+
+pub(crate) const LONG_ABOUT_SURVEY: &str = "\
+Reads a scenario, searches for the greatest latency of each message at each group
+that it goes to, as `latency` does for that target, and writes a table with a row
+for each, in the order of the text:
+  message  group  answer    least  most  rival  tied  nodes
+  t        a      greatest     12    12  y      -         1
+LEAST and MOST are in ticks, and once more in a unit of time where a tick has a
+length. Where the search did not end, the answer is 'open', and the greatest
+latency lies between the two; where memory ran out it is that fault. RIVAL is the
+message that holds this one back in the schedule that was found, and TIED the one
+after which it gets its stamp in a tie. NODES are those of the tree that shows the
+greatest latency. The text need not have a target.
+  convoy survey scenario.toml
+
+The exit status is 1 where a row is a fault, else 3 where one is open.";
+
+pub(crate) const ABOUT_FORMAT: &str = "\
+How the table is written: `text`, with aligned columns; `csv`, with a line of
+names first and commas between cells; or `json`, an array with an object for
+each row";
+
+pub(crate) const ABOUT_FILE: &str =
+    "The file to read; without it, or with `-`, standard input is read";
+
+pub(crate) const ABOUT_LIMIT: &str = "\
+How many tickets the search spends at most, one for each set of schedules that it
+looks at: from 1 to 4000000. A limit without `--bounds` means plain bounds;
+without this option there are 1000000";
+
+pub(crate) const ABOUT_SEEK: &str = "\
+How many schedules are simulated at most to find a good one for the search to
+start from: from 0, for the schedule of the least delays, to 1000000";
+
+pub(crate) const ABOUT_SEEK_TRAFFIC: &str = "\
+How many schedules are simulated at most to find traffic of a great latency: from
+0, for the scenario itself with its least delays, to 1000000";
+
+pub(crate) const ABOUT_BOUNDS: &str = "\
+By what the search closes sets of schedules: `plain` bounds, `stamp` bounds,
+`lead`, which takes longest for each and mostly ends at once, or `best`: first
+plain bounds with at most 10000 tickets, and where that does not end, leads.
+That is also the way without this option and `--limit`. By leads at most 100000
+tickets are spent, and only by them may the certificate be of the form
+`convoy 3`; by plain bounds it is of the form `convoy 2` only where there are
+links. In real time it is of the form `convoy 4`, and stamp bounds are plain ones";
+
+pub(crate) const ABOUT_WORKERS: &str = "\
+How many workers share the search, each in a thread of its own: from 1 to 16. The
+latency does not depend on it; which schedule has it, and which tree shows it,
+may, and with several workers they may be others each time";
+
+pub(crate) const ABOUT_PROGRESS: &str = "\
+Tells on standard error, once a second, how far the search has come. Where that
+is a terminal it is told anyway";
+
+pub(crate) const ABOUT_STATUS: &str = "\
+Tells by the exit status how the scenarios end: 1 where one has a fault, or else 3
+where the answer for one is open, or else 0";
+
+pub(crate) const ABOUT_QUIET: &str = "Writes no hints to standard error, and no progress";

@@ -1,0 +1,141 @@
+ghost use Rattle.std.specs.Prelude.{IfOk};
+ghost use Rattle.convoy_arguments.specs.Verdicts.{EndsAtOnce, HasReads, IsVerdict};
+
+use super::input::Input;
+use super::limits::{HELP, REJECTED};
+use super::options::{format_of, options_of, simulations_of};
+use super::parser::parser;
+use super::task::Task;
+use super::verdict::Verdict;
+use clap::error::ErrorKind;
+use clap::{ArgMatches, Error};
+use convoy_commands::{Asking, Command, Direct, Goal, Telling};
+use std::alloc::{AllocError, Global};
+use std::convert::AsStr;
+
+/// What is to be done for these words, the program's own name not among them.
+pub fn judge<S: AsStr>(alloc: Global, words: &[S]) -> Verdict
+    ensures { IsVerdict result }
+{
+    match verdict_of(alloc, words) {
+        Ok(verdict) => verdict,
+        Err(error) => rejection(alloc, &error),
+    }
+}
+
+/// What is to be done for a command line that is not UTF-8.
+pub fn judge_bytes(alloc: Global) -> Verdict
+    ensures { EndsAtOnce result }
+{
+    match String::from_str(alloc, "error: the command line is not UTF-8\n") {
+        Ok(text) => Verdict::Text {
+            text,
+            status: REJECTED,
+        },
+        Err(AllocError) => Verdict::Memory,
+    }
+}
+
+/// The command that the words ask for, or a batch. The word `help` asks for what `--help` does. Without a
+/// command word the command is `first`, and before `-` it may be left out, too.
+fn verdict_of<S: AsStr>(alloc: Global, words: &[S]) -> Result<Verdict, Error>
+    ensures { IfOk result IsVerdict }
+{
+    match words {
+        [help] if help.as_str() == "help" => command_of(alloc, ["--help"].as_slice()),
+        [help, command] if help.as_str() == "help" => {
+            command_of(alloc, [command.as_str(), "--help"].as_slice())
+        }
+        _ if begins_with_dash(words) => command_of(alloc, &with_first(alloc, words)?),
+        _ => command_of(alloc, words),
+    }
+}
+
+/// Whether the first word that is not `--quiet` is `-`.
+fn begins_with_dash<S: AsStr>(words: &[S]) -> bool {
+    match words.iter().find(|word| word.as_str() != "--quiet") {
+        Some(word) => word.as_str() == "-",
+        None => false,
+    }
+}
+
+/// The words after the command word `first`.
+fn with_first<'a, S: AsStr>(alloc: Global, words: &'a [S]) -> Result<Vec<&'a str>, AllocError> {
+    let mut all = vec![in alloc; "first"]?;
+    for word in words {
+        all.push(word.as_str())?;
+    }
+    Ok(all)
+}
+
+/// What these words ask for.
+fn command_of<S: AsStr>(alloc: Global, words: &[S]) -> Result<Verdict, Error>
+    ensures { IfOk result IsVerdict }
+{
+    let matches = parser(alloc)?.try_get_matches_from(words)?;
+    match matches.subcommand() {
+        Some((name, given)) => {
+            let input = Input::of(alloc, given.get_str("file"))?;
+            let task = task_for(name, given);
+            Ok(Verdict::Ask { task, input })
+        }
+        None => Ok(Verdict::Ask {
+            task: Task::Command(Command::Direct(Direct::First)),
+            input: Input::Standard,
+        }),
+    }
+}
+
+/// What the command of that name asks for.
+fn task_for(name: &str, given: &ArgMatches<'_>) -> Task
+    ensures { HasReads result }
+{
+    match name {
+        "batch" => Task::Batch {
+            options: options_of(given),
+            tells_status: given.get_flag("status"),
+        },
+        "survey" => Task::Survey {
+            format: format_of(given),
+            options: options_of(given),
+        },
+        _ => Task::Command(command_for(name, given)),
+    }
+}
+
+/// The command of that name.
+fn command_for(name: &str, given: &ArgMatches<'_>) -> Command
+    ensures { HasReads (Task.Command result) }
+{
+    match name {
+        "analyse" => Command::Search(Goal::Certificate, options_of(given)),
+        "latency" => Command::Search(Goal::Latency, options_of(given)),
+        "ceiling" => Command::Direct(Direct::Ceiling(simulations_of(given))),
+        "simulate" => Command::Direct(Direct::Tell(Telling::Simulate)),
+        "timeline" => Command::Direct(Direct::Tell(Telling::Timeline)),
+        "packets" => Command::Direct(Direct::Tell(Telling::Packets)),
+        "scenario" => Command::Direct(Direct::Tell(Telling::Toml)),
+        "check" => Command::Direct(Direct::Ask(Asking::Check)),
+        "explain" => Command::Direct(Direct::Ask(Asking::Explain)),
+        "draw" => Command::Direct(Direct::Ask(Asking::Draw)),
+        _ => Command::Direct(Direct::First),
+    }
+}
+
+/// What is to be done where no command was found: clap's own text is to be written.
+fn rejection(alloc: Global, error: &Error) -> Verdict
+    ensures { EndsAtOnce result }
+{
+    if error.kind() == ErrorKind::OutOfMemory {
+        return Verdict::Memory;
+    }
+    let status = if error.exit_code() == 0 {
+        HELP
+    } else {
+        REJECTED
+    };
+    match error.to_string(alloc) {
+        Ok(text) => Verdict::Text { text, status },
+        Err(_) => Verdict::Memory,
+    }
+}

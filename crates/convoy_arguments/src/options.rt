@@ -1,0 +1,61 @@
+//! What the options of a command line say.
+
+ghost use Rattle.std.specs.Prelude.{◌≡◌};
+ghost use Rattle.convoy_arguments.specs.declared.limits.TheConstants.{MOST_READS};
+
+use super::limits::MOST_READS;
+use clap::ArgMatches;
+use convoy_commands::{
+    Bounds, DEFAULT_LIMIT, DEFAULT_SIMULATIONS, MOST_SIMULATIONS, MOST_TICKETS, MOST_WORKERS,
+    Options, Ways,
+};
+use convoy_tables::Format;
+
+/// How many schedules are simulated at most to find something: as many as are given, or else the usual
+/// number.
+pub(crate) fn simulations_of(given: &ArgMatches<'_>) -> u64 {
+    given.get_one("seek").unwrap_or(DEFAULT_SIMULATIONS)
+}
+
+/// How a table is written. `clap` rejects a word that names no format.
+pub(crate) fn format_of(given: &ArgMatches<'_>) -> Format {
+    match given.get_str("format") {
+        Some("csv") => Format::Csv,
+        Some("json") => Format::Json,
+        _ => Format::Text,
+    }
+}
+
+/// The options of a search: those that are given, or else the usual ones. `clap` rejects a word that
+/// is none of these, and a number out of range.
+pub(crate) fn options_of(given: &ArgMatches<'_>) -> Options
+    ensures { result.most_reads ≡ MOST_READS }
+{
+    let workers = given.get_one("workers").unwrap_or(1);
+    let limit = given.get_one("limit").unwrap_or(DEFAULT_LIMIT);
+    let simulations = simulations_of(given);
+    let options = match Options::new(
+        workers.clamp(1, MOST_WORKERS),
+        limit.clamp(1, MOST_TICKETS),
+        MOST_READS,
+    ) {
+        Some(options) => options.seeking(simulations.min(MOST_SIMULATIONS)),
+        None => unreachable!(),
+    };
+    match ways_of(given) {
+        Ways::One(bounds) => options.going_by(bounds),
+        Ways::Both => options,
+    }
+}
+
+/// By what the search goes: by the bounds that are named; without a name both ways, but with a limit by
+/// plain bounds.
+fn ways_of(given: &ArgMatches<'_>) -> Ways {
+    match given.get_str("bounds") {
+        Some("plain") => Ways::One(Bounds::Plain),
+        Some("stamp") => Ways::One(Bounds::Stamp),
+        Some("lead") => Ways::One(Bounds::Lead),
+        None if given.get_one::<u64>("limit").is_some() => Ways::One(Bounds::Plain),
+        _ => Ways::Both,
+    }
+}

@@ -1,0 +1,28 @@
+ghost use Rattle.std.specs.Prelude.{◌≡◌, option_map};
+ghost use Rattle.convoy_arguments.specs.Verdicts.{file_of};
+
+use super::input::Input;
+use super::task::Task;
+
+/// What is to be done for a command line.
+#[derive(Debug, Drop)]
+pub enum Verdict {
+    /// It asks for this, of the text that the input holds.
+    Ask { task: Task, input: Input },
+    /// It asks for help, or is rejected: a text is to be written, and the program ends with the status.
+    Text { text: String, status: u8 },
+    /// Memory ran out.
+    Memory,
+}
+
+impl Verdict {
+    /// The name of the file that is read, where one is.
+    pub fn file(&self) -> Option<&str>
+        ensures { option_map (λ text. text.now) result ≡ file_of self.now }
+    {
+        match self {
+            Verdict::Ask { input, .. } => input.file(),
+            Verdict::Text { .. } | Verdict::Memory => None,
+        }
+    }
+}
