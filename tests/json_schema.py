@@ -28,11 +28,15 @@ def is_integer(value):
     return is_number(value) and (isinstance(value, int) or value.is_integer())
 
 
+def is_flag(value):
+    return isinstance(value, bool)
+
+
 def is_any(value):
     return True
 
 
-TYPES = {"object": is_object, "array": is_array, "string": is_text, "integer": is_integer}
+TYPES = {"object": is_object, "array": is_array, "string": is_text, "integer": is_integer, "boolean": is_flag}
 
 
 def of_type(names, value):

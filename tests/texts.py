@@ -1,5 +1,27 @@
 """Scenarios and certificates of which the tests speak."""
 
+
+def quoted(names):
+    """Names as an array of TOML."""
+    return "[" + ", ".join(f'"{name}"' for name in names) + "]"
+
+
+def message_of(name, sender, at, *groups):
+    """The table of a message, by the words of its line in a certificate."""
+    sent = "" if sender == "client" else f'from = "{sender}"\n'
+    return f'\n[[multicast]]\nname = "{name}"\n{sent}to = {quoted(groups)}\nat = {at}\n'
+
+
+def scenario_of(certificate):
+    """The scenario of a certificate in whole ticks without links, as a text."""
+    lines = [line.split() for line in certificate.splitlines()]
+    first = {words[0]: words[1:] for words in lines}
+    messages = "".join(message_of(*words[1:]) for words in lines if words[0] == "multicast")
+    message, group = first["target"]
+    head = f'delay = {first["delay"][0]}\ngroups = {quoted(first["groups"])}\n'
+    return head + messages + f'\n[target]\nmessage = "{message}"\ngroup = "{group}"\n'
+
+
 # x goes to b, t to both groups, and a sends y to both while t is on its way.
 BASE = """\
 delay = 3
@@ -261,6 +283,26 @@ schedule 3 3 3 2 3 3 1 3 1 3 3 3
 t
 end
 """
+
+# A stamp of t at a that leads count too high: by way of y and x it counts t and y twice, before that way and after it.
+COUNTED_TWICE_CERTIFICATE = """\
+convoy 2
+delay 6
+groups a b c
+multicast t c 0 a c
+multicast x client 0 a b
+multicast y client 0 a b
+multicast k c 0 c
+multicast l c 0 c
+multicast m c 0 c
+multicast n c 6 b c
+target t c
+latency 12
+schedule 6 6 6 6 6 6 6 6 6 6 6 6 6 6
+t
+end
+"""
+COUNTED_TWICE = scenario_of(COUNTED_TWICE_CERTIFICATE)
 
 # In real time, where moments of one tick come in any order.
 REAL_BASE = 'time = "real"\n' + BASE
