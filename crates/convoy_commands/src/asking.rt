@@ -34,8 +34,10 @@ pub enum Asking {
     Draw,
 }
 
-/// How a command that asks this ends for a text, and what is written for it.
-pub(crate) fn ask(alloc: Global, asking: Asking, text: &[u8]) -> Result<(Done, Vec<u8>), Fault>
+/// How a command that asks this ends for the text of a certificate, and what is written for it
+/// (docs/FORMATS.md, "Commands"). Fails with `Fault::Memory`, and else never: a text that is that of no
+/// certificate, or of one that is not valid, is refused, which is an answer.
+pub fn ask(alloc: Global, asking: Asking, text: &[u8]) -> Result<(Done, Vec<u8>), Fault>
     ensures { SaysUnlessMemory (AskSays asking) text.now (reply_of result) }
 {
     texts_are_read();

@@ -1,7 +1,7 @@
 //! The commands: what each command writes for what it reads, over devices that may fail.
 #![tactic(auto)]
 
-pub use asking::Asking;
+pub use asking::{Asking, ask};
 pub use calls::{run_analyse, run_check, run_first, run_latency, run_simulate, run_timeline};
 pub use command::{Command, Direct, Goal, run, run_search};
 pub use convoy_branch::{
