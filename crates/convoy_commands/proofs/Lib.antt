@@ -8,7 +8,7 @@ pub mod ExplainTexts
 pub mod Failures
 pub mod FirstTexts
 pub mod NoDevice
-pub mod Refusals
 pub mod Starts
 pub mod TellTexts
+pub mod TextRuns
 pub mod WrittenTexts

@@ -22,10 +22,13 @@ name_cell scenario (Some m) = word (message_at scenario m).name
 abbrev pub time_cell : ℕ → Option ℕ → Cell
 time_cell length ticks = count_cell (option_map (λ n. n * count_of length) ticks)
 
--- the message, the group, and what is known
-abbrev pub name_cells : Scenario → Surveyed → List Cell
-name_cells scenario row =
-    word (message_at scenario row.message).name ∷ word (group_name_at scenario row.group) ∷ word (answer_word row.finding) ∷ []
+-- the message and the group
+abbrev pub target_cells : Scenario → ℕ → ℕ → List Cell
+target_cells scenario m g = word (message_at scenario m).name ∷ word (group_name_at scenario g) ∷ []
+
+-- what is known
+abbrev pub answer_cells : Finding → List Cell
+answer_cells finding = word (answer_word finding) ∷ []
 
 -- the least and the most that the greatest latency may be, in ticks
 abbrev pub tick_cells : Finding → List Cell
@@ -43,25 +46,36 @@ cause_cells scenario finding =
     ∷ name_cell scenario (option_and_then (λ cause. cause.tied) (cause_of finding))
     ∷ count_cell (nodes_of finding) ∷ []
 
+-- the cells that tell what was found, where messages are those of the scenario
+abbrev pub finding_cells : Scenario → Finding → List Cell
+finding_cells scenario finding =
+    answer_cells finding ++ (tick_cells finding ++ (time_cells scenario.tick finding ++ cause_cells scenario finding))
+
 -- the cells of a row
 abbrev pub cells_of : Scenario → Surveyed → List Cell
-cells_of scenario row =
-    name_cells scenario row ++ (tick_cells row.finding ++ (time_cells scenario.tick row.finding ++ cause_cells scenario row.finding))
+cells_of scenario row = target_cells scenario row.message row.group ++ finding_cells scenario row.finding
 
 -- the names of the two columns in the unit of a tick
 abbrev pub time_columns : Option ℕ → List Cell
 time_columns None = []
 time_columns (Some length) = word (codes "least_" ++ unit_word (unit_of length)) ∷ word (codes "most_" ++ unit_word (unit_of length)) ∷ []
 
-abbrev pub first_columns : List Cell
-first_columns = word (codes "message") ∷ word (codes "group") ∷ word (codes "answer") ∷ word (codes "least") ∷ word (codes "most") ∷ []
+abbrev pub target_columns : List Cell
+target_columns = word (codes "message") ∷ word (codes "group") ∷ []
 
-abbrev pub last_columns : List Cell
-last_columns = word (codes "rival") ∷ word (codes "tied") ∷ word (codes "nodes") ∷ []
+abbrev pub answer_columns : List Cell
+answer_columns = word (codes "answer") ∷ word (codes "least") ∷ word (codes "most") ∷ []
+
+abbrev pub cause_columns : List Cell
+cause_columns = word (codes "rival") ∷ word (codes "tied") ∷ word (codes "nodes") ∷ []
+
+-- the names of the columns that tell what was found
+abbrev pub finding_columns : Option ℕ → List Cell
+finding_columns tick = answer_columns ++ (time_columns tick ++ cause_columns)
 
 -- the names of the columns
 abbrev pub columns_of : Option ℕ → List Cell
-columns_of tick = first_columns ++ (time_columns tick ++ last_columns)
+columns_of tick = target_columns ++ finding_columns tick
 
 -- the table of these rows
 abbrev pub table_of : Scenario → List Surveyed → Table

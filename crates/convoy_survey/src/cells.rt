@@ -5,7 +5,7 @@ ghost use Rattle.convoy_scenario.specs.Durations.{count_of};
 ghost use Rattle.convoy_scenario.specs.Scenario.{group_name_at, message_at};
 ghost use Rattle.convoy_scenario.specs.declared.duration.TheConstants.{MOST_UNITS};
 ghost use Rattle.convoy_survey.specs.Findings.{cause_of, nodes_of};
-ghost use Rattle.convoy_survey.specs.Cells.{cause_cells, cells_of, count_cell, name_cell, name_cells, tick_cells, time_cell, time_cells};
+ghost use Rattle.convoy_survey.specs.Cells.{cause_cells, cells_of, count_cell, finding_cells, name_cell, target_cells, tick_cells, time_cell, time_cells};
 
 use super::finding::{Finding, Surveyed};
 use convoy_scenario::{Duration, Scenario};
@@ -21,25 +21,39 @@ pub(crate) fn cells_of(
     ensures { IfOk result (λ cells. cells ≡ cells_of scenario.now row.now) }
 {
     let mut cells = Row::new(alloc);
-    push_names(alloc, scenario, row, &mut cells)?;
-    push_ticks(alloc, row.finding, &mut cells)?;
-    push_times(alloc, scenario, row.finding, &mut cells)?;
-    push_cause(alloc, scenario, row.finding, &mut cells)?;
+    push_target(alloc, scenario, row.message, row.group, &mut cells)?;
+    push_finding(alloc, scenario, row.finding, &mut cells)?;
     Ok(cells)
 }
 
-/// Puts the message, the group and what is known at the end of a row.
-fn push_names(
+/// Puts a message and a group at the end of a row, by their names.
+pub(crate) fn push_target(
     alloc: Global,
     scenario: &Scenario,
-    row: &Surveyed,
+    message: usize,
+    group: usize,
     cells: &mut Row,
 ) -> Result<(), AllocError>
-    ensures { OnOk result (cells.new ≡ cells.old ++ name_cells scenario.now row.now) }
+    ensures { OnOk result (cells.new ≡ cells.old ++ target_cells scenario.now message group) }
 {
-    cells.push(Cell::word(alloc, message_name(scenario, row.message))?)?;
-    cells.push(Cell::word(alloc, group_name(scenario, row.group))?)?;
-    cells.push(Cell::word(alloc, row.finding.answer())?)
+    cells.push(Cell::word(alloc, message_name(scenario, message))?)?;
+    cells.push(Cell::word(alloc, group_name(scenario, group))?)
+}
+
+/// Puts what was found at the end of a row: the cells of the columns that [`push_finding_columns`] names. The
+/// messages of its cause are those of the scenario. Fails where memory runs out, and else never.
+pub fn push_finding(
+    alloc: Global,
+    scenario: &Scenario,
+    finding: Finding,
+    cells: &mut Row,
+) -> Result<(), AllocError>
+    ensures { OnOk result (cells.new ≡ cells.old ++ finding_cells scenario.now finding) }
+{
+    cells.push(Cell::word(alloc, finding.answer())?)?;
+    push_ticks(alloc, finding, cells)?;
+    push_times(alloc, scenario, finding, cells)?;
+    push_cause(alloc, scenario, finding, cells)
 }
 
 /// Puts the least and the most that the greatest latency may be, in ticks, at the end of a row.
@@ -67,7 +81,7 @@ fn push_times(
 }
 
 /// Puts ticks of that length in their unit at the end of a row.
-fn push_time(
+pub(crate) fn push_time(
     alloc: Global,
     tick: Duration,
     ticks: Option<u32>,
@@ -125,7 +139,11 @@ fn nodes_of(finding: Finding) -> Option<u64>
 }
 
 /// Puts a number that may not be known at the end of a row.
-fn push_count(alloc: Global, count: Option<u64>, cells: &mut Row) -> Result<(), AllocError>
+pub(crate) fn push_count(
+    alloc: Global,
+    count: Option<u64>,
+    cells: &mut Row,
+) -> Result<(), AllocError>
     ensures { OnOk result (cells.new ≡ cells.old ++ count_cell count ∷ []) }
 {
     match count {

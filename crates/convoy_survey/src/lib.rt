@@ -2,10 +2,13 @@
 //! table.
 #![tactic(auto)]
 
+pub use cells::push_finding;
 pub use convoy_tables::Format;
 pub use finding::{Cause, Finding, Surveyed};
 pub use rows::survey;
 pub use running::run_survey;
+pub use searching::find;
+pub use table::{push_finding_columns, push_words};
 
 mod cause;
 mod cells;

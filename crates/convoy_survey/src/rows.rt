@@ -5,7 +5,7 @@ ghost use Rattle.convoy_survey.specs.Findings.{IsSurveyed, target_of};
 ghost use Rattle.convoy_survey.specs.Surveys.{AreSurveyed};
 
 use super::finding::Surveyed;
-use super::searching::find;
+use super::searching::find_target;
 use convoy_branch::Options;
 use convoy_commands::Watch;
 use convoy_scenario::Scenario;
@@ -51,7 +51,7 @@ fn survey_message<R: Threads + Wait + Sync, W: Watch + Sync>(
     ensures found { OnOk result (All (IsSurveyed options.now scenario.now) rows.new.items) }
 {
     for group in scenario.destinations(message) {
-        let finding = find(rt, alloc, scenario, message, *group, options, watch);
+        let finding = find_target(rt, alloc, scenario, message, *group, options, watch);
         rows.push(Surveyed {
             message,
             group: *group,

@@ -85,13 +85,7 @@ fn read_scenario(alloc: Global, text: &[u8]) -> Result<Scenario, ScenarioFault>
 fn end_of(rows: &[Surveyed]) -> SearchEnd
     ensures { result ≡ end_of rows.now }
 {
-    if has_fault(rows) {
-        SearchEnd::Faulty
-    } else if has_open(rows) {
-        SearchEnd::Open
-    } else {
-        SearchEnd::Exact
-    }
+    SearchEnd::by(has_fault(rows), has_open(rows))
 }
 
 fn has_fault(rows: &[Surveyed]) -> bool

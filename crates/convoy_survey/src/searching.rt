@@ -1,4 +1,4 @@
-ghost use Rattle.std.specs.Prelude.{◌<◌, length, IfOk};
+ghost use Rattle.std.specs.Prelude.{◌≡◌, ◌<◌, length, IfOk};
 ghost use Rattle.convoy_scenario.specs.Scenario.{GoesTo};
 ghost use Rattle.convoy_scenario.specs.Targets.{with_target};
 ghost use Rattle.convoy_commands.specs.Searches.{IsEnd};
@@ -14,8 +14,26 @@ use std::alloc::{AllocError, Global};
 use std::sync::Wait;
 use std::thread::Threads;
 
+/// What a search finds of the latency of an instance's target, as [`latency`](convoy_commands::run_latency)
+/// does with these options: by their limit of tickets, by their bounds or both ways, and with their number of
+/// workers. The search is watched. Where memory runs out, that is what is found.
+pub fn find<R: Threads + Wait + Sync, W: Watch + Sync>(
+    rt: &R,
+    alloc: Global,
+    instance: &Instance,
+    options: &Options,
+    watch: &W,
+) -> Finding
+    ensures { IsFinding options.now instance.now result }
+{
+    match search(rt, alloc, instance, options, watch) {
+        Ok(finding) => finding,
+        Err(AllocError) => Finding::OutOfMemory,
+    }
+}
+
 /// What a search finds of the latency of a message at a group that it goes to.
-pub(crate) fn find<R: Threads + Wait + Sync, W: Watch + Sync>(
+pub(crate) fn find_target<R: Threads + Wait + Sync, W: Watch + Sync>(
     rt: &R,
     alloc: Global,
     scenario: &Scenario,
@@ -28,30 +46,39 @@ pub(crate) fn find<R: Threads + Wait + Sync, W: Watch + Sync>(
     requires addressed { GoesTo scenario.now message group }
     ensures { IsFinding options.now (with_target scenario.now message group) result }
 {
-    match search_target(rt, alloc, scenario, message, group, options, watch) {
-        Ok(finding) => finding,
+    match target_instance(alloc, scenario, message, group) {
+        Ok(instance) => find(rt, alloc, &instance, options, watch),
         Err(AllocError) => Finding::OutOfMemory,
     }
 }
 
-/// The same, where there is memory for it.
-fn search_target<R: Threads + Wait + Sync, W: Watch + Sync>(
-    rt: &R,
+/// The instance of a scenario of which the latency of that message at that group is asked.
+fn target_instance(
     alloc: Global,
     scenario: &Scenario,
     message: usize,
     group: usize,
+) -> Result<Instance, AllocError>
+    requires known { message < length scenario.now.multicasts }
+    requires addressed { GoesTo scenario.now message group }
+    ensures { IfOk result (λ instance. instance ≡ with_target scenario.now message group) }
+{
+    Instance::of(alloc, scenario.with_target(message, group)?)
+}
+
+/// What a search finds of an instance, where there is memory for it.
+fn search<R: Threads + Wait + Sync, W: Watch + Sync>(
+    rt: &R,
+    alloc: Global,
+    instance: &Instance,
     options: &Options,
     watch: &W,
 ) -> Result<Finding, AllocError>
-    requires known { message < length scenario.now.multicasts }
-    requires addressed { GoesTo scenario.now message group }
-    ensures { IfOk result (IsFinding options.now (with_target scenario.now message group)) }
+    ensures { IfOk result (IsFinding options.now instance.now) }
 {
-    let instance = Instance::of(alloc, scenario.with_target(message, group)?)?;
-    let outcome = search_instance(rt, alloc, &instance, options, watch);
+    let outcome = search_instance(rt, alloc, instance, options, watch);
     watch.ends();
-    finding_of(alloc, &instance, options, outcome?)
+    finding_of(alloc, instance, options, outcome?)
 }
 
 /// What was found of an instance by a search that ended so.

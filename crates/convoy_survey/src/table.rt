@@ -1,5 +1,5 @@
 ghost use Rattle.std.specs.Prelude.{◌≡◌, ◌++◌, map, OnOk, IfOk};
-ghost use Rattle.convoy_survey.specs.Cells.{columns_of, table_of, time_columns};
+ghost use Rattle.convoy_survey.specs.Cells.{columns_of, finding_columns, table_of, time_columns};
 ghost use Rattle.convoy_tables.specs.Tables.{word};
 
 use super::cells::cells_of;
@@ -28,14 +28,23 @@ fn columns_of(alloc: Global, scenario: &Scenario) -> Result<Row, AllocError>
     ensures { IfOk result (λ columns. columns ≡ columns_of scenario.now.tick) }
 {
     let mut columns = Row::new(alloc);
-    push_words(
-        alloc,
-        &["message", "group", "answer", "least", "most"],
-        &mut columns,
-    )?;
-    push_time_columns(alloc, scenario, &mut columns)?;
-    push_words(alloc, &["rival", "tied", "nodes"], &mut columns)?;
+    push_words(alloc, &["message", "group"], &mut columns)?;
+    push_finding_columns(alloc, scenario, &mut columns)?;
     Ok(columns)
+}
+
+/// Puts the names of the columns that tell what was found at the end of a row. Fails where memory runs out,
+/// and else never.
+pub fn push_finding_columns(
+    alloc: Global,
+    scenario: &Scenario,
+    columns: &mut Row,
+) -> Result<(), AllocError>
+    ensures { OnOk result (columns.new ≡ columns.old ++ finding_columns scenario.now.tick) }
+{
+    push_words(alloc, &["answer", "least", "most"], columns)?;
+    push_time_columns(alloc, scenario, columns)?;
+    push_words(alloc, &["rival", "tied", "nodes"], columns)
 }
 
 /// Puts the names of the columns for the unit of a tick, where its length is known, at the end of a row.
@@ -56,8 +65,8 @@ fn push_time_columns(
     columns.push(Cell::word(alloc, &most)?)
 }
 
-/// Puts words at the end of a row.
-fn push_words(alloc: Global, words: &[&str], row: &mut Row) -> Result<(), AllocError>
+/// Puts words at the end of a row. Fails where memory runs out, and else never.
+pub fn push_words(alloc: Global, words: &[&str], row: &mut Row) -> Result<(), AllocError>
     ensures { OnOk result (row.new ≡ row.old ++ map (λ text. word text.now) words.now) }
 {
     for text in words {

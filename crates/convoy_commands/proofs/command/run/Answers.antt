@@ -2,7 +2,7 @@ use Rattle.std.proofs.Common.{[], refl}
 use Rattle.std.proofs.lemmas.Result.{err_from_is_err_and}
 use Rattle.convoy_commands.specs.declared.fault.Fault.TheVariants.{Write}
 use Rattle.convoy_commands.proofs.CommandTexts.{direct_no_device}
-use Rattle.convoy_commands.proofs.Refusals.{replied_run, unread_run}
+use Rattle.convoy_commands.proofs.TextRuns.{replied_run, unread_run}
 use Rattle.convoy_commands.proofs.command.run.Goals as goal
 
 pub returns-in_err-text : goal.returns-in_err-text

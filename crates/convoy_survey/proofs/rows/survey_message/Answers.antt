@@ -9,8 +9,8 @@ loop-group-preserved g c =
     let groups : List ℕ = c.destinations-group-items.result.now in
     record {
       targets = rw c.in_ok-push.ensures.items
-          (one_more_target c.loop-group.rows.items _ c.args.message groups c.loop-group.group-index _ c.find-finding.result
+          (one_more_target c.loop-group.rows.items _ c.args.message groups c.loop-group.group-index _ c.find_target-finding.result
           c.loop-group-test.true c.loop-group.invariant.targets);
       found = rw c.in_ok-push.ensures.items
-          (All-push (IsSurveyed c.args.options.now c.args.scenario.now) c.loop-group.rows.items _ c.loop-group.invariant.found c.find-finding.ensures);
+          (All-push (IsSurveyed c.args.options.now c.args.scenario.now) c.loop-group.rows.items _ c.loop-group.invariant.found c.find_target-finding.ensures);
     }

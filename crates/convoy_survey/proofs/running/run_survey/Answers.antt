@@ -1,6 +1,6 @@
 use Rattle.std.proofs.Common.{[], refl}
 use Rattle.std.proofs.lemmas.Result.{err_from_is_err_and}
-use Rattle.convoy_survey.proofs.SurveyRuns.{faulty_is_not, replied_run, unread_run}
+use Rattle.convoy_commands.proofs.TextRuns.{faulty_is_not_write, replied_run, unread_run}
 use Rattle.convoy_survey.proofs.running.run_survey.Goals as goal
 
 pub returns-in_err-text : goal.returns-in_err-text
@@ -14,7 +14,7 @@ returns-in_err-text g c =
       read = read.calls;
       few = rw c.most_reads.ensures at read.says.0;
       wrote = refl;
-      outcome = unread_run _ _ _ _ (rw c.most_reads.ensures at read.says.1);
+      outcome = unread_run _ _ _ _ _ (rw c.most_reads.ensures at read.says.1);
     })
 
 pub returns : goal.returns
@@ -27,5 +27,5 @@ returns g c =
       read = read.calls;
       few = rw c.most_reads.ensures at read.says.0;
       wrote = wrote.calls;
-      outcome = replied_run _ _ _ _ _ _ _ (λ faulty. faulty_is_not _ _ faulty) read.says.1 (rw c.deref.ensures.value at c.survey_answer.ensures) wrote.says;
+      outcome = replied_run _ _ _ _ _ _ _ _ (λ faulty. faulty_is_not_write _ _ faulty) read.says.1 (rw c.deref.ensures.value at c.survey_answer.ensures) wrote.says;
     }

@@ -1,14 +1,27 @@
--- How runs end before their text was read, and once it was.
+-- How a run ends that reads a text and writes what is replied to it: before its text was read, and once it was.
 use Rattle.std.proofs.Common.{◌≡◌, inl, inr, ℕ, List, [], Result, Ok, Err, refl, sym, subst}
+use Rattle.convoy_scenario.specs.declared.fault.ScenarioFault.{ScenarioFault}
+use Rattle.convoy_scenario.specs.declared.fault.ScenarioFault.TheVariants as scenario
 use Rattle.convoy_streams.specs.declared.reading.ReadFault.{ReadFault}
 use Rattle.convoy_streams.specs.declared.reading.ReadFault.TheVariants as reading
 use Rattle.convoy_streams.specs.Devices.{Answer}
 use Rattle.convoy_streams.specs.Reads.{ReadsText, StopsReading}
+use Rattle.convoy_toml.specs.declared.target.TargetKey.{TargetKey}
 use Rattle.convoy_commands.specs.declared.fault.Fault.{Fault}
 use Rattle.convoy_commands.specs.declared.fault.Fault.TheVariants.{Memory, Write}
-use Rattle.convoy_commands.specs.Faults.{told_of_reading}
+use Rattle.convoy_commands.specs.Faults.{told_of, told_of_reading}
 use Rattle.convoy_commands.specs.Replies.{ReplyWith, RuleOf, SaysUnlessMemory}
 use Rattle.convoy_commands.specs.Runs.{RunsTo, WritesReply}
+use Rattle.convoy_commands.specs.Searches.{IsFaultyBy}
+
+-- a fault of the scenario is none of the sink
+told_is_not_write : (cause : ScenarioFault) → Write ≡ told_of cause → ⊥
+told_is_not_write scenario.Memory is = cc
+told_is_not_write cause is = cc
+
+-- nor is the fault of a text
+pub faulty_is_not_write : (key : TargetKey) (text : List ℕ) → IsFaultyBy key text Write → ⊥
+faulty_is_not_write key text faulty = told_is_not_write faulty.cause faulty.told
 
 -- Where reading stopped, nothing was written.
 pub unread_run : {End : Type 0} (longest : ℕ) (says : RuleOf End) (most_reads : ℕ) (reads : List Answer) (cause : ReadFault) →
