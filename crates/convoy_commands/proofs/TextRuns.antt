@@ -7,12 +7,15 @@ use Rattle.convoy_streams.specs.declared.reading.ReadFault.TheVariants as readin
 use Rattle.convoy_streams.specs.Devices.{Answer}
 use Rattle.convoy_streams.specs.Reads.{ReadsText, StopsReading}
 use Rattle.convoy_toml.specs.declared.target.TargetKey.{TargetKey}
+use Rattle.convoy_commands.specs.declared.command.Command.{Command}
 use Rattle.convoy_commands.specs.declared.fault.Fault.{Fault}
 use Rattle.convoy_commands.specs.declared.fault.Fault.TheVariants.{Memory, Write}
+use Rattle.convoy_commands.specs.Commands.{says_for}
 use Rattle.convoy_commands.specs.Faults.{told_of, told_of_reading}
 use Rattle.convoy_commands.specs.Replies.{ReplyWith, RuleOf, SaysUnlessMemory}
 use Rattle.convoy_commands.specs.Runs.{RunsTo, WritesReply}
 use Rattle.convoy_commands.specs.Searches.{IsFaultyBy}
+use Rattle.convoy_commands.proofs.CommandTexts.{says_no_device}
 
 -- a fault of the scenario is none of the sink
 told_is_not_write : (cause : ScenarioFault) → Write ≡ told_of cause → ⊥
@@ -22,6 +25,10 @@ told_is_not_write cause is = cc
 -- nor is the fault of a text
 pub faulty_is_not_write : (key : TargetKey) (text : List ℕ) → IsFaultyBy key text Write → ⊥
 faulty_is_not_write key text faulty = told_is_not_write faulty.cause faulty.told
+
+-- nor may a command answer it for one
+pub says_no_write : (command : Command) (text : List ℕ) → says_for command text (Err Write) → ⊥
+says_no_write command text says = says_no_device command text Write says
 
 -- Where reading stopped, nothing was written.
 pub unread_run : {End : Type 0} (longest : ℕ) (says : RuleOf End) (most_reads : ℕ) (reads : List Answer) (cause : ReadFault) →

@@ -27,9 +27,11 @@ pub(crate) fn push_greatest(
     Ok(())
 }
 
-/// Appends the line of a ceiling, in ticks and, where the length of a tick is known, in its unit.
+/// Appends the line of a ceiling, in ticks and, where the length of a tick is known, in its unit
+/// (docs/FORMATS.md, "What `ceiling` writes"). Fails where memory runs out, and else never; a front of the
+/// line may have been appended then.
 #[tactic(auto, using(std::proofs::lemmas::List::append_assoc))]
-pub(crate) fn push_ceiling(
+pub fn push_ceiling(
     tick: Option<Duration>,
     ceiling: u32,
     out: &mut Vec<u8>,

@@ -8,11 +8,33 @@ const COMMANDS: [&str; 13] = [
     "first", "simulate", "timeline", "packets",
 ];
 
+/// The commands that write tables: `ceiling` where it is asked for several ceilings.
+const WITH_TABLES: [&str; 3] = ["survey", "batch", "ceiling"];
+
 /// The options that have a value.
-const WITH_VALUE: [&str; 5] = ["--limit", "--seek", "--bounds", "--workers", "--format"];
+const WITH_VALUE: [&str; 7] = [
+    "--limit",
+    "--seek",
+    "--bounds",
+    "--workers",
+    "--format",
+    "--group",
+    "--scenario",
+];
 
 /// The options that have none.
-const WITHOUT_VALUE: [&str; 3] = ["--progress", "--status", "--quiet"];
+const WITHOUT_VALUE: [&str; 7] = [
+    "--progress",
+    "--status",
+    "--quiet",
+    "--all",
+    "--ceiling",
+    "--without",
+    "--tell",
+];
+
+/// The options by which `ceiling` is asked for several ceilings.
+const OF_SEVERAL: [&str; 2] = ["--all", "--group"];
 
 /// Options by which other programs let a file be named, and this one does not.
 const FILE_OPTIONS: [&str; 4] = ["-i", "-f", "--input", "--file"];
@@ -44,6 +66,8 @@ struct Sorted<'a> {
     by_option: Option<&'a str>,
     /// Whether an option names a format.
     names_format: bool,
+    /// Whether an option asks for several ceilings.
+    asks_for_several: bool,
     /// Whether an option is itself a format.
     is_format: bool,
     /// Whether there is an option of which nothing is known.
@@ -58,6 +82,7 @@ impl<'a> Sorted<'a> {
             settings: Vec::new(alloc),
             by_option: None,
             names_format: false,
+            asks_for_several: false,
             is_format: false,
             is_strange: false,
         };
@@ -101,16 +126,32 @@ impl<'a> Sorted<'a> {
             return Ok(None);
         }
         self.names_format = self.names_format || name == "--format";
+        self.asks_for_several = self.asks_for_several || OF_SEVERAL.contains(&name);
         self.settings.push(word)?;
         Ok((has_value && value.is_none()).then_some(Due::Setting))
     }
 
     /// The command that is named, or the one that most people ask for: of a table that is `survey`.
     fn command(&self) -> &'a str {
-        if self.is_misformatted() {
+        let named = self.named_command();
+        if self.is_misformatted() && !WITH_TABLES.contains(&named) {
             return "survey";
         }
-        self.named_command()
+        named
+    }
+
+    /// What has to stand after the command for it to write a table.
+    fn addition(&self) -> &'static str {
+        if self.is_misformatted() && self.lacks_several() {
+            " --all"
+        } else {
+            ""
+        }
+    }
+
+    /// Whether one ceiling is asked for, of which there is no table.
+    fn lacks_several(&self) -> bool {
+        self.named_command() == "ceiling" && !self.asks_for_several
     }
 
     /// The command that is named, or the one that most people ask for.
@@ -125,7 +166,9 @@ impl<'a> Sorted<'a> {
 
     /// Whether a format is named of which the command knows nothing, or by an option that there is not.
     fn is_misformatted(&self) -> bool {
-        self.is_format || self.names_format && self.named_command() != "survey"
+        let named = self.named_command();
+        self.is_format
+            || self.names_format && (!WITH_TABLES.contains(&named) || self.lacks_several())
     }
 
     /// What is wrong with how a file or a format is named, and the file that is meant, if one is.
@@ -145,7 +188,7 @@ impl<'a> Sorted<'a> {
                 Some(("a file stands after a command", Some(file)))
             }
             (None, [_, rest @ ..]) if self.is_misformatted() => Some((
-                "'survey' alone writes a table, in the format that '--format' names",
+                "'survey', 'batch' and 'ceiling --all' write tables, in the format that '--format' names",
                 rest.first().copied(),
             )),
             _ => None,
@@ -160,8 +203,8 @@ pub fn hint_for_words<S: AsStr>(alloc: Global, words: &[S]) -> Result<Option<Str
     let Some((mistake, file)) = sorted.mistake() else {
         return Ok(None);
     };
-    let command = sorted.command();
-    let mut line = format!(in alloc; "hint: {mistake}: convoy {command}")?;
+    let (command, addition) = (sorted.command(), sorted.addition());
+    let mut line = format!(in alloc; "hint: {mistake}: convoy {command}{addition}")?;
     for setting in &sorted.settings {
         line.push_str(" ")?;
         line.push_str(setting)?;
