@@ -1,2 +1,4 @@
 pub mod Targets
 pub mod Numbers
+pub mod CeilingFaults
+pub mod KnownMessages

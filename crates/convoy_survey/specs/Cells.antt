@@ -1,8 +1,9 @@
 -- The table of a survey.
-use Rattle.std.specs.Prelude.{ℕ, ◌*◌, List, [], ◌∷◌, ◌++◌, map, Option, Some, None, codes}
+use Rattle.std.specs.Prelude.{ℕ, ◌*◌, Bool, true, false, List, [], ◌∷◌, ◌++◌, map, Option, Some, None, codes}
 use Rattle.std.specs.Option.{option_map, option_and_then}
 use Rattle.convoy_scenario.specs.Durations.{count_of, unit_of, unit_word}
 use Rattle.convoy_scenario.specs.Scenario.{Scenario, group_name_at, message_at}
+use Rattle.convoy_ceiling.specs.Ceiling.{ceiling_at}
 use Rattle.convoy_tables.specs.Tables.{Cell, Table, nothing, number, word}
 use Rattle.convoy_survey.specs.declared.finding.Finding.{Finding}
 use Rattle.convoy_survey.specs.declared.finding.Surveyed.{Surveyed}
@@ -21,6 +22,15 @@ name_cell scenario (Some m) = word (message_at scenario m).name
 -- ticks of a length in their unit
 abbrev pub time_cell : ℕ → Option ℕ → Cell
 time_cell length ticks = count_cell (option_map (λ n. n * count_of length) ticks)
+
+-- ticks in the unit of a tick, where its length is known
+abbrev pub unit_cells : Option ℕ → Option ℕ → List Cell
+unit_cells None ticks = []
+unit_cells (Some length) ticks = time_cell length ticks ∷ []
+
+-- ticks, and after them the same in the unit of a tick
+abbrev pub duration_cells : Option ℕ → Option ℕ → List Cell
+duration_cells tick ticks = count_cell ticks ∷ unit_cells tick ticks
 
 -- the message and the group
 abbrev pub target_cells : Scenario → ℕ → ℕ → List Cell
@@ -51,14 +61,30 @@ abbrev pub finding_cells : Scenario → Finding → List Cell
 finding_cells scenario finding =
     answer_cells finding ++ (tick_cells finding ++ (time_cells scenario.tick finding ++ cause_cells scenario finding))
 
--- the cells of a row
-abbrev pub cells_of : Scenario → Surveyed → List Cell
-cells_of scenario row = target_cells scenario row.message row.group ++ finding_cells scenario row.finding
+-- the ceiling of message m at group g, where ceilings are asked for
+abbrev pub ceiling_cells_if : Bool → Scenario → ℕ → ℕ → List Cell
+ceiling_cells_if false scenario m g = []
+ceiling_cells_if true scenario m g = duration_cells scenario.tick (Some (ceiling_at scenario m g))
+
+-- the cells of a row, whatever was found, with the ceiling of its message at its group where ceilings are asked for
+abbrev pub cells_of : Bool → Scenario → Surveyed → List Cell
+cells_of with_ceilings scenario row =
+    target_cells scenario row.message row.group
+    ++ (finding_cells scenario row.finding ++ ceiling_cells_if with_ceilings scenario row.message row.group)
 
 -- the names of the two columns in the unit of a tick
 abbrev pub time_columns : Option ℕ → List Cell
 time_columns None = []
 time_columns (Some length) = word (codes "least_" ++ unit_word (unit_of length)) ∷ word (codes "most_" ++ unit_word (unit_of length)) ∷ []
+
+-- the name of a column in the unit of a tick, after that of the one in ticks
+abbrev pub unit_columns : List ℕ → Option ℕ → List Cell
+unit_columns name None = []
+unit_columns name (Some length) = word (name ++ (codes "_" ++ unit_word (unit_of length))) ∷ []
+
+-- the names of the columns of a duration: of that in ticks, and of that in the unit of a tick
+abbrev pub duration_columns : List ℕ → Option ℕ → List Cell
+duration_columns name tick = word name ∷ unit_columns name tick
 
 abbrev pub target_columns : List Cell
 target_columns = word (codes "message") ∷ word (codes "group") ∷ []
@@ -73,10 +99,18 @@ cause_columns = word (codes "rival") ∷ word (codes "tied") ∷ word (codes "no
 abbrev pub finding_columns : Option ℕ → List Cell
 finding_columns tick = answer_columns ++ (time_columns tick ++ cause_columns)
 
+-- the names of the columns of the ceiling, where ceilings are asked for
+abbrev pub ceiling_columns_if : Bool → Option ℕ → List Cell
+ceiling_columns_if false tick = []
+ceiling_columns_if true tick = duration_columns (codes "ceiling") tick
+
 -- the names of the columns
-abbrev pub columns_of : Option ℕ → List Cell
-columns_of tick = target_columns ++ finding_columns tick
+abbrev pub columns_of : Bool → Option ℕ → List Cell
+columns_of with_ceilings tick = target_columns ++ (finding_columns tick ++ ceiling_columns_if with_ceilings tick)
 
 -- the table of these rows
-abbrev pub table_of : Scenario → List Surveyed → Table
-table_of scenario rows = record { columns = columns_of scenario.tick; rows = map (cells_of scenario) rows }
+abbrev pub table_of : Bool → Scenario → List Surveyed → Table
+table_of with_ceilings scenario rows = record {
+  columns = columns_of with_ceilings scenario.tick;
+  rows = map (cells_of with_ceilings scenario) rows;
+}

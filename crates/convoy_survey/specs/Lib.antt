@@ -3,6 +3,9 @@ pub use Rattle.convoy_scenario.specs.Scenario
 pub use Rattle.convoy_scenario.specs.Targets
 pub use Rattle.convoy_sim.specs.Greatest
 pub use Rattle.convoy_explain.specs.Causes
+pub use Rattle.convoy_ceiling.specs.Ceiling
+pub use Rattle.convoy_ceiling.specs.Targets as CeilingTargets
+pub use Rattle.convoy_traffic.specs.Finding as Traffic
 pub use Rattle.convoy_branch.specs.Options
 pub use Rattle.convoy_tables.specs.Tables
 pub use Rattle.convoy_tables.specs.Formats
@@ -12,4 +15,7 @@ pub use Rattle.convoy_commands.specs.Searches
 pub mod Findings
 pub mod Cells
 pub mod Surveys
+-- the same of the ceilings of all targets
+pub mod Ceilings
+pub mod CeilingTables
 pub mod Laws

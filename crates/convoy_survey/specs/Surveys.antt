@@ -1,5 +1,5 @@
 -- What a survey of a scenario writes.
-use Rattle.std.specs.Prelude.{◌≡◌, ℕ, List, map, Ok, Err}
+use Rattle.std.specs.Prelude.{◌≡◌, ℕ, Bool, List, map, Ok, Err}
 use Rattle.std.specs.List.{All, list_any}
 use Rattle.convoy_scenario.specs.Scenario.{Scenario}
 use Rattle.convoy_scenario.specs.Targets.{targets_of}
@@ -26,17 +26,17 @@ pub record AreSurveyed (settings : Settings) (scenario : Scenario) (rows : List 
 abbrev pub end_of : List Surveyed → SearchEnd
 end_of rows = end_by (list_any (λ row. is_fault row.finding) rows) (list_any (λ row. is_open row.finding) rows)
 
--- THE HEADLINE. What is written is the table of these rows of the scenario that was read, where the target may be left out, in this format, and the end is told by them.
-pub record IsSurvey (format : Format) (settings : Settings) (text : List ℕ) (end : SearchEnd) (out : List ℕ) : Type 0 where
+-- THE HEADLINE. What is written is the table of these rows of the scenario that was read, where the target may be left out, in this format and with the ceilings where they are asked for, and the end is told by them.
+pub record IsSurvey (format : Format) (with_ceilings : Bool) (settings : Settings) (text : List ℕ) (end : SearchEnd) (out : List ℕ) : Type 0 where
   pub scenario : Scenario
   pub rows : List Surveyed
   pub read : scenario_of_text_by Optional text ≡ Ok scenario
   pub lawful : IsScenario scenario
   pub surveyed : AreSurveyed settings scenario rows
-  pub written : out ≡ table_text format (table_of scenario rows)
+  pub written : out ≡ table_text format (table_of with_ceilings scenario rows)
   pub ends : end ≡ end_of rows
 
 -- what a survey may answer for a text
-abbrev pub SurveySays : Format → Settings → RuleOf SearchEnd
-SurveySays format settings text (Ok (end, out)) = IsSurvey format settings text end out
-SurveySays format settings text (Err fault) = IsFaultyBy Optional text fault
+abbrev pub SurveySays : Format → Bool → Settings → RuleOf SearchEnd
+SurveySays format with_ceilings settings text (Ok (end, out)) = IsSurvey format with_ceilings settings text end out
+SurveySays format with_ceilings settings text (Err fault) = IsFaultyBy Optional text fault

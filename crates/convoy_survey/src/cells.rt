@@ -1,29 +1,53 @@
 //! The cells of a survey's table.
 
-ghost use Rattle.std.specs.Prelude.{◌≡◌, ◌≤◌, ◌∷◌, [], ◌++◌, OnOk, IfOk, option_and_then};
+ghost use Rattle.std.specs.Prelude.{◌≡◌, ◌<◌, ◌≤◌, ◌∷◌, [], ◌++◌, length, OnOk, IfOk, option_and_then};
 ghost use Rattle.convoy_scenario.specs.Durations.{count_of};
 ghost use Rattle.convoy_scenario.specs.Scenario.{group_name_at, message_at};
 ghost use Rattle.convoy_scenario.specs.declared.duration.TheConstants.{MOST_UNITS};
 ghost use Rattle.convoy_survey.specs.Findings.{cause_of, nodes_of};
-ghost use Rattle.convoy_survey.specs.Cells.{cause_cells, cells_of, count_cell, finding_cells, name_cell, target_cells, tick_cells, time_cell, time_cells};
+ghost use Rattle.convoy_survey.specs.Cells.{cause_cells, ceiling_cells_if, cells_of, count_cell, duration_cells, finding_cells, name_cell, target_cells, tick_cells, time_cell, time_cells, unit_cells};
 
 use super::finding::{Finding, Surveyed};
+use convoy_ceiling::ceiling;
 use convoy_scenario::{Duration, Scenario};
 use convoy_tables::{Cell, Row};
 use std::alloc::{AllocError, Global};
 
-/// The cells of a row.
+/// The cells of a row, with its ceiling where it is asked for.
 pub(crate) fn cells_of(
     alloc: Global,
+    with_ceilings: bool,
     scenario: &Scenario,
     row: &Surveyed,
 ) -> Result<Row, AllocError>
-    ensures { IfOk result (λ cells. cells ≡ cells_of scenario.now row.now) }
+    requires { row.now.message < length scenario.now.multicasts }
+    ensures { IfOk result (λ cells. cells ≡ cells_of with_ceilings scenario.now row.now) }
 {
     let mut cells = Row::new(alloc);
     push_target(alloc, scenario, row.message, row.group, &mut cells)?;
     push_finding(alloc, scenario, row.finding, &mut cells)?;
+    push_ceiling(alloc, with_ceilings, scenario, row, &mut cells)?;
     Ok(cells)
+}
+
+/// Puts the ceiling of a row's message at its group at the end of the row, where it is asked for.
+fn push_ceiling(
+    alloc: Global,
+    with_ceilings: bool,
+    scenario: &Scenario,
+    row: &Surveyed,
+    cells: &mut Row,
+) -> Result<(), AllocError>
+    requires { row.now.message < length scenario.now.multicasts }
+    ensures { OnOk result (cells.new ≡ cells.old
+        ++ ceiling_cells_if with_ceilings scenario.now row.now.message row.now.group) }
+{
+    if with_ceilings {
+        let ceiling = ceiling(scenario, row.message, row.group);
+        push_duration(alloc, scenario, Some(ceiling), cells)
+    } else {
+        Ok(())
+    }
 }
 
 /// Puts a message and a group at the end of a row, by their names.
@@ -56,8 +80,9 @@ pub fn push_finding(
     push_cause(alloc, scenario, finding, cells)
 }
 
-/// Puts the least and the most that the greatest latency may be, in ticks, at the end of a row.
-fn push_ticks(alloc: Global, finding: Finding, cells: &mut Row) -> Result<(), AllocError>
+/// Puts the least and the most that the greatest latency may be, in ticks, at the end of a row: two cells,
+/// with nothing where memory ran out. Fails where memory runs out, and else never.
+pub fn push_ticks(alloc: Global, finding: Finding, cells: &mut Row) -> Result<(), AllocError>
     ensures { OnOk result (cells.new ≡ cells.old ++ tick_cells finding) }
 {
     push_count(alloc, finding.least().map(u64::from), cells)?;
@@ -80,6 +105,35 @@ fn push_times(
     push_time(alloc, tick, finding.most(), cells)
 }
 
+/// Puts ticks that may not be known at the end of a row, and after them the same in the unit of a tick, where
+/// its length is known.
+pub(crate) fn push_duration(
+    alloc: Global,
+    scenario: &Scenario,
+    ticks: Option<u32>,
+    cells: &mut Row,
+) -> Result<(), AllocError>
+    ensures { OnOk result (cells.new ≡ cells.old ++ duration_cells scenario.now.tick ticks) }
+{
+    push_count(alloc, ticks.map(u64::from), cells)?;
+    push_in_unit(alloc, scenario, ticks, cells)
+}
+
+/// Puts ticks in the unit of a tick at the end of a row, where its length is known.
+fn push_in_unit(
+    alloc: Global,
+    scenario: &Scenario,
+    ticks: Option<u32>,
+    cells: &mut Row,
+) -> Result<(), AllocError>
+    ensures { OnOk result (cells.new ≡ cells.old ++ unit_cells scenario.now.tick ticks) }
+{
+    let Some(tick) = scenario.tick() else {
+        return Ok(());
+    };
+    push_time(alloc, tick, ticks, cells)
+}
+
 /// Puts ticks of that length in their unit at the end of a row.
 pub(crate) fn push_time(
     alloc: Global,
@@ -97,8 +151,9 @@ pub(crate) fn push_time(
 }
 
 /// Puts the message that holds the target back, the one after which it gets its stamp in a tie, and the
-/// number of nodes at the end of a row.
-fn push_cause(
+/// number of nodes at the end of a row: three cells, each with nothing where there is none. The messages are
+/// those of the scenario. Fails where memory runs out, and else never.
+pub fn push_cause(
     alloc: Global,
     scenario: &Scenario,
     finding: Finding,
@@ -179,7 +234,7 @@ fn message_name(scenario: &Scenario, message: usize) -> &str
 }
 
 /// The name of a group, and none for a group that the scenario has not.
-fn group_name(scenario: &Scenario, group: usize) -> &str
+pub(crate) fn group_name(scenario: &Scenario, group: usize) -> &str
     ensures { result.now ≡ group_name_at scenario.now group }
 {
     if group < scenario.group_count() {

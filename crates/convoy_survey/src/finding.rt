@@ -43,7 +43,7 @@ pub struct Surveyed {
 
 impl Finding {
     /// The words for what is known: of a fault those of its line.
-    pub(crate) fn answer(self) -> &'static str
+    pub fn answer(self) -> &'static str
         ensures { result.now ≡ answer_word self }
     {
         match self {

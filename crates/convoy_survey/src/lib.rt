@@ -1,8 +1,11 @@
-//! The survey of a scenario: the greatest latency of each message at each group that it goes to, as a
-//! table.
+//! Tables of all targets of a scenario: its survey, with the greatest latency of each message at each group
+//! that it goes to, and their ceilings.
 #![tactic(auto)]
 
-pub use cells::push_finding;
+pub use ceiled::Ceiled;
+pub use ceiling_run::run_ceilings;
+pub use ceilings::ceilings_of;
+pub use cells::{push_cause, push_finding, push_ticks};
 pub use convoy_tables::Format;
 pub use finding::{Cause, Finding, Surveyed};
 pub use rows::survey;
@@ -11,6 +14,10 @@ pub use searching::find;
 pub use table::{push_finding_columns, push_words};
 
 mod cause;
+mod ceiled;
+mod ceiling_run;
+mod ceiling_table;
+mod ceilings;
 mod cells;
 mod finding;
 pub mod laws;

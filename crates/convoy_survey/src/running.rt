@@ -24,31 +24,34 @@ use std::thread::Threads;
 
 /// The command `survey`: reads a scenario to the end of the source, in at most `options.most_reads()`
 /// reads, and writes a table with a row for each message at each group that it goes to
-/// (docs/FORMATS.md, "Survey"); what is asked in the text does not matter, and may be left out. The numbers of a row are those that
-/// [`latency`](convoy_commands::run_latency) writes for the scenario with that target. Each search is
-/// watched, by [`NoGate`](convoy_branch::NoGate) where nobody cares.
+/// (docs/FORMATS.md, "What `survey` writes"); what is asked in the text does not matter, and may be left out. The numbers
+/// of a row are those that [`latency`](convoy_commands::run_latency) writes for the scenario with that
+/// target. With ceilings, a row ends with the [`ceiling`](convoy_ceiling::ceiling) of its message at its
+/// group, in ticks and in the unit of a tick. Each search is watched, by [`NoGate`](convoy_branch::NoGate)
+/// where nobody cares.
 ///
 /// Nothing is written before all rows are known. A row for which memory runs out has that fault in place
-/// of numbers, and the survey goes on. Faults of the whole are `Fault::Scenario`, where the text is that of
-/// no scenario; `Fault::Reading`, where the input is not read to its end, or has more than
-/// [`LONGEST_JOB`] bytes; `Fault::Write` where the sink fails, after a front of the table; and
-/// `Fault::Memory`.
+/// of numbers, with its ceiling all the same, and the survey goes on. Faults of the whole are
+/// `Fault::Scenario`, where the text is that of no scenario; `Fault::Reading`, where the input is not read
+/// to its end, or has more than [`LONGEST_JOB`] bytes; `Fault::Write` where the sink fails, after a front
+/// of the table; and `Fault::Memory`.
 pub fn run_survey<R: Threads + Wait + Sync, S: Source, K: Sink, W: Watch + Sync>(
     rt: &R,
     alloc: Global,
     format: Format,
+    with_ceilings: bool,
     options: &Options,
     source: &mut S,
     sink: &mut K,
     watch: &W,
 ) -> Result<SearchEnd, Fault>
-    ensures { IsRun LONGEST_JOB (SurveySays format options.now) options.now.most_reads
+    ensures { IsRun LONGEST_JOB (SurveySays format with_ceilings options.now) options.now.most_reads
         S.reads K.writes source.old source.new sink.old sink.new result }
 {
     let text = read_to_end(alloc, source, LONGEST_JOB, options.most_reads())?;
     write_reply(
         sink,
-        survey_answer(rt, alloc, format, &text, options, watch),
+        survey_answer(rt, alloc, format, with_ceilings, &text, options, watch),
     )
 }
 
@@ -57,24 +60,26 @@ fn survey_answer<R: Threads + Wait + Sync, W: Watch + Sync>(
     rt: &R,
     alloc: Global,
     format: Format,
+    with_ceilings: bool,
     text: &[u8],
     options: &Options,
     watch: &W,
 ) -> Result<(SearchEnd, Vec<u8>), Fault>
-    ensures { SaysUnlessMemory (SurveySays format options.now) text.now (reply_of result) }
+    ensures { SaysUnlessMemory (SurveySays format with_ceilings options.now) text.now
+        (reply_of result) }
 {
     let scenario = read_scenario(alloc, text)?;
     // A scenario is well formed.
     let _count = scenario.message_count();
     let rows = survey(rt, alloc, &scenario, options, watch)?;
-    let table = table_of(alloc, &scenario, &rows)?;
+    let table = table_of(alloc, with_ceilings, &scenario, &rows)?;
     let mut written = Vec::new(alloc);
     write_table(&table, format, &mut written)?;
     Ok((end_of(&rows), written))
 }
 
 /// The scenario of a text in which the target may be left out.
-fn read_scenario(alloc: Global, text: &[u8]) -> Result<Scenario, ScenarioFault>
+pub(crate) fn read_scenario(alloc: Global, text: &[u8]) -> Result<Scenario, ScenarioFault>
     ensures unless_memory { IsUnlessMemory ScenarioFault.Memory (scenario_of_text_by Optional text.now) result }
     ensures read { IfOk result (λ scenario. scenario_of_text_by Optional text.now ≡ Ok scenario) }
 {

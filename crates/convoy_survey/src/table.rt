@@ -1,5 +1,6 @@
-ghost use Rattle.std.specs.Prelude.{◌≡◌, ◌++◌, map, OnOk, IfOk};
-ghost use Rattle.convoy_survey.specs.Cells.{columns_of, finding_columns, table_of, time_columns};
+ghost use Rattle.std.specs.Prelude.{◌≡◌, ◌<◌, ◌++◌, length, map, OnOk, IfOk};
+ghost use Rattle.std.specs.List.{All};
+ghost use Rattle.convoy_survey.specs.Cells.{ceiling_columns_if, columns_of, duration_columns, finding_columns, table_of, time_columns, unit_columns};
 ghost use Rattle.convoy_tables.specs.Tables.{word};
 
 use super::cells::cells_of;
@@ -8,29 +9,49 @@ use convoy_scenario::Scenario;
 use convoy_tables::{Cell, Row, Table};
 use std::alloc::{AllocError, Global};
 
-/// The table of a survey.
+/// The table of a survey, with ceilings where they are asked for.
 pub(crate) fn table_of(
     alloc: Global,
+    with_ceilings: bool,
     scenario: &Scenario,
     rows: &[Surveyed],
 ) -> Result<Table, AllocError>
-    ensures { IfOk result (λ table. table ≡ table_of scenario.now rows.now) }
+    requires { All (λ row. row.message < length scenario.now.multicasts) rows.now }
+    ensures { IfOk result (λ table. table ≡ table_of with_ceilings scenario.now rows.now) }
 {
-    let mut table = Table::new(alloc, columns_of(alloc, scenario)?);
+    let mut table = Table::new(alloc, columns_of(alloc, with_ceilings, scenario)?);
     for row in rows {
-        table.push(cells_of(alloc, scenario, row)?)?;
+        table.push(cells_of(alloc, with_ceilings, scenario, row)?)?;
     }
     Ok(table)
 }
 
 /// The names of the columns.
-fn columns_of(alloc: Global, scenario: &Scenario) -> Result<Row, AllocError>
-    ensures { IfOk result (λ columns. columns ≡ columns_of scenario.now.tick) }
+fn columns_of(alloc: Global, with_ceilings: bool, scenario: &Scenario) -> Result<Row, AllocError>
+    ensures { IfOk result (λ columns. columns ≡ columns_of with_ceilings scenario.now.tick) }
 {
     let mut columns = Row::new(alloc);
     push_words(alloc, &["message", "group"], &mut columns)?;
     push_finding_columns(alloc, scenario, &mut columns)?;
+    push_ceiling_columns(alloc, with_ceilings, scenario, &mut columns)?;
     Ok(columns)
+}
+
+/// Puts the names of the columns of the ceiling at the end of a row, where it is asked for.
+fn push_ceiling_columns(
+    alloc: Global,
+    with_ceilings: bool,
+    scenario: &Scenario,
+    columns: &mut Row,
+) -> Result<(), AllocError>
+    ensures { OnOk result
+        (columns.new ≡ columns.old ++ ceiling_columns_if with_ceilings scenario.now.tick) }
+{
+    if with_ceilings {
+        push_duration_columns(alloc, scenario, "ceiling", columns)
+    } else {
+        Ok(())
+    }
 }
 
 /// Puts the names of the columns that tell what was found at the end of a row. Fails where memory runs out,
@@ -63,6 +84,39 @@ fn push_time_columns(
     let most = format!(in alloc; "most_{unit}")?;
     columns.push(Cell::word(alloc, &least)?)?;
     columns.push(Cell::word(alloc, &most)?)
+}
+
+/// Puts the name of a column in ticks at the end of a row, and after it that of the same in the unit of a
+/// tick, where its length is known.
+pub(crate) fn push_duration_columns(
+    alloc: Global,
+    scenario: &Scenario,
+    name: &str,
+    columns: &mut Row,
+) -> Result<(), AllocError>
+    ensures { OnOk result
+        (columns.new ≡ columns.old ++ duration_columns name.now scenario.now.tick) }
+{
+    columns.push(Cell::word(alloc, name)?)?;
+    push_unit_column(alloc, scenario, name, columns)
+}
+
+/// Puts the name of a column in the unit of a tick at the end of a row, where its length is known.
+fn push_unit_column(
+    alloc: Global,
+    scenario: &Scenario,
+    name: &str,
+    columns: &mut Row,
+) -> Result<(), AllocError>
+    ensures { OnOk result
+        (columns.new ≡ columns.old ++ unit_columns name.now scenario.now.tick) }
+{
+    let Some(tick) = scenario.tick() else {
+        return Ok(());
+    };
+    let unit = tick.unit().word();
+    let column = format!(in alloc; "{name}_{unit}")?;
+    columns.push(Cell::word(alloc, &column)?)
 }
 
 /// Puts words at the end of a row. Fails where memory runs out, and else never.

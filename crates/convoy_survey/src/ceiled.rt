@@ -1,0 +1,34 @@
+ghost use Rattle.std.specs.Prelude.{◌≡◌};
+ghost use Rattle.convoy_survey.specs.Ceilings.{falls_short, is_unsought};
+
+/// A message at a group that it goes to, both by number, with its ceiling there and with how near to it
+/// traffic was found to come.
+#[derive(Clone, Copy, Debug, PartialEq, Eq)]
+pub struct Ceiled {
+    pub message: usize,
+    pub group: usize,
+    /// The ceiling, in ticks.
+    pub ceiling: u32,
+    /// The greatest latency that was found in traffic, in ticks; none where memory ran out while it was
+    /// sought, which says nothing of traffic.
+    pub attained: Option<u32>,
+}
+
+impl Ceiled {
+    /// Whether memory ran out while traffic was sought.
+    pub fn is_unsought(self) -> bool
+        ensures { result ≡ is_unsought self }
+    {
+        self.attained.is_none()
+    }
+
+    /// Whether the traffic that was found does not attain the ceiling.
+    pub fn falls_short(self) -> bool
+        ensures { result ≡ falls_short self }
+    {
+        match self.attained {
+            Some(latency) => latency != self.ceiling,
+            None => false,
+        }
+    }
+}

@@ -1,0 +1,118 @@
+ghost use Rattle.std.specs.Prelude.{◌≡◌, option_map};
+ghost use Rattle.std.specs.List.{list_any};
+ghost use Rattle.convoy_scenario.specs.Checks.{is_among};
+ghost use Rattle.convoy_commands.specs.declared.limits.TheConstants.{LONGEST_JOB};
+ghost use Rattle.convoy_commands.specs.Replies.{SaysUnlessMemory, reply_of};
+ghost use Rattle.convoy_commands.specs.Runs.{IsRun};
+ghost use Rattle.convoy_survey.specs.Ceilings.{falls_short, has_group, is_unsought};
+ghost use Rattle.convoy_survey.specs.CeilingTables.{CeilingsSay, end_of_ceilings};
+
+use super::ceiled::Ceiled;
+use super::ceiling_table::table_of_ceilings;
+use super::ceilings::ceilings_of;
+use super::running::read_scenario;
+use convoy_commands::{Fault, LONGEST_JOB, SearchEnd, write_reply};
+use convoy_scenario::{Scenario, ScenarioFault};
+use convoy_streams::{Sink, Source, read_to_end};
+use convoy_tables::{Format, write_table};
+use std::alloc::Global;
+
+/// The command `ceiling` for more than one target: reads a scenario to the end of the source, in at most
+/// `most_reads` reads, and writes a table with a row for each message at each group that it goes to, or at
+/// the one group that is named (docs/FORMATS.md, "Tables of ceilings"). What is asked in the text does not
+/// matter, and may be left out. A row has the ceiling, in ticks and in the unit of a tick, and the greatest
+/// latency that is found in traffic of the scenario's kinds by at most `simulations` simulations for the
+/// row, as [`run`](convoy_commands::run) tells both of the text's own target.
+///
+/// The end is `SearchEnd::Exact` where the latency of each row is its ceiling, and `SearchEnd::Open` where
+/// one is below it. A row for which memory runs out while traffic is sought has its ceiling and no latency,
+/// the others are sought all the same, and the end is `SearchEnd::Faulty`.
+///
+/// Nothing is written before all rows are known. Faults of the whole are `Fault::Scenario`, where the text
+/// is that of no scenario, or where none of its groups has the name that is given, with
+/// `ScenarioFault::UnknownGroup` as its cause; `Fault::Reading`, where the input is not read to its end, or
+/// has more than [`LONGEST_JOB`] bytes; `Fault::Write` where the sink fails, after a front of the table;
+/// and `Fault::Memory`.
+pub fn run_ceilings<S: Source, K: Sink>(
+    alloc: Global,
+    format: Format,
+    group: Option<&str>,
+    simulations: u64,
+    most_reads: u64,
+    source: &mut S,
+    sink: &mut K,
+) -> Result<SearchEnd, Fault>
+    ensures { IsRun LONGEST_JOB (CeilingsSay format (option_map (λ name. name.now) group.entry))
+        most_reads S.reads K.writes source.old source.new sink.old sink.new result }
+{
+    let text = read_to_end(alloc, source, LONGEST_JOB, most_reads)?;
+    write_reply(
+        sink,
+        ceilings_answer(alloc, format, group, simulations, &text),
+    )
+}
+
+/// How the telling of a text's ceilings ends, and their table.
+fn ceilings_answer(
+    alloc: Global,
+    format: Format,
+    group: Option<&str>,
+    simulations: u64,
+    text: &[u8],
+) -> Result<(SearchEnd, Vec<u8>), Fault>
+    ensures { SaysUnlessMemory (CeilingsSay format (option_map (λ name. name.now) group.entry))
+        text.now (reply_of result) }
+{
+    let scenario = read_scenario(alloc, text)?;
+    // A scenario is well formed.
+    let _count = scenario.message_count();
+    if !has_group(&scenario, group) {
+        return Err(Fault::Scenario(ScenarioFault::UnknownGroup));
+    }
+    let rows = ceilings_of(alloc, &scenario, group, simulations)?;
+    let table = table_of_ceilings(alloc, &scenario, &rows)?;
+    let mut written = Vec::new(alloc);
+    write_table(&table, format, &mut written)?;
+    Ok((end_of(&rows), written))
+}
+
+/// Whether a scenario has the group that is named, if one is.
+fn has_group(scenario: &Scenario, group: Option<&str>) -> bool
+    ensures { result ≡ has_group scenario.now (option_map (λ name. name.now) group.entry) }
+{
+    match group {
+        Some(name) => is_group(scenario, name),
+        None => true,
+    }
+}
+
+/// Whether a group of a scenario has this name.
+fn is_group(scenario: &Scenario, name: &str) -> bool
+    ensures { result ≡ is_among name.now scenario.now.groups }
+{
+    for group in 0..scenario.group_count() {
+        if name == scenario.group_name(group) {
+            return true;
+        }
+    }
+    false
+}
+
+/// How the telling of these rows ends.
+fn end_of(rows: &[Ceiled]) -> SearchEnd
+    ensures { result ≡ end_of_ceilings rows.now }
+{
+    SearchEnd::by(has_unsought(rows), has_short(rows))
+}
+
+fn has_unsought(rows: &[Ceiled]) -> bool
+    ensures { result ≡ list_any is_unsought rows.now }
+{
+    rows.iter().any(|row| row.is_unsought())
+}
+
+fn has_short(rows: &[Ceiled]) -> bool
+    ensures { result ≡ list_any falls_short rows.now }
+{
+    rows.iter().any(|row| row.falls_short())
+}
