@@ -1,0 +1,5 @@
+pub mod Places
+pub mod Savings
+pub mod Tries
+pub mod Texts
+pub mod Numbers

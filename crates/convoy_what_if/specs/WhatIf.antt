@@ -1,0 +1,45 @@
+-- What `survey --without` writes: what would become of the greatest latency with each change of one thing.
+use Rattle.std.specs.Prelude.{◌≡◌, ◌⊎◌, ℕ, List, Ok, Err}
+use Rattle.std.specs.List.{list_any}
+use Rattle.convoy_scenario.specs.Scenario.{Scenario}
+use Rattle.convoy_scenario.specs.WellFormed.{IsScenario}
+use Rattle.convoy_toml.specs.Reading.{scenario_of_text}
+use Rattle.convoy_branch.specs.Options.{Settings}
+use Rattle.convoy_tables.specs.declared.format.Format.{Format}
+use Rattle.convoy_tables.specs.Formats.{table_text}
+use Rattle.convoy_commands.specs.declared.fault.Fault.{Fault}
+use Rattle.convoy_commands.specs.declared.search_end.SearchEnd.{SearchEnd}
+use Rattle.convoy_commands.specs.Replies.{RuleOf}
+use Rattle.convoy_commands.specs.SearchEnds.{end_by}
+use Rattle.convoy_commands.specs.Searches.{IsFaulty}
+use Rattle.convoy_changes.specs.Changes.{changes_of}
+use Rattle.convoy_survey.specs.Findings.{is_fault, is_open}
+use Rattle.convoy_what_if.specs.declared.tried.Tried.{Tried}
+use Rattle.convoy_what_if.specs.Cells.{table_of}
+use Rattle.convoy_what_if.specs.Orders.{AreTried}
+use Rattle.convoy_what_if.specs.Tries.{HasBroken}
+
+-- how it ends with these rows: a fault comes before a search that did not end
+abbrev pub end_of : List Tried → SearchEnd
+end_of rows = end_by (list_any (λ row. is_fault row.finding) rows) (list_any (λ row. is_open row.finding) rows)
+
+-- THE HEADLINE. What is written is the table of all changes of the scenario that was read, each tried, in this format, and the end is told by its rows.
+pub record IsWhatIf (format : Format) (settings : Settings) (text : List ℕ) (end : SearchEnd) (out : List ℕ) : Type 0 where
+  pub scenario : Scenario
+  pub rows : List Tried
+  pub read : scenario_of_text text ≡ Ok scenario
+  pub lawful : IsScenario scenario
+  pub tried : AreTried settings scenario (changes_of scenario) rows
+  pub written : out ≡ table_text format (table_of scenario rows)
+  pub ends : end ≡ end_of rows
+
+-- The text is that of a scenario of which some change makes none, for the cause that the fault tells.
+pub record IsBroken (text : List ℕ) (fault : Fault) : Type 0 where
+  pub scenario : Scenario
+  pub read : scenario_of_text text ≡ Ok scenario
+  pub broken : HasBroken scenario (changes_of scenario) fault
+
+-- what may be answered for a text
+abbrev pub WhatIfSays : Format → Settings → RuleOf SearchEnd
+WhatIfSays format settings text (Ok (end, out)) = IsWhatIf format settings text end out
+WhatIfSays format settings text (Err fault) = IsFaulty text fault ⊎ IsBroken text fault

@@ -1,0 +1,17 @@
+//! What would become of the greatest latency if one thing were different: each change of a scenario is
+//! tried by a search, and a table tells what each saves.
+#![tactic(auto)]
+
+pub use convoy_tables::Format;
+pub use rows::what_if;
+pub use running::run_what_if;
+pub use tried::Tried;
+
+mod cells;
+pub mod laws;
+mod placing;
+mod rows;
+mod running;
+mod table;
+mod tried;
+mod trying;

@@ -1,0 +1,103 @@
+ghost use Rattle.std.specs.Prelude.{◌≡◌, IfOk, Ok};
+ghost use Rattle.std.specs.List.{list_any};
+ghost use Rattle.convoy_scenario.specs.Memory.{IsUnlessMemory};
+ghost use Rattle.convoy_toml.specs.Reading.{scenario_of_text};
+ghost use Rattle.convoy_commands.specs.declared.limits.TheConstants.{LONGEST_JOB};
+ghost use Rattle.convoy_commands.specs.Replies.{SaysUnlessMemory, reply_of};
+ghost use Rattle.convoy_commands.specs.Runs.{IsRun};
+ghost use Rattle.convoy_survey.specs.Findings.{is_fault, is_open};
+ghost use Rattle.convoy_what_if.specs.WhatIf.{WhatIfSays, end_of};
+
+use super::rows::what_if;
+use super::table::table_of;
+use super::tried::Tried;
+use convoy_branch::Options;
+use convoy_commands::{Fault, LONGEST_JOB, SearchEnd, Watch, write_reply};
+use convoy_packets::Instance;
+use convoy_scenario::{Scenario, ScenarioFault};
+use convoy_streams::{Sink, Source, read_to_end};
+use convoy_tables::{Format, write_table};
+use convoy_toml::read_toml;
+use std::alloc::Global;
+use std::sync::Wait;
+use std::thread::Threads;
+
+/// The command `survey --without`: reads a scenario to the end of the source, in at most
+/// `options.most_reads()` reads, and writes a table with a row for each change of one thing, so that its
+/// reader sees what to change first: each other message left out, and each link that packets travel at its
+/// least and at its most, beside the scenario as it is. Rows are those of [`what_if`], in its order; a row's
+/// numbers are those that [`latency`](convoy_commands::run_latency) writes for the scenario that is changed
+/// so. Each search is watched, by [`NoGate`](convoy_branch::NoGate) where nobody cares.
+///
+/// Nothing is written before all rows are known. A row for which memory runs out has that fault in place of
+/// numbers. Faults of the whole are `Fault::Scenario`, where the text is that of no scenario, or where a
+/// change makes none; `Fault::Reading`, where the input is not read to its end, or has more than
+/// [`LONGEST_JOB`] bytes; `Fault::Write` where the sink fails, after a front of the table; and
+/// `Fault::Memory`.
+pub fn run_what_if<R: Threads + Wait + Sync, S: Source, K: Sink, W: Watch + Sync>(
+    rt: &R,
+    alloc: Global,
+    format: Format,
+    options: &Options,
+    source: &mut S,
+    sink: &mut K,
+    watch: &W,
+) -> Result<SearchEnd, Fault>
+    ensures { IsRun LONGEST_JOB (WhatIfSays format options.now) options.now.most_reads
+        S.reads K.writes source.old source.new sink.old sink.new result }
+{
+    let text = read_to_end(alloc, source, LONGEST_JOB, options.most_reads())?;
+    write_reply(
+        sink,
+        what_if_answer(rt, alloc, format, &text, options, watch),
+    )
+}
+
+/// How the changes of a text's scenario end, and their table.
+fn what_if_answer<R: Threads + Wait + Sync, W: Watch + Sync>(
+    rt: &R,
+    alloc: Global,
+    format: Format,
+    text: &[u8],
+    options: &Options,
+    watch: &W,
+) -> Result<(SearchEnd, Vec<u8>), Fault>
+    ensures { SaysUnlessMemory (WhatIfSays format options.now) text.now (reply_of result) }
+{
+    let instance = Instance::of(alloc, read_scenario(alloc, text)?)?;
+    // A scenario is well formed.
+    let _count = instance.message_count();
+    let rows = what_if(rt, alloc, &instance, options, watch)?;
+    let end = end_of(&rows);
+    let table = table_of(alloc, instance.scenario(), rows)?;
+    let mut written = Vec::new(alloc);
+    write_table(&table, format, &mut written)?;
+    Ok((end, written))
+}
+
+/// The scenario of a text.
+fn read_scenario(alloc: Global, text: &[u8]) -> Result<Scenario, ScenarioFault>
+    ensures unless_memory { IsUnlessMemory ScenarioFault.Memory (scenario_of_text text.now) result }
+    ensures read { IfOk result (λ scenario. scenario_of_text text.now ≡ Ok scenario) }
+{
+    Ok(read_toml(alloc, text)?.scenario)
+}
+
+/// How it ends with these rows.
+fn end_of(rows: &[Tried]) -> SearchEnd
+    ensures { result ≡ end_of rows.now }
+{
+    SearchEnd::by(has_fault(rows), has_open(rows))
+}
+
+fn has_fault(rows: &[Tried]) -> bool
+    ensures { result ≡ list_any (λ row. is_fault row.finding) rows.now }
+{
+    rows.iter().any(|row| row.finding.is_fault())
+}
+
+fn has_open(rows: &[Tried]) -> bool
+    ensures { result ≡ list_any (λ row. is_open row.finding) rows.now }
+{
+    rows.iter().any(|row| row.finding.is_open())
+}

@@ -1,0 +1,15 @@
+use convoy_changes::Change;
+use convoy_survey::Finding;
+use convoy_tables::Row;
+
+/// A change of a scenario that was tried.
+#[derive(Debug, Drop)]
+pub struct Tried {
+    /// What is changed.
+    pub change: Change,
+    /// What a search found of the latency in the scenario that is changed so.
+    pub finding: Finding,
+    /// Its row of the table: the change, and what was found, with the names of messages as they are after
+    /// the change.
+    pub cells: Row,
+}
