@@ -1,0 +1,2 @@
+pub mod Yeses
+pub mod ScenarioReads
