@@ -1,5 +1,5 @@
--- What is proved of runs of batches.
-use Rattle.std.specs.Prelude.{ℕ, List, Result, Ok, Err}
+-- What is proved of batches. Each is the one clause of the function of its name in the crate's module `laws`.
+use Rattle.std.specs.Prelude.{◌≡◌, ℕ, List, Result, Ok, Err}
 use Rattle.convoy_streams.specs.Devices.{Answer}
 use Rattle.convoy_branch.specs.Options.{Settings}
 use Rattle.convoy_commands.specs.declared.done.Done.{Done}
@@ -7,7 +7,13 @@ use Rattle.convoy_commands.specs.declared.done.Done.TheVariants.{Fine}
 use Rattle.convoy_commands.specs.declared.fault.Fault.{Fault}
 use Rattle.convoy_commands.specs.declared.search_end.SearchEnd.{SearchEnd}
 use Rattle.convoy_commands.specs.Laws.{TellsFailures}
+use Rattle.convoy_commands.specs.Lines.{greatest_line}
+use Rattle.convoy_commands.specs.Searches.{LatencySays}
+use Rattle.convoy_survey.specs.declared.finding.Cause.{Cause}
+use Rattle.convoy_survey.specs.declared.finding.Finding.TheVariants.{Greatest}
+use Rattle.convoy_batch.specs.declared.job_row.JobFinding.{JobFinding}
 use Rattle.convoy_batch.specs.Batches.{BatchRunsTo}
+use Rattle.convoy_batch.specs.JobRows.{IsSearched}
 
 -- a run of a batch that gave its blocks, however their jobs ended, is one that ended well
 abbrev pub batch_done : Result SearchEnd Fault → Result Done Fault
@@ -19,3 +25,10 @@ abbrev pub BatchFailuresAreTold : Settings → Type 0
 BatchFailuresAreTold settings =
     (most_reads : ℕ) (reads writes : List Answer) (result : Result SearchEnd Fault) →
     BatchRunsTo settings most_reads reads writes result → TellsFailures reads writes (batch_done result)
+
+-- Of a job's text `latency` answers the number in the job's row, by whatever settings and whoever asked.
+abbrev pub JobRowsAreLatencies : Type 0
+JobRowsAreLatencies =
+    (settings other : Settings) (text out : List ℕ) (found : JobFinding) (latency nodes : ℕ) (cause : Cause) →
+    IsSearched settings text found → found.finding ≡ Greatest latency cause nodes → LatencySays other text (Ok (Fine, out)) →
+    out ≡ greatest_line found.instance.tick latency

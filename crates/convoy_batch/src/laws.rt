@@ -1,7 +1,9 @@
-//! What follows from the contract of a batch, as calls that do nothing.
+//! What follows from the contracts of batches, as calls that do nothing.
 
 ghost use Rattle.convoy_branch.specs.Options.{Settings};
-ghost use Rattle.convoy_batch.specs.Laws.{BatchFailuresAreTold};
+ghost use Rattle.convoy_batch.specs.Laws.{BatchFailuresAreTold, JobRowsAreLatencies};
+
+use convoy_survey::laws::rows_are_latencies;
 
 /// In every run of a batch, with whatever options, each failure of the source is told as
 /// `ReadFault::Read` and each failure of the sink as `Fault::Write`, and neither is told where the device
@@ -9,3 +11,11 @@ ghost use Rattle.convoy_batch.specs.Laws.{BatchFailuresAreTold};
 pub fn batch_failures_are_told()
     ensures { (settings : Settings) → BatchFailuresAreTold settings }
 {}
+
+/// In a batch that is answered as a table, the greatest latency in the row of a job is the one that
+/// [`latency`](convoy_commands::run_latency) answers for the job's own text.
+pub fn job_rows_are_latencies()
+    ensures { JobRowsAreLatencies }
+{
+    rows_are_latencies();
+}

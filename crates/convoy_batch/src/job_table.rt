@@ -1,0 +1,128 @@
+//! The table of a batch: a row for each job.
+
+ghost use Rattle.std.specs.Prelude.{◌≡◌, ◌++◌, OnOk, IfOk, string_bytes};
+ghost use Rattle.std.specs.List.{All};
+ghost use Rattle.std.specs.Str.{IsUtf8};
+ghost use Rattle.convoy_batch.specs.JobTables.{cells_of, column_names, fault_cells, fault_words, found_cells, label_cell, searched_cells, table_of, tick_cell, tick_words};
+
+use super::job_row::{JobFinding, JobRow};
+use convoy_commands::{Fault, FaultEnding, fault_row};
+use convoy_scenario::Duration;
+use convoy_survey::{push_cause, push_ticks, push_words};
+use convoy_tables::{Cell, Row, Table};
+use std::alloc::{AllocError, Global};
+
+/// The table of the rows of jobs, whose labels are texts.
+pub(crate) fn table_of(alloc: Global, rows: &[JobRow]) -> Result<Table, AllocError>
+    requires labels { All (λ row. IsUtf8 row.label.items) rows.now }
+    ensures { IfOk result (λ table. table ≡ table_of rows.now) }
+{
+    let mut table = Table::new(alloc, column_names(alloc)?);
+    for i in 0..rows.len() {
+        table.push(cells_of(alloc, i as u64 + 1, &rows[i])?)?;
+    }
+    Ok(table)
+}
+
+/// The names of the columns.
+fn column_names(alloc: Global) -> Result<Row, AllocError>
+    ensures { IfOk result (λ names. names ≡ column_names) }
+{
+    let mut names = Row::new(alloc);
+    push_words(
+        alloc,
+        &[
+            "job", "label", "answer", "least", "most", "tick", "rival", "tied", "nodes",
+        ],
+        &mut names,
+    )?;
+    Ok(names)
+}
+
+/// The cells of the row of the job of that number.
+fn cells_of(alloc: Global, number: u64, row: &JobRow) -> Result<Row, AllocError>
+    requires { IsUtf8 row.now.label.items }
+    ensures { IfOk result (λ cells. cells ≡ cells_of number row.now) }
+{
+    let mut cells = Row::new(alloc);
+    cells.push(Cell::number(alloc, number)?)?;
+    cells.push(label_cell(alloc, &row.label)?)?;
+    push_found(alloc, &row.found, &mut cells)?;
+    Ok(cells)
+}
+
+/// The label of a job, or nothing where the job has none.
+fn label_cell(alloc: Global, label: &[u8]) -> Result<Cell, AllocError>
+    requires { IsUtf8 label.now }
+    ensures { IfOk result (λ cell. cell ≡ label_cell label.now) }
+{
+    match str::from_utf8(label) {
+        Ok("") | Err(_) => Ok(Cell::nothing(alloc)),
+        Ok(text) => Cell::word(alloc, text),
+    }
+}
+
+/// Puts what was found of a job at the end of a row.
+fn push_found(
+    alloc: Global,
+    found: &Result<JobFinding, Fault>,
+    cells: &mut Row,
+) -> Result<(), AllocError>
+    ensures { OnOk result (cells.new ≡ cells.old ++ found_cells found.now) }
+{
+    match found {
+        Ok(found) => push_searched(alloc, found, cells),
+        Err(fault) => push_fault(alloc, fault, cells),
+    }
+}
+
+/// Puts what a search found at the end of a row.
+fn push_searched(alloc: Global, found: &JobFinding, cells: &mut Row) -> Result<(), AllocError>
+    ensures { OnOk result (cells.new ≡ cells.old ++ searched_cells found.now) }
+{
+    let scenario = found.instance.scenario();
+    cells.push(Cell::word(alloc, found.finding.answer())?)?;
+    push_ticks(alloc, found.finding, cells)?;
+    cells.push(tick_cell(alloc, scenario.tick())?)?;
+    push_cause(alloc, scenario, found.finding, cells)
+}
+
+/// The length of a tick, or nothing where it is not known.
+fn tick_cell(alloc: Global, tick: Option<Duration>) -> Result<Cell, AllocError>
+    ensures { IfOk result (λ cell. cell ≡ tick_cell tick) }
+{
+    match tick {
+        Some(tick) => Cell::word(alloc, &tick_words(alloc, tick)?),
+        None => Ok(Cell::nothing(alloc)),
+    }
+}
+
+/// The length of a tick, in its unit.
+fn tick_words(alloc: Global, tick: Duration) -> Result<String, AllocError>
+    ensures { IfOk result (λ words. string_bytes words ≡ tick_words tick) }
+{
+    let (count, unit) = (tick.count(), tick.unit().word());
+    format!(in alloc; "{count} {unit}")
+}
+
+/// Puts the words of a fault at the end of a row, and nothing in its further cells.
+fn push_fault(alloc: Global, fault: &Fault, cells: &mut Row) -> Result<(), AllocError>
+    ensures { OnOk result (cells.new ≡ cells.old ++ fault_cells fault.now) }
+{
+    cells.push(Cell::word(alloc, &fault_words(alloc, fault)?)?)?;
+    for _ in 0..6_usize {
+        cells.push(Cell::nothing(alloc))?;
+    }
+    Ok(())
+}
+
+/// The words of a fault: its line without the end.
+fn fault_words(alloc: Global, fault: &Fault) -> Result<String, AllocError>
+    ensures { IfOk result (λ words. string_bytes words ≡ fault_words fault.now) }
+{
+    let (number, phrase, ending) = fault_row(fault);
+    match ending {
+        FaultEnding::Word(word) => format!(in alloc; "fault {number} {phrase}{word}"),
+        FaultEnding::Number(value) => format!(in alloc; "fault {number} {phrase}{value}"),
+    }
+}
