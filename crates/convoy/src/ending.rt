@@ -1,7 +1,8 @@
 ghost use Rattle.std.specs.Prelude.{◌≡◌};
-ghost use Rattle.convoy.specs.Verdicts.{end_of_batch, status_of};
+ghost use Rattle.convoy.specs.Verdicts.{end_of_batch, end_of_check, status_of};
 
 use super::{FAULT, FINE, NOT_VALID, OPEN};
+use convoy_about::{AboutEnd, Part};
 use convoy_commands::{Done, SearchEnd};
 
 /// How a run ended that had no fault.
@@ -11,6 +12,8 @@ pub enum End {
     Answered(Done),
     /// Several searches gave what was to be written, and the exit status is to tell how they ended.
     Searched(SearchEnd),
+    /// A certificate was valid and of another scenario, which differs in that part.
+    Differs(Part),
     /// A text was written, help or that of a command line that is rejected, which has this exit status.
     Told(u8),
 }
@@ -27,6 +30,16 @@ impl End {
         }
     }
 
+    /// How it ended that a certificate was held against a scenario.
+    pub fn of_check(end: AboutEnd) -> End
+        ensures { result ≡ end_of_check end }
+    {
+        match end {
+            AboutEnd::Checked(done) => End::Answered(done),
+            AboutEnd::Differs(part) => End::Differs(part),
+        }
+    }
+
     /// The exit status of such a run.
     pub fn status(self) -> u8
         ensures { result ≡ status_of self }
@@ -34,7 +47,7 @@ impl End {
         match self {
             End::Answered(Done::Fine) | End::Searched(SearchEnd::Exact) => FINE,
             End::Answered(Done::Open) | End::Searched(SearchEnd::Open) => OPEN,
-            End::Answered(Done::Refused(_)) => NOT_VALID,
+            End::Answered(Done::Refused(_)) | End::Differs(_) => NOT_VALID,
             End::Searched(SearchEnd::Faulty) => FAULT,
             End::Told(status) => status,
         }

@@ -5,9 +5,10 @@ use super::ending::End;
 use super::kept::{KeptReader, KeptWriter};
 use convoy_arguments::{REJECTED, Task, Verdict};
 use convoy_batch::MOST_JOBS;
+use convoy_beside::Question;
 use convoy_commands::{
     Bounds, Command, Direct, Done, Fault, LONGEST_JOB, MOST_SIMULATIONS, Options, ReadFault,
-    SearchEnd, Ways, lead_share, plain_share,
+    ScenarioFault, SearchEnd, Ways, lead_share, plain_share,
 };
 use convoy_hints::{
     hint_for_batch, hint_for_both, hint_for_ceiling, hint_for_certificate, hint_for_first,
@@ -26,6 +27,8 @@ pub struct Ended<'a, R, W> {
     pub words: &'a [String],
     pub result: &'a Result<End, Fault>,
     pub reader: &'a KeptReader<R>,
+    /// That of the scenario which a certificate is to be of.
+    pub scenario_reader: &'a KeptReader<R>,
     pub writer: &'a KeptWriter<W>,
 }
 
@@ -50,10 +53,15 @@ pub fn greeting(alloc: Global, verdict: &Verdict) -> Result<Option<String>, Allo
 fn text_of(task: &Task) -> &'static str {
     match task {
         Task::Command(Command::Direct(Direct::First | Direct::Ceiling(_)) | Command::Search(..))
-        | Task::Survey { .. } => "a scenario",
-        Task::Command(Command::Direct(Direct::Ask(_))) => "a certificate",
+        | Task::Beside(Question::Latency(_))
+        | Task::Survey { .. }
+        | Task::WhatIf { .. }
+        | Task::Ceilings { .. } => "a scenario",
+        Task::Command(Command::Direct(Direct::Ask(_)))
+        | Task::Beside(Question::Explain)
+        | Task::CheckAbout { .. } => "a certificate",
         Task::Command(Command::Direct(Direct::Tell(_))) => "a scenario or a certificate",
-        Task::Batch { .. } => "scenarios",
+        Task::Batch { .. } | Task::BatchTable { .. } => "scenarios",
     }
 }
 
@@ -75,10 +83,15 @@ fn line_for_input<R, W>(
     alloc: Global,
     ended: &Ended<'_, R, W>,
 ) -> Result<Option<String>, AllocError> {
-    match (ended.result, ended.verdict.file(), ended.reader.failure()) {
-        (Err(Fault::Reading(ReadFault::Read)), Some(file), Some(error)) => {
-            Ok(Some(line_for_file(alloc, file, &error)?))
-        }
+    let Err(Fault::Reading(ReadFault::Read)) = ended.result else {
+        return Ok(None);
+    };
+    let (file, reader) = match ended.scenario_reader.failure() {
+        Some(_) => (ended.verdict.scenario_file(), ended.scenario_reader),
+        None => (ended.verdict.file(), ended.reader),
+    };
+    match (file, reader.failure()) {
+        (Some(file), Some(error)) => Ok(Some(line_for_file(alloc, file, &error)?)),
         _ => Ok(None),
     }
 }
@@ -98,6 +111,7 @@ fn hint_for<R, W>(alloc: Global, ended: &Ended<'_, R, W>) -> Result<Option<Strin
             hint_for_open(alloc, ended)
         }
         Ok(End::Searched(_)) => hint_for_answer(alloc, ended),
+        Ok(End::Differs(_)) => Ok(Some(hint_for_difference(alloc)?)),
         Err(fault) => hint_for_fault(alloc, ended, fault),
     }
 }
@@ -108,10 +122,17 @@ fn hint_for_fault<R, W>(
     ended: &Ended<'_, R, W>,
     fault: &Fault,
 ) -> Result<Option<String>, AllocError> {
-    let reader = ended.reader;
+    let reader = if is_of_scenario(ended.verdict, fault) {
+        ended.scenario_reader
+    } else {
+        ended.reader
+    };
     match fault {
         Fault::Scenario(fault) if reader.is_whole() => {
-            hint_for_scenario(alloc, reader.text(), *fault)
+            match hint_for_scenario(alloc, reader.text(), *fault)? {
+                Some(hint) => Ok(Some(hint)),
+                None => hint_for_group(alloc, ended.verdict, *fault),
+            }
         }
         Fault::Schedule(_) | Fault::Order(_) if reader.is_whole() => {
             hint_for_run(alloc, reader.text())
@@ -120,6 +141,9 @@ fn hint_for_fault<R, W>(
             (None, Some(error)) => Ok(Some(hint_for_reading(alloc, &error)?)),
             _ => Ok(None),
         },
+        Fault::Reading(ReadFault::TooLong(most)) if is_batch(ended.verdict) => {
+            Ok(Some(hint_for_long_batch(alloc, *most)?))
+        }
         Fault::Reading(ReadFault::TooLong(most)) => {
             Ok(Some(hint_for_length(alloc, reader.text(), *most)?))
         }
@@ -134,6 +158,62 @@ fn hint_for_fault<R, W>(
         | Fault::Reading(ReadFault::TooManyReads | ReadFault::Memory)
         | Fault::Memory => Ok(None),
     }
+}
+
+/// The hint for a group that the command line names and the scenario has not.
+fn hint_for_group(
+    alloc: Global,
+    verdict: &Verdict,
+    fault: ScenarioFault,
+) -> Result<Option<String>, AllocError> {
+    match (verdict, fault) {
+        (
+            Verdict::Ask {
+                task: Task::Ceilings { group: Some(_), .. },
+                ..
+            },
+            ScenarioFault::UnknownGroup,
+        ) => Ok(Some(String::from_str(
+            alloc,
+            "hint: the scenario has no group of the name that '--group' gives\n",
+        )?)),
+        _ => Ok(None),
+    }
+}
+
+/// Whether a fault is one of the scenario that a certificate is to be of: it has faults of its own, and fewer
+/// bytes than a certificate may have.
+fn is_of_scenario(verdict: &Verdict, fault: &Fault) -> bool {
+    let is_named = matches!(
+        verdict,
+        Verdict::Ask {
+            task: Task::CheckAbout {
+                scenario: Some(_),
+                ..
+            },
+            ..
+        }
+    );
+    match fault {
+        Fault::Scenario(_) => is_named,
+        Fault::Reading(ReadFault::TooLong(most)) => is_named && *most == LONGEST_JOB,
+        _ => false,
+    }
+}
+
+/// The hint for a batch that is too long for a table.
+fn hint_for_long_batch(alloc: Global, most: usize) -> Result<String, AllocError> {
+    format!(in alloc;
+        "hint: a table is written of at most {most} bytes: cut the input in two at a line '---', or leave the format out\n"
+    )
+}
+
+/// The hint for a certificate that is of another scenario.
+fn hint_for_difference(alloc: Global) -> Result<String, AllocError> {
+    String::from_str(
+        alloc,
+        "hint: the certificate is valid, of another scenario: 'convoy scenario CERTIFICATE' writes that one\n",
+    )
 }
 
 /// The hint for a search that did not end, or traffic that does not attain the ceiling.
@@ -160,7 +240,8 @@ fn hint_for_open<R, W>(
 fn traffic_sought(verdict: &Verdict) -> Option<u64> {
     match verdict {
         Verdict::Ask {
-            task: Task::Command(Command::Direct(Direct::Ceiling(simulations))),
+            task: Task::Command(Command::Direct(Direct::Ceiling(simulations)))
+            | Task::Ceilings { simulations, .. },
             ..
         } => Some(*simulations),
         _ => None,
@@ -171,7 +252,10 @@ fn traffic_sought(verdict: &Verdict) -> Option<u64> {
 fn options_of(verdict: &Verdict) -> Option<&Options> {
     match verdict {
         Verdict::Ask {
-            task: Task::Command(Command::Search(_, options)) | Task::Survey { options, .. },
+            task: Task::Command(Command::Search(_, options))
+            | Task::Beside(Question::Latency(options))
+            | Task::Survey { options, .. }
+            | Task::WhatIf { options, .. },
             ..
         } => Some(options),
         _ => None,
@@ -183,7 +267,7 @@ fn is_batch(verdict: &Verdict) -> bool {
     matches!(
         verdict,
         Verdict::Ask {
-            task: Task::Batch { .. },
+            task: Task::Batch { .. } | Task::BatchTable { .. },
             ..
         }
     )
@@ -238,7 +322,7 @@ fn hint_for_answer<R, W>(
     let reader = ended.reader;
     match ended.verdict {
         Verdict::Ask {
-            task: Task::Batch { .. },
+            task: Task::Batch { .. } | Task::BatchTable { .. },
             ..
         } => hint_for_batch(alloc, reader.text(), reader.is_whole(), LONGEST_JOB),
         Verdict::Ask {

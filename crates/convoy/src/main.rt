@@ -2,12 +2,20 @@
 //! writes is said by the functions of `convoy_commands`.
 #![tactic(auto)]
 
+ghost use Rattle.std.specs.Prelude.{option_map, string_bytes};
+ghost use Rattle.convoy_about.specs.Abouts.{CheckAboutSays};
 ghost use Rattle.convoy_arguments.specs.Verdicts.{HasReads, IsVerdict};
-ghost use Rattle.convoy_commands.specs.declared.limits.TheConstants.{LONGEST_JOB};
+ghost use Rattle.convoy_arguments.specs.declared.limits.TheConstants.{MOST_READS};
+ghost use Rattle.convoy_batch.specs.declared.batch_table.TheConstants.{LONGEST_BATCH};
+ghost use Rattle.convoy_batch.specs.BatchTables.{BatchTableSays};
 ghost use Rattle.convoy_batch.specs.Batches.{IsBatchRun};
+ghost use Rattle.convoy_beside.specs.Besides.{BesideSays, longest_of};
+ghost use Rattle.convoy_commands.specs.declared.limits.TheConstants.{LONGEST_CERTIFICATE, LONGEST_JOB};
 ghost use Rattle.convoy_commands.specs.Runs.{IsRun};
+ghost use Rattle.convoy_survey.specs.CeilingTables.{CeilingsSay};
 ghost use Rattle.convoy_survey.specs.Surveys.{SurveySays};
-ghost use Rattle.convoy.specs.Verdicts.{Obeys, Performs, Tells};
+ghost use Rattle.convoy_what_if.specs.WhatIf.{WhatIfSays};
+ghost use Rattle.convoy.specs.Verdicts.{ChecksAbout, Obeys, Performs, Tells};
 
 mod ending;
 mod hinting;
@@ -15,13 +23,16 @@ mod input;
 mod kept;
 mod progress;
 
-use convoy_arguments::{MOST_READS, Task, Verdict, judge, judge_bytes};
-use convoy_batch::run_batch;
+use convoy_about::{read_scenario, run_check_about};
+use convoy_arguments::{Input, MOST_READS, Task, Verdict, judge, judge_bytes};
+use convoy_batch::{run_batch, run_batch_table};
+use convoy_beside::{Question, run_beside};
 use convoy_commands::{
-    Command, DeviceFailed, Fault, Options, SearchEnd, Sink, Source, StreamSink, StreamSource,
+    Command, DeviceFailed, Done, Fault, Options, SearchEnd, Sink, Source, StreamSink, StreamSource,
     Watch, fault_line, run, run_search, write_all,
 };
-use convoy_survey::{Format, run_survey};
+use convoy_survey::{Format, run_ceilings, run_survey};
+use convoy_what_if::run_what_if;
 use ending::End;
 use hinting::{Ended, greeting, is_quiet, tell_ended, write_line};
 use input::open_input;
@@ -60,12 +71,24 @@ fn main(rt: HostRuntime) -> ExitCode {
     let mut source = StreamSource {
         reader: KeptReader::new(alloc, input),
     };
+    let scenario = open_input(&rt, rt.stdin(), verdict.scenario_file());
+    let mut scenario_source = StreamSource {
+        reader: KeptReader::new(alloc, scenario),
+    };
     let mut sink = StreamSink {
         writer: KeptWriter::new(rt.stdout()),
     };
     let screen = screen_for(&words, rt.stderr().is_terminal());
     let progress = Progress::new(&rt, alloc, rt.stderr(), screen);
-    let result = obey(&rt, alloc, &verdict, &mut source, &mut sink, &progress);
+    let result = obey(
+        &rt,
+        alloc,
+        &verdict,
+        &mut source,
+        &mut scenario_source,
+        &mut sink,
+        &progress,
+    );
     let status = match &result {
         Ok(end) => end.status(),
         Err(fault) => {
@@ -78,6 +101,7 @@ fn main(rt: HostRuntime) -> ExitCode {
         words: &words,
         result: &result,
         reader: &source.reader,
+        scenario_reader: &scenario_source.reader,
         writer: &sink.writer,
     };
     tell_ended(&mut rt.stderr(), alloc, &ended, is_quiet);
@@ -102,20 +126,22 @@ fn words<R: Env + AllocGlobal>(rt: &R) -> io::Result<Vec<String>> {
     Ok(words.collect(rt.alloc())?)
 }
 
-/// Does what the command line asks for, and answers how that ended.
+/// Does what the command line asks for, and answers how that ended. The other source is that of the scenario
+/// which a certificate is to be of.
 fn obey<R: Threads + Wait + Sync, S: Source, K: Sink, W: Watch + Sync>(
     rt: &R,
     alloc: Global,
     verdict: &Verdict,
     source: &mut S,
+    other: &mut S,
     sink: &mut K,
     watch: &W,
 ) -> Result<End, Fault>
     requires { IsVerdict verdict.now }
-    ensures { Obeys S.reads K.writes verdict.now source.old source.new sink.old sink.new result }
+    ensures { Obeys S.reads K.writes verdict.now source.old source.new other.old other.new sink.old sink.new result }
 {
     match verdict {
-        Verdict::Ask { task, .. } => perform(rt, alloc, task, source, sink, watch),
+        Verdict::Ask { task, .. } => perform(rt, alloc, task, source, other, sink, watch),
         Verdict::Text { text, status } => match write_all(sink, text.as_bytes()) {
             Ok(()) => Ok(End::Told(*status)),
             Err(DeviceFailed) => Err(Fault::Write),
@@ -130,11 +156,12 @@ fn perform<R: Threads + Wait + Sync, S: Source, K: Sink, W: Watch + Sync>(
     alloc: Global,
     task: &Task,
     source: &mut S,
+    other: &mut S,
     sink: &mut K,
     watch: &W,
 ) -> Result<End, Fault>
     requires { HasReads task.now }
-    ensures { Performs S.reads K.writes task.now source.old source.new sink.old sink.new result }
+    ensures { Performs S.reads K.writes task.now source.old source.new other.old other.new sink.old sink.new result }
 {
     match task {
         Task::Command(Command::Direct(command)) => {
@@ -145,6 +172,13 @@ fn perform<R: Threads + Wait + Sync, S: Source, K: Sink, W: Watch + Sync>(
             let done = run_search(rt, alloc, *goal, options, source, sink, watch)?;
             Ok(End::Answered(done))
         }
+        Task::Beside(question) => {
+            let done = answer_beside(rt, alloc, question, source, sink, watch)?;
+            Ok(End::Answered(done))
+        }
+        Task::CheckAbout { scenario, tells } => {
+            check_about(alloc, scenario, *tells, source, other, sink)
+        }
         Task::Batch {
             options,
             tells_status,
@@ -152,13 +186,86 @@ fn perform<R: Threads + Wait + Sync, S: Source, K: Sink, W: Watch + Sync>(
             let end = answer_batch(rt, alloc, source, sink, options)?;
             Ok(End::of_batch(end, *tells_status))
         }
-        Task::Survey {
+        Task::BatchTable {
             format,
             options,
-            ..
+            tells_status,
         } => {
-            let end = answer_survey(rt, alloc, *format, options, source, sink, watch)?;
+            let end = answer_batch_table(rt, alloc, *format, options, source, sink)?;
+            Ok(End::of_batch(end, *tells_status))
+        }
+        Task::Survey {
+            format,
+            with_ceilings,
+            options,
+        } => {
+            let end = answer_survey(
+                rt,
+                alloc,
+                *format,
+                *with_ceilings,
+                options,
+                source,
+                sink,
+                watch,
+            )?;
             Ok(End::Searched(end))
+        }
+        Task::WhatIf { format, options } => {
+            let end = answer_what_if(rt, alloc, *format, options, source, sink, watch)?;
+            Ok(End::Searched(end))
+        }
+        Task::Ceilings {
+            format,
+            group,
+            simulations,
+        } => {
+            let end = answer_ceilings(alloc, *format, group, *simulations, source, sink)?;
+            Ok(End::Searched(end))
+        }
+    }
+}
+
+/// Answers with the ceiling beside the answer. The buffer of a run lies on the stack, and no other command is
+/// to have it there.
+#[inline(never)]
+fn answer_beside<R: Threads + Wait + Sync, S: Source, K: Sink, W: Watch + Sync>(
+    rt: &R,
+    alloc: Global,
+    question: &Question,
+    source: &mut S,
+    sink: &mut K,
+    watch: &W,
+) -> Result<Done, Fault>
+    ensures { IsRun (longest_of question.now) (BesideSays question.now) MOST_READS
+        S.reads K.writes source.old source.new sink.old sink.new result }
+{
+    run_beside(rt, alloc, question, source, sink, watch, MOST_READS)
+}
+
+/// Checks a certificate, and holds it against the scenario that is read from the other source, where one is
+/// named.
+#[inline(never)]
+fn check_about<S: Source, K: Sink>(
+    alloc: Global,
+    scenario: &Option<Input>,
+    tells: bool,
+    source: &mut S,
+    other: &mut S,
+    sink: &mut K,
+) -> Result<End, Fault>
+    ensures { ChecksAbout scenario.now tells S.reads K.writes source.old source.new other.old other.new
+        sink.old sink.new result }
+{
+    match scenario {
+        None => {
+            let end = run_check_about(alloc, None, tells, source, sink, MOST_READS)?;
+            Ok(End::of_check(end))
+        }
+        Some(_) => {
+            let wanted = read_scenario(alloc, other, MOST_READS)?;
+            let end = run_check_about(alloc, Some(&wanted), tells, source, sink, MOST_READS)?;
+            Ok(End::of_check(end))
         }
     }
 }
@@ -178,9 +285,52 @@ fn answer_batch<R: Threads + Wait + Sync, S: Source, K: Sink>(
     run_batch(rt, alloc, source, sink, options)
 }
 
+/// Answers a batch as a table. The buffer of a run lies on the stack, and no other command is to have it there.
+#[inline(never)]
+fn answer_batch_table<R: Threads + Wait + Sync, S: Source, K: Sink>(
+    rt: &R,
+    alloc: Global,
+    format: Format,
+    options: &Options,
+    source: &mut S,
+    sink: &mut K,
+) -> Result<SearchEnd, Fault>
+    ensures { IsRun LONGEST_BATCH (BatchTableSays format options.now) options.now.most_reads
+        S.reads K.writes source.old source.new sink.old sink.new result }
+{
+    run_batch_table(rt, alloc, format, options, source, sink)
+}
+
 /// Answers a survey. The buffer of one lies on the stack, and no other command is to have it there.
 #[inline(never)]
 fn answer_survey<R: Threads + Wait + Sync, S: Source, K: Sink, W: Watch + Sync>(
+    rt: &R,
+    alloc: Global,
+    format: Format,
+    with_ceilings: bool,
+    options: &Options,
+    source: &mut S,
+    sink: &mut K,
+    watch: &W,
+) -> Result<SearchEnd, Fault>
+    ensures { IsRun LONGEST_JOB (SurveySays format with_ceilings options.now) options.now.most_reads
+        S.reads K.writes source.old source.new sink.old sink.new result }
+{
+    run_survey(
+        rt,
+        alloc,
+        format,
+        with_ceilings,
+        options,
+        source,
+        sink,
+        watch,
+    )
+}
+
+/// Answers a survey of changes. The buffer of one lies on the stack, and no other command is to have it there.
+#[inline(never)]
+fn answer_what_if<R: Threads + Wait + Sync, S: Source, K: Sink, W: Watch + Sync>(
     rt: &R,
     alloc: Global,
     format: Format,
@@ -189,10 +339,38 @@ fn answer_survey<R: Threads + Wait + Sync, S: Source, K: Sink, W: Watch + Sync>(
     sink: &mut K,
     watch: &W,
 ) -> Result<SearchEnd, Fault>
-    ensures { IsRun LONGEST_JOB (SurveySays format options.now) options.now.most_reads
+    ensures { IsRun LONGEST_JOB (WhatIfSays format options.now) options.now.most_reads
         S.reads K.writes source.old source.new sink.old sink.new result }
 {
-    run_survey(rt, alloc, format, options, source, sink, watch)
+    run_what_if(rt, alloc, format, options, source, sink, watch)
+}
+
+/// Answers with a table of ceilings. The buffer of a run lies on the stack, and no other command is to have it
+/// there.
+#[inline(never)]
+fn answer_ceilings<S: Source, K: Sink>(
+    alloc: Global,
+    format: Format,
+    group: &Option<String>,
+    simulations: u64,
+    source: &mut S,
+    sink: &mut K,
+) -> Result<SearchEnd, Fault>
+    ensures { IsRun LONGEST_JOB (CeilingsSay format (option_map string_bytes group.now)) MOST_READS
+        S.reads K.writes source.old source.new sink.old sink.new result }
+{
+    match group {
+        Some(name) => run_ceilings(
+            alloc,
+            format,
+            Some(name.as_str()),
+            simulations,
+            MOST_READS,
+            source,
+            sink,
+        ),
+        None => run_ceilings(alloc, format, None, simulations, MOST_READS, source, sink),
+    }
 }
 
 /// Writes the line of a fault. Where memory runs out or the write fails, nothing more is written.

@@ -1,9 +1,10 @@
 -- What a command line asks for.
-use Rattle.std.specs.Prelude.{◌≡◌, ◌⊎◌, ℕ, List, Option, None}
+use Rattle.std.specs.Prelude.{◌≡◌, ◌⊎◌, ℕ, List, Option, Some, None}
+use Rattle.convoy_beside.specs.declared.running.Question.TheVariants.{Latency, Explain}
 use Rattle.convoy_commands.specs.declared.command.Command.TheVariants.{Direct, Search}
 use Rattle.convoy_arguments.specs.declared.limits.TheConstants.{MOST_READS}
 use Rattle.convoy_arguments.specs.declared.task.Task.{Task}
-use Rattle.convoy_arguments.specs.declared.task.Task.TheVariants.{Command, Batch, Survey}
+use Rattle.convoy_arguments.specs.declared.task.Task.TheVariants.{Command, Beside, CheckAbout, Batch, BatchTable, Survey, WhatIf, Ceilings}
 use Rattle.convoy_arguments.specs.declared.verdict.Verdict.{Verdict}
 use Rattle.convoy_arguments.specs.declared.verdict.Verdict.TheVariants.{Ask, Text, Memory}
 use Rattle.convoy_arguments.specs.Inputs.{file_in}
@@ -12,8 +13,14 @@ use Rattle.convoy_arguments.specs.Inputs.{file_in}
 abbrev pub HasReads : Task → Type 0
 HasReads (Command (Direct command)) = Unit {0}
 HasReads (Command (Search goal options)) = options.most_reads ≡ MOST_READS
+HasReads (Beside (Latency options)) = options.most_reads ≡ MOST_READS
+HasReads (Beside Explain) = Unit {0}
+HasReads (CheckAbout scenario tells) = Unit {0}
 HasReads (Batch options tells_status) = options.most_reads ≡ MOST_READS
-HasReads (Survey format options) = options.most_reads ≡ MOST_READS
+HasReads (BatchTable format options tells_status) = options.most_reads ≡ MOST_READS
+HasReads (Survey format with_ceilings options) = options.most_reads ≡ MOST_READS
+HasReads (WhatIf format options) = options.most_reads ≡ MOST_READS
+HasReads (Ceilings format group simulations) = Unit {0}
 
 -- The program ends at once: with a text, which has the status of help or of a command line that is
 -- rejected, or for want of memory.
@@ -33,3 +40,8 @@ abbrev pub file_of : Verdict → Option (List ℕ)
 file_of (Ask task input) = file_in input
 file_of (Text text status) = None
 file_of Memory = None
+
+-- the file with the scenario that a certificate is to be of, where one is named
+abbrev pub scenario_file_of : Verdict → Option (List ℕ)
+scenario_file_of (Ask (CheckAbout (Some scenario) tells) input) = file_in scenario
+scenario_file_of other = None

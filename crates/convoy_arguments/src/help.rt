@@ -142,7 +142,19 @@ ticks, over all schedules. Or else:
 This is the first fault for which it is refused.
 
 A certificate is text, and its first line is one of 'convoy 1' to 'convoy 4'.
-Whoever made it need not be trusted.";
+Whoever made it need not be trusted, but for which scenario it is: with
+  convoy check certificate --scenario scenario.toml
+it is accepted only where that is the scenario of the certificate, and
+  convoy check certificate --tell
+writes below the first line for what it is accepted.";
+
+pub(crate) const ABOUT_WANTED: &str = "\
+Accepts a certificate only where it is of the scenario in this file too; with `-`
+that is read from standard input";
+
+pub(crate) const ABOUT_TELL: &str = "\
+Writes below 'accepted N' for what that is: the target, the greatest delay of a
+packet, how many groups, messages and links there are, and how many nodes";
 
 pub(crate) const ABOUT_ANALYSE: &str = "Writes a certificate of the greatest latency";
 
@@ -191,7 +203,24 @@ The second line is 'attained L', of traffic that was sought: below it stands tha
 traffic, as a scenario with a schedule that has the latency L. So
   convoy ceiling scenario.toml | tail -n +3 > traffic.toml
 makes a scenario that other commands read, as `simulate` and `analyse`. Where L
-is U no number below U is safe, and the exit status is 0; else it is 3.";
+is U no number below U is safe, and the exit status is 0; else it is 3.
+
+With `--all` a table is written instead, with a row for each message at each group
+that it goes to, and with `--group GROUP` for each message at that group:
+  message  group  ceiling  attained
+  t        a           12        12
+The exit status is then 1 where memory ran out for a row, else 3 where a ceiling
+was not attained. The text need not have a target for that.";
+
+pub(crate) const ABOUT_BESIDE: &str = "\
+Tells the ceiling beside the answer, the latency that no traffic of the scenario's
+kinds of messages exceeds: 'ceiling U' below it, or a column of a table";
+
+pub(crate) const ABOUT_ALL: &str =
+    "Tells the ceiling of each message at each group that it goes to, as a table";
+
+pub(crate) const ABOUT_GROUP: &str =
+    "Tells the ceiling of each message that goes to this group there, as a table";
 
 pub(crate) const ABOUT_BATCH: &str = "Answers each of many scenarios as `latency` does";
 
@@ -205,8 +234,9 @@ A line '--- NAME' divides as well, and names the scenario after it, whose block 
 begins with 'job K NAME'. It may also stand before the first. A name is one word.
 
 A scenario that is too long, or for which memory runs out, gets that fault as its
-block. Blocks are written as the scenarios come. The exit status is 0 whatever they
-say, unless `--status` is given.";
+block. Blocks are written as the scenarios come. With `--format` a table is written
+instead, once all is known. The exit status is 0 whatever they say, unless
+`--status` is given.";
 
 pub(crate) const ABOUT_SURVEY: &str = "Tells the greatest latency of each message at each group";
 
@@ -224,12 +254,27 @@ after which it gets its stamp in a tie. NODES are those of the tree that shows t
 greatest latency. The text need not have a target.
   convoy survey scenario.toml
 
+With `--without` the table is one of changes, and asks for the text's target alone,
+which has to be there: its greatest latency as the text is, without each other
+message, and with each link that packets travel at its least and at its most. What
+saves most comes first.
+  convoy survey --without scenario.toml
+
 The exit status is 1 where a row is a fault, else 3 where one is open.";
 
+pub(crate) const ABOUT_WITHOUT: &str = "\
+Tells the greatest latency of the target with each change of one thing: another
+message left out, or a link at its least or at its most";
+
 pub(crate) const ABOUT_FORMAT: &str = "\
-How the table is written: `text`, with aligned columns; `csv`, with a line of
-names first and commas between cells; or `json`, an array with an object for
-each row";
+How the table is written: `text`, with aligned columns, as without this option;
+`csv`, with a line of names first and commas between cells; or `json`, an array
+with an object for each row";
+
+pub(crate) const ABOUT_BATCH_FORMAT: &str = "\
+Writes one table with a row for each scenario in place of blocks: as `text`, with
+aligned columns; as `csv`, with a line of names first and commas between cells; or
+as `json`, an array with an object for each row";
 
 pub(crate) const ABOUT_FILE: &str =
     "The file to read; without it, or with `-`, standard input is read";

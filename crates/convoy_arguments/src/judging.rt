@@ -9,9 +9,14 @@ use super::task::Task;
 use super::verdict::Verdict;
 use clap::error::ErrorKind;
 use clap::{ArgMatches, Error};
+use convoy_beside::Question;
 use convoy_commands::{Asking, Command, Direct, Goal, Telling};
 use std::alloc::{AllocError, Global};
 use std::convert::AsStr;
+
+/// What is told where `check` would read both of its texts from standard input.
+const BOTH_STANDARD: &str =
+    "error: the certificate and the scenario cannot both be read from standard input: name a file for one\n";
 
 /// What is to be done for these words, the program's own name not among them.
 pub fn judge<S: AsStr>(alloc: Global, words: &[S]) -> Verdict
@@ -76,8 +81,8 @@ fn command_of<S: AsStr>(alloc: Global, words: &[S]) -> Result<Verdict, Error>
     match matches.subcommand() {
         Some((name, given)) => {
             let input = Input::of(alloc, given.get_str("file"))?;
-            let task = task_for(name, given);
-            Ok(Verdict::Ask { task, input })
+            let task = task_for(alloc, name, given)?;
+            asked(alloc, task, input)
         }
         None => Ok(Verdict::Ask {
             task: Task::Command(Command::Direct(Direct::First)),
@@ -86,20 +91,104 @@ fn command_of<S: AsStr>(alloc: Global, words: &[S]) -> Result<Verdict, Error>
     }
 }
 
+/// The verdict for a task: a certificate and its scenario cannot both come from standard input.
+fn asked(alloc: Global, task: Task, input: Input) -> Result<Verdict, Error>
+    requires { HasReads task }
+    ensures { IfOk result IsVerdict }
+{
+    if let (
+        Task::CheckAbout {
+            scenario: Some(Input::Standard),
+            ..
+        },
+        Input::Standard,
+    ) = (&task, &input)
+    {
+        return Ok(Verdict::Text {
+            text: String::from_str(alloc, BOTH_STANDARD)?,
+            status: REJECTED,
+        });
+    }
+    Ok(Verdict::Ask { task, input })
+}
+
 /// What the command of that name asks for.
-fn task_for(name: &str, given: &ArgMatches<'_>) -> Task
-    ensures { HasReads result }
+fn task_for(alloc: Global, name: &str, given: &ArgMatches<'_>) -> Result<Task, AllocError>
+    ensures { IfOk result HasReads }
 {
     match name {
-        "batch" => Task::Batch {
-            options: options_of(given),
-            tells_status: given.get_flag("status"),
+        "latency" if given.get_flag("ceiling") => {
+            Ok(Task::Beside(Question::Latency(options_of(given))))
+        }
+        "explain" if given.get_flag("ceiling") => Ok(Task::Beside(Question::Explain)),
+        "check" => check_for(alloc, given),
+        "ceiling" => ceiling_for(alloc, given),
+        "batch" => Ok(batch_for(given)),
+        "survey" => Ok(survey_for(given)),
+        _ => Ok(Task::Command(command_for(name, given))),
+    }
+}
+
+/// What `check` asks for.
+fn check_for(alloc: Global, given: &ArgMatches<'_>) -> Result<Task, AllocError>
+    ensures { IfOk result HasReads }
+{
+    let tells = given.get_flag("tell");
+    let scenario = match given.get_str("scenario") {
+        Some(name) => Some(Input::of(alloc, Some(name))?),
+        None if tells => None,
+        None => return Ok(Task::Command(command_for("check", given))),
+    };
+    Ok(Task::CheckAbout { scenario, tells })
+}
+
+/// What `ceiling` asks for.
+fn ceiling_for(alloc: Global, given: &ArgMatches<'_>) -> Result<Task, AllocError>
+    ensures { IfOk result HasReads }
+{
+    let group = match given.get_str("group") {
+        Some(name) => Some(String::from_str(alloc, name)?),
+        None if given.get_flag("all") => None,
+        None => return Ok(Task::Command(command_for("ceiling", given))),
+    };
+    Ok(Task::Ceilings {
+        format: format_of(given),
+        group,
+        simulations: simulations_of(given),
+    })
+}
+
+/// What `batch` asks for: blocks, unless a format is named.
+fn batch_for(given: &ArgMatches<'_>) -> Task
+    ensures { HasReads result }
+{
+    let (options, tells_status) = (options_of(given), given.get_flag("status"));
+    match given.get_str("format") {
+        None => Task::Batch {
+            options,
+            tells_status,
         },
-        "survey" => Task::Survey {
+        Some(_) => Task::BatchTable {
             format: format_of(given),
-            options: options_of(given),
+            options,
+            tells_status,
         },
-        _ => Task::Command(command_for(name, given)),
+    }
+}
+
+/// What `survey` asks for.
+fn survey_for(given: &ArgMatches<'_>) -> Task
+    ensures { HasReads result }
+{
+    let (format, options) = (format_of(given), options_of(given));
+    if given.get_flag("without") {
+        Task::WhatIf { format, options }
+    } else {
+        Task::Survey {
+            format,
+            with_ceilings: given.get_flag("ceiling"),
+            options,
+        }
     }
 }
 

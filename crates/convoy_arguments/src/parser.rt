@@ -1,10 +1,11 @@
 //! The command line as `clap` is told of it.
 
 use super::help::{
-    ABOUT, ABOUT_ANALYSE, ABOUT_BATCH, ABOUT_BOUNDS, ABOUT_CEILING, ABOUT_CHECK, ABOUT_DRAW,
-    ABOUT_EXPLAIN, ABOUT_FILE, ABOUT_FIRST, ABOUT_FORMAT, ABOUT_LATENCY, ABOUT_LIMIT,
-    ABOUT_PACKETS, ABOUT_PROGRESS, ABOUT_QUIET, ABOUT_SCENARIO, ABOUT_SEEK, ABOUT_SEEK_TRAFFIC,
-    ABOUT_SIMULATE, ABOUT_STATUS, ABOUT_SURVEY, ABOUT_TIMELINE, ABOUT_WORKERS, AFTER, LONG_ABOUT,
+    ABOUT, ABOUT_ALL, ABOUT_ANALYSE, ABOUT_BATCH, ABOUT_BATCH_FORMAT, ABOUT_BESIDE, ABOUT_BOUNDS,
+    ABOUT_CEILING, ABOUT_CHECK, ABOUT_DRAW, ABOUT_EXPLAIN, ABOUT_FILE, ABOUT_FIRST, ABOUT_FORMAT,
+    ABOUT_GROUP, ABOUT_LATENCY, ABOUT_LIMIT, ABOUT_PACKETS, ABOUT_PROGRESS, ABOUT_QUIET,
+    ABOUT_SCENARIO, ABOUT_SEEK, ABOUT_SEEK_TRAFFIC, ABOUT_SIMULATE, ABOUT_STATUS, ABOUT_SURVEY,
+    ABOUT_TELL, ABOUT_TIMELINE, ABOUT_WANTED, ABOUT_WITHOUT, ABOUT_WORKERS, AFTER, LONG_ABOUT,
     LONG_ABOUT_ANALYSE, LONG_ABOUT_BATCH, LONG_ABOUT_CEILING, LONG_ABOUT_CHECK, LONG_ABOUT_DRAW,
     LONG_ABOUT_EXPLAIN, LONG_ABOUT_FIRST, LONG_ABOUT_LATENCY, LONG_ABOUT_PACKETS,
     LONG_ABOUT_SCENARIO, LONG_ABOUT_SIMULATE, LONG_ABOUT_SURVEY, LONG_ABOUT_TIMELINE,
@@ -43,10 +44,13 @@ fn with_searches<'a>(
 ) -> Result<clap::Command<'a>, AllocError> {
     let analyse = search_command(alloc, "analyse", ABOUT_ANALYSE, LONG_ABOUT_ANALYSE)?;
     let explain = reading_command(alloc, "explain", ABOUT_EXPLAIN, LONG_ABOUT_EXPLAIN)?;
+    let explain = explain.arg(beside_argument(alloc))?;
     let draw = reading_command(alloc, "draw", ABOUT_DRAW, LONG_ABOUT_DRAW)?;
     let latency = search_command(alloc, "latency", ABOUT_LATENCY, LONG_ABOUT_LATENCY)?;
+    let latency = latency.arg(beside_argument(alloc))?;
     let batch = search_command(alloc, "batch", ABOUT_BATCH, LONG_ABOUT_BATCH)?;
     let batch = batch.arg(status_argument(alloc))?;
+    let batch = batch.arg(format_argument(alloc).help(ABOUT_BATCH_FORMAT))?;
     parser
         .subcommand(analyse)?
         .subcommand(explain)?
@@ -75,22 +79,29 @@ fn with_runs<'a>(
         .subcommand(scenario)
 }
 
-/// The command that tells a ceiling, or several: of the options of a search it takes one.
+/// The command that tells a ceiling, or a table of them: of the options of a search it takes one.
 fn ceiling_command<'a>(alloc: Global) -> Result<clap::Command<'a>, AllocError> {
-    reading_command(alloc, "ceiling", ABOUT_CEILING, LONG_ABOUT_CEILING)?.arg(seek_argument(
-        alloc,
-        ABOUT_SEEK_TRAFFIC,
-    ))
+    let format = format_argument(alloc).requires_arg("targets")?;
+    reading_command(alloc, "ceiling", ABOUT_CEILING, LONG_ABOUT_CEILING)?
+        .arg(all_argument(alloc)?)?
+        .arg(group_argument(alloc)?)?
+        .arg(format)?
+        .arg(seek_argument(alloc, ABOUT_SEEK_TRAFFIC))
 }
 
-/// The command that asks of many targets, or of one with changes.
+/// The command that asks of all targets, or of one with changes.
 fn survey_command<'a>(alloc: Global) -> Result<clap::Command<'a>, AllocError> {
-    search_command(alloc, "survey", ABOUT_SURVEY, LONG_ABOUT_SURVEY)?.arg(format_argument(alloc))
+    search_command(alloc, "survey", ABOUT_SURVEY, LONG_ABOUT_SURVEY)?
+        .arg(format_argument(alloc))?
+        .arg(beside_argument(alloc))?
+        .arg(without_argument(alloc)?)
 }
 
 /// The command that checks a certificate.
 fn check_command<'a>(alloc: Global) -> Result<clap::Command<'a>, AllocError> {
-    reading_command(alloc, "check", ABOUT_CHECK, LONG_ABOUT_CHECK)
+    reading_command(alloc, "check", ABOUT_CHECK, LONG_ABOUT_CHECK)?
+        .arg(scenario_argument(alloc))?
+        .arg(tell_argument(alloc))
 }
 
 /// A command that takes the options of a search.
@@ -169,8 +180,58 @@ fn format_argument<'a>(alloc: Global) -> Arg<'a> {
         .long("format")
         .value_name("FORMAT")
         .value_parser(["text", "csv", "json"].as_slice())
-        .default_value("text")
         .help(ABOUT_FORMAT)
+}
+
+/// Whether an answer has the ceiling beside it.
+fn beside_argument<'a>(alloc: Global) -> Arg<'a> {
+    Arg::new(alloc, "ceiling")
+        .long("ceiling")
+        .action(ArgAction::SetTrue)
+        .help(ABOUT_BESIDE)
+}
+
+/// Whether the ceilings of all targets are asked for.
+fn all_argument<'a>(alloc: Global) -> Result<Arg<'a>, AllocError> {
+    Arg::new(alloc, "all")
+        .long("all")
+        .action(ArgAction::SetTrue)
+        .help(ABOUT_ALL)
+        .group("targets")
+}
+
+/// The group at which the ceilings of all messages are asked for.
+fn group_argument<'a>(alloc: Global) -> Result<Arg<'a>, AllocError> {
+    Arg::new(alloc, "group")
+        .long("group")
+        .value_name("GROUP")
+        .help(ABOUT_GROUP)
+        .group("targets")
+}
+
+/// Whether a survey is one of changes.
+fn without_argument<'a>(alloc: Global) -> Result<Arg<'a>, AllocError> {
+    Arg::new(alloc, "without")
+        .long("without")
+        .action(ArgAction::SetTrue)
+        .help(ABOUT_WITHOUT)
+        .conflicts_with("ceiling")
+}
+
+/// The scenario that a certificate is to be of.
+fn scenario_argument<'a>(alloc: Global) -> Arg<'a> {
+    Arg::new(alloc, "scenario")
+        .long("scenario")
+        .value_name("FILE")
+        .help(ABOUT_WANTED)
+}
+
+/// Whether it is told for what a certificate is accepted.
+fn tell_argument<'a>(alloc: Global) -> Arg<'a> {
+    Arg::new(alloc, "tell")
+        .long("tell")
+        .action(ArgAction::SetTrue)
+        .help(ABOUT_TELL)
 }
 
 /// By which bounds a search goes.

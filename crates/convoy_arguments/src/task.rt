@@ -1,3 +1,5 @@
+use super::input::Input;
+use convoy_beside::Question;
 use convoy_commands::{Command, Options};
 use convoy_tables::Format;
 
@@ -6,14 +8,42 @@ use convoy_tables::Format;
 pub enum Task {
     /// What a command answers.
     Command(Command),
+    /// What `latency` or `explain` answers, with the ceiling beside it.
+    Beside(Question),
+    /// Whether a certificate is valid, and of the scenario that the other input holds, where one is named; and
+    /// whether it is told for what it is accepted.
+    CheckAbout {
+        scenario: Option<Input>,
+        tells: bool,
+    },
     /// A block for each scenario of a batch, and whether the exit status is to tell how their searches end.
     Batch {
         options: Options,
         tells_status: bool,
     },
-    /// The greatest latency of each message at each group, as a table in that format.
-    Survey {
+    /// The same as a table in that format, with a row for each scenario.
+    BatchTable {
         format: Format,
         options: Options,
+        tells_status: bool,
+    },
+    /// The greatest latency of each message at each group, as a table in that format, and whether each row has
+    /// its ceiling.
+    Survey {
+        format: Format,
+        with_ceilings: bool,
+        options: Options,
+    },
+    /// The greatest latency of the target with each change of one thing, as a table in that format.
+    WhatIf {
+        format: Format,
+        options: Options,
+    },
+    /// The ceiling of each message at each group, or at the group of that name alone, as a table in that format;
+    /// traffic that attains it is sought by so many simulations at most.
+    Ceilings {
+        format: Format,
+        group: Option<String>,
+        simulations: u64,
     },
 }

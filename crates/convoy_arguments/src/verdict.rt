@@ -1,5 +1,5 @@
 ghost use Rattle.std.specs.Prelude.{◌≡◌, option_map};
-ghost use Rattle.convoy_arguments.specs.Verdicts.{file_of};
+ghost use Rattle.convoy_arguments.specs.Verdicts.{file_of, scenario_file_of};
 
 use super::input::Input;
 use super::task::Task;
@@ -23,6 +23,22 @@ impl Verdict {
         match self {
             Verdict::Ask { input, .. } => input.file(),
             Verdict::Text { .. } | Verdict::Memory => None,
+        }
+    }
+
+    /// The name of the file with the scenario that a certificate is to be of, where one is named.
+    pub fn scenario_file(&self) -> Option<&str>
+        ensures { option_map (λ text. text.now) result ≡ scenario_file_of self.now }
+    {
+        match self {
+            Verdict::Ask {
+                task: Task::CheckAbout {
+                    scenario: Some(input),
+                    ..
+                },
+                ..
+            } => input.file(),
+            _ => None,
         }
     }
 }
