@@ -24,13 +24,36 @@ def with_target(text, message, group):
     return before + re.sub(r"(?m)^group = .*$", f'group = "{group}"', target, count=1)
 
 
+def value_of(value):
+    """A value as TOML writes it."""
+    if isinstance(value, list):
+        return f"[{', '.join(map(value_of, value))}]"
+    if isinstance(value, bool):
+        return str(value).lower()
+    return str(value) if isinstance(value, int) else f'"{value}"'
+
+
+def text_of(table):
+    """A text of the scenario that a table has, as a reader of TOML gives it."""
+    lines = [f"{key} = {value_of(value)}" for key, value in table.items() if key not in ("multicast", "link", "target")]
+    for key in ("multicast", "link"):
+        for each in table.get(key, []):
+            lines += ["", f"[[{key}]]", *(f"{name} = {value_of(value)}" for name, value in each.items())]
+    return "\n".join([*lines, "", "[target]", *(f"{name} = {value_of(value)}" for name, value in table["target"].items())]) + "\n"
+
+
+def with_length(text, chance):
+    """A text in real time with a length of its ticks."""
+    return text.replace('time = "real"\n', f'time = "real"\ntick = "{chance.choice([1, 50, 200])} {chance.choice(["us", "ms"])}"\n', 1)
+
+
 def rows_of_text(out):
     """The rows of aligned columns."""
     header, *lines = out.splitlines()
     need(not any(line.endswith(" ") for line in out.splitlines()), "a line ends in a space")
     names = header.split()
     for line in lines:
-        cells = re.split(" {2,}", line)
+        cells = re.split(" {2,}", line.lstrip())
         want(len(cells), len(names))
         yield {name: None if cell == "-" else int(cell) if cell.isdecimal() else cell for name, cell in zip(names, cells)}
 
