@@ -2,6 +2,7 @@
 use Rattle.std.specs.Prelude.{◌≡◌, ◌⊎◌, ℕ, Bool, true, false, MatchResult, Option, Some, None, Result, Err, string_bytes}
 use Rattle.std.specs.Option.{option_map}
 use Rattle.std.specs.Result.{result_map_both}
+use Rattle.convoy_arguments.specs.Options.{Settings}
 use Rattle.convoy_commands.specs.declared.done.Done.{Done}
 use Rattle.convoy_commands.specs.declared.done.Done.TheVariants.{Fine, Open, Refused}
 use Rattle.convoy_commands.specs.declared.search_end.SearchEnd.{SearchEnd}
@@ -56,6 +57,7 @@ abbrev pub end_of_batch : Bool → SearchEnd → End
 end_of_batch true end = Searched end
 end_of_batch false end = Answered Fine
 
+-- the same of a run
 abbrev pub end_of_batches : Bool → Result SearchEnd Fault → Result End Fault
 end_of_batches tells_status ended = result_map_both (end_of_batch tells_status) (λ fault. fault) ended
 
@@ -68,51 +70,64 @@ abbrev pub end_of_check : AboutEnd → End
 end_of_check (Checked done) = Answered done
 end_of_check (abouts.Differs part) = Differs part
 
+-- the same of a run
 abbrev pub end_of_checks : Result AboutEnd Fault → Result End Fault
 end_of_checks ended = result_map_both end_of_check (λ fault. fault) ended
 
--- From the old states of the source and the sink to the new ones a text is read and answered, and the program ends as it is told of how that did.
-abbrev pub Answers : {Ended S K : Type 0} → (Result Ended Fault → Result End Fault) → ℕ → RuleOf Ended → (S → Answer → S → Type 0) →
+-- From the old states of the source and the sink to the new ones a text is read and answered by the rule, and `told` says how the program ends by how that did.
+abbrev pub RunsSo : {Ended S K : Type 0} → (Result Ended Fault → Result End Fault) → ℕ → RuleOf Ended → (S → Answer → S → Type 0) →
     (K → Answer → K → Type 0) → S → S → K → K → Result End Fault → Type 0
-Answers {Ended} told longest says may_read may_write source new_source sink new_sink result =
+RunsSo {Ended} told longest says may_read may_write source new_source sink new_sink result =
     (ended : Result Ended Fault)
     × IsRun longest says MOST_READS may_read may_write source new_source sink new_sink ended
     × (result ≡ told ended)
+
+-- the same of a batch in blocks
+abbrev pub RunsBatch : {S K : Type 0} → Bool → Settings → (S → Answer → S → Type 0) → (K → Answer → K → Type 0) →
+    S → S → K → K → Result End Fault → Type 0
+RunsBatch tells_status options may_read may_write source new_source sink new_sink result =
+    (ended : Result SearchEnd Fault)
+    × IsBatchRun options MOST_READS may_read may_write source new_source sink new_sink ended
+    × (result ≡ end_of_batches tells_status ended)
 
 -- A certificate is checked. Where another input is named it has to be of the scenario that is read there first, and else the other source stays as it is.
 abbrev pub ChecksAbout : {S K : Type 0} → Option Input → Bool → (S → Answer → S → Type 0) → (K → Answer → K → Type 0) →
     S → S → S → S → K → K → Result End Fault → Type 0
 ChecksAbout None tells may_read may_write source new_source other new_other sink new_sink result =
     (new_other ≡ other)
-    × Answers end_of_checks LONGEST_CERTIFICATE (CheckAboutSays None tells) may_read may_write source new_source sink new_sink result
+    × RunsSo end_of_checks LONGEST_CERTIFICATE (CheckAboutSays None tells) may_read may_write source new_source sink new_sink result
 ChecksAbout (Some input) tells may_read may_write source new_source other new_other sink new_sink result =
     (read : Result Scenario Fault)
     × IsScenarioRead MOST_READS may_read other new_other read
     × MatchResult read
-    (λ wanted. Answers end_of_checks LONGEST_CERTIFICATE (CheckAboutSays (Some wanted) tells) may_read may_write source new_source sink new_sink result)
+    (λ wanted. RunsSo end_of_checks LONGEST_CERTIFICATE (CheckAboutSays (Some wanted) tells) may_read may_write source new_source sink new_sink result)
     (λ fault. (new_source ≡ source) × (new_sink ≡ sink) × (result ≡ Err fault))
 
--- From the old states of the sources and the sink to the new ones the task is done, with an end or a fault. The other source is that of the scenario which a certificate is to be of.
+-- From the old states of the sources and the sink to the new ones the task is done, with an end or a fault. The other source is that of the scenario which a certificate is to be of, and no other task reads it.
 abbrev pub Performs : {S K : Type 0} → (S → Answer → S → Type 0) → (K → Answer → K → Type 0) → Task →
     S → S → S → S → K → K → Result End Fault → Type 0
 Performs may_read may_write (Command command) source new_source other new_other sink new_sink result =
-    Answers end_of (longest_for command) (says_for command) may_read may_write source new_source sink new_sink result
+    (new_other ≡ other)
+    × RunsSo end_of (longest_for command) (says_for command) may_read may_write source new_source sink new_sink result
 Performs may_read may_write (Beside question) source new_source other new_other sink new_sink result =
-    Answers end_of (longest_of question) (BesideSays question) may_read may_write source new_source sink new_sink result
+    (new_other ≡ other)
+    × RunsSo end_of (longest_of question) (BesideSays question) may_read may_write source new_source sink new_sink result
 Performs may_read may_write (CheckAbout scenario tells) source new_source other new_other sink new_sink result =
     ChecksAbout scenario tells may_read may_write source new_source other new_other sink new_sink result
 Performs may_read may_write (Batch options tells_status) source new_source other new_other sink new_sink result =
-    (ended : Result SearchEnd Fault)
-    × IsBatchRun options MOST_READS may_read may_write source new_source sink new_sink ended
-    × (result ≡ end_of_batches tells_status ended)
+    (new_other ≡ other) × RunsBatch tells_status options may_read may_write source new_source sink new_sink result
 Performs may_read may_write (BatchTable format options tells_status) source new_source other new_other sink new_sink result =
-    Answers (end_of_batches tells_status) LONGEST_BATCH (BatchTableSays format options) may_read may_write source new_source sink new_sink result
+    (new_other ≡ other)
+    × RunsSo (end_of_batches tells_status) LONGEST_BATCH (BatchTableSays format options) may_read may_write source new_source sink new_sink result
 Performs may_read may_write (Survey format with_ceilings options) source new_source other new_other sink new_sink result =
-    Answers end_of_searches LONGEST_JOB (SurveySays format with_ceilings options) may_read may_write source new_source sink new_sink result
+    (new_other ≡ other)
+    × RunsSo end_of_searches LONGEST_JOB (SurveySays format with_ceilings options) may_read may_write source new_source sink new_sink result
 Performs may_read may_write (WhatIf format options) source new_source other new_other sink new_sink result =
-    Answers end_of_searches LONGEST_JOB (WhatIfSays format options) may_read may_write source new_source sink new_sink result
+    (new_other ≡ other)
+    × RunsSo end_of_searches LONGEST_JOB (WhatIfSays format options) may_read may_write source new_source sink new_sink result
 Performs may_read may_write (Ceilings format group simulations) source new_source other new_other sink new_sink result =
-    Answers end_of_searches LONGEST_JOB (CeilingsSay format (option_map string_bytes group)) may_read may_write source new_source sink new_sink result
+    (new_other ≡ other)
+    × RunsSo end_of_searches LONGEST_JOB (CeilingsSay format (option_map string_bytes group)) may_read may_write source new_source sink new_sink result
 
 -- What the command line asks for is done. Only a task reads, from a file as from standard input.
 abbrev pub Obeys : {S K : Type 0} → (S → Answer → S → Type 0) → (K → Answer → K → Type 0) → Verdict →

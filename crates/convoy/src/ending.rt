@@ -1,7 +1,7 @@
 ghost use Rattle.std.specs.Prelude.{◌≡◌};
 ghost use Rattle.convoy.specs.Verdicts.{end_of_batch, end_of_check, status_of};
 
-use super::{FAULT, FINE, NOT_VALID, OPEN};
+use super::{FAULT, FINE, OPEN, REFUSED};
 use convoy_about::{AboutEnd, Part};
 use convoy_commands::{Done, SearchEnd};
 
@@ -30,7 +30,7 @@ impl End {
         }
     }
 
-    /// How it ended that a certificate was held against a scenario.
+    /// How a check against a scenario ended.
     pub fn of_check(end: AboutEnd) -> End
         ensures { result ≡ end_of_check end }
     {
@@ -47,7 +47,7 @@ impl End {
         match self {
             End::Answered(Done::Fine) | End::Searched(SearchEnd::Exact) => FINE,
             End::Answered(Done::Open) | End::Searched(SearchEnd::Open) => OPEN,
-            End::Answered(Done::Refused(_)) | End::Differs(_) => NOT_VALID,
+            End::Answered(Done::Refused(_)) | End::Differs(_) => REFUSED,
             End::Searched(SearchEnd::Faulty) => FAULT,
             End::Told(status) => status,
         }

@@ -3,7 +3,7 @@
 
 use super::ending::End;
 use super::kept::{KeptReader, KeptWriter};
-use convoy_arguments::{REJECTED, Task, Verdict};
+use convoy_arguments::{Input, REJECTED, Task, Verdict};
 use convoy_batch::MOST_JOBS;
 use convoy_beside::Question;
 use convoy_commands::{
@@ -37,6 +37,21 @@ pub fn is_quiet<S: AsStr>(words: &[S]) -> bool {
     words.iter().any(|word| word.as_str() == "--quiet")
 }
 
+/// Whether something is read from standard input, the certificate of a check or the scenario for it.
+pub fn reads_standard(verdict: &Verdict) -> bool {
+    match verdict {
+        Verdict::Ask {
+            task: Task::CheckAbout {
+                scenario: Some(Input::Standard),
+                ..
+            },
+            ..
+        } => true,
+        Verdict::Ask { input, .. } => matches!(input, Input::Standard),
+        Verdict::Text { .. } | Verdict::Memory => false,
+    }
+}
+
 /// The line that is written before a terminal is read.
 pub fn greeting(alloc: Global, verdict: &Verdict) -> Result<Option<String>, AllocError> {
     let wanted = match verdict {
@@ -54,6 +69,10 @@ fn text_of(task: &Task) -> &'static str {
     match task {
         Task::Command(Command::Direct(Direct::First | Direct::Ceiling(_)) | Command::Search(..))
         | Task::Beside(Question::Latency(_))
+        | Task::CheckAbout {
+            scenario: Some(Input::Standard),
+            ..
+        }
         | Task::Survey { .. }
         | Task::WhatIf { .. }
         | Task::Ceilings { .. } => "a scenario",
@@ -86,13 +105,17 @@ fn line_for_input<R, W>(
     let Err(Fault::Reading(ReadFault::Read)) = ended.result else {
         return Ok(None);
     };
-    let (file, reader) = match ended.scenario_reader.failure() {
-        Some(_) => (ended.verdict.scenario_file(), ended.scenario_reader),
-        None => (ended.verdict.file(), ended.reader),
-    };
-    match (file, reader.failure()) {
+    match failed_input(ended) {
         (Some(file), Some(error)) => Ok(Some(line_for_file(alloc, file, &error)?)),
         _ => Ok(None),
+    }
+}
+
+/// The input of which a read failed, where one did: the name of its file, if it is one, and why.
+fn failed_input<'a, R, W>(ended: &Ended<'a, R, W>) -> (Option<&'a str>, Option<Error>) {
+    match ended.scenario_reader.failure() {
+        Some(error) => (ended.verdict.scenario_file(), Some(error)),
+        None => (ended.verdict.file(), ended.reader.failure()),
     }
 }
 
@@ -137,7 +160,7 @@ fn hint_for_fault<R, W>(
         Fault::Schedule(_) | Fault::Order(_) if reader.is_whole() => {
             hint_for_run(alloc, reader.text())
         }
-        Fault::Reading(ReadFault::Read) => match (ended.verdict.file(), reader.failure()) {
+        Fault::Reading(ReadFault::Read) => match failed_input(ended) {
             (None, Some(error)) => Ok(Some(hint_for_reading(alloc, &error)?)),
             _ => Ok(None),
         },
@@ -212,7 +235,7 @@ fn hint_for_long_batch(alloc: Global, most: usize) -> Result<String, AllocError>
 fn hint_for_difference(alloc: Global) -> Result<String, AllocError> {
     String::from_str(
         alloc,
-        "hint: the certificate is valid, of another scenario: 'convoy scenario CERTIFICATE' writes that one\n",
+        "hint: the certificate is valid, of another scenario: compare what 'convoy scenario' writes of it and of yours\n",
     )
 }
 

@@ -1,21 +1,30 @@
-//! Convoy, the program: its command line, the standard streams and the file that is read. What a command
-//! writes is said by the functions of `convoy_commands`.
+//! Convoy, the program: its command line, the standard streams and the files that are read. What is written is
+//! said by the libraries that it calls.
 #![tactic(auto)]
 
-ghost use Rattle.std.specs.Prelude.{option_map, string_bytes};
-ghost use Rattle.convoy_about.specs.Abouts.{CheckAboutSays};
+ghost use Rattle.std.specs.Prelude.{◌≡◌, option_map, string_bytes};
 ghost use Rattle.convoy_arguments.specs.Verdicts.{HasReads, IsVerdict};
 ghost use Rattle.convoy_arguments.specs.declared.limits.TheConstants.{MOST_READS};
 ghost use Rattle.convoy_batch.specs.declared.batch_table.TheConstants.{LONGEST_BATCH};
 ghost use Rattle.convoy_batch.specs.BatchTables.{BatchTableSays};
-ghost use Rattle.convoy_batch.specs.Batches.{IsBatchRun};
 ghost use Rattle.convoy_beside.specs.Besides.{BesideSays, longest_of};
-ghost use Rattle.convoy_commands.specs.declared.limits.TheConstants.{LONGEST_CERTIFICATE, LONGEST_JOB};
+ghost use Rattle.convoy_commands.specs.declared.limits.TheConstants.{LONGEST_JOB};
+ghost use Rattle.convoy_commands.specs.Commands.{longest_for, says_for};
 ghost use Rattle.convoy_commands.specs.Runs.{IsRun};
 ghost use Rattle.convoy_survey.specs.CeilingTables.{CeilingsSay};
 ghost use Rattle.convoy_survey.specs.Surveys.{SurveySays};
 ghost use Rattle.convoy_what_if.specs.WhatIf.{WhatIfSays};
-ghost use Rattle.convoy.specs.Verdicts.{ChecksAbout, Obeys, Performs, Tells};
+ghost use Rattle.convoy.specs.Verdicts.{
+  ChecksAbout,
+  Obeys,
+  Performs,
+  RunsBatch,
+  RunsSo,
+  Tells,
+  end_of,
+  end_of_batches,
+  end_of_searches,
+};
 
 mod ending;
 mod hinting;
@@ -28,13 +37,13 @@ use convoy_arguments::{Input, MOST_READS, Task, Verdict, judge, judge_bytes};
 use convoy_batch::{run_batch, run_batch_table};
 use convoy_beside::{Question, run_beside};
 use convoy_commands::{
-    Command, DeviceFailed, Done, Fault, Options, SearchEnd, Sink, Source, StreamSink, StreamSource,
+    Command, DeviceFailed, Fault, Options, SearchEnd, Sink, Source, StreamSink, StreamSource,
     Watch, fault_line, run, run_search, write_all,
 };
 use convoy_survey::{Format, run_ceilings, run_survey};
 use convoy_what_if::run_what_if;
 use ending::End;
-use hinting::{Ended, greeting, is_quiet, tell_ended, write_line};
+use hinting::{Ended, greeting, is_quiet, reads_standard, tell_ended, write_line};
 use input::open_input;
 use kept::{KeptReader, KeptWriter};
 use progress::{Progress, screen_for};
@@ -52,11 +61,11 @@ const FINE: u8 = 0;
 /// The status of a run that ended with a fault, or of which a job has one.
 const FAULT: u8 = 1;
 
-/// The status of a search that did not end within its limit.
+/// The status of a search that did not end within its limit, or of traffic that does not attain a ceiling.
 const OPEN: u8 = 3;
 
-/// The status of a certificate that is refused.
-const NOT_VALID: u8 = 4;
+/// The status of a certificate that is refused, or is of another scenario than the one that is wanted.
+const REFUSED: u8 = 4;
 
 fn main(rt: HostRuntime) -> ExitCode {
     let alloc = rt.alloc();
@@ -64,7 +73,7 @@ fn main(rt: HostRuntime) -> ExitCode {
     let verdict = verdict(alloc, &words);
     let words = words.unwrap_or(Vec::new(alloc));
     let is_quiet = is_quiet(&words);
-    if !is_quiet && verdict.file().is_none() && rt.stdin().is_terminal() {
+    if !is_quiet && reads_standard(&verdict) && rt.stdin().is_terminal() {
         write_line(&mut rt.stderr(), greeting(alloc, &verdict));
     }
     let input = open_input(&rt, rt.stdin(), verdict.file());
@@ -150,7 +159,8 @@ fn obey<R: Threads + Wait + Sync, S: Source, K: Sink, W: Watch + Sync>(
     }
 }
 
-/// Does a task.
+/// Does a task, as the function for it says. In each of these the buffer of a run lies on the stack, and no
+/// other task is to have it there.
 fn perform<R: Threads + Wait + Sync, S: Source, K: Sink, W: Watch + Sync>(
     rt: &R,
     alloc: Global,
@@ -164,70 +174,69 @@ fn perform<R: Threads + Wait + Sync, S: Source, K: Sink, W: Watch + Sync>(
     ensures { Performs S.reads K.writes task.now source.old source.new other.old other.new sink.old sink.new result }
 {
     match task {
-        Task::Command(Command::Direct(command)) => {
-            let done = run(alloc, *command, source, sink, MOST_READS)?;
-            Ok(End::Answered(done))
-        }
-        Task::Command(Command::Search(goal, options)) => {
-            let done = run_search(rt, alloc, *goal, options, source, sink, watch)?;
-            Ok(End::Answered(done))
-        }
-        Task::Beside(question) => {
-            let done = answer_beside(rt, alloc, question, source, sink, watch)?;
-            Ok(End::Answered(done))
-        }
+        Task::Command(command) => answer_command(rt, alloc, command, source, sink, watch),
+        Task::Beside(question) => answer_beside(rt, alloc, question, source, sink, watch),
         Task::CheckAbout { scenario, tells } => {
             check_about(alloc, scenario, *tells, source, other, sink)
         }
         Task::Batch {
             options,
             tells_status,
-        } => {
-            let end = answer_batch(rt, alloc, source, sink, options)?;
-            Ok(End::of_batch(end, *tells_status))
-        }
+        } => answer_batch(rt, alloc, options, *tells_status, source, sink),
         Task::BatchTable {
             format,
             options,
             tells_status,
-        } => {
-            let end = answer_batch_table(rt, alloc, *format, options, source, sink)?;
-            Ok(End::of_batch(end, *tells_status))
-        }
+        } => answer_batch_table(rt, alloc, *format, options, *tells_status, source, sink),
         Task::Survey {
             format,
             with_ceilings,
             options,
-        } => {
-            let end = answer_survey(
-                rt,
-                alloc,
-                *format,
-                *with_ceilings,
-                options,
-                source,
-                sink,
-                watch,
-            )?;
-            Ok(End::Searched(end))
-        }
+        } => answer_survey(
+            rt,
+            alloc,
+            *format,
+            *with_ceilings,
+            options,
+            source,
+            sink,
+            watch,
+        ),
         Task::WhatIf { format, options } => {
-            let end = answer_what_if(rt, alloc, *format, options, source, sink, watch)?;
-            Ok(End::Searched(end))
+            answer_what_if(rt, alloc, *format, options, source, sink, watch)
         }
         Task::Ceilings {
             format,
             group,
             simulations,
-        } => {
-            let end = answer_ceilings(alloc, *format, group, *simulations, source, sink)?;
-            Ok(End::Searched(end))
-        }
+        } => answer_ceilings(alloc, *format, group, *simulations, source, sink),
     }
 }
 
-/// Answers with the ceiling beside the answer. The buffer of a run lies on the stack, and no other command is
-/// to have it there.
+/// Does what a command says.
+#[inline(never)]
+fn answer_command<R: Threads + Wait + Sync, S: Source, K: Sink, W: Watch + Sync>(
+    rt: &R,
+    alloc: Global,
+    command: &Command,
+    source: &mut S,
+    sink: &mut K,
+    watch: &W,
+) -> Result<End, Fault>
+    requires { HasReads (Task.Command command.now) }
+    ensures { RunsSo end_of (longest_for command.now) (says_for command.now)
+        S.reads K.writes source.old source.new sink.old sink.new result }
+{
+    let done = match command {
+        Command::Direct(command) => run(alloc, *command, source, sink, MOST_READS)?,
+        Command::Search(goal, options) => {
+            run_search(rt, alloc, *goal, options, source, sink, watch)?
+        }
+    };
+    Ok(End::Answered(done))
+}
+
+/// Answers with the ceiling beside the answer.
 #[inline(never)]
 fn answer_beside<R: Threads + Wait + Sync, S: Source, K: Sink, W: Watch + Sync>(
     rt: &R,
@@ -236,11 +245,12 @@ fn answer_beside<R: Threads + Wait + Sync, S: Source, K: Sink, W: Watch + Sync>(
     source: &mut S,
     sink: &mut K,
     watch: &W,
-) -> Result<Done, Fault>
-    ensures { IsRun (longest_of question.now) (BesideSays question.now) MOST_READS
+) -> Result<End, Fault>
+    ensures { RunsSo end_of (longest_of question.now) (BesideSays question.now)
         S.reads K.writes source.old source.new sink.old sink.new result }
 {
-    run_beside(rt, alloc, question, source, sink, watch, MOST_READS)
+    let done = run_beside(rt, alloc, question, source, sink, watch, MOST_READS)?;
+    Ok(End::Answered(done))
 }
 
 /// Checks a certificate, and holds it against the scenario that is read from the other source, where one is
@@ -270,38 +280,44 @@ fn check_about<S: Source, K: Sink>(
     }
 }
 
-/// Answers a batch. The buffer of one lies on the stack, and no other command is to have it there.
+/// Answers a batch, block by block.
 #[inline(never)]
 fn answer_batch<R: Threads + Wait + Sync, S: Source, K: Sink>(
     rt: &R,
     alloc: Global,
+    options: &Options,
+    tells_status: bool,
     source: &mut S,
     sink: &mut K,
-    options: &Options,
-) -> Result<SearchEnd, Fault>
-    ensures { IsBatchRun options.now options.now.most_reads
+) -> Result<End, Fault>
+    requires { options.now.most_reads ≡ MOST_READS }
+    ensures { RunsBatch tells_status options.now
         S.reads K.writes source.old source.new sink.old sink.new result }
 {
-    run_batch(rt, alloc, source, sink, options)
+    let end = run_batch(rt, alloc, source, sink, options)?;
+    Ok(End::of_batch(end, tells_status))
 }
 
-/// Answers a batch as a table. The buffer of a run lies on the stack, and no other command is to have it there.
+/// Answers a batch as a table.
 #[inline(never)]
 fn answer_batch_table<R: Threads + Wait + Sync, S: Source, K: Sink>(
     rt: &R,
     alloc: Global,
     format: Format,
     options: &Options,
+    tells_status: bool,
     source: &mut S,
     sink: &mut K,
-) -> Result<SearchEnd, Fault>
-    ensures { IsRun LONGEST_BATCH (BatchTableSays format options.now) options.now.most_reads
+) -> Result<End, Fault>
+    requires { options.now.most_reads ≡ MOST_READS }
+    ensures { RunsSo (end_of_batches tells_status) LONGEST_BATCH (BatchTableSays format options.now)
         S.reads K.writes source.old source.new sink.old sink.new result }
 {
-    run_batch_table(rt, alloc, format, options, source, sink)
+    let end = run_batch_table(rt, alloc, format, options, source, sink)?;
+    Ok(End::of_batch(end, tells_status))
 }
 
-/// Answers a survey. The buffer of one lies on the stack, and no other command is to have it there.
+/// Answers a survey.
 #[inline(never)]
 fn answer_survey<R: Threads + Wait + Sync, S: Source, K: Sink, W: Watch + Sync>(
     rt: &R,
@@ -312,11 +328,12 @@ fn answer_survey<R: Threads + Wait + Sync, S: Source, K: Sink, W: Watch + Sync>(
     source: &mut S,
     sink: &mut K,
     watch: &W,
-) -> Result<SearchEnd, Fault>
-    ensures { IsRun LONGEST_JOB (SurveySays format with_ceilings options.now) options.now.most_reads
+) -> Result<End, Fault>
+    requires { options.now.most_reads ≡ MOST_READS }
+    ensures { RunsSo end_of_searches LONGEST_JOB (SurveySays format with_ceilings options.now)
         S.reads K.writes source.old source.new sink.old sink.new result }
 {
-    run_survey(
+    let end = run_survey(
         rt,
         alloc,
         format,
@@ -325,10 +342,11 @@ fn answer_survey<R: Threads + Wait + Sync, S: Source, K: Sink, W: Watch + Sync>(
         source,
         sink,
         watch,
-    )
+    )?;
+    Ok(End::Searched(end))
 }
 
-/// Answers a survey of changes. The buffer of one lies on the stack, and no other command is to have it there.
+/// Answers a survey of changes.
 #[inline(never)]
 fn answer_what_if<R: Threads + Wait + Sync, S: Source, K: Sink, W: Watch + Sync>(
     rt: &R,
@@ -338,17 +356,34 @@ fn answer_what_if<R: Threads + Wait + Sync, S: Source, K: Sink, W: Watch + Sync>
     source: &mut S,
     sink: &mut K,
     watch: &W,
-) -> Result<SearchEnd, Fault>
-    ensures { IsRun LONGEST_JOB (WhatIfSays format options.now) options.now.most_reads
+) -> Result<End, Fault>
+    requires { options.now.most_reads ≡ MOST_READS }
+    ensures { RunsSo end_of_searches LONGEST_JOB (WhatIfSays format options.now)
         S.reads K.writes source.old source.new sink.old sink.new result }
 {
-    run_what_if(rt, alloc, format, options, source, sink, watch)
+    let end = run_what_if(rt, alloc, format, options, source, sink, watch)?;
+    Ok(End::Searched(end))
 }
 
-/// Answers with a table of ceilings. The buffer of a run lies on the stack, and no other command is to have it
-/// there.
+/// Answers with a table of ceilings.
 #[inline(never)]
 fn answer_ceilings<S: Source, K: Sink>(
+    alloc: Global,
+    format: Format,
+    group: &Option<String>,
+    simulations: u64,
+    source: &mut S,
+    sink: &mut K,
+) -> Result<End, Fault>
+    ensures { RunsSo end_of_searches LONGEST_JOB (CeilingsSay format (option_map string_bytes group.now))
+        S.reads K.writes source.old source.new sink.old sink.new result }
+{
+    let end = tell_ceilings(alloc, format, group, simulations, source, sink)?;
+    Ok(End::Searched(end))
+}
+
+/// Tells the ceilings at all groups, or at the one that is named.
+fn tell_ceilings<S: Source, K: Sink>(
     alloc: Global,
     format: Format,
     group: &Option<String>,

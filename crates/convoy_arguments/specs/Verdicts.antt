@@ -5,6 +5,8 @@ use Rattle.convoy_commands.specs.declared.command.Command.TheVariants.{Direct, S
 use Rattle.convoy_arguments.specs.declared.limits.TheConstants.{MOST_READS}
 use Rattle.convoy_arguments.specs.declared.task.Task.{Task}
 use Rattle.convoy_arguments.specs.declared.task.Task.TheVariants.{Command, Beside, CheckAbout, Batch, BatchTable, Survey, WhatIf, Ceilings}
+use Rattle.convoy_arguments.specs.declared.input.Input.{Input}
+use Rattle.convoy_arguments.specs.declared.input.Input.TheVariants.{Standard}
 use Rattle.convoy_arguments.specs.declared.verdict.Verdict.{Verdict}
 use Rattle.convoy_arguments.specs.declared.verdict.Verdict.TheVariants.{Ask, Text, Memory}
 use Rattle.convoy_arguments.specs.Inputs.{file_in}
@@ -22,6 +24,11 @@ HasReads (Survey format with_ceilings options) = options.most_reads ≡ MOST_REA
 HasReads (WhatIf format options) = options.most_reads ≡ MOST_READS
 HasReads (Ceilings format group simulations) = Unit {0}
 
+-- not both texts of a task come from standard input
+abbrev pub AreApart : Task → Input → Type 0
+AreApart (CheckAbout (Some Standard) tells) Standard = ⊥
+AreApart task input = Unit {0}
+
 -- The program ends at once: with a text, which has the status of help or of a command line that is
 -- rejected, or for want of memory.
 abbrev pub EndsAtOnce : Verdict → Type 0
@@ -31,7 +38,7 @@ EndsAtOnce Memory = Unit {0}
 
 -- a task on an input, or an end at once
 abbrev pub IsVerdict : Verdict → Type 0
-IsVerdict (Ask task input) = HasReads task
+IsVerdict (Ask task input) = HasReads task × AreApart task input
 IsVerdict (Text text status) = EndsAtOnce (Text text status)
 IsVerdict Memory = Unit {0}
 

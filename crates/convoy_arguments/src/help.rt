@@ -14,12 +14,12 @@ finds the greatest latency and tells why it is so late, and
   convoy analyse scenario.toml | convoy draw > run.svg
 draws it.
 
-Each command reads one text: the file that is named after it, or standard input
-where none is, or where its name is `-`. That is a scenario, as TOML. The
-commands `check`, `explain` and `draw` read a certificate, which `analyse`
-writes; `simulate`, `timeline`, `packets` and `scenario` read either. The answer goes to
-standard output. Without a command word the command is `first`, and reads
-standard input.";
+Each command reads one text, and `check --scenario` a scenario besides: the file
+that is named after it, or standard input where none is, or where its name is `-`.
+That is a scenario, as TOML. The commands `check`, `explain` and `draw` read a
+certificate, which `analyse` writes; `simulate`, `timeline`, `packets` and
+`scenario` read either. The answer goes to standard output. Without a command word
+the command is `first`, and reads standard input.";
 
 pub(crate) const AFTER: &str = "\
 Example of a scenario:
@@ -43,8 +43,8 @@ and `convoy analyse scenario.toml | convoy check` writes
 
 Exit status:
   0  an answer, or help
-  1  a fault, told in one line as 'fault NUMBER TEXT'; of `survey` also one in a
-     row, and of `batch --status` one of a scenario
+  1  a fault, told in one line as 'fault NUMBER TEXT'; of `survey` and `ceiling --all`
+     also where memory ran out for a row, and of `batch --status` one of a scenario
   2  the command line is rejected
   3  a search that did not end within its limit, or a ceiling that was not attained;
      of `batch` only with `--status`
@@ -142,18 +142,20 @@ ticks, over all schedules. Or else:
 This is the first fault for which it is refused.
 
 A certificate is text, and its first line is one of 'convoy 1' to 'convoy 4'.
-Whoever made it need not be trusted, but for which scenario it is: with
+Whoever made it need not be trusted. Of which scenario it is, the certificate says
+itself: with
   convoy check certificate --scenario scenario.toml
-it is accepted only where that is the scenario of the certificate, and
+it is accepted only if it is of that scenario, and else refused with the line
+'refused 37 scenario differs in KEY'. With
   convoy check certificate --tell
-writes below the first line for what it is accepted.";
+what was accepted is told below the first line.";
 
 pub(crate) const ABOUT_WANTED: &str = "\
-Accepts a certificate only where it is of the scenario in this file too; with `-`
-that is read from standard input";
+Accepts a certificate only if it is valid and is of the scenario in this file, which
+is read first; `-` is standard input, if the certificate is in a file";
 
 pub(crate) const ABOUT_TELL: &str = "\
-Writes below 'accepted N' for what that is: the target, the greatest delay of a
+Writes below 'accepted N' what was accepted: the target, the greatest delay of a
 packet, how many groups, messages and links there are, and how many nodes";
 
 pub(crate) const ABOUT_ANALYSE: &str = "Writes a certificate of the greatest latency";
@@ -206,21 +208,21 @@ makes a scenario that other commands read, as `simulate` and `analyse`. Where L
 is U no number below U is safe, and the exit status is 0; else it is 3.
 
 With `--all` a table is written instead, with a row for each message at each group
-that it goes to, and with `--group GROUP` for each message at that group:
+that it goes to, and with `--group GROUP` for each message that goes to that group:
   message  group  ceiling  attained
   t        a           12        12
 The exit status is then 1 where memory ran out for a row, else 3 where a ceiling
 was not attained. The text need not have a target for that.";
 
 pub(crate) const ABOUT_BESIDE: &str = "\
-Tells the ceiling beside the answer, the latency that no traffic of the scenario's
-kinds of messages exceeds: 'ceiling U' below it, or a column of a table";
+Tells beside the answer the ceiling, which is the latency that no traffic of the
+scenario's kinds of messages exceeds: in a line 'ceiling U' below it, or in a column";
 
 pub(crate) const ABOUT_ALL: &str =
     "Tells the ceiling of each message at each group that it goes to, as a table";
 
 pub(crate) const ABOUT_GROUP: &str =
-    "Tells the ceiling of each message that goes to this group there, as a table";
+    "Tells the ceiling at this group of each message that goes to it, as a table";
 
 pub(crate) const ABOUT_BATCH: &str = "Answers each of many scenarios as `latency` does";
 
@@ -259,6 +261,8 @@ which has to be there: its greatest latency as the text is, without each other
 message, and with each link that packets travel at its least and at its most. What
 saves most comes first.
   convoy survey --without scenario.toml
+  change   message  from    to  answer    least  most  rival  tied  nodes
+  nothing  -        -       -   greatest     12    12  y      x         1
 
 The exit status is 1 where a row is a fault, else 3 where one is open.";
 

@@ -137,7 +137,7 @@ fn check_for(alloc: Global, given: &ArgMatches<'_>) -> Result<Task, AllocError>
     let scenario = match given.get_str("scenario") {
         Some(name) => Some(Input::of(alloc, Some(name))?),
         None if tells => None,
-        None => return Ok(Task::Command(command_for("check", given))),
+        None => return Ok(Task::Command(Command::Direct(Direct::Ask(Asking::Check)))),
     };
     Ok(Task::CheckAbout { scenario, tells })
 }
@@ -149,7 +149,10 @@ fn ceiling_for(alloc: Global, given: &ArgMatches<'_>) -> Result<Task, AllocError
     let group = match given.get_str("group") {
         Some(name) => Some(String::from_str(alloc, name)?),
         None if given.get_flag("all") => None,
-        None => return Ok(Task::Command(command_for("ceiling", given))),
+        None => {
+            let command = Command::Direct(Direct::Ceiling(simulations_of(given)));
+            return Ok(Task::Command(command));
+        }
     };
     Ok(Task::Ceilings {
         format: format_of(given),
@@ -192,19 +195,17 @@ fn survey_for(given: &ArgMatches<'_>) -> Task
     }
 }
 
-/// The command of that name.
+/// The command of that name, of those whose options leave them what they are.
 fn command_for(name: &str, given: &ArgMatches<'_>) -> Command
     ensures { HasReads (Task.Command result) }
 {
     match name {
         "analyse" => Command::Search(Goal::Certificate, options_of(given)),
         "latency" => Command::Search(Goal::Latency, options_of(given)),
-        "ceiling" => Command::Direct(Direct::Ceiling(simulations_of(given))),
         "simulate" => Command::Direct(Direct::Tell(Telling::Simulate)),
         "timeline" => Command::Direct(Direct::Tell(Telling::Timeline)),
         "packets" => Command::Direct(Direct::Tell(Telling::Packets)),
         "scenario" => Command::Direct(Direct::Tell(Telling::Toml)),
-        "check" => Command::Direct(Direct::Ask(Asking::Check)),
         "explain" => Command::Direct(Direct::Ask(Asking::Explain)),
         "draw" => Command::Direct(Direct::Ask(Asking::Draw)),
         _ => Command::Direct(Direct::First),

@@ -89,7 +89,7 @@ fn ceiling_command<'a>(alloc: Global) -> Result<clap::Command<'a>, AllocError> {
         .arg(seek_argument(alloc, ABOUT_SEEK_TRAFFIC))
 }
 
-/// The command that asks of all targets, or of one with changes.
+/// The command that asks for all targets, or for one with changes.
 fn survey_command<'a>(alloc: Global) -> Result<clap::Command<'a>, AllocError> {
     search_command(alloc, "survey", ABOUT_SURVEY, LONG_ABOUT_SURVEY)?
         .arg(format_argument(alloc))?
@@ -226,7 +226,7 @@ fn scenario_argument<'a>(alloc: Global) -> Arg<'a> {
         .help(ABOUT_WANTED)
 }
 
-/// Whether it is told for what a certificate is accepted.
+/// Whether what is accepted is told.
 fn tell_argument<'a>(alloc: Global) -> Arg<'a> {
     Arg::new(alloc, "tell")
         .long("tell")

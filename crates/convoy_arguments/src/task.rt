@@ -10,8 +10,8 @@ pub enum Task {
     Command(Command),
     /// What `latency` or `explain` answers, with the ceiling beside it.
     Beside(Question),
-    /// Whether a certificate is valid, and of the scenario that the other input holds, where one is named; and
-    /// whether it is told for what it is accepted.
+    /// Whether a certificate is valid and, where a second input is named, is of the scenario in it; and whether
+    /// what is accepted is told below the yes.
     CheckAbout {
         scenario: Option<Input>,
         tells: bool,
@@ -21,7 +21,8 @@ pub enum Task {
         options: Options,
         tells_status: bool,
     },
-    /// The same as a table in that format, with a row for each scenario.
+    /// A table in that format, with a row for each scenario of a batch, and whether the exit status is to tell how
+    /// their searches end.
     BatchTable {
         format: Format,
         options: Options,
