@@ -12,13 +12,13 @@ use Rattle.convoy_about.specs.declared.about_end.AboutEnd.TheVariants.{Checked}
 use Rattle.convoy_about.specs.Abouts.{CheckAboutSays}
 use Rattle.convoy_about.specs.Lines.{told_if}
 
--- where a scenario is wanted and the answer for a text is a yes, whatever is told below it, the number of its first line is the scenario's greatest latency
+-- where a scenario is wanted and the answer for a text is a yes, whatever is told below it, the number of its first line, which is below 2 ^ 32, is the scenario's greatest latency
 abbrev pub YesIsGreatest : Type 0
 YesIsGreatest =
     (scenario : Scenario) (latency : ℕ) (tells : Bool) (text below : List ℕ) → latency < 2 ^ 32 →
     CheckAboutSays (Some scenario) tells text (Ok (Checked Fine, accepted_line latency ++ below)) → IsGreatest scenario latency
 
--- the text of a valid certificate of the scenario that is wanted gets a yes, and no other reply
+-- the text of a valid certificate of the scenario that is wanted gets a yes, and no other answer
 abbrev pub YesIsGiven : Type 0
 YesIsGiven =
     (certificate : Certificate) (tells : Bool) (text : List ℕ) (end : AboutEnd) (out : List ℕ) →

@@ -64,6 +64,7 @@ fn accepted_certificate(alloc: Global, text: &[u8]) -> Result<Certificate, Alloc
         IfOk result (λ certificate. IsAcceptedAs certificate text.now line) }
 {
     texts_differ();
+    // `check` accepts the text, so that only memory can be wanting to read it once more.
     match read(alloc, text) {
         Ok(certificate) => Ok(certificate),
         Err(_) => Err(AllocError),

@@ -11,7 +11,7 @@ pub fn yes_is_greatest()
     ensures { YesIsGreatest }
 {}
 
-/// The text of a valid certificate of the scenario that is wanted gets a yes, and no other reply.
+/// The text of a valid certificate of the scenario that is wanted gets a yes, and no other answer.
 pub fn yes_is_given()
     ensures { YesIsGiven }
 {

@@ -34,7 +34,7 @@ searched_cells found =
 abbrev pub fault_words : Fault → List ℕ
 fault_words fault = take (length (fault_line_of fault) - 1) (fault_line_of fault)
 
--- a fault in place of an answer, and nothing in the further cells
+-- a fault in place of an answer, and nothing for least, most, tick, rival, tied and nodes
 abbrev pub fault_cells : Fault → List Cell
 fault_cells fault = word (fault_words fault) ∷ replicate 6 nothing
 

@@ -19,7 +19,7 @@ use std::alloc::Global;
 use std::sync::Wait;
 use std::thread::Threads;
 
-/// How many bytes the input of a batch has at most that is answered as a table.
+/// How many bytes the input of a batch that is answered as a table has at most.
 pub const LONGEST_BATCH: usize = 67_108_864;
 
 /// The command `batch` with a format: reads a text to the end of the source, in at most

@@ -18,33 +18,34 @@ use Rattle.convoy_beside.specs.declared.running.Question.{Question}
 use Rattle.convoy_beside.specs.declared.running.Question.TheVariants as questions
 
 -- below an answer stands the ceiling of the scenario that it is about, above which no latency is in any traffic of the scenario's kinds
-pub record IsAbove (scenario : Scenario) (answer out : List ℕ) : Type 0 where
+pub record HasCeilingBelow (scenario : Scenario) (answer out : List ℕ) : Type 0 where
   pub safe : IsUpperInTraffic scenario scenario.target_message scenario.target_group (ceiling_of scenario)
   pub written : out ≡ answer ++ ceiling_line scenario.tick (ceiling_of scenario)
 
 -- what `latency` answers for the text of a scenario, and below it the scenario's ceiling
-pub record IsLatencyAbove (settings : Settings) (text out : List ℕ) (done : Done) : Type 0 where
+pub record IsLatencyWithCeiling (settings : Settings) (text out : List ℕ) (done : Done) : Type 0 where
   pub scenario : Scenario
   pub answer : List ℕ
   pub read : scenario_of_text text ≡ Ok scenario
   pub answered : LatencySays settings text (Ok (done, answer))
-  pub above : IsAbove scenario answer out
+  pub ceiling : HasCeilingBelow scenario answer out
 
 -- what `explain` answers for the text of a certificate that is valid, and below it the ceiling of the certificate's scenario
-pub record IsExplanationAbove (text out : List ℕ) : Type 0 where
+pub record IsExplanationWithCeiling (text out : List ℕ) : Type 0 where
   pub certificate : Certificate
   pub answer : List ℕ
   pub read : certificate_of text ≡ Ok certificate
   pub answered : AskSays Explain text (Ok (Fine, answer))
-  pub above : IsAbove certificate.scenario answer out
+  pub ceiling : HasCeilingBelow certificate.scenario answer out
 
--- what may be answered with the ceiling beside it: of a fault and of a refusal there is none
+-- what may be answered for the text of a scenario: below a fault stands no ceiling
 abbrev pub LatencyBesideSays : Settings → Rule
-LatencyBesideSays settings text (Ok (done, out)) = IsLatencyAbove settings text out done
+LatencyBesideSays settings text (Ok (done, out)) = IsLatencyWithCeiling settings text out done
 LatencyBesideSays settings text (Err fault) = LatencySays settings text (Err fault)
 
+-- what may be answered for the text of a certificate: below a refusal and a fault stands no ceiling
 abbrev pub ExplainBesideSays : Rule
-ExplainBesideSays text (Ok (Fine, out)) = IsExplanationAbove text out
+ExplainBesideSays text (Ok (Fine, out)) = IsExplanationWithCeiling text out
 ExplainBesideSays text (Ok (Open, out)) = AskSays Explain text (Ok (Open, out))
 ExplainBesideSays text (Ok (Refused refusal, out)) = AskSays Explain text (Ok (Refused refusal, out))
 ExplainBesideSays text (Err fault) = AskSays Explain text (Err fault)

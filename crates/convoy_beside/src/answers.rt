@@ -1,7 +1,7 @@
 ghost use Rattle.std.specs.Prelude.{◌≡◌, OnOk};
 ghost use Rattle.convoy_ceiling.specs.Ceiling.{IsUpperInTraffic, ceiling_of};
 ghost use Rattle.convoy_commands.specs.Replies.{SaysUnlessMemory, reply_of};
-ghost use Rattle.convoy_beside.specs.Besides.{ExplainBesideSays, IsAbove, LatencyBesideSays};
+ghost use Rattle.convoy_beside.specs.Besides.{ExplainBesideSays, HasCeilingBelow, LatencyBesideSays};
 
 use convoy_ceiling::ceiling;
 use convoy_certificate::{Certificate, read};
@@ -48,7 +48,7 @@ pub(crate) fn explanation(alloc: Global, text: &[u8]) -> Result<(Done, Vec<u8>),
 
 /// Appends the line of the ceiling of a scenario's target.
 fn push_ceiling_of(scenario: &Scenario, out: &mut Vec<u8>) -> Result<(), AllocError>
-    ensures { OnOk result (IsAbove scenario.now out.old.items out.new.items) }
+    ensures { OnOk result (HasCeilingBelow scenario.now out.old.items out.new.items) }
 {
     push_ceiling(scenario.tick(), target_ceiling(scenario), out)
 }

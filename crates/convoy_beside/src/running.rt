@@ -21,11 +21,12 @@ pub enum Question {
 
 /// The commands `latency` and `explain` with the option `--ceiling`: reads a text to the end of the source, in
 /// at most `most_reads` reads, and writes what [`latency_answer`](convoy_commands::latency_answer) or
-/// [`ask`](convoy_commands::ask) answers for it, and below that the line of the ceiling, where the answer is
-/// about a scenario (docs/FORMATS.md, "What `ceiling` writes"). A certificate that is refused gets its refusal
-/// alone.
+/// [`ask`](convoy_commands::ask) answers for it, and below that the line of the ceiling of that scenario, or of
+/// the certificate's scenario (docs/FORMATS.md, "What `ceiling` writes"). Below a refusal and a fault there is
+/// no such line. The number of reads in the options of a question does not count.
 ///
-/// The faults are those of the command without the option, of texts of the same length.
+/// The faults are those of [`run_latency`](convoy_commands::run_latency) and, of an explanation, of
+/// [`run_check`](convoy_commands::run_check), with the same limits of bytes.
 pub fn run_beside<R: Threads + Wait + Sync, S: Source, K: Sink, W: Watch + Sync>(
     rt: &R,
     alloc: Global,

@@ -26,7 +26,7 @@ pub record AreSurveyed (settings : Settings) (scenario : Scenario) (rows : List 
 abbrev pub end_of : List Surveyed → SearchEnd
 end_of rows = end_by (list_any (λ row. is_fault row.finding) rows) (list_any (λ row. is_open row.finding) rows)
 
--- THE HEADLINE. What is written is the table of these rows of the scenario that was read, where the target may be left out, in this format and with the ceilings where they are asked for, and the end is told by them.
+-- THE HEADLINE. What is written is the table of these rows of the scenario that was read, where the target may be left out, in this format and with the ceilings where they are asked for, and the end is told by them. What a ceiling is worth the law `CeilingHolds` says.
 pub record IsSurvey (format : Format) (with_ceilings : Bool) (settings : Settings) (text : List ℕ) (end : SearchEnd) (out : List ℕ) : Type 0 where
   pub scenario : Scenario
   pub rows : List Surveyed

@@ -1,4 +1,4 @@
-//! The cells of a survey's table.
+//! The cells of the tables.
 
 ghost use Rattle.std.specs.Prelude.{◌≡◌, ◌<◌, ◌≤◌, ◌∷◌, [], ◌++◌, length, OnOk, IfOk, option_and_then};
 ghost use Rattle.convoy_scenario.specs.Durations.{count_of};
@@ -64,7 +64,7 @@ pub(crate) fn push_target(
     cells.push(Cell::word(alloc, group_name(scenario, group))?)
 }
 
-/// Puts what was found at the end of a row: the cells of the columns that [`push_finding_columns`] names. The
+/// Puts what was found at the end of a row: the cells of the columns that [`push_finding_columns`](crate::push_finding_columns) names. The
 /// messages of its cause are those of the scenario. Fails where memory runs out, and else never.
 pub fn push_finding(
     alloc: Global,

@@ -28,7 +28,7 @@ use std::thread::Threads;
 /// of a row are those that [`latency`](convoy_commands::run_latency) writes for the scenario with that
 /// target. With ceilings, a row ends with the [`ceiling`](convoy_ceiling::ceiling) of its message at its
 /// group, in ticks and in the unit of a tick. Each search is watched, by [`NoGate`](convoy_branch::NoGate)
-/// where nobody cares.
+/// where nobody watches.
 ///
 /// Nothing is written before all rows are known. A row for which memory runs out has that fault in place
 /// of numbers, with its ceiling all the same, and the survey goes on. Faults of the whole are

@@ -27,7 +27,7 @@ use std::thread::Threads;
 /// reader sees what to change first: each other message left out, and each link that packets travel at its
 /// least and at its most, beside the scenario as it is. Rows are those of [`what_if`], in its order; a row's
 /// numbers are those that [`latency`](convoy_commands::run_latency) writes for the scenario that is changed
-/// so. Each search is watched, by [`NoGate`](convoy_branch::NoGate) where nobody cares.
+/// so. Each search is watched, by [`NoGate`](convoy_branch::NoGate) where nobody watches.
 ///
 /// Nothing is written before all rows are known. A row for which memory runs out has that fault in place of
 /// numbers. Faults of the whole are `Fault::Scenario`, where the text is that of no scenario, or where a
