@@ -33,6 +33,26 @@ const WITHOUT_VALUE: [&str; 7] = [
     "--tell",
 ];
 
+/// Options of a command or two, with these commands, also as they are told.
+const OF_SOME: [(&str, [&str; 3], &str); 8] = [
+    ("--all", ["ceiling", "", ""], "'ceiling'"),
+    ("--group", ["ceiling", "", ""], "'ceiling'"),
+    (
+        "--ceiling",
+        ["latency", "explain", "survey"],
+        "'latency', 'explain' and 'survey'",
+    ),
+    ("--without", ["survey", "", ""], "'survey'"),
+    ("--scenario", ["check", "", ""], "'check'"),
+    ("--tell", ["check", "", ""], "'check'"),
+    ("--status", ["batch", "", ""], "'batch'"),
+    (
+        "--format",
+        ["survey", "batch", "ceiling"],
+        "'survey', 'batch' and 'ceiling'",
+    ),
+];
+
 /// The options by which `ceiling` is asked for several ceilings.
 const OF_SEVERAL: [&str; 2] = ["--all", "--group"];
 
@@ -68,6 +88,10 @@ struct Sorted<'a> {
     names_format: bool,
     /// Whether an option asks for several ceilings.
     asks_for_several: bool,
+    /// Whether an option names a scenario.
+    names_scenario: bool,
+    /// Whether an option asks for changes.
+    asks_for_changes: bool,
     /// Whether an option is itself a format.
     is_format: bool,
     /// Whether there is an option of which nothing is known.
@@ -83,6 +107,8 @@ impl<'a> Sorted<'a> {
             by_option: None,
             names_format: false,
             asks_for_several: false,
+            names_scenario: false,
+            asks_for_changes: false,
             is_format: false,
             is_strange: false,
         };
@@ -127,6 +153,8 @@ impl<'a> Sorted<'a> {
         }
         self.names_format = self.names_format || name == "--format";
         self.asks_for_several = self.asks_for_several || OF_SEVERAL.contains(&name);
+        self.names_scenario = self.names_scenario || name == "--scenario";
+        self.asks_for_changes = self.asks_for_changes || name == "--without";
         self.settings.push(word)?;
         Ok((has_value && value.is_none()).then_some(Due::Setting))
     }
@@ -171,6 +199,30 @@ impl<'a> Sorted<'a> {
             || self.names_format && (!WITH_TABLES.contains(&named) || self.lacks_several())
     }
 
+    /// The scenario that stands behind a certificate where an option is to name it.
+    fn second_text(&self) -> Option<&'a str> {
+        match self.operands.as_slice() {
+            [command, _, scenario]
+                if *command == "check" && !self.names_scenario && is_file(scenario) => {
+                Some(scenario)
+            }
+            _ => None,
+        }
+    }
+
+    /// The first option that the command has not, and the commands that have it.
+    fn misplaced(&self) -> Option<(&'static str, &'static str)> {
+        let command = self.named_command();
+        for setting in &self.settings {
+            for (option, takers, told) in OF_SOME {
+                if is_option(setting, option) && !takers.contains(&command) {
+                    return Some((option, told));
+                }
+            }
+        }
+        None
+    }
+
     /// What is wrong with how a file or a format is named, and the file that is meant, if one is.
     fn mistake(&self) -> Option<(&'static str, Option<&'a str>)> {
         let operands = self.operands.as_slice();
@@ -181,6 +233,16 @@ impl<'a> Sorted<'a> {
         }
         match (self.by_option, operands) {
             (Some(file), _) => Some(("a file is named without an option", Some(file))),
+            (None, [_, certificate, _]) if self.second_text().is_some() => {
+                Some(("a scenario is named by '--scenario'", Some(certificate)))
+            }
+            (None, [command, word, file])
+                if self.asks_for_changes && is_command(command) && !is_file(word) => {
+                Some((
+                    "'--without' has no value, and tries each change",
+                    Some(file),
+                ))
+            }
             (None, [command, file, _, ..]) if is_command(command) => {
                 Some(("one run reads one file", Some(file)))
             }
@@ -201,13 +263,18 @@ impl<'a> Sorted<'a> {
 pub fn hint_for_words<S: AsStr>(alloc: Global, words: &[S]) -> Result<Option<String>, AllocError> {
     let sorted = Sorted::of(alloc, words)?;
     let Some((mistake, file)) = sorted.mistake() else {
-        return Ok(None);
+        return hint_for_option(alloc, &sorted);
     };
     let (command, addition) = (sorted.command(), sorted.addition());
     let mut line = format!(in alloc; "hint: {mistake}: convoy {command}{addition}")?;
     for setting in &sorted.settings {
         line.push_str(" ")?;
         line.push_str(setting)?;
+    }
+    if let Some(scenario) = sorted.second_text() {
+        let scenario = shown(alloc, scenario)?;
+        line.push_str(" --scenario ")?;
+        line.push_str(scenario.as_str())?;
     }
     if let Some(file) = file {
         let file = shown(alloc, file)?;
@@ -216,6 +283,20 @@ pub fn hint_for_words<S: AsStr>(alloc: Global, words: &[S]) -> Result<Option<Str
     }
     line.push_str("\n")?;
     Ok(Some(line))
+}
+
+/// Which commands have an option that stands with another. None where there is no such option, or no command.
+fn hint_for_option(alloc: Global, sorted: &Sorted<'_>) -> Result<Option<String>, AllocError> {
+    if sorted.is_strange || !sorted.operands.iter().any(|word| is_command(word)) {
+        return Ok(None);
+    }
+    match sorted.misplaced() {
+        Some((option, told)) => {
+            let line = format!(in alloc; "hint: '{option}' is an option of {told}\n")?;
+            Ok(Some(line))
+        }
+        None => Ok(None),
+    }
 }
 
 /// A file as it is written in a command line: in quotes where its name needs them.
@@ -235,6 +316,14 @@ fn format_of(option: &str) -> Option<&'static str> {
         }
     }
     None
+}
+
+/// Whether a word is that option, with a value or without.
+fn is_option(word: &str, option: &str) -> bool {
+    match word.split_once('=') {
+        Some((name, _)) => name == option,
+        None => word == option,
+    }
 }
 
 /// Whether a word is a command.
