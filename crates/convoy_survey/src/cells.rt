@@ -207,8 +207,9 @@ pub(crate) fn push_count(
     }
 }
 
-/// Puts the name of a message that there may not be at the end of a row.
-fn push_name(
+/// Puts the name of a message that there may not be at the end of a row: nothing where there is none. Fails
+/// where memory runs out, and else never.
+pub fn push_name(
     alloc: Global,
     scenario: &Scenario,
     message: Option<usize>,
@@ -234,7 +235,7 @@ fn message_name(scenario: &Scenario, message: usize) -> &str
 }
 
 /// The name of a group, and none for a group that the scenario has not.
-pub(crate) fn group_name(scenario: &Scenario, group: usize) -> &str
+pub fn group_name(scenario: &Scenario, group: usize) -> &str
     ensures { result.now ≡ group_name_at scenario.now group }
 {
     if group < scenario.group_count() {

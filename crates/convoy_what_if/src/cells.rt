@@ -2,14 +2,13 @@
 
 ghost use Rattle.std.specs.Prelude.{◌≡◌, ◌∷◌, [], ◌++◌, OnOk, IfOk};
 ghost use Rattle.convoy_scenario.specs.Naming.{sender_word};
-ghost use Rattle.convoy_scenario.specs.Scenario.{group_name_at, message_at};
+ghost use Rattle.convoy_scenario.specs.Scenario.{group_name_at};
 ghost use Rattle.convoy_tables.specs.Tables.{word};
-ghost use Rattle.convoy_survey.specs.Cells.{name_cell};
 ghost use Rattle.convoy_what_if.specs.Cells.{change_cells, change_word, left_out, link_cells, row_cells};
 
 use convoy_changes::Change;
 use convoy_scenario::{Scenario, Sender};
-use convoy_survey::{Finding, push_finding};
+use convoy_survey::{Finding, group_name, push_finding, push_name};
 use convoy_tables::{Cell, Row};
 use std::alloc::{AllocError, Global};
 
@@ -64,21 +63,6 @@ fn left_out(change: Change) -> Option<usize>
     }
 }
 
-/// Puts the name of a message that there may not be at the end of a row.
-fn push_name(
-    alloc: Global,
-    scenario: &Scenario,
-    message: Option<usize>,
-    cells: &mut Row,
-) -> Result<(), AllocError>
-    ensures { OnOk result (cells.new ≡ cells.old ++ name_cell scenario.now message ∷ []) }
-{
-    match message {
-        Some(message) => cells.push(Cell::word(alloc, message_name(scenario, message))?),
-        None => cells.push(Cell::nothing(alloc)),
-    }
-}
-
 /// Puts the two ends of the link that a change narrows at the end of a row.
 fn push_link(
     alloc: Global,
@@ -114,17 +98,6 @@ fn push_ends(
     cells.push(Cell::word(alloc, group_name(scenario, to))?)
 }
 
-/// The name of a message, and none for a message that the scenario has not.
-fn message_name(scenario: &Scenario, message: usize) -> &str
-    ensures { result.now ≡ (message_at scenario.now message).name }
-{
-    if message < scenario.message_count() {
-        scenario.message_name(message)
-    } else {
-        ""
-    }
-}
-
 /// The word for a sender.
 fn sender_word(scenario: &Scenario, sender: Sender) -> &str
     ensures { result.now ≡ sender_word scenario.now sender }
@@ -132,16 +105,5 @@ fn sender_word(scenario: &Scenario, sender: Sender) -> &str
     match sender {
         Sender::Client => "client",
         Sender::Group(group) => group_name(scenario, group),
-    }
-}
-
-/// The name of a group, and none for a group that the scenario has not.
-fn group_name(scenario: &Scenario, group: usize) -> &str
-    ensures { result.now ≡ group_name_at scenario.now group }
-{
-    if group < scenario.group_count() {
-        scenario.group_name(group)
-    } else {
-        ""
     }
 }
