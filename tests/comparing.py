@@ -6,7 +6,7 @@ import random
 import sys
 
 import schedules
-from schedules import delays_of_certificate, latency, ranks_of_certificate, small_scenarios
+from schedules import chance_scenario, delays_of_certificate, latency, ranks_of_certificate, small_scenarios
 from support import count, need, run, tell, want
 
 
@@ -39,23 +39,27 @@ def few_are_open(told, most):
     need(told["open"] <= most, f"{told['open']} answers are open, and not up to {most}")
 
 
-def main(documentation, real, most, most_open=lambda number, options: 0, further=()):
-    """Makes the scenarios of a part and compares the answers for them, and makes the further checks of each, which are
-    called with the chance and the scenario. How many of so many answers may be open depends on the options: with a limit
-    of tickets all."""
-    words = sys.argv[1:]
+def in_turn(further, scenarios, every):
+    """The further checks of scenarios: each is made of one scenario in so many, the next check of the scenarios after these."""
+    for turn, check in enumerate(further):
+        yield from ((check, place, scenario) for place, scenario in enumerate(scenarios) if place % every == turn % every)
+
+
+def main(documentation, real, most, most_open=lambda number, options: 0, further=(), every=1, made=chance_scenario, words=None):
+    """Makes the scenarios of a part, in one way, and compares the answers for them, and makes the further checks of one
+    in so many, which are called with the chance and the scenario. How many of so many answers may be open depends on the
+    options: with a limit of tickets all. The words are those of the command line where no others are told."""
+    words = sys.argv[1:] if words is None else words
     if words[:1] in (["--help"], ["-h"]):
         sys.exit(documentation)
     number = int(words[0]) if words else 100
     chance = random.Random(int(words[1]) if len(words) > 1 else 1)
     told = {"exact": 0, "in one node": 0, "open": 0}
-    scenarios = list(itertools.islice(small_scenarios(chance, most, real), number))
+    scenarios = list(itertools.islice(small_scenarios(chance, most, real, made), number))
     checks = [(f"scenario {place}", lambda s=scenario: compare(s, words[2:], told)) for place, scenario in enumerate(scenarios)]
     allowed = number if "--limit" in words else most_open(number, words[2:])
     checks += [("few are open", lambda: few_are_open(told, allowed))]
-    checks += [
-        (f"{check.__name__} {place}", lambda c=check, s=scenario: c(chance, s)) for check in further for place, scenario in enumerate(scenarios)
-    ]
+    checks += [(f"{check.__name__} {place}", lambda c=check, s=scenario: c(chance, s)) for check, place, scenario in in_turn(further, scenarios, every)]
     counts = count(checks)
     print(f"{told['exact']} exact, {told['in one node']} of them in one node, {told['open']} open")
     sys.exit(tell(*counts))

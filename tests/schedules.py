@@ -9,26 +9,31 @@ import math
 
 MOST_SCHEDULES = 4096
 CLIENT = None
+# What has a place in a schedule: how long a message waits for its issue, how long it is under way, and how long a stamp is.
+WAIT, MESSAGE, PROPOSAL = "wait", "message", "proposal"
 
 
 class Scenario:
-    """How many groups there are, messages as (sender or CLIENT, destinations, issue tick), the target's number and group,
-    links as ranges by (sender or CLIENT, destination), and whether its time is real."""
+    """How many groups there are, messages as (sender or CLIENT, destinations, first tick of issue), the target's number and
+    group, links as ranges by (sender or CLIENT, destination), whether its time is real, and how many ticks each message may
+    wait for its issue; none may where that is not told."""
 
-    def __init__(self, delay, groups, messages, target, at, links, real=False):
+    def __init__(self, delay, groups, messages, target, at, links, real=False, waits=None):
         self.delay, self.groups, self.messages = delay, groups, messages
         self.target, self.at, self.links, self.real = target, at, links, real
+        self.waits = waits or [0] * len(messages)
 
     def packets(self):
-        """Message by message: the message itself, and then the proposals, as (message, from, to, is it a proposal)."""
+        """Message by message: its wait, if it may wait, the message itself, and then the proposals, as (message, from, to, which)."""
         for number, (sender, to, _) in enumerate(self.messages):
-            yield from ((number, sender, g, False) for g in to if g != sender)
-            yield from ((number, h, g, True) for h in to for g in to if h != g)
+            yield from [(number, sender, sender, WAIT)] * bool(self.waits[number])
+            yield from ((number, sender, g, MESSAGE) for g in to if g != sender)
+            yield from ((number, h, g, PROPOSAL) for h in to for g in to if h != g)
 
     def ranges(self):
-        """What each packet may take."""
-        for _, sender, to, _ in self.packets():
-            least, most = self.links.get((sender, to), (1, self.delay))
+        """What each packet may take, and how long each message may wait, in the order of the packets."""
+        for number, sender, to, which in self.packets():
+            least, most = (0, self.waits[number]) if which is WAIT else self.links.get((sender, to), (1, self.delay))
             yield range(least, most + 1)
 
     def moments(self):
@@ -36,19 +41,24 @@ class Scenario:
         return [(m, g, is_commit) for m, (_, to, _) in enumerate(self.messages) for g in to for is_commit in (False, True)]
 
     def size(self):
-        """How many delays there are for all packets together."""
+        """How many delays and waits there are for all packets and messages together."""
         return math.prod(len(delays) for delays in self.ranges())
 
+    def issues(self):
+        """The first tick at which each message may be issued, and the last where it may wait."""
+        return [[at, at + wait] if wait else [at] for (_, _, at), wait in zip(self.messages, self.waits)]
+
     def all_times(self):
-        """All that is told in ticks: D, when each message is issued, and the ends of each link's range."""
-        return [self.delay, *(at for _, _, at in self.messages), *itertools.chain.from_iterable(self.links.values())]
+        """All that is told in ticks: D, when each message may be issued, and the ends of each link's range."""
+        return [self.delay, *itertools.chain.from_iterable([*self.issues(), *self.links.values()])]
 
     def text(self, tick=None, told=str):
         """The scenario as TOML, with this value of the key `tick`, and each time told so."""
         lines = ['time = "real"'] if self.real else []
         lines += [f"tick = {tick}"] if tick else []
         lines += [f"delay = {told(self.delay)}", f"groups = {quoted(range(self.groups))}", ""]
-        lines += itertools.chain.from_iterable(message_lines(*each, told) for each in enumerate(self.messages))
+        tables = zip(itertools.count(), self.messages, self.issues())
+        lines += itertools.chain.from_iterable(message_lines(*each, told) for each in tables)
         lines += ["[target]", f'message = "m{self.target}"', f'group = "g{self.at}"', ""]
         lines += itertools.chain.from_iterable(link_lines(*each, told) for each in self.links.items())
         return "\n".join(lines)
@@ -60,7 +70,17 @@ class Scenario:
         ranges = {pair: self.links.get(pair, (1, self.delay)) for pair in pairs}
         links = {pair: (times * least, times * most) for pair, (least, most) in ranges.items()}
         messages = [(sender, to, times * at) for sender, to, at in self.messages]
-        return Scenario(times * self.delay, self.groups, messages, self.target, self.at, links, self.real)
+        waits = [times * wait for wait in self.waits]
+        return Scenario(times * self.delay, self.groups, messages, self.target, self.at, links, self.real, waits)
+
+    def issued_after(self, waits):
+        """The scenario in which each message has waited so long, and waits no longer."""
+        messages = [(sender, to, at + wait) for (sender, to, at), wait in zip(self.messages, waits)]
+        return Scenario(self.delay, self.groups, messages, self.target, self.at, self.links, self.real)
+
+    def waiting(self, waits):
+        """The scenario in which each message may wait so long."""
+        return Scenario(self.delay, self.groups, self.messages, self.target, self.at, self.links, self.real, waits)
 
 
 def quoted(groups):
@@ -73,10 +93,11 @@ def sender_lines(sender):
     return [] if sender is CLIENT else [f'from = "g{sender}"']
 
 
-def message_lines(number, message, told):
-    """The table of a message."""
-    sender, to, at = message
-    return ["[[multicast]]", f'name = "m{number}"', *sender_lines(sender), f"to = {quoted(to)}", f"at = {told(at)}", ""]
+def message_lines(number, message, issue, told):
+    """The table of a message, with the first and the last tick of its issue, or the one."""
+    sender, to, _ = message
+    times = [f"{key} = {told(tick)}" for key, tick in zip(("at", "until"), issue)]
+    return ["[[multicast]]", f'name = "m{number}"', *sender_lines(sender), f"to = {quoted(to)}", *times, ""]
 
 
 def link_lines(pair, bounds, told):
@@ -91,11 +112,19 @@ def of_certificate(text):
     of_word = lambda word: [row[1:] for row in rows if row[0] == word]
     (delay,), names = of_word("delay")[0], of_word("groups")[0]
     place = lambda name: CLIENT if name == "client" else names.index(name)
-    messages = [(place(sender), [place(name) for name in to], int(at)) for _, sender, at, *to in of_word("multicast")]
+    windows = [window_of(issue) for _, _, issue, *_ in of_word("multicast")]
+    messages = [(place(sender), [place(name) for name in to], at) for (_, sender, _, *to), (at, _) in zip(of_word("multicast"), windows)]
     target, group = of_word("target")[0]
     number = [name for name, *_ in of_word("multicast")].index(target)
     links = {(place(sender), place(to)): (int(least), int(most)) for sender, to, least, most in of_word("link")}
-    return Scenario(int(delay), len(names), messages, number, place(group), links, bool(of_word("time")))
+    waits = [last - first for first, last in windows]
+    return Scenario(int(delay), len(names), messages, number, place(group), links, ["real"] in of_word("time"), waits)
+
+
+def window_of(issue):
+    """The first and the last tick of issue in the word of a certificate's line: FIRST..LAST, or one tick."""
+    first, _, last = issue.partition("..")
+    return int(first), int(last or first)
 
 
 def delays_of_certificate(text):
@@ -142,20 +171,64 @@ def chance_scenario(chance, real):
     return Scenario(delay, groups, messages, target, at, links, real)
 
 
-def small_scenarios(chance, most=MOST_SCHEDULES, real=False):
-    """Scenarios by chance, each with at most so many delays for all packets together, without end."""
+def chance_waits(chance, delay, number, target):
+    """How long each of so many messages may wait: one of them at least, and never the target."""
+    others = [message for message in range(number) if message != target]
+    waiting = {chance.choice(others), *(message for message in others if chance.random() < 0.6)}
+    return [chance.randint(1, 3 * delay) if message in waiting else 0 for message in range(number)]
+
+
+def chance_rival(chance, delay, groups, at, begin, wait):
+    """A message that may wait so long, mostly to the group where the target is asked about, around the tick `begin` and later."""
+    to = set(chance.sample(range(groups), min(groups, chance.choice([1, 2, 2, 2, 2, 3]))))
+    to |= {at} if chance.random() < 0.8 else set()
+    first = begin + chance.randint(-wait, 2 * delay - wait // 2)
+    return chance.choice([CLIENT, *range(groups)]), sorted(to), max(0, first)
+
+
+def chance_narrow_links(chance, delay, groups):
+    """Links for most pairs of places, more than half of them of one delay, so that few packets have a choice."""
+    pairs = [(a, b) for a in [CLIENT, *range(groups)] for b in range(groups) if a != b and chance.random() < 0.8]
+    leasts = {pair: chance.randint(1, delay) for pair in pairs}
+    return {pair: [least, least if chance.random() < 0.6 else chance.randint(least, delay)] for pair, least in leasts.items()}
+
+
+def chance_windows(chance, real):
+    """A scenario of two to four messages, of which one or more may wait, and most come to the target's group while the target
+    is on its way, now and then long after tick 0. Few packets have a choice of delays, so that all waits can be tried with
+    all delays."""
+    delay, groups = chance.choice([1, 2, 2, 3] if real else [2, 2, 3, 3, 4]), chance.choice([2, 2, 3])
+    number = chance.choice([2, 3, 3] if real else [2, 3, 3, 4])
+    target, at = chance.randrange(number), chance.randrange(groups)
+    begin = chance.choice([0, 0, 0, 900_000]) + chance.randint(0, delay)
+    waits = chance_waits(chance, delay, number, target)
+    messages = [chance_rival(chance, delay, groups, at, begin, wait) for wait in waits]
+    sender, to, _ = messages[target]
+    messages[target] = sender, sorted({at, *to}), begin
+    return Scenario(delay, groups, messages, target, at, chance_narrow_links(chance, delay, groups), real, waits)
+
+
+def small_scenarios(chance, most=MOST_SCHEDULES, real=False, made=chance_scenario):
+    """Scenarios by chance, made so, each with at most so many delays for all packets together, without end."""
     while True:
-        scenario = chance_scenario(chance, real)
+        scenario = made(chance, real)
         if scenario.size() <= most:
             yield scenario
 
 
+def issue_ticks(scenario, packets, schedule):
+    """When each message is issued."""
+    waited = {number: ticks for (number, _, _, which), ticks in zip(packets, schedule) if which is WAIT}
+    return [at + waited.get(number, 0) for number, (_, _, at) in enumerate(scenario.messages)]
+
+
 def times(scenario, packets, schedule):
     """When each message arrives at each of its groups, and when it is committed there."""
-    takes = {(number, sender if proposal else CLIENT, to): delay for (number, sender, to, proposal), delay in zip(packets, schedule)}
-    pairs = [(m, to, g, at) for m, (_, to, at) in enumerate(scenario.messages) for g in to]
-    arrival = {(m, g): at + takes.get((m, CLIENT, g), 0) for m, _, g, at in pairs}
-    commit = {(m, g): max(arrival[m, h] + takes.get((m, h, g), 0) for h in to) for m, to, g, _ in pairs}
+    takes = dict(zip(packets, schedule))
+    issue = issue_ticks(scenario, packets, schedule)
+    pairs = [(m, sender, to, g) for m, (sender, to, _) in enumerate(scenario.messages) for g in to]
+    arrival = {(m, g): issue[m] + takes.get((m, sender, g, MESSAGE), 0) for m, sender, _, g in pairs}
+    commit = {(m, g): max(arrival[m, h] + takes.get((m, h, g, PROPOSAL), 0) for h in to) for m, _, to, g in pairs}
     return arrival, commit
 
 

@@ -2,16 +2,22 @@
 
 import csv
 import io
+import itertools
 import re
 import tomllib
 
 from support import need, want
 
 
+def may_wait(message):
+    """Whether a message of a table may be issued at several ticks."""
+    return message.get("until", message["at"]) != message["at"]
+
+
 def targets(text):
-    """Each message at each group that it goes to, in the order of their numbers."""
+    """Each message that does not wait at each group that it goes to, in the order of their numbers."""
     table = tomllib.loads(text)
-    for message in table["multicast"]:
+    for message in itertools.filterfalse(may_wait, table["multicast"]):
         for group in sorted(message["to"], key=table["groups"].index):
             yield message["name"], group
 

@@ -53,6 +53,10 @@ SWAPPED = BASE.replace('groups = ["a", "b"]', 'groups = ["b", "a"]')
 LATER = BASE.replace("at = 6", "at = 7")
 EARLIER = BASE.replace("at = 6", "at = 5")
 
+# The base where y may be issued at any tick from 2 to 10, and from 5 to 7.
+WINDOW = BASE.replace("at = 6", "at = 2\nuntil = 10")
+NARROW_WINDOW = BASE.replace("at = 6", "at = 5\nuntil = 7")
+
 # The base with each packet at its greatest delay.
 SLOWEST = "schedule = [3, 3, 3, 3, 3, 3, 3, 3]\n" + BASE
 
@@ -63,6 +67,21 @@ from = "b"
 to = "a"
 least = 1
 most = 2
+"""
+
+# Links of one delay for all packets of the base, to stand below it: only what waits has a choice then.
+ONE_DELAY = """
+[[link]]
+to = ["a", "b"]
+least = 3
+most = 3
+
+[[link]]
+from = "a"
+to = "b"
+both = true
+least = 3
+most = 3
 """
 
 # A message from a client arrives at b alone while t is on its way.
@@ -317,6 +336,9 @@ MEASURED = 'time = "real"\ntick = "50 us"\n' + (
     TIED_IN_TICKS.replace("delay = 1", 'delay = "0.05 ms"').replace("at = 0", 'at = "0 ms"', 1).replace("at = 2", 'at = "100us"')
 )
 
+# In real time, where y may be issued at any time from the first tick to the last.
+REAL_WINDOW = 'time = "real"\n' + WINDOW
+
 # The base in milliseconds, without the length of a tick: it is the greatest that goes into all times, and 3 ms; with y a
 # millisecond later it is 1 ms.
 MILLISECONDS = 'time = "real"\n' + BASE.replace("delay = 3", 'delay = "3 ms"').replace("at = 0", 'at = "0 ms"').replace("at = 6", 'at = "6 ms"')
@@ -390,5 +412,51 @@ order
 s 0 1
 b
 b
+end
+"""
+
+# The base where y may be issued from tick 2 to tick 10, by a lead leaf. It waits four ticks, which the sixth number tells.
+WINDOW_CERTIFICATE = """\
+convoy 4
+time ticks
+delay 3
+groups a b
+multicast x client 0 b
+multicast t client 0 a b
+multicast y a 2..10 a b
+target t a
+latency 12
+schedule 3 3 3 3 3 4 3 3 3
+c 12
+end
+"""
+
+# The same in real time.
+REAL_WINDOW_CERTIFICATE = WINDOW_CERTIFICATE.replace("time ticks", "time real").replace("\nc 12\n", "\norder\nc 12\n")
+
+# By bound leaves: if y is issued after tick 6, it comes too late to hold t back.
+WINDOW_SPLIT_CERTIFICATE = WINDOW_CERTIFICATE.replace("\nc 12\n", "\ns 5 4\nb\nb\n")
+
+# From tick 5 to tick 7, where each packet takes three ticks: a point leaf for each tick of issue.
+WINDOW_POINT_CERTIFICATE = """\
+convoy 4
+time ticks
+delay 3
+groups a b
+link client a 3 3
+link client b 3 3
+link a b 3 3
+link b a 3 3
+multicast x client 0 b
+multicast t client 0 a b
+multicast y a 5..7 a b
+target t a
+latency 12
+schedule 3 3 3 3 3 1 3 3 3
+s 5 0
+p
+s 5 1
+p
+p
 end
 """

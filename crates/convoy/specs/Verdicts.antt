@@ -18,7 +18,7 @@ use Rattle.convoy_about.specs.Abouts.{CheckAboutSays, IsScenarioRead}
 use Rattle.convoy_batch.specs.declared.batch_table.TheConstants.{LONGEST_BATCH}
 use Rattle.convoy_batch.specs.BatchTables.{BatchTableSays}
 use Rattle.convoy_batch.specs.Batches.{IsBatchRun}
-use Rattle.convoy_beside.specs.Besides.{BesideSays, longest_of}
+use Rattle.convoy_commands.specs.Besides.{BesideSays, longest_of}
 use Rattle.convoy_commands.specs.Commands.{longest_for, says_for}
 use Rattle.convoy_commands.specs.Devices.{Answer, HasRun}
 use Rattle.convoy_commands.specs.Faults.{fault_line_of}

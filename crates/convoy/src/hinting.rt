@@ -1,20 +1,20 @@
 //! What the program writes to standard error, for people: a line before it waits for a terminal, why a file
-//! could not be read, and a hint where it has no answer, or an open one (docs/HINTS.md).
+//! could not be read, and a hint where it has no answer or an open one, and with some answers
+//! (docs/HINTS.md).
 
 use super::ending::End;
 use super::kept::{KeptReader, KeptWriter};
 use convoy_arguments::{Input, REJECTED, Task, Verdict};
 use convoy_batch::MOST_JOBS;
-use convoy_beside::Question;
 use convoy_commands::{
-    Bounds, Command, Direct, Done, Fault, LONGEST_JOB, MOST_SIMULATIONS, Options, ReadFault,
-    ScenarioFault, SearchEnd, Ways, lead_share, plain_share,
+    Asking, Bounds, Command, Direct, Done, Fault, LONGEST_JOB, MOST_SIMULATIONS, Options, Question,
+    ReadFault, ScenarioFault, SearchEnd, Ways, lead_share, plain_share,
 };
 use convoy_hints::{
-    hint_for_batch, hint_for_both, hint_for_ceiling, hint_for_certificate, hint_for_first,
-    hint_for_jobs, hint_for_leads, hint_for_length, hint_for_limit, hint_for_reading,
-    hint_for_real_time, hint_for_run, hint_for_scenario, hint_for_tickets, hint_for_words,
-    hint_for_writing, is_in_real_time, line_for_file,
+    hint_for_batch, hint_for_both, hint_for_ceiling, hint_for_certificate, hint_for_explained,
+    hint_for_first, hint_for_greatest, hint_for_jobs, hint_for_leads, hint_for_length,
+    hint_for_limit, hint_for_reading, hint_for_real_time, hint_for_run, hint_for_scenario,
+    hint_for_tickets, hint_for_words, hint_for_writing, is_in_real_time, line_for_file,
 };
 use std::alloc::{AllocError, Global};
 use std::convert::AsStr;
@@ -30,6 +30,8 @@ pub struct Ended<'a, R, W> {
     /// That of the scenario which a certificate is to be of.
     pub scenario_reader: &'a KeptReader<R>,
     pub writer: &'a KeptWriter<W>,
+    /// The greatest latency in ticks that the last search found, where it did.
+    pub greatest: Option<u32>,
 }
 
 /// Whether the command line asks for no hints.
@@ -336,8 +338,8 @@ fn names_bounds<S: AsStr>(words: &[S]) -> bool {
         .any(|word| word.as_str().starts_with("--bounds"))
 }
 
-/// The hint for a run that gave its answer: the blocks of a batch have the faults of its jobs, and without a
-/// command word the answer is that of one schedule.
+/// The hint for a run that gave its answer: the blocks of a batch have the faults of its jobs, without a
+/// command word the answer is that of one schedule, and a greatest latency may be the ceiling.
 fn hint_for_answer<R, W>(
     alloc: Global,
     ended: &Ended<'_, R, W>,
@@ -354,6 +356,18 @@ fn hint_for_answer<R, W>(
         } if !ended.words.iter().any(|word| word.as_str() == "first") => {
             Ok(Some(hint_for_first(alloc)?))
         }
+        Verdict::Ask {
+            task: Task::Command(Command::Search(..)) | Task::Beside(Question::Latency(_)),
+            ..
+        } => match ended.greatest {
+            Some(greatest) => hint_for_greatest(alloc, reader.text(), greatest),
+            None => Ok(None),
+        },
+        Verdict::Ask {
+            task: Task::Command(Command::Direct(Direct::Ask(Asking::Explain)))
+            | Task::Beside(Question::Explain),
+            ..
+        } if reader.is_whole() => hint_for_explained(alloc, reader.text()),
         _ => Ok(None),
     }
 }

@@ -7,7 +7,7 @@ ghost use Rattle.convoy_arguments.specs.Verdicts.{HasReads, IsVerdict};
 ghost use Rattle.convoy_arguments.specs.declared.limits.TheConstants.{MOST_READS};
 ghost use Rattle.convoy_batch.specs.declared.batch_table.TheConstants.{LONGEST_BATCH};
 ghost use Rattle.convoy_batch.specs.BatchTables.{BatchTableSays};
-ghost use Rattle.convoy_beside.specs.Besides.{BesideSays, longest_of};
+ghost use Rattle.convoy_commands.specs.Besides.{BesideSays, longest_of};
 ghost use Rattle.convoy_commands.specs.declared.limits.TheConstants.{LONGEST_JOB};
 ghost use Rattle.convoy_commands.specs.Commands.{longest_for, says_for};
 ghost use Rattle.convoy_commands.specs.Runs.{IsRun};
@@ -35,10 +35,9 @@ mod progress;
 use convoy_about::{read_scenario, run_check_about};
 use convoy_arguments::{Input, MOST_READS, Task, Verdict, judge, judge_bytes};
 use convoy_batch::{run_batch, run_batch_table};
-use convoy_beside::{Question, run_beside};
 use convoy_commands::{
-    Command, DeviceFailed, Fault, Options, SearchEnd, Sink, Source, StreamSink, StreamSource,
-    Watch, fault_line, run, run_search, write_all,
+    Command, DeviceFailed, Fault, Options, Question, SearchEnd, Sink, Source, StreamSink,
+    StreamSource, Watch, fault_line, run, run_beside, run_search, write_all,
 };
 use convoy_survey::{Format, run_ceilings, run_survey};
 use convoy_what_if::run_what_if;
@@ -112,6 +111,7 @@ fn main(rt: HostRuntime) -> ExitCode {
         reader: &source.reader,
         scenario_reader: &scenario_source.reader,
         writer: &sink.writer,
+        greatest: progress.greatest(),
     };
     tell_ended(&mut rt.stderr(), alloc, &ended, is_quiet);
     ExitCode::from(status)

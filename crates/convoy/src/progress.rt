@@ -62,6 +62,8 @@ pub struct Progress<'a, R> {
     most: AtomicU32,
     /// Whether a line was told of this search.
     told: AtomicBool,
+    /// The greatest latency that the last search found, or the greatest number where it found none.
+    greatest: AtomicU32,
 }
 
 impl<'a, R: Clock> Progress<'a, R> {
@@ -82,6 +84,15 @@ impl<'a, R: Clock> Progress<'a, R> {
             least: AtomicU32::new(0),
             most: AtomicU32::new(0),
             told: AtomicBool::new(false),
+            greatest: AtomicU32::new(u32::MAX),
+        }
+    }
+
+    /// The greatest latency in ticks that the last search found, where it did.
+    pub fn greatest(&self) -> Option<u32> {
+        match self.greatest.load(Ordering::Relaxed) {
+            u32::MAX => None,
+            greatest => Some(greatest),
         }
     }
 
@@ -220,7 +231,9 @@ impl<'a, R: Clock> Watch for Progress<'a, R> {
         self.start(bounds, limit, least, most.unwrap_or(u32::MAX));
     }
 
-    fn ends(&self) {
+    fn ends(&self, greatest: Option<u32>) {
+        self.greatest
+            .store(greatest.unwrap_or(u32::MAX), Ordering::Relaxed);
         if self.screen == Screen::Terminal && self.told.load(Ordering::Relaxed) {
             let _ = (&self.stderr).write_all(b"\n");
         }

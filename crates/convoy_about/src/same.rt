@@ -97,6 +97,7 @@ fn has_same_message(wanted: &Scenario, other: &Scenario, message: usize) -> bool
         && other.sender(message) == wanted.sender(message)
         && are_same_groups(other.destinations(message), wanted.destinations(message))
         && other.issue_tick(message) == wanted.issue_tick(message)
+        && other.longest_wait(message) == wanted.longest_wait(message)
 }
 
 fn is_same_name(name: &str, other: &str) -> bool

@@ -1,6 +1,6 @@
 -- What a command line asks for.
 use Rattle.std.specs.Prelude.{◌≡◌, ◌⊎◌, ℕ, List, Option, Some, None}
-use Rattle.convoy_beside.specs.declared.running.Question.TheVariants.{Latency, Explain}
+use Rattle.convoy_commands.specs.declared.beside.Question.TheVariants.{Latency, Explain}
 use Rattle.convoy_commands.specs.declared.command.Command.TheVariants.{Direct, Search}
 use Rattle.convoy_arguments.specs.declared.limits.TheConstants.{MOST_READS}
 use Rattle.convoy_arguments.specs.declared.task.Task.{Task}

@@ -6,8 +6,8 @@ pub(crate) const ABOUT: &str =
 pub(crate) const LONG_ABOUT: &str = "\
 Convoy says how late, at worst, one message is delivered at one of its groups,
 over all delays of packets. A scenario names overlapping groups, the multicasts
-to them with the ticks at which they are issued, and the message and the group of
-which the latency is asked. With `time = \"real\"` in it time is real; without that
+to them with the ticks at or between which they are issued, and the message and
+the group of which the latency is asked. With `time = \"real\"` in it time is real; without that
 key time goes in whole ticks, and what happens at once has a fixed order.
   convoy analyse scenario.toml | convoy explain
 finds the greatest latency and tells why it is so late, and
@@ -208,7 +208,8 @@ makes a scenario that other commands read, as `simulate` and `analyse`. Where L
 is U no number below U is safe, and the exit status is 0; else it is 3.
 
 With `--all` a table is written instead, with a row for each message at each group
-that it goes to, and with `--group GROUP` for each message that goes to that group:
+that it goes to, and with `--group GROUP` for each message that goes to that group,
+but for messages with an issue window (`until`), which are no targets:
   message  group  ceiling  attained
   t        a           12        12
 The exit status is then 1 where memory ran out for a row, else 3 where a ceiling
@@ -245,7 +246,8 @@ pub(crate) const ABOUT_SURVEY: &str = "Tells the greatest latency of each messag
 pub(crate) const LONG_ABOUT_SURVEY: &str = "\
 Reads a scenario, searches for the greatest latency of each message at each group
 that it goes to, as `latency` does for that target, and writes a table with a row
-for each, in the order of the text:
+for each, in the order of the text, but for messages with an issue window (`until`),
+which are no targets:
   message  group  answer    least  most  rival  tied  nodes
   t        a      greatest     12    12  y      -         1
 LEAST and MOST are in ticks, and once more in a unit of time where a tick has a

@@ -9,8 +9,7 @@ use super::task::Task;
 use super::verdict::Verdict;
 use clap::error::ErrorKind;
 use clap::{ArgMatches, Error};
-use convoy_beside::Question;
-use convoy_commands::{Asking, Command, Direct, Goal, Telling};
+use convoy_commands::{Asking, Command, Direct, Goal, Question, Telling};
 use std::alloc::{AllocError, Global};
 use std::convert::AsStr;
 

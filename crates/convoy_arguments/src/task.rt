@@ -1,6 +1,5 @@
 use super::input::Input;
-use convoy_beside::Question;
-use convoy_commands::{Command, Options};
+use convoy_commands::{Command, Options, Question};
 use convoy_tables::Format;
 
 /// What a command line asks for of the text that is read.

@@ -85,7 +85,7 @@ IsSearching-written bounds plan best work nodes tickets node searching =
       tree = front.0;
       spent = front.1;
       all_work = parts.0;
-      all_nodes = All-push (IsNode plan.time) nodes node searching.all_nodes parts.1;
+      all_nodes = All-push (IsNode plan) nodes node searching.all_nodes parts.1;
     }
 
 -- the same by what the program makes of its two lists
@@ -106,9 +106,9 @@ front_turned work nodes (Closed node) = front-written work node nodes
 front_turned work nodes (Halves packet at lower upper) =
     front-halved work (Write (Split packet at)) (Branch lower false) (Branch upper true) (done nodes)
 
-nodes_turned : (bounds : Bounds) (plan : Scenario) (known : ℕ) (nodes : List Node) (box : Box) (turn : Turn) → IsTurn bounds plan box known turn → All (IsNode plan.time) nodes → All (IsNode plan.time) (nodes_after nodes turn)
+nodes_turned : (bounds : Bounds) (plan : Scenario) (known : ℕ) (nodes : List Node) (box : Box) (turn : Turn) → IsTurn bounds plan box known turn → All (IsNode plan) nodes → All (IsNode plan) (nodes_after nodes turn)
 nodes_turned bounds plan known nodes box (Closed node) turn all =
-    All-push (IsNode plan.time) nodes node all (leaf_node bounds plan known box node turn)
+    All-push (IsNode plan) nodes node all (leaf_node bounds plan known box node turn)
 nodes_turned bounds plan known nodes box (Halves packet at lower upper) turn all = all
 
 -- the halves of a box wait to be taken up: both are boxes of the scenario, and the greatest delays of the upper one were tried
@@ -185,6 +185,10 @@ HasTurned-taken bounds plan old new seen branch tried noted turn are_boxes keeps
       ticket = tickets_is;
       few = omega (arith, ap length work_is, length-work_after old.work.items turn);
     }
+
+-- the box that is next is one of the scenario, and it is known whether its greatest delays were tried
+pub next_is : (bounds : Bounds) (plan : Scenario) (best : Record) (work : List Work) (nodes : List Node) (tickets : ℕ) (branch : Tracked) (tried : Bool) → IsSearching bounds plan best (work ++ Branch branch tried ∷ []) nodes tickets → IsWork plan best.latency (Branch branch tried)
+next_is bounds plan best work nodes tickets branch tried searching = (All-front (IsWork plan best.latency) work (Branch branch tried) searching.all_work).1
 
 -- a box of a search is of its scenario
 next_of_scenario : (bounds : Bounds) (plan : Scenario) (best : Record) (work : List Work) (nodes : List Node) (tickets : ℕ) (branch : Tracked) (tried : Bool) → IsSearching bounds plan best (work ++ Branch branch tried ∷ []) nodes tickets → branch ≡ tracked_of plan branch.delay_box

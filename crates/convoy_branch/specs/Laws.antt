@@ -68,7 +68,7 @@ TurnsAreNodes =
     → IsTable (table_of scenario)
     → IsBox scenario branch
     → IsTurn bounds scenario branch best turn
-    → All (IsNode scenario.time) (spent_in (front_after turn))
+    → All (IsNode scenario) (spent_in (front_after turn))
 
 -- with no box left a front is a tree that closes the root
 abbrev pub WholeFrontsAreTrees : Type 0

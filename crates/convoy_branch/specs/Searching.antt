@@ -34,7 +34,7 @@ front_nodes work nodes = map front_of work ++ map Spent (reverse nodes)
 abbrev pub IsWork : Scenario → ℕ → Work → Type 0
 IsWork scenario best (Branch branch tried) =
     IsBox scenario branch.delay_box × IsTriedIf scenario branch.delay_box tried best × (branch.scenario ≡ scenario)
-IsWork scenario best (Write node) = IsNode scenario.time node
+IsWork scenario best (Write node) = IsNode scenario node
 
 -- The search by those bounds has come to this: its best record, the work that is left, the nodes that are written, and the tickets that were spent.
 pub record IsSearching (bounds : Bounds) (scenario : Scenario) (best : Record) (work : List Work) (nodes : List Node) (tickets : ℕ) : Type 0 where
@@ -44,7 +44,7 @@ pub record IsSearching (bounds : Bounds) (scenario : Scenario) (best : Record) (
   pub tree : AreFronts bounds scenario best.latency (root_of scenario ∷ []) (front_nodes work nodes)
   pub spent : length (spent_in (front_nodes work nodes)) ≡ tickets
   pub all_work : All (IsWork scenario best.latency) work
-  pub all_nodes : All (IsNode scenario.time) nodes
+  pub all_nodes : All (IsNode scenario) nodes
 
 -- a search has spent a ticket for the box that was next
 pub record HasTurned (bounds : Bounds) (scenario : Scenario) (old new : Search) : Type 0 where

@@ -8,7 +8,7 @@ use Rattle.convoy_scenario.specs.Scenario.{Scenario, GoesTo, message_at}
 use Rattle.convoy_scenario.specs.WellFormed.{IsScenario}
 use Rattle.convoy_packets.specs.declared.packet.Packet.TheVariants.{Multicast}
 use Rattle.convoy_packets.specs.Assignment.{Schedule, AreWithin, delay_of, ranges_of}
-use Rattle.convoy_sim.specs.Times.{arrive, settle, propose_arrive}
+use Rattle.convoy_sim.specs.Times.{arrive, issue, settle, propose_arrive}
 use Rattle.convoy_sim.specs.Delivery.{addressed_to, last_commit, latency_at, latency_of}
 use Rattle.convoy_sim.specs.Laws.{arrive_by}
 use Rattle.convoy_sim.proofs.Membership.{IsIn, in_of_filter, in_greatest, greatest_most}
@@ -28,10 +28,10 @@ times_plus k a b = omega arith
 module _ (used : Used) (times : ℕ) (scenario traffic : Scenario) (is : IsFinerTrafficOf times scenario traffic) (schedule : Schedule) (within : AreWithin (ranges_of traffic) schedule.delays) where
   module _ (n m g : ℕ) (kind : IsOfKind (message_at scenario n) (message_at traffic m)) (goes : GoesTo traffic m g) where
     -- a message is committed within the longest of its kind
-    commits_by : settle traffic schedule m g ≤ (message_at traffic m).at + times * longest_to_commit scenario n g
+    commits_by : settle traffic schedule m g ≤ issue traffic schedule m + times * longest_to_commit scenario n g
     unfolding settle arrive
     commits_by =
-        greatest_most (propose_arrive traffic schedule m g) ((message_at traffic m).at + times * longest_to_commit scenario n g) (message_at traffic m).destinations
+        greatest_most (propose_arrive traffic schedule m g) (issue traffic schedule m + times * longest_to_commit scenario n g) (message_at traffic m).destinations
         (λ h i.
         let to_h = goes_from_in traffic m h i in
         let sender : Sender = (message_at scenario n).sender in
@@ -44,7 +44,7 @@ module _ (used : Used) (times : ℕ) (scenario traffic : Scenario) (is : IsFiner
         omega arith)
 
     -- it arrives no sooner than the least delay of its kind after its issue
-    arrives_from : (message_at traffic m).at + times * (delays_between scenario (message_at scenario n).sender g).0 ≤ arrive traffic schedule m g
+    arrives_from : issue traffic schedule m + times * (delays_between scenario (message_at scenario n).sender g).0 ≤ arrive traffic schedule m g
     unfolding arrive
     arrives_from =
         let least = subst (λ from. times * (delays_between scenario from g).0 ≤ delay_of traffic schedule (Multicast m g)) kind.sender
@@ -54,7 +54,7 @@ module _ (used : Used) (times : ℕ) (scenario traffic : Scenario) (is : IsFiner
   -- what has arrived at the group by the commit of a message there is committed within the ceiling of that
   commits_after : (m n k l g : ℕ) → IsOfKind (message_at scenario n) (message_at traffic m) → GoesTo traffic m g
       → IsOfKind (message_at scenario l) (message_at traffic k) → GoesTo traffic k g → arrive traffic schedule k g ≤ settle traffic schedule m g
-      → settle traffic schedule k g ≤ (message_at traffic m).at + times * (longest_to_commit scenario n g + longest_after scenario g)
+      → settle traffic schedule k g ≤ issue traffic schedule m + times * (longest_to_commit scenario n g + longest_after scenario g)
   commits_after m n k l g kind goes other comes soon =
       let least : ℕ = (delays_between scenario (message_at scenario l).sender g).0 in
       let own = commits_by n m g kind goes in
@@ -74,7 +74,7 @@ module _ (used : Used) (times : ℕ) (scenario traffic : Scenario) (is : IsFiner
       let bound = used.bound traffic schedule (is_traffic times scenario traffic is well) m g goes in
       let own = commits_by n m g kind goes in
       let more = times_rise times (longest_to_commit scenario n g) (longest_to_commit scenario n g + longest_after scenario g) (omega arith) in
-      let top : ℕ = (message_at traffic m).at + times * (longest_to_commit scenario n g + longest_after scenario g) in
+      let top : ℕ = issue traffic schedule m + times * (longest_to_commit scenario n g + longest_after scenario g) in
       let last : last_commit traffic schedule g (m ∷ arrive_by traffic schedule m g) ≤ top =
       greatest_most (λ k. settle traffic schedule k g) top (m ∷ arrive_by traffic schedule m g)
       (λ k i. elim i [

@@ -78,3 +78,44 @@ busy_is_traffic = record { groups = refl; delay = refl; links = refl; kinds = ki
 reached_at_b : latency_at busy (in_fixed_order (3 ∷ 1 ∷ 3 ∷ 3 ∷ 3 ∷ 3 ∷ 3 ∷ 3 ∷ 3 ∷ 3 ∷ 3 ∷ 3 ∷ 3 ∷ 3 ∷ 3 ∷ 3 ∷ 3 ∷ [])) 4 1 ≡ 11
 unfolding busy base_with message packets_of delay_of arrive settle arrival_rank commit_rank no_order moments_of clocks_of local_stamp final_stamp holds_back deliver latency_at
 reached_at_b = refl
+
+-- traffic with a wait: the first message of the kind of t may be issued from tick 0 to 5
+unfoldable waiting : Scenario
+waiting = record base {
+  multicasts = record { name = codes "t"; sender = Client; destinations = 0 ∷ 1 ∷ []; at = 0; longest_wait = 5 }
+      ∷ message (codes "y") (Group 0) (0 ∷ 1 ∷ []) 3 ∷ message (codes "y") (Group 0) (0 ∷ 1 ∷ []) 3 ∷ message (codes "y") (Group 0) (0 ∷ 1 ∷ []) 3
+      ∷ message (codes "t") Client (0 ∷ 1 ∷ []) 0 ∷ [];
+}
+
+waiting_is_traffic : IsTrafficOf base waiting
+unfolding waiting base_with message
+waiting_is_traffic = record { groups = refl; delay = refl; links = refl; kinds = kinds } where
+  of_t : (name : List ℕ) (at longest_wait : ℕ)
+      → IsOfSomeKind base (record { name = name; sender = Client; destinations = 0 ∷ 1 ∷ []; at = at; longest_wait = longest_wait })
+  of_t name at longest_wait = (1, omega arith, record { sender = refl; destinations = refl })
+
+  of_y : (name : List ℕ) (at : ℕ) → IsOfSomeKind base (message name (Group 0) (0 ∷ 1 ∷ []) at)
+  of_y name at = (2, omega arith, record { sender = refl; destinations = refl })
+
+  kinds : All (IsOfSomeKind base) waiting.multicasts
+  kinds zero other l = of_t (codes "t") 0 5
+  kinds (suc zero) other l = of_y (codes "y") 3
+  kinds (suc (suc zero)) other l = of_y (codes "y") 3
+  kinds (suc (suc (suc zero))) other l = of_y (codes "y") 3
+  kinds (suc (suc (suc (suc zero)))) other l = of_t (codes "t") 0 0
+  kinds (suc (suc (suc (suc (suc m))))) other l = absurd (omega arith)
+
+-- where it waits for all of its 5 ticks, the last message waits for it at b as before ..
+reached_after_wait : latency_at waiting (in_fixed_order (5 ∷ 3 ∷ 1 ∷ 3 ∷ 3 ∷ 3 ∷ 3 ∷ 3 ∷ 3 ∷ 3 ∷ 3 ∷ 3 ∷ 3 ∷ 3 ∷ 3 ∷ 3 ∷ 3 ∷ 3 ∷ [])) 4 1 ≡ 11
+unfolding waiting base_with message packets_of delay_of arrive settle arrival_rank commit_rank no_order moments_of clocks_of local_stamp final_stamp holds_back deliver latency_at
+reached_after_wait = refl
+
+-- .. and its own latency, which counts from its issue, is 6
+waits_itself : latency_at waiting (in_fixed_order (5 ∷ 3 ∷ 1 ∷ 3 ∷ 3 ∷ 3 ∷ 3 ∷ 3 ∷ 3 ∷ 3 ∷ 3 ∷ 3 ∷ 3 ∷ 3 ∷ 3 ∷ 3 ∷ 3 ∷ 3 ∷ [])) 0 1 ≡ 6
+unfolding waiting base_with message packets_of delay_of arrive settle arrival_rank commit_rank no_order moments_of clocks_of local_stamp final_stamp holds_back deliver latency_at
+waits_itself = refl
+
+-- the ceiling does not look at waits
+ceiling_of_waiting : ceiling_at waiting 0 1 ≡ 11
+unfolding waiting base_with message ceiling_at
+ceiling_of_waiting = refl

@@ -1,16 +1,18 @@
 -- What traffic has in common with the scenario of which its kinds are.
-use Rattle.std.proofs.Common.{All, ◌≡◌, ℕ, ◌*◌, ◌<◌, ◌≤◌, ◌==◌, length, refl, sym, ap, ap₂, subst, subst₂, IsTrue, arith}
+use Rattle.std.proofs.Common.{All, ◌≡◌, ℕ, ◌*◌, ◌<◌, ◌≤◌, ◌==◌, false, length, refl, sym, ap, ap₂, subst, subst₂, IsTrue, arith}
+use Rattle.std.proofs.lemmas.Bool.{and_parts}
 use Rattle.std.proofs.lemmas.List.{get_or_default}
 use Rattle.std.specs.List.{list_any}
 use Rattle.std.specs.List.Sorted.{IsStrictlyIncreasing}
 use Rattle.std.specs.Option.{option_map_or}
-use Rattle.convoy_scenario.specs.Scenario.{Scenario, GoesTo, no_message, message_at, link_between}
+use Rattle.convoy_scenario.specs.Scenario.{Scenario, GoesTo, no_message, message_at, link_between, range_between}
 use Rattle.convoy_scenario.specs.WellFormed.{IsScenario}
 use Rattle.convoy_packets.specs.declared.packet.Packet.{Packet}
+use Rattle.convoy_packets.specs.declared.packet.Packet.TheVariants.{Wait, Multicast, Propose}
 use Rattle.convoy_packets.specs.Assignment.{range_of, receiver_of, sender_of}
 use Rattle.convoy_sim.specs.Traffic.{IsTraffic}
 use Rattle.convoy_sim.proofs.Addressed.{number_of_goes}
-use Rattle.convoy_ceiling.specs.Ceiling.{IsFinerTrafficOf, IsOfKind, IsOfSomeKind, IsTrafficOf, range_by}
+use Rattle.convoy_ceiling.specs.Ceiling.{IsFinerTrafficOf, IsOfKind, IsOfSomeKind, IsTrafficOf, range_by, travels}
 
 -- a message goes where those of its kind go
 pub goes_too : (scenario traffic : Scenario) (n m g : ℕ) → IsOfKind (message_at scenario n) (message_at traffic m) → GoesTo traffic m g → GoesTo scenario n g
@@ -32,13 +34,18 @@ pub same_ticks : (scenario traffic : Scenario) → IsTrafficOf scenario traffic 
 same_ticks scenario traffic is = record {
   groups = is.groups;
   kinds = is.kinds;
-  least = λ packet sent. subst (λ (range : ℕ × ℕ). 1 * range.0 ≤ (range_of traffic packet).0) (same_range packet) (omega arith);
-  most = λ packet sent. subst (λ (range : ℕ × ℕ). (range_of traffic packet).1 ≤ 1 * range.1) (same_range packet) (omega arith);
+  least = λ packet moves. subst (λ (range : ℕ × ℕ). 1 * range.0 ≤ (range_of traffic packet).0) (same_range packet moves) (omega arith);
+  most = λ packet moves. subst (λ (range : ℕ × ℕ). (range_of traffic packet).1 ≤ 1 * range.1) (same_range packet moves) (omega arith);
 } where
-  same_range : (packet : Packet) → range_of traffic packet ≡ range_by scenario traffic packet
-  same_range packet =
+  by_links : (packet : Packet) → range_between traffic (sender_of traffic packet) (receiver_of packet) ≡ range_by scenario traffic packet
+  by_links packet =
       ap₂ (λ links delay. option_map_or (λ link. (link.least, link.most)) (link_between links (sender_of traffic packet) (receiver_of packet)) (1, delay))
       is.links is.delay
+
+  same_range : (packet : Packet) → IsTrue (travels traffic packet) → range_of traffic packet ≡ range_by scenario traffic packet
+  same_range (Wait m) moves = absurd (let never = (and_parts _ false moves).1 in cc)
+  same_range (Multicast m g) moves = by_links (Multicast m g)
+  same_range (Propose m h g) moves = by_links (Propose m h g)
 
 module _ (times : ℕ) (scenario traffic : Scenario) (is : IsFinerTrafficOf times scenario traffic) where
   pub kind_of : (m g : ℕ) → GoesTo traffic m g → IsOfSomeKind scenario (message_at traffic m)

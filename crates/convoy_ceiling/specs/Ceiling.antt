@@ -1,10 +1,11 @@
 -- The ceiling: a number that no latency exceeds, whatever traffic of a scenario's kinds of messages there is.
-use Rattle.std.specs.Prelude.{◌≡◌, ℕ, ◌+◌, ◌-◌, ◌*◌, ◌≤◌, ◌<◌, length, map, All, IsFalse, IsTrue, if◌then◌else◌}
+use Rattle.std.specs.Prelude.{◌≡◌, ℕ, ◌+◌, ◌-◌, ◌*◌, ◌≤◌, ◌<◌, Bool, ◌&&◌, not, length, map, All, IsFalse, IsTrue, if◌then◌else◌}
 use Rattle.convoy_scenario.specs.declared.sender.Sender.{Sender}
 use Rattle.convoy_scenario.specs.declared.sender.Sender.TheVariants.{Group}
 use Rattle.convoy_scenario.specs.Scenario.{Message, Scenario, GoesTo, message_at, is_same_sender, is_sent_by, range_between}
 use Rattle.convoy_scenario.specs.WellFormed.{IsScenario}
 use Rattle.convoy_packets.specs.declared.packet.Packet.{Packet}
+use Rattle.convoy_packets.specs.Packets.{is_wait}
 use Rattle.convoy_packets.specs.Assignment.{Schedule, AreWithin, range_of, ranges_of, receiver_of, sender_of}
 use Rattle.convoy_packets.specs.Laws.{is_sent}
 use Rattle.convoy_sim.specs.Times.{greatest}
@@ -48,25 +49,29 @@ pub record IsOfKind (kind message : Message) : Type 0 where
 abbrev pub IsOfSomeKind : Scenario → Message → Type 0
 IsOfSomeKind scenario message = (n : ℕ) × (n < length scenario.multicasts) × IsOfKind (message_at scenario n) message
 
--- traffic of a scenario's kinds of messages: as many groups, the same D and the same links, and messages of any number, issued at any ticks, each of the kind of some message of the scenario
+-- traffic of a scenario's kinds of messages: as many groups, the same D and the same links, and messages of any number, issued at any ticks and after any waits, each of the kind of some message of the scenario
 pub record IsTrafficOf (scenario traffic : Scenario) : Type 0 where
   pub groups : length traffic.groups ≡ length scenario.groups
   pub delay : traffic.delay ≡ scenario.delay
   pub links : traffic.links ≡ scenario.links
   pub kinds : All (IsOfSomeKind scenario) traffic.multicasts
 
--- the range that the scenario's links give a packet of traffic
+-- the traffic has the packet, and it travels: it is no wait
+abbrev pub travels : Scenario → Packet → Bool
+travels traffic packet = is_sent traffic packet && not (is_wait packet)
+
+-- the range that the scenario's links give a packet of traffic that travels
 abbrev pub range_by : Scenario → Scenario → Packet → ℕ × ℕ
 range_by scenario traffic packet = range_between scenario (sender_of traffic packet) (receiver_of packet)
 
--- traffic of a scenario's kinds of messages in ticks so many times as fine: the range of each packet lies within so many times the one that the scenario's links give it
+-- traffic of a scenario's kinds of messages in ticks so many times as fine: the range of each packet that travels lies within so many times the one that the scenario's links give it, and messages wait for any time
 pub record IsFinerTrafficOf (times : ℕ) (scenario traffic : Scenario) : Type 0 where
   pub groups : length traffic.groups ≡ length scenario.groups
   pub kinds : All (IsOfSomeKind scenario) traffic.multicasts
-  pub least : (packet : Packet) → IsTrue (is_sent traffic packet) → times * (range_by scenario traffic packet).0 ≤ (range_of traffic packet).0
-  pub most : (packet : Packet) → IsTrue (is_sent traffic packet) → (range_of traffic packet).1 ≤ times * (range_by scenario traffic packet).1
+  pub least : (packet : Packet) → IsTrue (travels traffic packet) → times * (range_by scenario traffic packet).0 ≤ (range_of traffic packet).0
+  pub most : (packet : Packet) → IsTrue (travels traffic packet) → (range_of traffic packet).1 ≤ times * (range_by scenario traffic packet).1
 
--- in no traffic of the scenario's kinds of messages has a message of the kind of n a greater latency at group g, whatever the delays are in their ranges, and in whatever order ties fall
+-- in no traffic of the scenario's kinds of messages has a message of the kind of n a greater latency at group g, whatever the delays are in their ranges, however long messages wait for their issue, and in whatever order ties fall
 abbrev pub IsUpperInTraffic : Scenario → ℕ → ℕ → ℕ → Type 0
 IsUpperInTraffic scenario n g latency =
     (traffic : Scenario) (schedule : Schedule) → IsTrafficOf scenario traffic → AreWithin (ranges_of traffic) schedule.delays

@@ -14,8 +14,8 @@ use convoy_packets::laws::{delays_are_within, fixed_order_is_order, unsent_takes
 use convoy_sim::laws::traffic_delivery_bound;
 
 /// In traffic of a scenario's kinds of messages, of any number and issued at any ticks, no message has a
-/// latency above the ceiling of its kind: whatever the delays are in their ranges, in whatever order ties
-/// fall, and in both kinds of time.
+/// latency above the ceiling of its kind: whatever the delays are in their ranges, however long messages
+/// wait for their issue, in whatever order ties fall, and in both kinds of time.
 pub fn ceiling_holds()
     ensures { CeilingHolds }
 {

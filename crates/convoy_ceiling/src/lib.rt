@@ -5,5 +5,3 @@ pub use computing::{ceiling, delays_between, goes_to, longest_from_arrival, long
 
 mod computing;
 pub mod laws;
-#[cfg(test)]
-mod worked_rows;

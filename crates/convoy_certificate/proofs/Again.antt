@@ -1,17 +1,17 @@
 -- The text of a certificate is read again.
-use Rattle.std.proofs.Common.{◌≡◌, ℕ, suc, ◌+◌, ◌^◌, leb, ◌<◌, ◌≤◌, ◌==◌, Bool, true, false, ◌&&◌, ◌||◌, not, cond, List, [], ◌∷◌, ◌++◌, length, map, All, Option, Some, None, option_map, option_and_then, Result, Ok, Err, refl, ap, sym, subst, ◌∙◌, arith, inl, inr, codes, decimal}
+use Rattle.std.proofs.Common.{◌≡◌, ℕ, suc, ◌+◌, ◌<◌, ◌≤◌, ◌==◌, Bool, true, false, ◌&&◌, ◌||◌, not, cond, List, [], ◌∷◌, ◌++◌, length, map, All, Option, Some, None, option_map, option_and_then, Result, Ok, Err, refl, ap, sym, subst, ◌∙◌, arith, inl, inr, codes, decimal}
 use Rattle.std.specs.List.{AllByRecursion, count_by, list_any}
-use Rattle.std.proofs.lemmas.Bool.{le-leb, leb-true, and_parts, cases_Bool, eqb-true, ne_eqb, cond-true, le-ltb}
+use Rattle.std.proofs.lemmas.Bool.{and_parts, cases_Bool, eqb-true, ne_eqb, cond-true, le-ltb}
 use Rattle.std.proofs.lemmas.List.{nil_from_length}
 use Rattle.std.proofs.lemmas.List.Elements.{All-head, All-tail}
 use Rattle.convoy_scenario_lines.specs.declared.line_fault.Expected.{Expected}
 use Rattle.convoy_scenario_lines.specs.declared.line_fault.Expected.TheVariants as expected
 use Rattle.convoy_scenario_lines.specs.declared.version.Version.{Version as LinesVersion}
-use Rattle.convoy_scenario_lines.specs.Laws.{CanSay, CanSayLinks, time_of}
+use Rattle.convoy_scenario_lines.specs.Laws.{CanSay, CanSayTime, CanSayLinks}
 use Rattle.convoy_scenario.specs.declared.time.Time.{Time}
 use Rattle.convoy_scenario.specs.declared.time.Time.TheVariants.{Ticks, Real}
-use Rattle.convoy_scenario.specs.Scenario.{Link, Scenario}
-use Rattle.convoy_scenario.specs.WellFormed.{IsScenario, greatest_delay}
+use Rattle.convoy_scenario.specs.Scenario.{Scenario, is_timed}
+use Rattle.convoy_scenario.specs.WellFormed.{IsScenario}
 use Rattle.convoy_lines.specs.Labels.{number_in}
 use Rattle.convoy_lines.specs.Laws.{IsWord, IsLine}
 use Rattle.convoy_lines.specs.Places.{Lines, Place, place_before, is_at_end, lines_in}
@@ -21,7 +21,7 @@ use Rattle.convoy_packets.specs.Assignment.{AreWithin, IsAssignment, Schedule, r
 use Rattle.convoy_packets.specs.Order.{IsOrder, Order, no_order}
 use Rattle.convoy_packets.specs.OrderLists.{order_of}
 use Rattle.convoy_lines.specs.Texts.{line_of}
-use Rattle.convoy_packets.proofs.Ranges.{range_within}
+use Rattle.convoy_packets.proofs.Ranges.{range_lawful}
 use Rattle.convoy_packets.specs.Packets.{packets_of}
 use Rattle.convoy_packets.specs.declared.packet.Packet.{Packet}
 use Rattle.convoy_certificate.specs.declared.certificate.TheConstants.{MOST_LEADS, MOST_NODES}
@@ -31,22 +31,18 @@ use Rattle.convoy_certificate.specs.declared.version.Version.{Version}
 use Rattle.convoy_certificate.specs.declared.version.Version.TheVariants.{One, Two, Three, Four}
 use Rattle.convoy_certificate.specs.declared.text_fault.TextFault.{TextFault}
 use Rattle.convoy_certificate.specs.declared.text_fault.TextFault.TheVariants as faults
-use Rattle.convoy_certificate.specs.Certificate.{Certificate, IsNode, IsCertificate}
-use Rattle.convoy_certificate.specs.Forms.{version_in, greatest_place, numbers_in, list_in, schedule_in, order_in, node_or_end, greatest_listed}
-use Rattle.convoy_certificate.specs.Reading.{in_text, is_same_version, whole, is_assignment, is_order_list, order_at, leads_with, are_too_many, nodes_in, nodes_at, certificate_of, AreReadable, IsTextOf}
+use Rattle.convoy_certificate.specs.Certificate.{Certificate, IsNode, IsNodeWhere, IsCertificate}
+use Rattle.convoy_certificate.specs.Forms.{version_in, numbers_in, list_in, schedule_in, order_in, node_or_end, greatest_listed}
+use Rattle.convoy_certificate.specs.Reading.{in_text, is_same_version, whole, is_assignment, is_order_list, order_in_time, order_at, leads_with, are_too_many, nodes_in, nodes_at, certificate_of, AreReadable, IsTextOf}
 use Rattle.convoy_certificate.specs.Laws.{TextsAreRead}
 use Rattle.convoy_scenario.specs.Memory.{IsUnlessMemory}
-use Rattle.convoy_certificate.specs.Text.{is_stamp, is_lead, lines_version, version_for, version_of, version_line, latency_line, schedule_line, order_line, order_lines, ranks_written, schedule_lines, node_line, end_line, certificate_lines, certificate_text}
+use Rattle.convoy_certificate.specs.Text.{is_stamp, is_lead, says_time, lines_version, version_for, version_of, version_line, latency_line, schedule_line, order_line, order_lines, ranks_written, schedule_lines, node_line, end_line, certificate_lines, certificate_text}
 use Rattle.convoy_certificate.proofs.Assigned.{passes}
 use Rattle.convoy_certificate.proofs.Orders.{IsWritten, written}
+use Rattle.convoy_certificate.proofs.Parts.{says_again}
 use Rattle.convoy_certificate.proofs.Steps.{after_version, after_scenario, after_latency, after_delays, order_after, after_order, after_nodes, read_from, in_steps, then_ok}
 use Rattle.convoy_certificate.proofs.LineLaws.{WrittenGrounds, AreWords, AreLines, latency_word, lines_append, decimal_word, number_again, line_made, label_again, number_line_again, lines_again, scenario_lines_are}
-use Rattle.convoy_certificate.proofs.NodeLaws.{neither, leads_more, split_word, split_again, lead_word, lead_again}
-
--- a greatest delay has 16 bits
-pub delay_fits : (time : Time) → greatest_delay time < 2 ^ 16
-delay_fits Ticks = omega arith
-delay_fits Real = omega arith
+use Rattle.convoy_certificate.proofs.NodeLaws.{packet_fits, place_fits, neither, leads_more, split_word, split_again, lead_word, lead_again}
 
 -- ---- the schedule
 
@@ -64,7 +60,7 @@ small_within : (plan : Scenario) (packets : List Packet) (delays : List ℕ) →
 small_within plan [] [] low within = tt
 small_within plan [] (d ∷ ds) low within = absurd within
 small_within plan (p ∷ ps) [] low within = absurd within
-small_within plan (p ∷ ps) (d ∷ ds) low within = (omega (arith, within.0.1, (range_within plan p low).high, low.delay_high), small_within plan ps ds low within.1)
+small_within plan (p ∷ ps) (d ∷ ds) low within = (omega (arith, within.0.1, (range_lawful plan p low).high), small_within plan ps ds low within.1)
 
 pub small_assigned : (plan : Scenario) (schedule : Schedule) → IsScenario plan → IsAssignment plan schedule → Small schedule.delays
 unfolding ranges_of
@@ -94,11 +90,9 @@ tail_of c = latency_line c.latency ∷ (schedule_lines c.scenario c.schedule ++ 
 
 -- ---- versions
 
--- the version has a line for the node
+-- the version has a line for such a leaf
 abbrev is_listed : Version → Node → Bool
-is_listed version (Split packet at) = leb at (greatest_place version)
-is_listed version Point = not (is_same_version version Four)
-is_listed version Stamp = is_same_version version Two || is_same_version version Three
+is_listed version Stamp = not (is_same_version version One)
 is_listed version (Lead latency) = is_same_version version Three || is_same_version version Four
 is_listed version node = true
 
@@ -109,77 +103,84 @@ not_true : (b : Bool) → not b ≡ true → b ≡ false
 not_true false e = refl
 not_true true e = absurd cc
 
-lists_four : (nodes : List Node) → All (IsNode Real) nodes → Lists Four nodes
-lists_four [] are = tt
-lists_four (node ∷ nodes) are = (one node (All-head (IsNode Real) node nodes are), lists_four nodes (All-tail (IsNode Real) node nodes are)) where
-  one : (node : Node) → IsNode Real node → is_listed Four node ≡ true
-  one (Split packet at) is = le-leb at (greatest_place Four) is.2
-  one Bound is = refl
-  one Point is = absurd cc
-  one Stamp is = absurd cc
-  one (Lead latency) is = refl
+lists_four : (nodes : List Node) → Lists Four nodes
+lists_four [] = tt
+lists_four (node ∷ nodes) = (one node, lists_four nodes) where
+  one : (node : Node) → is_listed Four node ≡ true
+  one (Split packet at) = refl
+  one Bound = refl
+  one Point = refl
+  one Stamp = refl
+  one (Lead latency) = refl
 
-lists_three : (nodes : List Node) → All (IsNode Ticks) nodes → Lists Three nodes
-lists_three [] are = tt
-lists_three (node ∷ nodes) are = (one node (All-head (IsNode Ticks) node nodes are), lists_three nodes (All-tail (IsNode Ticks) node nodes are)) where
-  one : (node : Node) → IsNode Ticks node → is_listed Three node ≡ true
-  one (Split packet at) is = le-leb at (greatest_place Three) is.2
-  one Bound is = refl
-  one Point is = refl
-  one Stamp is = refl
-  one (Lead latency) is = refl
+lists_three : (nodes : List Node) → Lists Three nodes
+lists_three [] = tt
+lists_three (node ∷ nodes) = (one node, lists_three nodes) where
+  one : (node : Node) → is_listed Three node ≡ true
+  one (Split packet at) = refl
+  one Bound = refl
+  one Point = refl
+  one Stamp = refl
+  one (Lead latency) = refl
 
-lists_two : (nodes : List Node) → All (IsNode Ticks) nodes → list_any is_lead nodes ≡ false → Lists Two nodes
-lists_two [] are none = tt
-lists_two (node ∷ nodes) are none =
+lists_two : (nodes : List Node) → list_any is_lead nodes ≡ false → Lists Two nodes
+lists_two [] none = tt
+lists_two (node ∷ nodes) none =
     let parts = neither (is_lead node) (list_any is_lead nodes) none in
-    (one node (All-head (IsNode Ticks) node nodes are) parts.0, lists_two nodes (All-tail (IsNode Ticks) node nodes are) parts.1) where
-      one : (node : Node) → IsNode Ticks node → is_lead node ≡ false → is_listed Two node ≡ true
-      one (Split packet at) is other = le-leb at (greatest_place Two) is.2
-      one Bound is other = refl
-      one Point is other = refl
-      one Stamp is other = refl
-      one (Lead latency) is other = absurd cc
+    (one node parts.0, lists_two nodes parts.1) where
+      one : (node : Node) → is_lead node ≡ false → is_listed Two node ≡ true
+      one (Split packet at) other = refl
+      one Bound other = refl
+      one Point other = refl
+      one Stamp other = refl
+      one (Lead latency) other = absurd cc
 
-lists_one : (nodes : List Node) → All (IsNode Ticks) nodes → list_any is_lead nodes ≡ false → list_any is_stamp nodes ≡ false → Lists One nodes
-lists_one [] are none unstamped = tt
-lists_one (node ∷ nodes) are none unstamped =
+lists_one : (nodes : List Node) → list_any is_lead nodes ≡ false → list_any is_stamp nodes ≡ false → Lists One nodes
+lists_one [] none unstamped = tt
+lists_one (node ∷ nodes) none unstamped =
     let leads = neither (is_lead node) (list_any is_lead nodes) none in
     let stamps = neither (is_stamp node) (list_any is_stamp nodes) unstamped in
-    (one node (All-head (IsNode Ticks) node nodes are) leads.0 stamps.0, lists_one nodes (All-tail (IsNode Ticks) node nodes are) leads.1 stamps.1) where
-      one : (node : Node) → IsNode Ticks node → is_lead node ≡ false → is_stamp node ≡ false → is_listed One node ≡ true
-      one (Split packet at) is other unstamped = le-leb at (greatest_place One) is.2
-      one Bound is other unstamped = refl
-      one Point is other unstamped = refl
-      one Stamp is other unstamped = absurd cc
-      one (Lead latency) is other unstamped = absurd cc
+    (one node leads.0 stamps.0, lists_one nodes leads.1 stamps.1) where
+      one : (node : Node) → is_lead node ≡ false → is_stamp node ≡ false → is_listed One node ≡ true
+      one (Split packet at) other unstamped = refl
+      one Bound other unstamped = refl
+      one Point other unstamped = refl
+      one Stamp other unstamped = absurd cc
+      one (Lead latency) other unstamped = absurd cc
 
--- the version can say how time goes so and the links, and has a line for each of the nodes
-record IsOwn (time : Time) (links : List Link) (nodes : List Node) (version : Version) : Type 0 where
-  timed : time ≡ time_of (lines_version version)
-  linked : CanSayLinks (lines_version version) links
+-- the version can say how time goes and the links, and has a line for each of the nodes
+record IsOwn (plan : Scenario) (nodes : List Node) (version : Version) : Type 0 where
+  timed : CanSayTime (lines_version version) plan
+  linked : CanSayLinks (lines_version version) plan.links
   lists : Lists version nodes
 
-own_for : (time : Time) (links : List Link) (nodes : List Node) → All (IsNode time) nodes → IsOwn time links nodes (version_for time (length links) nodes)
-own_for Real links nodes are = record { timed = refl; linked = tt; lists = lists_four nodes are }
-own_for Ticks links nodes are =
+own_for : (plan : Scenario) (timed : Bool) (nodes : List Node) → is_timed plan ≡ timed → IsOwn plan nodes (version_for timed (length plan.links) nodes)
+own_for plan true nodes is = record { timed = tt; linked = tt; lists = lists_four nodes }
+own_for plan false nodes is =
     elim (cases_Bool (list_any is_lead nodes)) [
-      | inl led ↦ rw led (record { timed = refl; linked = tt; lists = lists_three nodes are })
+      | inl led ↦ rw led (record { timed = is; linked = tt; lists = lists_three nodes })
       | inr none ↦
-          elim (cases_Bool (length links == 0 && not (list_any is_stamp nodes))) [
+          elim (cases_Bool (length plan.links == 0 && not (list_any is_stamp nodes))) [
             | inl one ↦
-                let both = and_parts (length links == 0) (not (list_any is_stamp nodes)) one in
-                rw (none, one) (record { timed = refl; linked = nil_from_length links (eqb-true _ _ both.0); lists = lists_one nodes are none (not_true (list_any is_stamp nodes) both.1) })
-            | inr two ↦ rw (none, two) (record { timed = refl; linked = tt; lists = lists_two nodes are none })
+                let both = and_parts (length plan.links == 0) (not (list_any is_stamp nodes)) one in
+                rw (none, one) (record { timed = is; linked = nil_from_length plan.links (eqb-true _ _ both.0); lists = lists_one nodes none (not_true (list_any is_stamp nodes) both.1) })
+            | inr two ↦ rw (none, two) (record { timed = is; linked = tt; lists = lists_two nodes none })
           ]
     ]
 
 -- the version in which a certificate is written is its own
-own : (c : Certificate) → IsCertificate c → IsOwn c.scenario.time c.scenario.links c.nodes (version_of c)
-own c is = own_for c.scenario.time c.scenario.links c.nodes is.nodes
+own : (c : Certificate) → IsOwn c.scenario c.nodes (version_of c)
+own c = own_for c.scenario (is_timed c.scenario) c.nodes refl
 
-said : (c : Certificate) → IsCertificate c → CanSay (lines_version (version_of c)) c.scenario
-said c is = let mine = own c is in record { time = mine.timed; links = mine.linked }
+said : (c : Certificate) → CanSay (lines_version (version_of c)) c.scenario
+said c = let mine = own c in record { time = mine.timed; links = mine.linked }
+
+-- the nodes of a certificate are nodes where the lines of its version say what they say of time
+abbrev NodesOf : Version → Time → List Node → Type 0
+NodesOf version time nodes = All (IsNodeWhere (says_time version) time) nodes
+
+nodes_of : (c : Certificate) → IsCertificate c → NodesOf (version_of c) c.scenario.time c.nodes
+nodes_of c is = subst (λ (timed : Bool). All (IsNodeWhere timed c.scenario.time) c.nodes) (sym (says_again (is_timed c.scenario) (length c.scenario.links) c.nodes)) is.nodes
 
 version_again : (version : Version) → version_in (version_line version) ≡ Some version
 version_again One = refl
@@ -209,18 +210,10 @@ not_too_many count leads few few_leads = rw (ne_eqb count MOST_NODES (λ e. omeg
 
 -- ---- the lines of an order
 
-lines_in_ticks : (time : Time) (ranks : List ℕ) → time ≡ Ticks → order_lines time ranks ≡ []
-lines_in_ticks Ticks ranks e = refl
-lines_in_ticks Real ranks e = absurd cc
-
-lines_in_real : (time : Time) (ranks : List ℕ) → time ≡ Real → order_lines time ranks ≡ order_line ranks ∷ []
-lines_in_real Ticks ranks e = absurd cc
-lines_in_real Real ranks e = refl
-
--- the order is read in that version where its lines stand, and what follows them is left
-abbrev OrderReads : Version → Scenario → Order → ℕ → List (List ℕ) → List (List ℕ) → Type 0
-OrderReads version plan order number more lines =
-    order_at version plan (after_at (lines ++ more) number) ≡ Ok (order, after_at more (number + length lines))
+-- the order is read where time goes so and its lines stand, and what follows them is left
+abbrev OrderReads : Time → Scenario → Order → ℕ → List (List ℕ) → List (List ℕ) → Type 0
+OrderReads time plan order number more lines =
+    order_in_time time plan (after_at (lines ++ more) number) ≡ Ok (order, after_at more (number + length lines))
 
 fixed_read : (order : Order) (number : ℕ) (more : List (List ℕ)) → order ≡ no_order → ◌≡◌ {A = Result (Order × Place) TextFault} (Ok (no_order, after_at more number)) (Ok (order, after_at more (number + 0)))
 fixed_read order number more e =
@@ -249,7 +242,7 @@ module _ (grounds : WrittenGrounds) where
   order_lines_are Ticks ranks small = tt
   order_lines_are Real ranks small = (list_line (codes "order") ranks order_word small, tt)
 
-  order_read : (plan : Scenario) (order : Order) (ranks : List ℕ) (number : ℕ) (more : List (List ℕ)) → IsWritten plan order ranks → OrderReads Four plan order number more (order_line ranks ∷ [])
+  order_read : (plan : Scenario) (order : Order) (ranks : List ℕ) (number : ℕ) (more : List (List ℕ)) → IsWritten plan order ranks → OrderReads Real plan order number more (order_line ranks ∷ [])
   order_read plan order ranks number more is =
       let past = after_at more (number + 1) in
       then_ok (in_text (form_at expected.Order order_in (after_at (order_line ranks ∷ more) number)))
@@ -257,52 +250,52 @@ module _ (grounds : WrittenGrounds) where
       (form_again expected.Order order_in number [] (order_line ranks) more ranks (list_again (codes "order") ranks order_word is.small))
       (cond-true (is_order_list plan ranks) (Ok (order_of plan ranks, past)) (Err faults.Schedule) is.is_list ∙ ap (λ (o : Order). Ok (o, past)) is.gives)
 
-  order_again : (version : Version) (plan : Scenario) (order : Order) (number : ℕ) (more : List (List ℕ)) → plan.time ≡ time_of (lines_version version) → IsOrder plan order
-      → OrderReads version plan order number more (order_lines plan.time (ranks_written plan order))
-  order_again One plan order number more ticks is =
-      subst (OrderReads One plan order number more) (sym (lines_in_ticks plan.time (ranks_written plan order) ticks)) (fixed_read order number more (is.fixed ticks))
-  order_again Two plan order number more ticks is =
-      subst (OrderReads Two plan order number more) (sym (lines_in_ticks plan.time (ranks_written plan order) ticks)) (fixed_read order number more (is.fixed ticks))
-  order_again Three plan order number more ticks is =
-      subst (OrderReads Three plan order number more) (sym (lines_in_ticks plan.time (ranks_written plan order) ticks)) (fixed_read order number more (is.fixed ticks))
-  order_again Four plan order number more real is =
-      subst (OrderReads Four plan order number more) (sym (lines_in_real plan.time (ranks_written plan order) real)) (order_read plan order (ranks_written plan order) number more (written grounds.orders plan order is))
+  order_again : (time : Time) (plan : Scenario) (order : Order) (number : ℕ) (more : List (List ℕ)) → plan.time ≡ time → IsOrder plan order
+      → OrderReads time plan order number more (order_lines time (ranks_written plan order))
+  order_again Ticks plan order number more ticks is = fixed_read order number more (is.fixed ticks)
+  order_again Real plan order number more real is = order_read plan order (ranks_written plan order) number more (written grounds.orders plan order is)
 
   -- ---- nodes
 
-  node_again : (version : Version) (time : Time) (node : Node) → IsNode time node → is_listed version node ≡ true → node_or_end version (node_line node) ≡ Some (Some node)
-  node_again version time (Split packet at) is listed = ap (option_map (λ node. Some node)) (split_again grounds version packet at is.0 is.1 (leb-true at (greatest_place version) listed))
+  -- a leaf of whole ticks is read where time goes so
+  in_ticks_again : (version : Version) (time : Time) (node : Node) (line : List ℕ) → time ≡ Ticks → node_or_end version Ticks line ≡ Some (Some node) → node_or_end version time line ≡ Some (Some node)
+  in_ticks_again version time node line ticks e = ap (λ (t : Time). node_or_end version t line) ticks ∙ e
+
+  node_again : (version : Version) (time : Time) (node : Node) → IsNodeWhere (says_time version) time node → is_listed version node ≡ true → node_or_end version time (node_line node) ≡ Some (Some node)
+  node_again version time (Split packet at) is listed = ap (option_map (λ node. Some node)) (split_again grounds version time packet at is.0 is.1 is.2)
   node_again version time Bound is listed = refl
-  node_again One time Point is listed = refl
-  node_again Two time Point is listed = refl
-  node_again Three time Point is listed = refl
-  node_again Four time Point is listed = absurd cc
+  node_again version time Point is listed = in_ticks_again version time Point (codes "p") is refl
   node_again One time Stamp is listed = absurd cc
-  node_again Two time Stamp is listed = refl
-  node_again Three time Stamp is listed = refl
-  node_again Four time Stamp is listed = absurd cc
+  node_again Two time Stamp is listed = in_ticks_again Two time Stamp (codes "t") is refl
+  node_again Three time Stamp is listed = in_ticks_again Three time Stamp (codes "t") is refl
+  node_again Four time Stamp is listed = in_ticks_again Four time Stamp (codes "t") is refl
   node_again One time (Lead latency) is listed = absurd cc
   node_again Two time (Lead latency) is listed = absurd cc
-  node_again Three time (Lead latency) is listed = ap (option_map (λ node. Some node)) (lead_again grounds Three latency (λ words. refl) (omega (arith, is)))
-  node_again Four time (Lead latency) is listed = ap (option_map (λ node. Some node)) (lead_again grounds Four latency (λ words. refl) (omega (arith, is)))
+  node_again Three time (Lead latency) is listed = ap (option_map (λ node. Some node)) (lead_again grounds Three time latency (λ words. refl) (omega (arith, is)))
+  node_again Four time (Lead latency) is listed = ap (option_map (λ node. Some node)) (lead_again grounds Four time latency (λ words. refl) (omega (arith, is)))
 
-  nodes_again : (version : Version) (time : Time) (nodes : List Node) (count leads number : ℕ) (rest : List ℕ) (more : List (List ℕ)) → All (IsNode time) nodes → Lists version nodes → count + length nodes ≤ MOST_NODES → leads + count_by is_lead nodes ≤ MOST_LEADS
-      → nodes_in version count leads number rest (map node_line nodes ++ end_line ∷ more) ≡ Ok (nodes, record { ended = more; rest = rest; number = number + length nodes + 1 })
+  nodes_again : (version : Version) (time : Time) (nodes : List Node) (count leads number : ℕ) (rest : List ℕ) (more : List (List ℕ)) → NodesOf version time nodes → Lists version nodes → count + length nodes ≤ MOST_NODES → leads + count_by is_lead nodes ≤ MOST_LEADS
+      → nodes_in version time count leads number rest (map node_line nodes ++ end_line ∷ more) ≡ Ok (nodes, record { ended = more; rest = rest; number = number + length nodes + 1 })
   unfolding nodes_in
   nodes_again version time [] count leads number rest more are listed few few_leads = let e : number + 0 + 1 ≡ number + 1 = omega arith in rw e refl
   nodes_again version time (node ∷ nodes) count leads number rest more are listed few few_leads =
       let sum = leads_more leads node nodes in
       let below : are_too_many count (leads_with leads node) ≡ false = not_too_many count (leads_with leads node) (omega arith) (omega (arith, sum)) in
       let e : number + suc (length nodes) + 1 ≡ (number + 1) + length nodes + 1 = omega arith in
-      rw (node_again version time node (All-head (IsNode time) node nodes are) listed.0, below, nodes_again version time nodes (count + 1) (leads_with leads node) (number + 1) rest more (All-tail (IsNode time) node nodes are) listed.1 (omega arith) (omega (arith, sum)), e) refl
+      let is = All-head (IsNodeWhere (says_time version) time) node nodes are in
+      let others = All-tail (IsNodeWhere (says_time version) time) node nodes are in
+      rw (node_again version time node is listed.0, below, nodes_again version time nodes (count + 1) (leads_with leads node) (number + 1) rest more others listed.1 (omega arith) (omega (arith, sum)), e) refl
 
   -- ---- no line has a byte 10 in it
 
-  node_lines : (time : Time) (nodes : List Node) → All (IsNode time) nodes → AreLines (map node_line nodes)
-  node_lines time [] are = tt
-  node_lines time (node ∷ nodes) are = (one node (All-head (IsNode time) node nodes are), node_lines time nodes (All-tail (IsNode time) node nodes are)) where
-    one : (node : Node) → IsNode time node → IsLine (node_line node)
-    one (Split packet at) is = line_made grounds (codes "s") (decimal packet ∷ decimal at ∷ []) (split_word, (decimal_word grounds packet (omega (arith, is.0)), (decimal_word grounds at (omega (arith, is.2, delay_fits time)), tt)))
+  node_lines : (plan : Scenario) (nodes : List Node) → All (IsNode plan) nodes → AreLines (map node_line nodes)
+  node_lines plan [] are = tt
+  node_lines plan (node ∷ nodes) are = (one node (All-head (IsNode plan) node nodes are), node_lines plan nodes (All-tail (IsNode plan) node nodes are)) where
+    timed : Bool
+    timed = is_timed plan
+
+    one : (node : Node) → IsNode plan node → IsLine (node_line node)
+    one (Split packet at) is = line_made grounds (codes "s") (decimal packet ∷ decimal at ∷ []) (split_word, (decimal_word grounds packet (omega (arith, is.0, packet_fits timed)), (decimal_word grounds at (omega (arith, is.2, place_fits timed)), tt)))
     one Bound is = refl
     one Point is = refl
     one Stamp is = refl
@@ -315,12 +308,12 @@ module _ (grounds : WrittenGrounds) where
       let ties = order_lines c.scenario.time ranks in
       let nodes : List (List ℕ) = map node_line c.nodes ++ end_line ∷ [] in (
         version_line_is (version_of c),
-        lines_append (scenario_lines c.scenario) (tail_of c) (scenario_lines_are grounds c.scenario is.scenario) (
+        lines_append (scenario_lines (lines_version (version_of c)) c.scenario) (tail_of c) (scenario_lines_are grounds (lines_version (version_of c)) c.scenario is.scenario) (
           line_made grounds (codes "latency") (decimal c.latency ∷ []) (latency_word, (decimal_word grounds c.latency (omega (arith, is.latency)), tt)),
           (
             list_line (codes "schedule") c.schedule.delays schedule_word small,
             lines_append ties nodes (order_lines_are c.scenario.time ranks (written grounds.orders c.scenario c.schedule.order is.assigned.order).small)
-                (lines_append (map node_line c.nodes) (end_line ∷ []) (node_lines c.scenario.time c.nodes is.nodes) (refl, tt)),
+                (lines_append (map node_line c.nodes) (end_line ∷ []) (node_lines c.scenario c.nodes is.nodes) (refl, tt)),
           ),
         ),
       )
@@ -328,25 +321,25 @@ module _ (grounds : WrittenGrounds) where
   -- ---- the certificate
 
   scenario_again : (version : LinesVersion) (plan : Scenario) (more : List (List ℕ)) → IsScenario plan → CanSay version plan
-      → scenario_at version (record { ended = scenario_lines plan ++ more; rest = []; number = 2 }) ≡ Ok (plan, record { ended = more; rest = []; number = 2 + length (scenario_lines plan) })
+      → scenario_at version (record { ended = scenario_lines version plan ++ more; rest = []; number = 2 }) ≡ Ok (plan, record { ended = more; rest = []; number = 2 + length (scenario_lines version plan) })
   scenario_again version plan more is said =
-      (grounds.scenarios version plan (record { ended = scenario_lines plan ++ more; rest = []; number = 2 }) (record { ended = more; rest = []; number = 2 + length (scenario_lines plan) })).1
+      (grounds.scenarios version plan (record { ended = scenario_lines version plan ++ more; rest = []; number = 2 }) (record { ended = more; rest = []; number = 2 + length (scenario_lines version plan) })).1
       (is, said, record { ended = refl; rest = refl; number = refl })
 
   pub certificate_again : (c : Certificate) → IsCertificate c → AreReadable c.nodes → certificate_of (certificate_text c) ≡ Ok c
   certificate_again c is readable =
       let plan = c.scenario in
+      let v = version_of c in
       let delays = c.schedule.delays in
       let order = c.schedule.order in
-      let mine = own c is in
+      let mine = own c in
       let nodes : List (List ℕ) = map node_line c.nodes ++ end_line ∷ [] in
       let ties : List (List ℕ) = order_lines plan.time (ranks_written plan order) in
       let tail : List (List ℕ) = latency_line c.latency ∷ schedule_line delays ∷ (ties ++ nodes) in
-      let v = version_of c in
-      let n : ℕ = 2 + length (scenario_lines plan) in
+      let n : ℕ = 2 + length (scenario_lines (lines_version v) plan) in
       let m : ℕ = n + 1 + 1 + length ties in
-      let p0 = after_at (version_line v ∷ (scenario_lines plan ++ tail)) 1 in
-      let p1 = after_at (scenario_lines plan ++ tail) 2 in
+      let p0 = after_at (version_line v ∷ (scenario_lines (lines_version v) plan ++ tail)) 1 in
+      let p1 = after_at (scenario_lines (lines_version v) plan ++ tail) 2 in
       let p2 = after_at tail n in
       let p3 = after_at (schedule_line delays ∷ (ties ++ nodes)) (n + 1) in
       let p4 = after_at (ties ++ nodes) (n + 1 + 1) in
@@ -357,11 +350,11 @@ module _ (grounds : WrittenGrounds) where
       ap (λ (l : Lines). record { ended = l.ended; rest = l.rest; number = 1 }) (lines_again grounds (certificate_lines c) (lines_are c is)) in
       let last : after_nodes v plan c.latency delays order (c.nodes, p6) ≡ Ok c = whole_again c p6 refl in
       let by_nodes : after_order v plan c.latency delays (order, p5) ≡ Ok c =
-      then_ok (nodes_at v 0 0 p5) (after_nodes v plan c.latency delays order) (c.nodes, p6) (Ok c)
-      (nodes_again v plan.time c.nodes 0 0 m [] [] is.nodes mine.lists (omega (arith, readable.few)) (omega (arith, readable.few_leads))) last in
+      then_ok (nodes_at v plan.time 0 0 p5) (after_nodes v plan c.latency delays order) (c.nodes, p6) (Ok c)
+      (nodes_again v plan.time c.nodes 0 0 m [] [] (nodes_of c is) mine.lists (omega (arith, readable.few)) (omega (arith, readable.few_leads))) last in
       let by_order : after_delays v plan c.latency (delays, p4) ≡ Ok c =
-      then_ok (order_after v plan (delays, p4)) (after_order v plan c.latency delays) (order, p5) (Ok c)
-      (cond-true (is_assignment plan delays) (order_at v plan p4) (Err faults.Schedule) (assigned plan c.schedule is.assigned) ∙ order_again v plan order (n + 1 + 1) nodes mine.timed is.assigned.order) by_nodes in
+      then_ok (order_after plan (delays, p4)) (after_order v plan c.latency delays) (order, p5) (Ok c)
+      (cond-true (is_assignment plan delays) (order_at plan p4) (Err faults.Schedule) (assigned plan c.schedule is.assigned) ∙ order_again plan.time plan order (n + 1 + 1) nodes refl is.assigned.order) by_nodes in
       let by_delays : after_latency v plan (c.latency, p3) ≡ Ok c =
       then_ok (in_text (form_at expected.Schedule schedule_in p3)) (after_delays v plan c.latency) (delays, p4) (Ok c)
       (form_again expected.Schedule schedule_in (n + 1) [] (schedule_line delays) (ties ++ nodes) delays (list_again (codes "schedule") delays schedule_word small)) by_order in
@@ -370,41 +363,41 @@ module _ (grounds : WrittenGrounds) where
       (form_again expected.Latency (number_in (codes "latency")) n [] (latency_line c.latency) (schedule_line delays ∷ (ties ++ nodes)) c.latency (number_line_again grounds (codes "latency") c.latency latency_word (omega (arith, is.latency)))) by_delays in
       let by_scenario : after_version (v, p1) ≡ Ok c =
       then_ok (in_text (scenario_at (lines_version v) p1)) (after_scenario v) (plan, p2) (Ok c)
-      (ap in_text (scenario_again (lines_version v) plan tail is.scenario (said c is))) by_latency in
+      (ap in_text (scenario_again (lines_version v) plan tail is.scenario (said c))) by_latency in
       let read : read_from p0 ≡ Ok c =
       then_ok (in_text (form_at expected.Convoy version_in p0)) after_version (v, p1) (Ok c)
-      (form_again expected.Convoy version_in 1 [] (version_line v) (scenario_lines plan ++ tail) v (version_again v)) by_scenario in
+      (form_again expected.Convoy version_in 1 [] (version_line v) (scenario_lines (lines_version v) plan ++ tail) v (version_again v)) by_scenario in
       in_steps (certificate_text c) ∙ ap read_from start ∙ read
 
   -- ---- two certificates with one text
 
-  nodes_unique : (version : Version) (time : Time) (xs ys : List Node) → All (IsNode time) xs → All (IsNode time) ys → Lists version xs → Lists version ys → map node_line xs ++ end_line ∷ [] ≡ map node_line ys ++ end_line ∷ [] → xs ≡ ys
+  nodes_unique : (version : Version) (time : Time) (xs ys : List Node) → NodesOf version time xs → NodesOf version time ys → Lists version xs → Lists version ys → map node_line xs ++ end_line ∷ [] ≡ map node_line ys ++ end_line ∷ [] → xs ≡ ys
   nodes_unique version time [] [] p q l m e = refl
   nodes_unique version time [] (y ∷ ys) p q l m e =
       let h = parts end_line (node_line y) [] (map node_line ys ++ end_line ∷ []) e in
-      let f : Some None ≡ Some (Some y) = ap (node_or_end version) h.0 ∙ node_again version time y (All-head (IsNode time) y ys q) m.0 in
+      let f : Some None ≡ Some (Some y) = ap (node_or_end version time) h.0 ∙ node_again version time y (All-head (IsNodeWhere (says_time version) time) y ys q) m.0 in
       let g : None ≡ Some y = same_some None (Some y) f in absurd cc
   nodes_unique version time (x ∷ xs) [] p q l m e =
       let h = parts (node_line x) end_line (map node_line xs ++ end_line ∷ []) [] e in
-      let f : Some (Some x) ≡ Some None = sym (node_again version time x (All-head (IsNode time) x xs p) l.0) ∙ ap (node_or_end version) h.0 in
+      let f : Some (Some x) ≡ Some None = sym (node_again version time x (All-head (IsNodeWhere (says_time version) time) x xs p) l.0) ∙ ap (node_or_end version time) h.0 in
       let g : Some x ≡ None = same_some (Some x) None f in absurd cc
   nodes_unique version time (x ∷ xs) (y ∷ ys) p q l m e =
       let h = parts (node_line x) (node_line y) (map node_line xs ++ end_line ∷ []) (map node_line ys ++ end_line ∷ []) e in
-      let f : Some (Some x) ≡ Some (Some y) = sym (node_again version time x (All-head (IsNode time) x xs p) l.0) ∙ ap (node_or_end version) h.0 ∙ node_again version time y (All-head (IsNode time) y ys q) m.0 in
+      let f : Some (Some x) ≡ Some (Some y) = sym (node_again version time x (All-head (IsNodeWhere (says_time version) time) x xs p) l.0) ∙ ap (node_or_end version time) h.0 ∙ node_again version time y (All-head (IsNodeWhere (says_time version) time) y ys q) m.0 in
       let one : x ≡ y = same_some x y (same_some (Some x) (Some y) f) in
-      ap (λ n. n ∷ xs) one ∙ ap (λ ns. y ∷ ns) (nodes_unique version time xs ys (All-tail (IsNode time) x xs p) (All-tail (IsNode time) y ys q) l.1 m.1 h.1)
+      ap (λ n. n ∷ xs) one ∙ ap (λ ns. y ∷ ns) (nodes_unique version time xs ys (All-tail (IsNodeWhere (says_time version) time) x xs p) (All-tail (IsNodeWhere (says_time version) time) y ys q) l.1 m.1 h.1)
 
   -- two certificates with one text are equal
   pub is_unique : (b c : Certificate) → IsCertificate b → IsCertificate c → certificate_text b ≡ certificate_text c → b ≡ c
   is_unique b c p q e =
       let lines : certificate_lines b ≡ certificate_lines c =
       ap (λ (l : Lines). l.ended) (sym (lines_again grounds (certificate_lines b) (lines_are b p)) ∙ ap lines_in e ∙ lines_again grounds (certificate_lines c) (lines_are c q)) in
-      let top = parts (version_line (version_of b)) (version_line (version_of c)) (scenario_lines b.scenario ++ tail_of b) (scenario_lines c.scenario ++ tail_of c) lines in
+      let top = parts (version_line (version_of b)) (version_line (version_of c)) (scenario_lines (lines_version (version_of b)) b.scenario ++ tail_of b) (scenario_lines (lines_version (version_of c)) c.scenario ++ tail_of c) lines in
       let version : version_of b ≡ version_of c = same_some (version_of b) (version_of c) (sym (version_again (version_of b)) ∙ ap version_in top.0 ∙ version_again (version_of c)) in
-      let one = scenario_again (lines_version (version_of b)) b.scenario (tail_of b) p.scenario (said b p) in
-      let two = scenario_again (lines_version (version_of c)) c.scenario (tail_of c) q.scenario (said c q) in
-      let read = same_ok (b.scenario, after_at (tail_of b) (2 + length (scenario_lines b.scenario))) (c.scenario, after_at (tail_of c) (2 + length (scenario_lines c.scenario)))
-      (sym one ∙ ap (λ ls. scenario_at (lines_version (version_of b)) (after_at ls 2)) top.1 ∙ ap (λ v. scenario_at (lines_version v) (after_at (scenario_lines c.scenario ++ tail_of c) 2)) version ∙ two) in
+      let one = scenario_again (lines_version (version_of b)) b.scenario (tail_of b) p.scenario (said b) in
+      let two = scenario_again (lines_version (version_of c)) c.scenario (tail_of c) q.scenario (said c) in
+      let read = same_ok (b.scenario, after_at (tail_of b) (2 + length (scenario_lines (lines_version (version_of b)) b.scenario))) (c.scenario, after_at (tail_of c) (2 + length (scenario_lines (lines_version (version_of c)) c.scenario)))
+      (sym one ∙ ap (λ ls. scenario_at (lines_version (version_of b)) (after_at ls 2)) top.1 ∙ ap (λ v. scenario_at (lines_version v) (after_at (scenario_lines (lines_version (version_of c)) c.scenario ++ tail_of c) 2)) version ∙ two) in
       let scenario : b.scenario ≡ c.scenario = ap (λ (x : Scenario × Place). x.0) read in
       let tails : tail_of b ≡ tail_of c = ap (λ (x : Scenario × Place). x.1.ended) read in
       let first = parts (latency_line b.latency) (latency_line c.latency) _ _ tails in
@@ -417,14 +410,16 @@ module _ (grounds : WrittenGrounds) where
       (sym (list_again (codes "schedule") b.schedule.delays schedule_word small) ∙ ap schedule_in second.0 ∙ list_again (codes "schedule") c.schedule.delays schedule_word others) in
       let ends : Certificate → List (List ℕ) = λ x. map node_line x.nodes ++ end_line ∷ [] in
       let ties : List (List ℕ) = order_lines c.scenario.time (ranks_written c.scenario c.schedule.order) in
-      let three = order_again (version_of b) b.scenario b.schedule.order 0 (ends b) (own b p).timed p.assigned.order in
-      let four = order_again (version_of c) c.scenario c.schedule.order 0 (ends c) (own c q).timed q.assigned.order in
+      let three = order_again b.scenario.time b.scenario b.schedule.order 0 (ends b) refl p.assigned.order in
+      let four = order_again c.scenario.time c.scenario c.schedule.order 0 (ends c) refl q.assigned.order in
       let tied = same_ok (b.schedule.order, after_at (ends b) (0 + length (order_lines b.scenario.time (ranks_written b.scenario b.schedule.order)))) (c.schedule.order, after_at (ends c) (0 + length ties))
-      (sym three ∙ ap (λ ls. order_at (version_of b) b.scenario (after_at ls 0)) second.1 ∙ ap (λ v. order_at v b.scenario (after_at (ties ++ ends c) 0)) version ∙ ap (λ plan. order_at (version_of c) plan (after_at (ties ++ ends c) 0)) scenario ∙ four) in
+      (sym three ∙ ap (λ ls. order_at b.scenario (after_at ls 0)) second.1 ∙ ap (λ (plan : Scenario). order_at plan (after_at (ties ++ ends c) 0)) scenario ∙ four) in
       let order : b.schedule.order ≡ c.schedule.order = ap (λ (x : Order × Place). x.0) tied in
       let ended : map node_line b.nodes ++ end_line ∷ [] ≡ map node_line c.nodes ++ end_line ∷ [] = ap (λ (x : Order × Place). x.1.ended) tied in
       let time : b.scenario.time ≡ c.scenario.time = ap (λ (x : Scenario). x.time) scenario in
-      let nodes : b.nodes ≡ c.nodes = nodes_unique (version_of b) b.scenario.time b.nodes c.nodes p.nodes (subst (λ (t : Time). All (IsNode t) c.nodes) (sym time) q.nodes) (own b p).lists (subst (λ (v : Version). Lists v c.nodes) (sym version) (own c q).lists) ended in
+      let theirs : NodesOf (version_of b) b.scenario.time c.nodes =
+      subst (λ (v : Version). NodesOf v b.scenario.time c.nodes) (sym version) (subst (λ (t : Time). NodesOf (version_of c) t c.nodes) (sym time) (nodes_of c q)) in
+      let nodes : b.nodes ≡ c.nodes = nodes_unique (version_of b) b.scenario.time b.nodes c.nodes (nodes_of b p) theirs (own b).lists (subst (λ (v : Version). Lists v c.nodes) (sym version) (own c).lists) ended in
       made scenario latency delays order nodes where
         made : b.scenario ≡ c.scenario → b.latency ≡ c.latency → b.schedule.delays ≡ c.schedule.delays → b.schedule.order ≡ c.schedule.order → b.nodes ≡ c.nodes → b ≡ c
         made s l d o n =

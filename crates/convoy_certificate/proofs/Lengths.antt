@@ -1,5 +1,5 @@
 -- How many bytes the lines of a certificate have at most, and its text.
-use Rattle.std.proofs.Common.{◌≡◌, ℕ, zero, suc, ◌+◌, ◌*◌, ◌<◌, ◌≤◌, ◌^◌, nat_le, nat_lt, ◌==◌, true, ◌&&◌, ◌||◌, not, Option, Some, None, List, [], ◌∷◌, ◌++◌, length, length-append, map, get_or, All, ap, ◌∙◌, add-one, arith, refl, codes, decimal}
+use Rattle.std.proofs.Common.{◌≡◌, ℕ, zero, suc, ◌+◌, ◌*◌, ◌<◌, ◌≤◌, ◌^◌, nat_le, nat_lt, ◌==◌, true, false, cond, ◌&&◌, ◌||◌, not, Option, Some, None, List, [], ◌∷◌, ◌++◌, length, length-append, map, get_or, All, ap, ◌∙◌, add-one, arith, refl, codes, decimal}
 use Rattle.std.specs.List.{AllByRecursion, flat_map, list_all}
 use Rattle.std.specs.List.Sorted.{IsStrictlyIncreasing}
 use Rattle.std.specs.Str.{bytes_eq}
@@ -9,7 +9,7 @@ use Rattle.std.proofs.lemmas.Fmt.{length-decimal-le}
 use Rattle.std.proofs.lemmas.List.{length-map}
 use Rattle.std.proofs.lemmas.List.Concat.{flat_map-append}
 use Rattle.std.proofs.lemmas.List.Elements.{recursion_from_All}
-use Rattle.convoy_scenario.specs.declared.limits.TheConstants.{LONGEST_NAME, MOST_GROUPS}
+use Rattle.convoy_scenario.specs.declared.limits.TheConstants.{GREATEST_AT, LONGEST_NAME, LONGEST_WAIT, MOST_GROUPS}
 use Rattle.convoy_scenario.specs.declared.sender.Sender.{Sender}
 use Rattle.convoy_scenario.specs.declared.time.Time.{Time}
 use Rattle.convoy_scenario.specs.declared.time.Time.TheVariants.{Ticks, Real}
@@ -20,8 +20,10 @@ use Rattle.convoy_scenario.specs.declared.duration.TimeUnit.TheVariants.{Seconds
 use Rattle.convoy_scenario.specs.declared.duration.TheConstants.{LONGEST_DURATION, MOST_UNITS}
 use Rattle.convoy_scenario.specs.Durations.{count_of, unit_of, unit_word}
 use Rattle.convoy_scenario.specs.Naming.{sender_word}
-use Rattle.convoy_scenario_lines.specs.Lines.{time_lines, tick_line, tick_lines, delay_line, groups_line, link_line, multicast_line, target_line, lines_from_delay, scenario_lines}
-use Rattle.convoy_scenario.specs.Scenario.{Link, Message, Scenario, message_at, group_name_at, no_message}
+use Rattle.convoy_scenario_lines.specs.declared.version.Version.{Version as LinesVersion}
+use Rattle.convoy_scenario_lines.specs.declared.version.Version.TheVariants as lines
+use Rattle.convoy_scenario_lines.specs.Lines.{time_lines, issue_word, tick_line, tick_lines, delay_line, groups_line, link_line, multicast_line, target_line, lines_from_delay, scenario_lines}
+use Rattle.convoy_scenario.specs.Scenario.{Link, Message, Scenario, is_timed, message_at, group_name_at, no_message}
 use Rattle.convoy_scenario.specs.WellFormed.{is_tick, is_letter, is_name_byte, is_name, client_word, is_group_name, sender_place, is_before, follows, ascend_after, IsSender, IsLink, IsMulticast, IsScenario}
 use Rattle.convoy_packets.specs.Laws.{PacketsAreFew, DelaysAreOneEach, RanksAreFew}
 use Rattle.convoy_certificate.specs.declared.certificate.TheConstants.{LONGEST_TEXT, MOST_NODES}
@@ -30,9 +32,10 @@ use Rattle.convoy_certificate.specs.declared.node.Node.TheVariants.{Split, Bound
 use Rattle.convoy_certificate.specs.declared.version.Version.{Version}
 use Rattle.convoy_certificate.specs.declared.version.Version.TheVariants.{One, Two, Three, Four}
 use Rattle.convoy_certificate.specs.Certificate.{Certificate, IsNode, IsCertificate}
-use Rattle.convoy_certificate.specs.Text.{version_of, version_line, latency_line, schedule_line, order_line, order_lines, ranks_written, schedule_lines, node_line, end_line, certificate_text}
-use Rattle.convoy_certificate.proofs.Again.{Small, delay_fits, small_assigned}
+use Rattle.convoy_certificate.specs.Text.{lines_version, version_of, version_line, latency_line, schedule_line, order_line, order_lines, ranks_written, schedule_lines, node_line, end_line, certificate_text}
+use Rattle.convoy_certificate.proofs.Again.{Small, small_assigned}
 use Rattle.convoy_certificate.proofs.LineLaws.{OrderGrounds}
+use Rattle.convoy_certificate.proofs.NodeLaws.{packet_fits, place_fits}
 use Rattle.convoy_certificate.proofs.Orders.{written}
 
 -- ---- words, lines and texts
@@ -79,31 +82,32 @@ texts_append xs ys = ap length (flat_map-append ended xs ys) ∙ length-append (
 
 -- ---- the nodes
 
-node_length : (time : Time) (node : Node) → IsNode time node → length (node_line node) ≤ 12
-node_length time (Split packet at) is =
+node_length : (plan : Scenario) (node : Node) → IsNode plan node → length (node_line node) ≤ 12
+node_length plan (Split packet at) is =
     let packet_within = is.0 in
     let at_within = is.2 in
-    let four : length (decimal packet) ≤ 4 = length-decimal-le 4 packet (omega arith) (omega arith) (omega arith) in
-    let within = delay_fits time in
+    let most = packet_fits (is_timed plan) in
+    let four : length (decimal packet) ≤ 4 = length-decimal-le 4 packet (omega arith) (omega (arith, packet_within, most)) (omega (arith, packet_within, most)) in
+    let within = place_fits (is_timed plan) in
     let five : length (decimal at) ≤ 5 = length-decimal-le 5 at (omega arith) (omega (arith, at_within, within)) (omega (arith, at_within, within)) in
     let both = length-append (spaced (decimal packet)) (spaced (decimal at) ++ []) in
     let last = length-append (spaced (decimal at)) [] in
     omega arith
-node_length time Bound is = omega arith
-node_length time Point is = omega arith
-node_length time Stamp is = omega arith
-node_length time (Lead latency) is =
+node_length plan Bound is = omega arith
+node_length plan Point is = omega arith
+node_length plan Stamp is = omega arith
+node_length plan (Lead latency) is =
     let ten : length (decimal latency) ≤ 10 = length-decimal-le 10 latency (omega arith) (omega (arith, is)) (omega (arith, is)) in
     let last = length-append (spaced (decimal latency)) [] in
     omega arith
 
-nodes_length : (time : Time) (nodes : List Node) → AllByRecursion (IsNode time) nodes → length (text_of (map node_line nodes)) ≤ length nodes * 13
-nodes_length time [] are = omega arith
-nodes_length time (node ∷ nodes) are =
+nodes_length : (plan : Scenario) (nodes : List Node) → AllByRecursion (IsNode plan) nodes → length (text_of (map node_line nodes)) ≤ length nodes * 13
+nodes_length plan [] are = omega arith
+nodes_length plan (node ∷ nodes) are =
     let sum = length-append (ended (node_line node)) (text_of (map node_line nodes)) in
     let here = ended_length (node_line node) in
-    let rest = nodes_length time nodes are.1 in
-    let first = node_length time node are.0 in
+    let rest = nodes_length plan nodes are.1 in
+    let first = node_length plan node are.0 in
     omega arith
 
 -- ---- the scenario
@@ -153,13 +157,23 @@ rising_length (x ∷ xs) n rising below =
     let under = below (length xs) 0 (omega arith) in
     omega arith
 
+-- two ticks of at most seven digits each, and two dots
+issue_length : (at wait : ℕ) → at ≤ GREATEST_AT → wait ≤ LONGEST_WAIT → length (issue_word at wait) ≤ 16
+issue_length at wait low short =
+    let first : length (decimal at) ≤ 7 = length-decimal-le 7 at (omega arith) (omega (arith, low)) (omega (arith, low)) in
+    let last : length (decimal (at + wait)) ≤ 7 = length-decimal-le 7 (at + wait) (omega arith) (omega (arith, low, short)) (omega (arith, low, short)) in
+    let both = length-append (decimal at) (codes ".." ++ decimal (at + wait)) in
+    elim (wait == 0) as (λ b. length (cond b (decimal at) (decimal at ++ (codes ".." ++ decimal (at + wait)))) ≤ 16) [
+      | true ↦ omega arith
+      | false ↦ omega arith
+    ]
+
 multicast_length : (plan : Scenario) (message : Message) → length plan.groups ≤ MOST_GROUPS → AreShort plan.groups → IsMulticast (length plan.groups) message → length (multicast_line plan message) ≤ 300
 multicast_length plan message few short is =
-    let at_within = is.at in
     let names : List (List ℕ) = map (group_name_at plan) message.destinations in
-    let number = number_length message.at (omega arith) in
-    let words : List (List ℕ) = message.name ∷ sender_word plan message.sender ∷ decimal message.at ∷ names in
-    let line = line_length (codes "multicast") words (name_length message.name is.name, (sender_length plan message.sender short, (number, names_at plan.groups message.destinations short))) in
+    let issue = issue_length message.at message.longest_wait is.at is.wait in
+    let words : List (List ℕ) = message.name ∷ sender_word plan message.sender ∷ issue_word message.at message.longest_wait ∷ names in
+    let line = line_length (codes "multicast") words (name_length message.name is.name, (sender_length plan message.sender short, (issue, names_at plan.groups message.destinations short))) in
     let count = length-map message.destinations (group_name_at plan) in
     let known = rising_length message.destinations (length plan.groups) is.ascending is.known in
     omega arith
@@ -247,9 +261,11 @@ length_from_delay plan is =
     let many = length-map plan.multicasts (multicast_line plan) in
     omega arith
 
-time_length : (time : Time) → length (text_of (time_lines time)) ≤ 10
-time_length Ticks = omega arith
-time_length Real = omega arith
+time_length : (version : LinesVersion) (time : Time) → length (text_of (time_lines version time)) ≤ 11
+time_length lines.One time = omega arith
+time_length lines.Two time = omega arith
+time_length lines.Three Ticks = omega arith
+time_length lines.Three Real = omega arith
 
 unit_length : (unit : TimeUnit) → length (unit_word unit) ≤ 16
 unit_length Seconds = omega arith
@@ -270,11 +286,11 @@ tick_length time (Some tick) is =
     let sum = length-append (ended (tick_line tick)) [] in
     omega arith
 
-scenario_length : (plan : Scenario) → IsScenario plan → length (text_of (scenario_lines plan)) ≤ 27_440
-scenario_length plan is =
-    let sum = texts_append (time_lines plan.time) (tick_lines plan.tick ++ lines_from_delay plan) in
+scenario_length : (version : LinesVersion) (plan : Scenario) → IsScenario plan → length (text_of (scenario_lines version plan)) ≤ 27_441
+scenario_length version plan is =
+    let sum = texts_append (time_lines version plan.time) (tick_lines plan.tick ++ lines_from_delay plan) in
     let more = texts_append (tick_lines plan.tick) (lines_from_delay plan) in
-    let time = time_length plan.time in
+    let time = time_length version plan.time in
     let tick = tick_length plan.time plan.tick is.tick in
     let rest = length_from_delay plan is in
     omega arith
@@ -308,7 +324,7 @@ pub record ShortGrounds : Type 0 where
   pub delays : DelaysAreOneEach
   pub ranks : RanksAreFew
 
-schedule_length : ShortGrounds → OrderGrounds → (c : Certificate) → IsCertificate c → length (text_of (schedule_lines c.scenario c.schedule)) ≤ 21_775
+schedule_length : ShortGrounds → OrderGrounds → (c : Certificate) → IsCertificate c → length (text_of (schedule_lines c.scenario c.schedule)) ≤ 22_047
 schedule_length short grounds c is =
     let packets = short.packets c.scenario is.scenario in
     let each = short.delays c.scenario c.schedule is.assigned in
@@ -331,17 +347,18 @@ version_length Four = refl
 -- the text of a certificate is within the limit
 pub certificate_length : ShortGrounds → OrderGrounds → (c : Certificate) → IsCertificate c → length c.nodes ≤ MOST_NODES → length (certificate_text c) ≤ LONGEST_TEXT
 certificate_length short grounds c is nodes_within =
+    let version = lines_version (version_of c) in
     let nodes : List (List ℕ) = map node_line c.nodes in
     let foot : List (List ℕ) = end_line ∷ [] in
     let ties : List (List ℕ) = schedule_lines c.scenario c.schedule in
     let tail : List (List ℕ) = latency_line c.latency ∷ (ties ++ (nodes ++ foot)) in
     let latency = line_length (codes "latency") (decimal c.latency ∷ []) (number_length c.latency is.latency, tt) in
     let schedule = schedule_length short grounds c is in
-    let scenario = scenario_length c.scenario is.scenario in
-    let all_nodes = nodes_length c.scenario.time c.nodes (recursion_from_All (IsNode c.scenario.time) c.nodes is.nodes) in
-    let s0 : length (certificate_text c) ≡ length (ended (version_line (version_of c))) + length (text_of (scenario_lines c.scenario ++ tail)) = length-append (ended (version_line (version_of c))) (text_of (scenario_lines c.scenario ++ tail)) in
+    let scenario = scenario_length version c.scenario is.scenario in
+    let all_nodes = nodes_length c.scenario c.nodes (recursion_from_All (IsNode c.scenario) c.nodes is.nodes) in
+    let s0 : length (certificate_text c) ≡ length (ended (version_line (version_of c))) + length (text_of (scenario_lines version c.scenario ++ tail)) = length-append (ended (version_line (version_of c))) (text_of (scenario_lines version c.scenario ++ tail)) in
     let s : length (ended (version_line (version_of c))) ≡ 9 = version_length (version_of c) in
-    let s1 : length (text_of (scenario_lines c.scenario ++ tail)) ≡ length (text_of (scenario_lines c.scenario)) + length (text_of tail) = texts_append (scenario_lines c.scenario) tail in
+    let s1 : length (text_of (scenario_lines version c.scenario ++ tail)) ≡ length (text_of (scenario_lines version c.scenario)) + length (text_of tail) = texts_append (scenario_lines version c.scenario) tail in
     let s2 : length (text_of tail) ≡ length (ended (latency_line c.latency)) + length (text_of (ties ++ (nodes ++ foot))) = length-append (ended (latency_line c.latency)) (text_of (ties ++ (nodes ++ foot))) in
     let s3 : length (text_of (ties ++ (nodes ++ foot))) ≡ length (text_of ties) + length (text_of (nodes ++ foot)) = texts_append ties (nodes ++ foot) in
     let s4 : length (text_of (nodes ++ foot)) ≡ length (text_of nodes) + 4 = texts_append nodes foot in

@@ -15,6 +15,7 @@ use Rattle.convoy_lines.specs.Labels.{greatest_number, words_after, number_in}
 use Rattle.convoy_lines.specs.Places.{lines_in}
 use Rattle.convoy_lines.specs.Words.{words_of, next_word, number_of}
 use Rattle.convoy_lines.specs.Texts.{line_of, number_line, text_of}
+use Rattle.convoy_scenario_lines.specs.declared.version.Version.{Version as LinesVersion}
 use Rattle.convoy_scenario_lines.specs.Lines.{scenario_lines}
 use Rattle.convoy_scenario.specs.Scenario.{Scenario}
 use Rattle.convoy_scenario.specs.WellFormed.{IsScenario}
@@ -106,5 +107,5 @@ module _ (grounds : WrittenGrounds) where
   pub lines_again : (lines : List (List ℕ)) → AreLines lines → lines_in (text_of lines) ≡ record { ended = lines; rest = [] }
   lines_again lines are = (grounds.texts (text_of lines) lines).1 (refl, All-from_recursion IsLine lines are)
 
-  pub scenario_lines_are : (plan : Scenario) → IsScenario plan → AreLines (scenario_lines plan)
-  scenario_lines_are plan is = recursion_from_All IsLine (scenario_lines plan) (grounds.scenario_lines plan is)
+  pub scenario_lines_are : (version : LinesVersion) (plan : Scenario) → IsScenario plan → AreLines (scenario_lines version plan)
+  scenario_lines_are version plan is = recursion_from_All IsLine (scenario_lines version plan) (grounds.scenario_lines version plan is)

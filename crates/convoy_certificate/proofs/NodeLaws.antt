@@ -12,12 +12,14 @@ use Rattle.convoy_lines.specs.Words.{words_of, next_word, number_of}
 use Rattle.convoy_lines.specs.Texts.{line_of}
 use Rattle.convoy_certificate.specs.declared.node.Node.{Node}
 use Rattle.convoy_certificate.specs.declared.node.Node.TheVariants.{Split, Bound, Point, Stamp, Lead}
-use Rattle.convoy_certificate.specs.declared.node.TheConstants.{GREATEST_PACKET}
+use Rattle.convoy_scenario.specs.declared.time.Time.{Time}
+use Rattle.convoy_scenario.specs.declared.time.Time.TheVariants.{Ticks, Real}
 use Rattle.convoy_certificate.specs.declared.version.Version.{Version}
 use Rattle.convoy_certificate.specs.declared.version.Version.TheVariants.{One, Two, Three, Four}
-use Rattle.convoy_certificate.specs.Forms.{greatest_place, split_in, latency_in, lead_in, point_in, stamp_in, leaf_in, node_in}
+use Rattle.convoy_certificate.specs.Certificate.{greatest_packet, least_place, greatest_place}
+use Rattle.convoy_certificate.specs.Forms.{split_in, latency_in, lead_in, in_ticks, stamp_in, leaf_in, node_in}
 use Rattle.convoy_certificate.specs.Reading.{leads_with}
-use Rattle.convoy_certificate.specs.Text.{is_lead, node_line}
+use Rattle.convoy_certificate.specs.Text.{is_lead, says_time, node_line}
 use Rattle.convoy_certificate.proofs.LineLaws.{ReadGrounds, WrittenGrounds, bind_some, next_takes, same_bytes, decimal_word, number_again, words_again}
 use Rattle.convoy_lines.specs.Laws.{IsWord}
 
@@ -29,12 +31,14 @@ pub map_takes : {A B : Type 0} (f : A → B) (o : Option A) (y : B) → option_m
 map_takes f None y e = absurd cc
 map_takes f (Some x) y e = (x, refl, same_Some (f x) y e)
 
--- a place of a split has 16 bits
-pub place_fits : (version : Version) → greatest_place version < 2 ^ 16
-place_fits One = omega arith
-place_fits Two = omega arith
-place_fits Three = omega arith
-place_fits Four = omega arith
+-- the packet and the place of a split have 16 bits
+pub packet_fits : (timed : Bool) → greatest_packet timed ≤ 1_039
+packet_fits true = omega arith
+packet_fits false = omega arith
+
+pub place_fits : (timed : Bool) → greatest_place timed < 2 ^ 16
+place_fits true = omega arith
+place_fits false = omega arith
 
 pub neither : (a b : Bool) → (a || b) ≡ false → (a ≡ false) × (b ≡ false)
 neither false b e = (refl, e)
@@ -47,54 +51,52 @@ leads_more leads node nodes = weighed (is_lead node) (count_by is_lead nodes) (c
   weighed true rest sum e = omega (arith, e)
   weighed false rest sum e = omega (arith, e)
 
-stamp_takes : (version : Version) (node : Node) → stamp_in version ≡ Some node → Stamp ≡ node
-stamp_takes One node e = absurd cc
-stamp_takes Two node e = same_Some Stamp node e
-stamp_takes Three node e = same_Some Stamp node e
-stamp_takes Four node e = absurd cc
+ticks_take : (time : Time) (leaf node : Node) → in_ticks time leaf ≡ Some node → leaf ≡ node
+ticks_take Ticks leaf node e = same_Some leaf node e
+ticks_take Real leaf node e = absurd cc
 
-point_takes : (version : Version) (node : Node) → point_in version ≡ Some node → Point ≡ node
-point_takes One node e = same_Some Point node e
-point_takes Two node e = same_Some Point node e
-point_takes Three node e = same_Some Point node e
-point_takes Four node e = absurd cc
+stamp_takes : (version : Version) (time : Time) (node : Node) → stamp_in version time ≡ Some node → Stamp ≡ node
+stamp_takes One time node e = absurd cc
+stamp_takes Two time node e = ticks_take time Stamp node e
+stamp_takes Three time node e = ticks_take time Stamp node e
+stamp_takes Four time node e = ticks_take time Stamp node e
 
-leaf_takes : (version : Version) (word : List ℕ) (node : Node) → leaf_in version word ≡ Some node → word ≡ node_line node
-leaf_takes version word node e =
+leaf_takes : (version : Version) (time : Time) (word : List ℕ) (node : Node) → leaf_in version time word ≡ Some node → word ≡ node_line node
+leaf_takes version time word node e =
     elim (cases_Bool (bytes_eq word (codes "b"))) [
       | inl bound ↦
           let read : Some Bound ≡ Some node = rw bound at e in
           same_bytes word (codes "b") bound ∙ ap node_line (same_Some Bound node read)
       | inr other ↦
-          let read : cond (bytes_eq word (codes "p")) (point_in version) (cond (bytes_eq word (codes "t")) (stamp_in version) None) ≡ Some node = rw other at e in
+          let read : cond (bytes_eq word (codes "p")) (in_ticks time Point) (cond (bytes_eq word (codes "t")) (stamp_in version time) None) ≡ Some node = rw other at e in
           elim (cases_Bool (bytes_eq word (codes "p"))) [
             | inl point ↦
-                let one : point_in version ≡ Some node = rw point at read in
-                same_bytes word (codes "p") point ∙ ap node_line (point_takes version node one)
+                let one : in_ticks time Point ≡ Some node = rw point at read in
+                same_bytes word (codes "p") point ∙ ap node_line (ticks_take time Point node one)
             | inr neither ↦
-                let last : cond (bytes_eq word (codes "t")) (stamp_in version) None ≡ Some node = rw neither at read in
+                let last : cond (bytes_eq word (codes "t")) (stamp_in version time) None ≡ Some node = rw neither at read in
                 elim (cases_Bool (bytes_eq word (codes "t"))) [
                   | inl stamp ↦
-                      let one : stamp_in version ≡ Some node = rw stamp at last in
-                      same_bytes word (codes "t") stamp ∙ ap node_line (stamp_takes version node one)
+                      let one : stamp_in version time ≡ Some node = rw stamp at last in
+                      same_bytes word (codes "t") stamp ∙ ap node_line (stamp_takes version time node one)
                   | inr none ↦ let no_node : None ≡ Some node = rw none at last in absurd cc
                 ]
           ]
     ]
 
 module _ (grounds : ReadGrounds) where
-  split_takes : (version : Version) (words : List (List ℕ)) (node : Node) → split_in version words ≡ Some node → line_of (codes "s") words ≡ node_line node
-  split_takes version words node e =
-      let a = bind_some (next_word words) (λ first. number_of GREATEST_PACKET first.0 >>= λ packet. next_word first.1 >>= λ second. number_of (greatest_place version) second.0 >>= λ at.
-      cond (leb 1 at && (length second.1 == 0)) (Some (Split packet at)) None) node e in
-      let b = bind_some (number_of GREATEST_PACKET a.0.0) (λ packet. next_word a.0.1 >>= λ second. number_of (greatest_place version) second.0 >>= λ at.
-      cond (leb 1 at && (length second.1 == 0)) (Some (Split packet at)) None) node a.2 in
-      let c = bind_some (next_word a.0.1) (λ second. number_of (greatest_place version) second.0 >>= λ at. cond (leb 1 at && (length second.1 == 0)) (Some (Split b.0 at)) None) node b.2 in
-      let d = bind_some (number_of (greatest_place version) c.0.0) (λ at. cond (leb 1 at && (length c.0.1 == 0)) (Some (Split b.0 at)) None) node c.2 in
-      let g = cond_some (leb 1 d.0 && (length c.0.1 == 0)) (Split b.0 d.0) node d.2 in
-      let last : c.0.1 ≡ [] = nil_from_length c.0.1 (eqb-true _ _ (and_parts (leb 1 d.0) (length c.0.1 == 0) g.0).1) in
-      let packet = (grounds.numbers GREATEST_PACKET a.0.0 b.0 (omega arith)).0 b.1 in
-      let at = (grounds.numbers (greatest_place version) c.0.0 d.0 (omega (arith, place_fits version))).0 d.1 in
+  split_takes : (timed : Bool) (words : List (List ℕ)) (node : Node) → split_in timed words ≡ Some node → line_of (codes "s") words ≡ node_line node
+  split_takes timed words node e =
+      let a = bind_some (next_word words) (λ first. number_of (greatest_packet timed) first.0 >>= λ packet. next_word first.1 >>= λ second. number_of (greatest_place timed) second.0 >>= λ at.
+      cond (leb (least_place timed) at && (length second.1 == 0)) (Some (Split packet at)) None) node e in
+      let b = bind_some (number_of (greatest_packet timed) a.0.0) (λ packet. next_word a.0.1 >>= λ second. number_of (greatest_place timed) second.0 >>= λ at.
+      cond (leb (least_place timed) at && (length second.1 == 0)) (Some (Split packet at)) None) node a.2 in
+      let c = bind_some (next_word a.0.1) (λ second. number_of (greatest_place timed) second.0 >>= λ at. cond (leb (least_place timed) at && (length second.1 == 0)) (Some (Split b.0 at)) None) node b.2 in
+      let d = bind_some (number_of (greatest_place timed) c.0.0) (λ at. cond (leb (least_place timed) at && (length c.0.1 == 0)) (Some (Split b.0 at)) None) node c.2 in
+      let g = cond_some (leb (least_place timed) d.0 && (length c.0.1 == 0)) (Split b.0 d.0) node d.2 in
+      let last : c.0.1 ≡ [] = nil_from_length c.0.1 (eqb-true _ _ (and_parts (leb (least_place timed) d.0) (length c.0.1 == 0) g.0).1) in
+      let packet = (grounds.numbers (greatest_packet timed) a.0.0 b.0 (omega (arith, packet_fits timed))).0 b.1 in
+      let at = (grounds.numbers (greatest_place timed) c.0.0 d.0 (omega (arith, place_fits timed))).0 d.1 in
       let read : words ≡ decimal b.0 ∷ decimal d.0 ∷ [] =
       next_takes words a.0 a.1 ∙ ap (λ ws. a.0.0 ∷ ws) (next_takes a.0.1 c.0 c.1 ∙ ap (λ ws. c.0.0 ∷ ws) last) ∙ ap (λ w. w ∷ c.0.0 ∷ []) packet.0 ∙ ap (λ w. decimal b.0 ∷ w ∷ []) at.0 in
       ap (line_of (codes "s")) read ∙ ap node_line g.1
@@ -115,60 +117,62 @@ module _ (grounds : ReadGrounds) where
   lead_takes Three words node e = latency_takes words node e
   lead_takes Four words node e = latency_takes words node e
 
-  pub node_takes : (version : Version) (line : List ℕ) (node : Node) → node_in version line ≡ Some node → line ≡ node_line node
-  node_takes version line node e =
-      let a = bind_some (next_word (words_of line)) (λ first. cond (bytes_eq first.0 (codes "s")) (split_in version first.1) (cond (bytes_eq first.0 (codes "c")) (lead_in version first.1) (cond (length first.1 == 0) (leaf_in version first.0) None))) node e in
+  pub node_takes : (version : Version) (time : Time) (line : List ℕ) (node : Node) → node_in version time line ≡ Some node → line ≡ node_line node
+  node_takes version time line node e =
+      let a = bind_some (next_word (words_of line)) (λ first. cond (bytes_eq first.0 (codes "s")) (split_in (says_time version) first.1) (cond (bytes_eq first.0 (codes "c")) (lead_in version first.1) (cond (length first.1 == 0) (leaf_in version time first.0) None))) node e in
       let whole : line ≡ line_of a.0.0 a.0.1 = (grounds.words line a.0.0 a.0.1).0 (next_takes (words_of line) a.0 a.1) in
       elim (cases_Bool (bytes_eq a.0.0 (codes "s"))) [
         | inl split ↦
-            let read : split_in version a.0.1 ≡ Some node = rw split at a.2 in
-            whole ∙ ap (λ w. line_of w a.0.1) (same_bytes a.0.0 (codes "s") split) ∙ split_takes version a.0.1 node read
+            let read : split_in (says_time version) a.0.1 ≡ Some node = rw split at a.2 in
+            whole ∙ ap (λ w. line_of w a.0.1) (same_bytes a.0.0 (codes "s") split) ∙ split_takes (says_time version) a.0.1 node read
         | inr other ↦
-            let read : cond (bytes_eq a.0.0 (codes "c")) (lead_in version a.0.1) (cond (length a.0.1 == 0) (leaf_in version a.0.0) None) ≡ Some node = rw other at a.2 in
+            let read : cond (bytes_eq a.0.0 (codes "c")) (lead_in version a.0.1) (cond (length a.0.1 == 0) (leaf_in version time a.0.0) None) ≡ Some node = rw other at a.2 in
             elim (cases_Bool (bytes_eq a.0.0 (codes "c"))) [
               | inl lead ↦
                   let leaf : lead_in version a.0.1 ≡ Some node = rw lead at read in
                   whole ∙ ap (λ w. line_of w a.0.1) (same_bytes a.0.0 (codes "c") lead) ∙ lead_takes version a.0.1 node leaf
               | inr neither ↦
-                  let short : cond (length a.0.1 == 0) (leaf_in version a.0.0) None ≡ Some node = rw neither at read in
+                  let short : cond (length a.0.1 == 0) (leaf_in version time a.0.0) None ≡ Some node = rw neither at read in
                   elim (cases_Bool (length a.0.1 == 0)) [
                     | inl alone ↦
-                        let leaf : leaf_in version a.0.0 ≡ Some node = rw alone at short in
+                        let leaf : leaf_in version time a.0.0 ≡ Some node = rw alone at short in
                         let last : a.0.1 ≡ [] = nil_from_length a.0.1 (eqb-true _ _ alone) in
-                        whole ∙ ap (line_of a.0.0) last ∙ append-nil a.0.0 ∙ leaf_takes version a.0.0 node leaf
+                        whole ∙ ap (line_of a.0.0) last ∙ append-nil a.0.0 ∙ leaf_takes version time a.0.0 node leaf
                     | inr more ↦ let none : None ≡ Some node = rw more at short in absurd cc
                   ]
             ]
       ]
 
 -- the node that the words of a line are
-abbrev node_of_words : Version → List (List ℕ) → Option Node
-node_of_words version words = do
+abbrev node_of_words : Version → Time → List (List ℕ) → Option Node
+node_of_words version time words = do
   first ← next_word words
-  if bytes_eq first.0 (codes "s") then split_in version first.1 else if bytes_eq first.0 (codes "c") then lead_in version first.1
-      else if length first.1 == 0 then leaf_in version first.0 else None
+  if bytes_eq first.0 (codes "s") then split_in (says_time version) first.1 else if bytes_eq first.0 (codes "c") then lead_in version first.1
+      else if length first.1 == 0 then leaf_in version time first.0 else None
 
 -- the word of a line `s`
 pub split_word : IsWord (codes "s")
 split_word = record { some = omega arith; spaceless = refl; endless = refl }
 
 -- a line `s` is read again
-pub split_again : WrittenGrounds → (version : Version) (packet at : ℕ) → packet ≤ GREATEST_PACKET → 1 ≤ at → at ≤ greatest_place version → node_in version (node_line (Split packet at)) ≡ Some (Split packet at)
-split_again grounds version packet at known low high =
+pub split_again : WrittenGrounds → (version : Version) (time : Time) (packet at : ℕ) → packet ≤ greatest_packet (says_time version) → least_place (says_time version) ≤ at → at ≤ greatest_place (says_time version)
+    → node_in version time (node_line (Split packet at)) ≡ Some (Split packet at)
+split_again grounds version time packet at known low high =
+    let timed = says_time version in
     let words : words_of (node_line (Split packet at)) ≡ codes "s" ∷ decimal packet ∷ decimal at ∷ [] =
-    words_again grounds (codes "s") (decimal packet ∷ decimal at ∷ []) (split_word, (decimal_word grounds packet (omega arith), (decimal_word grounds at (omega (arith, high, place_fits version)), tt))) in
-    let read : node_of_words version (codes "s" ∷ decimal packet ∷ decimal at ∷ []) ≡ Some (Split packet at) =
-    rw (number_again grounds GREATEST_PACKET packet (omega arith) known, number_again grounds (greatest_place version) at (omega (arith, place_fits version)) high, le-leb 1 at low) refl in
-    ap (node_of_words version) words ∙ read
+    words_again grounds (codes "s") (decimal packet ∷ decimal at ∷ []) (split_word, (decimal_word grounds packet (omega (arith, known, packet_fits timed)), (decimal_word grounds at (omega (arith, high, place_fits timed)), tt))) in
+    let read : node_of_words version time (codes "s" ∷ decimal packet ∷ decimal at ∷ []) ≡ Some (Split packet at) =
+    rw (number_again grounds (greatest_packet timed) packet (omega (arith, packet_fits timed)) known, number_again grounds (greatest_place timed) at (omega (arith, place_fits timed)) high, le-leb (least_place timed) at low) refl in
+    ap (node_of_words version time) words ∙ read
 
 -- the word of a line `c`
 pub lead_word : IsWord (codes "c")
 lead_word = record { some = omega arith; spaceless = refl; endless = refl }
 
 -- a line `c` is read again in a version that has such lines
-pub lead_again : WrittenGrounds → (version : Version) (latency : ℕ) → ((words : List (List ℕ)) → lead_in version words ≡ latency_in words) → latency ≤ greatest_number → node_in version (node_line (Lead latency)) ≡ Some (Lead latency)
-lead_again grounds version latency known high =
+pub lead_again : WrittenGrounds → (version : Version) (time : Time) (latency : ℕ) → ((words : List (List ℕ)) → lead_in version words ≡ latency_in words) → latency ≤ greatest_number → node_in version time (node_line (Lead latency)) ≡ Some (Lead latency)
+lead_again grounds version time latency known high =
     let words : words_of (node_line (Lead latency)) ≡ codes "c" ∷ decimal latency ∷ [] =
     words_again grounds (codes "c") (decimal latency ∷ []) (lead_word, (decimal_word grounds latency (omega arith), tt)) in
     let read : latency_in (decimal latency ∷ []) ≡ Some (Lead latency) = rw (number_again grounds greatest_number latency (omega arith) high) refl in
-    ap (node_of_words version) words ∙ known (decimal latency ∷ []) ∙ read
+    ap (node_of_words version time) words ∙ known (decimal latency ∷ []) ∙ read

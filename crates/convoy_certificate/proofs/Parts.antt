@@ -1,34 +1,32 @@
 -- What a part of a text is, where it was read.
-use Rattle.std.proofs.Common.{◌≡◌, ◌⊎◌, Ok, refl, sym, ap, ◌∙◌, inl, inr}
-use Rattle.convoy_lines.specs.Places.{Place}
-use Rattle.convoy_packets.specs.Order.{Order, no_order}
-use Rattle.convoy_scenario.specs.Memory.{IsUnlessMemory}
-use Rattle.convoy_scenario.specs.Scenario.{Scenario}
-use Rattle.convoy_scenario_lines.specs.declared.line_fault.LineFault.TheVariants.{Memory}
-use Rattle.convoy_scenario_lines.specs.declared.version.Version.{Version as LinesVersion}
-use Rattle.convoy_scenario_lines.specs.Laws.{ScenariosAreTheirLines, time_of}
-use Rattle.convoy_scenario_lines.specs.LineReading.{scenario_at}
+use Rattle.std.proofs.Common.{◌≡◌, ℕ, ◌==◌, ◌&&◌, Bool, true, false, not, List, All, refl, ap, subst, ◌∙◌, inl, inr}
+use Rattle.std.specs.List.{list_any}
+use Rattle.std.proofs.lemmas.Bool.{cases_Bool}
+use Rattle.convoy_scenario.specs.declared.time.Time.{Time}
+use Rattle.convoy_scenario.specs.Scenario.{Scenario, is_timed}
+use Rattle.convoy_certificate.specs.declared.node.Node.{Node}
 use Rattle.convoy_certificate.specs.declared.version.Version.{Version}
-use Rattle.convoy_certificate.specs.declared.version.Version.TheVariants.{One, Two, Three}
-use Rattle.convoy_certificate.specs.Reading.{order_at}
+use Rattle.convoy_certificate.specs.Certificate.{IsNode, IsNodeWhere}
+use Rattle.convoy_certificate.specs.Reading.{is_same_version}
+use Rattle.convoy_certificate.specs.Text.{is_stamp, is_lead, says_time, version_for}
+use Rattle.convoy_certificate.proofs.Taken.{one_version}
 
--- in a scenario time goes as the lines of its version say
-pub timed : ScenariosAreTheirLines → (version : LinesVersion) (scenario : Scenario) (place past : Place)
-    → IsUnlessMemory Memory (scenario_at version place) (Ok (scenario, past)) → scenario.time ≡ time_of version
-timed theirs version scenario place past read =
-    elim read [
-      | inl same ↦ ((theirs version scenario place past).0 (sym same)).1.time
-      | inr refused ↦ absurd cc
+-- the version that is due says how time goes where the scenario has it said
+pub says_again : (timed : Bool) (links : ℕ) (nodes : List Node) → says_time (version_for timed links nodes) ≡ timed
+says_again true links nodes = refl
+says_again false links nodes =
+    elim (cases_Bool (list_any is_lead nodes)) [
+      | inl led ↦ rw led refl
+      | inr none ↦
+          elim (cases_Bool (links == 0 && not (list_any is_stamp nodes))) [
+            | inl one ↦ rw (none, one) refl
+            | inr two ↦ rw (none, two) refl
+          ]
     ]
 
--- the versions in which no order is said have the fixed one
-pub unsaid : (version : Version) (scenario : Scenario) (place : Place) (order : Order) → (version ≡ One) ⊎ (version ≡ Two) ⊎ (version ≡ Three) → order ≡ no_order
-    → Ok (order, place) ≡ order_at version scenario place
-unsaid version scenario place order is fixed =
-    ap (λ (o : Order). Ok (o, place)) fixed ∙ elim is [
-      | inl one ↦ rw one refl
-      | inr more ↦ elim more [
-        | inl two ↦ rw two refl
-        | inr three ↦ rw three refl
-      ]
-    ]
+-- nodes that were read in the version that is due are those of a certificate of the scenario
+pub nodes_are : (plan : Scenario) (version due : Version) (timed : Bool) (time : Time) (links : ℕ) (seen nodes : List Node) → is_same_version version due ≡ true → due ≡ version_for timed links seen → timed ≡ is_timed plan → time ≡ plan.time
+    → All (IsNodeWhere (says_time version) time) nodes → All (IsNode plan) nodes
+nodes_are plan version due timed time links seen nodes same is said goes are =
+    let says : says_time version ≡ is_timed plan = ap says_time (one_version version due same ∙ is) ∙ says_again timed links seen ∙ said in
+    subst (λ (t : Time). All (IsNodeWhere (is_timed plan) t) nodes) goes (subst (λ (b : Bool). All (IsNodeWhere b time) nodes) says are)

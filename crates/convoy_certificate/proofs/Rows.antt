@@ -11,7 +11,7 @@ use Rattle.convoy_packets.specs.Assignment.{in_fixed_order, ranges_of}
 use Rattle.convoy_packets.specs.Order.{no_order, place}
 use Rattle.convoy_packets.specs.OrderLists.{marks_of}
 use Rattle.convoy_packets.specs.Packets.{packets_of}
-use Rattle.convoy_certificate.specs.declared.node.Node.TheVariants.{Split, Bound, Stamp, Lead}
+use Rattle.convoy_certificate.specs.declared.node.Node.TheVariants.{Split, Bound, Point, Stamp, Lead}
 use Rattle.convoy_certificate.specs.declared.text_fault.TextFault.TheVariants as faults
 use Rattle.convoy_certificate.specs.declared.version.Version.TheVariants.{One, Two, Three, Four}
 use Rattle.convoy_certificate.specs.Certificate.{Certificate}
@@ -20,7 +20,7 @@ use Rattle.convoy_certificate.specs.Reading.{is_order_list, nodes_in, certificat
 use Rattle.convoy_certificate.specs.Text.{certificate_text}
 
 abbrev message : List ℕ → Sender → List ℕ → ℕ → Message
-message name sender destinations at = record { name = name; sender = sender; destinations = destinations; at = at }
+message name sender destinations at = record { name = name; sender = sender; destinations = destinations; at = at; longest_wait = 0 }
 
 -- the certificate of the base: one leaf
 abbrev base : Certificate
@@ -91,10 +91,10 @@ unfolding digits no_order
 text_of_stamped = refl
 
 -- version 1 has no lines `t`
-stamp_in_version_one : node_or_end One (codes "t") ≡ None
+stamp_in_version_one : node_or_end One Ticks (codes "t") ≡ None
 stamp_in_version_one = refl
 
-stamp_in_version_two : node_or_end Two (codes "t") ≡ Some (Some Stamp)
+stamp_in_version_two : node_or_end Two Ticks (codes "t") ≡ Some (Some Stamp)
 stamp_in_version_two = refl
 
 -- the base with a lead leaf
@@ -118,14 +118,14 @@ text_of_ties : certificate_text (record in_real_time { schedule = record in_real
 unfolding digits no_order marks_of
 text_of_ties = refl
 
--- version 4 has no lines `p` and `t`
-point_in_version_four : node_or_end Four (codes "p") ≡ None
+-- real time has no lines `p` and `t`
+point_in_version_four : node_or_end Four Real (codes "p") ≡ None
 point_in_version_four = refl
 
-stamp_in_version_four : node_or_end Four (codes "t") ≡ None
+stamp_in_version_four : node_or_end Four Real (codes "t") ≡ None
 stamp_in_version_four = refl
 
-lead_in_version_four : node_or_end Four (codes "c 12") ≡ Some (Some (Lead 12))
+lead_in_version_four : node_or_end Four Real (codes "c 12") ≡ Some (Some (Lead 12))
 lead_in_version_four = refl
 
 -- lists of ranks that are no order's: one rank too few, one that is too great, and ranks that are all 0 and written out
@@ -141,7 +141,7 @@ order_written_out : is_order_list in_real_time.scenario (0 ∷ 0 ∷ 0 ∷ 0 ∷
 unfolding marks_of
 order_written_out = refl
 
--- in version 4 the line of real time stands second
+-- in version 4 the line `time` stands second
 no_time : certificate_of (codes "convoy 4\ndelay 3\n") ≡ Err (faults.Line 2 expected.Time)
 unfolding certificate_of scenario_at links_in messages_in nodes_in ranges_of packets_of
 no_time = refl
@@ -165,34 +165,71 @@ unfolding certificate_of scenario_at links_in messages_in nodes_in ranges_of pac
 tick_in_whole_ticks = refl
 
 -- a split is at 16 at most in versions 1 to 3, and at 65,535 at most in version 4
-split_in_version_three : node_or_end Three (codes "s 0 17") ≡ None
+split_in_version_three : node_or_end Three Ticks (codes "s 0 17") ≡ None
 split_in_version_three = refl
 
-split_in_version_four : node_or_end Four (codes "s 0 65535") ≡ Some (Some (Split 0 65_535))
+split_in_version_four : node_or_end Four Real (codes "s 0 65535") ≡ Some (Some (Split 0 65_535))
 split_in_version_four = refl
 
+-- and after 1 at least in versions 1 to 3, and after 0 at least in version 4, where a packet has a number up to 1,039
+split_after_none_in_version_three : node_or_end Three Ticks (codes "s 0 0") ≡ None
+split_after_none_in_version_three = refl
+
+split_after_none_in_version_four : node_or_end Four Ticks (codes "s 1039 0") ≡ Some (Some (Split 1_039 0))
+split_after_none_in_version_four = refl
+
+split_of_far_packet_in_version_three : node_or_end Three Ticks (codes "s 1024 1") ≡ None
+split_of_far_packet_in_version_three = refl
+
+split_of_far_packet_in_version_four : node_or_end Four Ticks (codes "s 1040 1") ≡ None
+split_of_far_packet_in_version_four = refl
+
+-- the base, in which y may be issued from 6 to 8 on: version 4, a line `time`, and no line `order`; its wait comes first among the delays of y
+abbrev waiting : Certificate
+waiting = record base {
+  scenario = record base.scenario {
+    multicasts = message (codes "x") Client (1 ∷ []) 0 ∷ message (codes "t") Client (0 ∷ 1 ∷ []) 0 ∷ record { name = codes "y"; sender = Group 0; destinations = 0 ∷ 1 ∷ []; at = 6; longest_wait = 2 } ∷ [];
+  };
+  schedule = in_fixed_order (3 ∷ 3 ∷ 3 ∷ 3 ∷ 3 ∷ 0 ∷ 3 ∷ 3 ∷ 3 ∷ []);
+  nodes = Split 5 0 ∷ Point ∷ Stamp ∷ [];
+}
+
+text_of_waiting : certificate_text waiting
+    ≡ codes "convoy 4\ntime ticks\ndelay 3\ngroups a b\nmulticast x client 0 b\nmulticast t client 0 a b\nmulticast y a 6..8 a b\ntarget t a\nlatency 12\nschedule 3 3 3 3 3 0 3 3 3\ns 5 0\np\nt\nend\n"
+unfolding digits no_order
+text_of_waiting = refl
+
+-- no tick has a length there, and older versions have no such line `multicast`
+wait_in_version_three : certificate_of (codes "convoy 3\ndelay 3\ngroups a b\nmulticast y a 6..8 a b\n") ≡ Err (faults.Line 4 expected.Multicast)
+unfolding certificate_of scenario_at links_in messages_in nodes_in ranges_of packets_of
+wait_in_version_three = refl
+
+other_time : certificate_of (codes "convoy 4\ntime whole\n") ≡ Err (faults.Line 2 expected.Time)
+unfolding certificate_of scenario_at links_in messages_in nodes_in ranges_of packets_of
+other_time = refl
+
 -- versions 1 and 2 have no lines `c`
-lead_in_version_one : node_or_end One (codes "c 12") ≡ None
+lead_in_version_one : node_or_end One Ticks (codes "c 12") ≡ None
 lead_in_version_one = refl
 
-lead_in_version_two : node_or_end Two (codes "c 12") ≡ None
+lead_in_version_two : node_or_end Two Ticks (codes "c 12") ≡ None
 lead_in_version_two = refl
 
-lead_in_version_three : node_or_end Three (codes "c 12") ≡ Some (Some (Lead 12))
+lead_in_version_three : node_or_end Three Ticks (codes "c 12") ≡ Some (Some (Lead 12))
 lead_in_version_three = refl
 
-lead_of_32_bits : node_or_end Three (codes "c 4294967295") ≡ Some (Some (Lead 4_294_967_295))
+lead_of_32_bits : node_or_end Three Ticks (codes "c 4294967295") ≡ Some (Some (Lead 4_294_967_295))
 lead_of_32_bits = refl
 
-lead_of_33_bits : node_or_end Three (codes "c 4294967296") ≡ None
+lead_of_33_bits : node_or_end Three Ticks (codes "c 4294967296") ≡ None
 lead_of_33_bits = refl
 
 -- where there are as many lead leaves as may be read, the next one is told, and other nodes are read
-a_lead_too_many : nodes_in Three 100_000 100_000 9 [] (codes "c 9" ∷ []) ≡ Err faults.TreeCount
+a_lead_too_many : nodes_in Three Ticks 100_000 100_000 9 [] (codes "c 9" ∷ []) ≡ Err faults.TreeCount
 unfolding nodes_in
 a_lead_too_many = refl
 
-a_stamp_after_leads : nodes_in Three 100_000 100_000 9 [] (codes "t" ∷ []) ≡ Err (faults.Line 10 expected.Node)
+a_stamp_after_leads : nodes_in Three Ticks 100_000 100_000 9 [] (codes "t" ∷ []) ≡ Err (faults.Line 10 expected.Node)
 unfolding nodes_in
 a_stamp_after_leads = refl
 

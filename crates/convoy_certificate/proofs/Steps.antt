@@ -20,14 +20,14 @@ abbrev pub after_nodes : Version → Scenario → ℕ → List ℕ → Order →
 after_nodes version plan latency delays order nodes = whole version (certificate_with plan latency delays order nodes.0) nodes.1
 
 abbrev pub after_order : Version → Scenario → ℕ → List ℕ → Order × Place → Result Certificate TextFault
-after_order version plan latency delays order = nodes_at version 0 0 order.1 >>= after_nodes version plan latency delays order.0
+after_order version plan latency delays order = nodes_at version plan.time 0 0 order.1 >>= after_nodes version plan latency delays order.0
 
 -- the order of ties, where the delays are one for each packet, each in its range
-abbrev pub order_after : Version → Scenario → List ℕ × Place → Result (Order × Place) TextFault
-order_after version plan delays = cond (is_assignment plan delays.0) (order_at version plan delays.1) (Err faults.Schedule)
+abbrev pub order_after : Scenario → List ℕ × Place → Result (Order × Place) TextFault
+order_after plan delays = cond (is_assignment plan delays.0) (order_at plan delays.1) (Err faults.Schedule)
 
 abbrev pub after_delays : Version → Scenario → ℕ → List ℕ × Place → Result Certificate TextFault
-after_delays version plan latency delays = order_after version plan delays >>= after_order version plan latency delays.0
+after_delays version plan latency delays = order_after plan delays >>= after_order version plan latency delays.0
 
 abbrev pub after_latency : Version → Scenario → ℕ × Place → Result Certificate TextFault
 after_latency version plan latency = in_text (form_at expected.Schedule schedule_in latency.1) >>= after_delays version plan latency.0

@@ -21,7 +21,6 @@ use Rattle.convoy_packets.specs.OrderLists.{order_of}
 use Rattle.convoy_scenario.specs.declared.time.Time.{Time}
 use Rattle.convoy_scenario.specs.declared.time.Time.TheVariants.{Ticks, Real}
 use Rattle.convoy_scenario.specs.Scenario.{Scenario}
-use Rattle.convoy_scenario_lines.specs.Laws.{time_of}
 use Rattle.convoy_certificate.proofs.LineLaws.{ReadGrounds, latency_word, same_bytes}
 use Rattle.convoy_certificate.proofs.Orders.{list_kept}
 use Rattle.convoy_certificate.proofs.Steps.{after_version, after_scenario, after_latency, after_delays, order_after, after_order, after_nodes, in_steps, bind_ok}
@@ -34,7 +33,7 @@ use Rattle.convoy_certificate.specs.declared.version.Version.TheVariants.{One, T
 use Rattle.convoy_certificate.specs.declared.text_fault.TextFault.TheVariants as faults
 use Rattle.convoy_certificate.specs.Certificate.{Certificate}
 use Rattle.convoy_certificate.specs.Forms.{version_in, numbers_in, list_in, schedule_in, order_in, node_in, node_or_end, greatest_listed}
-use Rattle.convoy_certificate.specs.Reading.{in_text, is_same_version, is_assignment, is_order_list, order_at, leads_with, are_too_many, from_node, nodes_in, nodes_at, certificate_with, certificate_of, IsTextOf}
+use Rattle.convoy_certificate.specs.Reading.{in_text, is_same_version, is_assignment, is_order_list, order_in_time, order_at, leads_with, are_too_many, from_node, nodes_in, nodes_at, certificate_with, certificate_of, IsTextOf}
 use Rattle.convoy_certificate.specs.Laws.{TextsAreKept}
 use Rattle.convoy_certificate.specs.Text.{is_lead, lines_version, version_of, version_line, latency_line, schedule_line, order_line, order_lines, ranks_written, node_line, end_line, certificate_lines, certificate_text}
 
@@ -101,7 +100,7 @@ version_takes line version e =
           ]
     ]
 
-one_version : (version other : Version) → is_same_version version other ≡ true → version ≡ other
+pub one_version : (version other : Version) → is_same_version version other ≡ true → version ≡ other
 one_version One One e = refl
 one_version Two Two e = refl
 one_version Three Three e = refl
@@ -151,10 +150,6 @@ record TookLines (lines : List (List ℕ)) (place past : Place) : Type 0 where
   before : place.ended ≡ lines ++ past.ended
   after : place.rest ≡ past.rest
 
--- the lines of an order where time goes as it does
-timed : (time known : Time) (ranks : List ℕ) (place past : Place) → time ≡ known → TookLines (order_lines known ranks) place past → TookLines (order_lines time ranks) place past
-timed time known ranks place past e taken = subst (λ (t : Time). TookLines (order_lines t ranks) place past) (sym e) taken
-
 -- where no order is read, ties fall in the fixed order
 fixed_takes : (place : Place) (x : Order × Place) → ◌≡◌ {A = Result (Order × Place) TextFault} (Ok (no_order, place)) (Ok x) → TookLines [] place x.1
 fixed_takes place x e = subst (λ (y : Order × Place). TookLines [] place y.1) (same_ok (no_order, place) x e) (record { before = refl; after = refl })
@@ -177,12 +172,9 @@ module _ (grounds : ReadGrounds) where
 
   -- ---- the order of ties
 
-  order_takes : (version : Version) (plan : Scenario) (place : Place) (x : Order × Place) → plan.time ≡ time_of (lines_version version) → order_at version plan place ≡ Ok x
-      → TookLines (order_lines plan.time (ranks_written plan x.0)) place x.1
-  order_takes One plan place x ticks e = timed plan.time Ticks (ranks_written plan x.0) place x.1 ticks (fixed_takes place x e)
-  order_takes Two plan place x ticks e = timed plan.time Ticks (ranks_written plan x.0) place x.1 ticks (fixed_takes place x e)
-  order_takes Three plan place x ticks e = timed plan.time Ticks (ranks_written plan x.0) place x.1 ticks (fixed_takes place x e)
-  order_takes Four plan place x real e =
+  order_takes : (time : Time) (plan : Scenario) (place : Place) (x : Order × Place) → order_in_time time plan place ≡ Ok x → TookLines (order_lines time (ranks_written plan x.0)) place x.1
+  order_takes Ticks plan place x e = fixed_takes place x e
+  order_takes Real plan place x e =
       let a = bind_ok (in_text (form_at expected.Order order_in place)) (λ ranks. if is_order_list plan ranks.0 then Ok (order_of plan ranks.0, ranks.1) else Err faults.Schedule) x e in
       let b = if_true (is_order_list plan a.0.0) faults.Schedule (Ok (order_of plan a.0.0, a.0.1)) x a.2 in
       let same : (order_of plan a.0.0, a.0.1) ≡ x = same_ok (order_of plan a.0.0, a.0.1) x b.1 in
@@ -190,40 +182,40 @@ module _ (grounds : ReadGrounds) where
       let ranks : ranks_written plan x.0 ≡ a.0.0 = ap (λ (y : Order × Place). ranks_written plan y.0) (sym same) ∙ list_kept grounds.no_ranks grounds.lists plan a.0.0 b.0 in
       let taken : TookLines (order_line a.0.0 ∷ []) place a.0.1 = record { before = line.ended ∙ ap (λ l. l ∷ a.0.1.ended) (list_takes (codes "order") line.line a.0.0 line.has); after = line.rest } in
       let past = subst (λ (y : Order × Place). TookLines (order_line a.0.0 ∷ []) place y.1) same taken in
-      timed plan.time Real (ranks_written plan x.0) place x.1 real (subst (λ (rs : List ℕ). TookLines (order_line rs ∷ []) place x.1) (sym ranks) past)
+      subst (λ (rs : List ℕ). TookLines (order_line rs ∷ []) place x.1) (sym ranks) past
 
   -- ---- nodes
 
-  next_node_takes : (version : Version) (line : List ℕ) (next : Option Node) → node_or_end version line ≡ Some next → line ≡ line_for next
-  next_node_takes version line next e =
+  next_node_takes : (version : Version) (time : Time) (line : List ℕ) (next : Option Node) → node_or_end version time line ≡ Some next → line ≡ line_for next
+  next_node_takes version time line next e =
       elim (cases_Bool (bytes_eq line end_line)) [
         | inl end ↦
             let read : Some None ≡ Some next = rw end at e in
             same_bytes line end_line end ∙ ap line_for (same_Some None next read)
         | inr other ↦
-            let read : option_map (λ node. Some node) (node_in version line) ≡ Some next = rw other at e in
-            let a = map_takes (λ node. Some node) (node_in version line) next read in
-            node_takes grounds version line a.0 a.1 ∙ ap line_for a.2
+            let read : option_map (λ node. Some node) (node_in version time line) ≡ Some next = rw other at e in
+            let a = map_takes (λ node. Some node) (node_in version time line) next read in
+            node_takes grounds version time line a.0 a.1 ∙ ap line_for a.2
       ]
 
-  nodes_take : (version : Version) (count leads number : ℕ) (rest : List ℕ) (ended : List (List ℕ)) (x : List Node × Place) → count ≤ MOST_NODES → leads ≤ MOST_LEADS → nodes_in version count leads number rest ended ≡ Ok x → TookNodes count leads rest ended x
+  nodes_take : (version : Version) (time : Time) (count leads number : ℕ) (rest : List ℕ) (ended : List (List ℕ)) (x : List Node × Place) → count ≤ MOST_NODES → leads ≤ MOST_LEADS → nodes_in version time count leads number rest ended ≡ Ok x → TookNodes count leads rest ended x
   unfolding nodes_in
-  nodes_take version count leads number rest [] x few few_leads e = absurd cc
-  nodes_take version count leads number rest (line ∷ lines) x few few_leads e =
+  nodes_take version time count leads number rest [] x few few_leads e = absurd cc
+  nodes_take version time count leads number rest (line ∷ lines) x few few_leads e =
       let past : Place = record { ended = lines; rest = rest; number = number + 1 } in
-      let more : Node → Result (List Node × Place) TextFault = λ node. if are_too_many count (leads_with leads node) then Err faults.TreeCount else nodes_in version (count + 1) (leads_with leads node) (number + 1) rest lines in
-      let a = bind_ok (ok_or (node_or_end version line) (faults.Line number expected.Node)) (λ next. from_node next past more) x e in
-      let text = next_node_takes version line a.0 (ok_or_takes (node_or_end version line) (faults.Line number expected.Node) a.0 a.1) in
-      by_next a.0 text a.2 (λ leads y less less_leads within. nodes_take version (count + 1) leads (number + 1) rest lines y less less_leads within) where
+      let more : Node → Result (List Node × Place) TextFault = λ node. if are_too_many count (leads_with leads node) then Err faults.TreeCount else nodes_in version time (count + 1) (leads_with leads node) (number + 1) rest lines in
+      let a = bind_ok (ok_or (node_or_end version time line) (faults.Line number expected.Node)) (λ next. from_node next past more) x e in
+      let text = next_node_takes version time line a.0 (ok_or_takes (node_or_end version time line) (faults.Line number expected.Node) a.0 a.1) in
+      by_next a.0 text a.2 (λ leads y less less_leads within. nodes_take version time (count + 1) leads (number + 1) rest lines y less less_leads within) where
         by_next : (next : Option Node) → line ≡ line_for next
-            → from_node next (record { ended = lines; rest = rest; number = number + 1 }) (λ node. if are_too_many count (leads_with leads node) then Err faults.TreeCount else nodes_in version (count + 1) (leads_with leads node) (number + 1) rest lines) ≡ Ok x
-            → ((leads : ℕ) (y : List Node × Place) → count + 1 ≤ MOST_NODES → leads ≤ MOST_LEADS → nodes_in version (count + 1) leads (number + 1) rest lines ≡ Ok y → TookNodes (count + 1) leads rest lines y) → TookNodes count leads rest (line ∷ lines) x
+            → from_node next (record { ended = lines; rest = rest; number = number + 1 }) (λ node. if are_too_many count (leads_with leads node) then Err faults.TreeCount else nodes_in version time (count + 1) (leads_with leads node) (number + 1) rest lines) ≡ Ok x
+            → ((leads : ℕ) (y : List Node × Place) → count + 1 ≤ MOST_NODES → leads ≤ MOST_LEADS → nodes_in version time (count + 1) leads (number + 1) rest lines ≡ Ok y → TookNodes (count + 1) leads rest lines y) → TookNodes count leads rest (line ∷ lines) x
         by_next None text e others =
             subst (TookNodes count leads rest (line ∷ lines)) (same_ok ([], record { ended = lines; rest = rest; number = number + 1 }) x e) (record { before = ap (λ l. l ∷ lines) text; after = refl; few = omega arith; few_leads = omega arith })
         by_next (Some node) text e others =
             let now = leads_with leads node in
-            let b = bind_ok (if are_too_many count now then Err faults.TreeCount else nodes_in version (count + 1) now (number + 1) rest lines) (λ others. Ok (node ∷ others.0, others.1)) x e in
-            let within = unless (are_too_many count now) faults.TreeCount (nodes_in version (count + 1) now (number + 1) rest lines) b.0 b.1 in
+            let b = bind_ok (if are_too_many count now then Err faults.TreeCount else nodes_in version time (count + 1) now (number + 1) rest lines) (λ others. Ok (node ∷ others.0, others.1)) x e in
+            let within = unless (are_too_many count now) faults.TreeCount (nodes_in version time (count + 1) now (number + 1) rest lines) b.0 b.1 in
             let low = neither (count == MOST_NODES) (nat_lt MOST_LEADS now) within.0 in
             let less : count + 1 ≤ MOST_NODES = omega (arith, eqb-false count MOST_NODES low.0) in
             let tail = others now b.0 less (ltb-false MOST_LEADS now low.1) within.1 in
@@ -242,8 +234,8 @@ module _ (grounds : ReadGrounds) where
       let plan = b.0.0 in
       let d = bind_ok (in_text (form_at expected.Latency (number_in (codes "latency")) b.0.1)) (after_latency v plan) c b.2 in
       let f = bind_ok (in_text (form_at expected.Schedule schedule_in d.0.1)) (after_delays v plan d.0.0) c d.2 in
-      let h = bind_ok (order_after v plan f.0) (after_order v plan d.0.0 f.0.0) c f.2 in
-      let g = bind_ok (nodes_at v 0 0 h.0.1) (after_nodes v plan d.0.0 f.0.0 h.0.0) c h.2 in
+      let h = bind_ok (order_after plan f.0) (after_order v plan d.0.0 f.0.0) c f.2 in
+      let g = bind_ok (nodes_at v plan.time 0 0 h.0.1) (after_nodes v plan d.0.0 f.0.0 h.0.0) c h.2 in
       let made : Certificate = certificate_with plan d.0.0 f.0.0 h.0.0 g.0.0 in
       let version = if_true (is_same_version v (version_of made)) (faults.Line 1 expected.Convoy) (cond (is_at_end g.0.1) (Ok made) (Err faults.AfterEnd)) c g.2 in
       let last = if_true (is_at_end g.0.1) faults.AfterEnd (Ok made) c version.1 in
@@ -254,8 +246,8 @@ module _ (grounds : ReadGrounds) where
       let t-scenario = scenario.2 in
       let t-latency = took expected.Latency (number_in (codes "latency")) b.0.1 d.0 d.1 in
       let t-schedule = took expected.Schedule schedule_in d.0.1 f.0 f.1 in
-      let t-order = order_takes v plan f.0.1 h.0 scenario.1.time (if_true (is_assignment plan f.0.0) faults.Schedule (order_at v plan f.0.1) h.0 h.1).1 in
-      let t-nodes = nodes_take v 0 0 h.0.1.number h.0.1.rest h.0.1.ended g.0 (omega arith) (omega arith) g.1 in
+      let t-order = order_takes plan.time plan f.0.1 h.0 (if_true (is_assignment plan f.0.0) faults.Schedule (order_at plan f.0.1) h.0 h.1).1 in
+      let t-nodes = nodes_take v plan.time 0 0 h.0.1.number h.0.1.rest h.0.1.ended g.0 (omega arith) (omega arith) g.1 in
       let ties : List (List ℕ) = order_lines plan.time (ranks_written plan h.0.0) in
       let tail : List (List ℕ) = map node_line g.0.0 ++ end_line ∷ [] in
       let nodes : h.0.1.ended ≡ tail = t-nodes.before ∙ ap (λ ls. map node_line g.0.0 ++ end_line ∷ ls) over.0 in
@@ -264,8 +256,10 @@ module _ (grounds : ReadGrounds) where
       t-schedule.ended ∙ ap (λ l. l ∷ f.0.1.ended) (list_takes (codes "schedule") t-schedule.line f.0.0 t-schedule.has) ∙ ap (λ ls. schedule_line f.0.0 ∷ ls) order in
       let latency : b.0.1.ended ≡ latency_line d.0.0 ∷ schedule_line f.0.0 ∷ (ties ++ tail) =
       t-latency.ended ∙ ap (λ l. l ∷ d.0.1.ended) ((grounds.number_lines (codes "latency") t-latency.line d.0.0 latency_word).0 t-latency.has).0 ∙ ap (λ ls. latency_line d.0.0 ∷ ls) schedule in
+      let due : v ≡ version_of made = one_version v (version_of made) version.0 in
       let all : start.ended ≡ certificate_lines made =
-      t-version.ended ∙ ap (λ l. l ∷ a.0.1.ended) (version_takes t-version.line v t-version.has ∙ ap version_line (one_version v (version_of made) version.0)) ∙ ap (λ ls. version_line (version_of made) ∷ ls) (t-scenario.ended ∙ ap (λ ls. scenario_lines plan ++ ls) latency) in
+      t-version.ended ∙ ap (λ l. l ∷ a.0.1.ended) (version_takes t-version.line v t-version.has) ∙ ap (λ ls. version_line v ∷ ls) (t-scenario.ended ∙ ap (λ ls. scenario_lines (lines_version v) plan ++ ls) latency)
+      ∙ ap (λ (w : Version). version_line w ∷ (scenario_lines (lines_version w) plan ++ (latency_line d.0.0 ∷ schedule_line f.0.0 ∷ (ties ++ tail)))) due in
       let nothing : start.rest ≡ [] = t-version.rest ∙ t-scenario.rest ∙ t-latency.rest ∙ t-schedule.rest ∙ t-order.after ∙ t-nodes.after ∙ over.1 in
       let read : text ≡ certificate_text made =
       ((grounds.texts text (certificate_lines made)).0 (both (lines_in text) (certificate_lines made) all nothing)).0 in

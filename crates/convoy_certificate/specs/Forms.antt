@@ -1,16 +1,17 @@
 -- The forms of a certificate's own lines: what a line says, where it has its form.
-use Rattle.std.specs.Prelude.{ℕ, nat_le, ◌==◌, ◌&&◌, if◌then◌else◌, List, [], ◌∷◌, length, codes, Option, Some, None, option_map, option_and_then}
+use Rattle.std.specs.Prelude.{ℕ, nat_le, ◌==◌, Bool, ◌&&◌, if◌then◌else◌, List, [], ◌∷◌, length, codes, Option, Some, None, option_map, option_and_then}
 use Rattle.std.specs.Str.{bytes_eq}
-use Rattle.convoy_scenario.specs.declared.limits.TheConstants.{GREATEST_DELAY, GREATEST_WHOLE_DELAY}
+use Rattle.convoy_scenario.specs.declared.time.Time.{Time}
+use Rattle.convoy_scenario.specs.declared.time.Time.TheVariants.{Ticks, Real}
 use Rattle.convoy_lines.specs.Chains.{◌>>=◌}
 use Rattle.convoy_lines.specs.Labels.{greatest_number, words_after}
 use Rattle.convoy_lines.specs.Words.{words_of, next_word, number_of}
 use Rattle.convoy_certificate.specs.declared.node.Node.{Node}
 use Rattle.convoy_certificate.specs.declared.node.Node.TheVariants.{Split, Bound, Point, Stamp, Lead}
-use Rattle.convoy_certificate.specs.declared.node.TheConstants.{GREATEST_PACKET}
 use Rattle.convoy_certificate.specs.declared.version.Version.{Version}
 use Rattle.convoy_certificate.specs.declared.version.Version.TheVariants.{One, Two, Three, Four}
-use Rattle.convoy_certificate.specs.Text.{version_line, end_line}
+use Rattle.convoy_certificate.specs.Certificate.{greatest_packet, greatest_place, least_place}
+use Rattle.convoy_certificate.specs.Text.{says_time, version_line, end_line}
 
 -- the greatest number that may stand in a line `schedule` or `order`
 abbrev pub greatest_listed : ℕ
@@ -40,21 +41,14 @@ schedule_in line = list_in (codes "schedule") line
 abbrev pub order_in : List ℕ → Option (List ℕ)
 order_in line = list_in (codes "order") line
 
--- the greatest place of a split: versions 1 to 3 are of whole ticks
-abbrev pub greatest_place : Version → ℕ
-greatest_place One = GREATEST_WHOLE_DELAY
-greatest_place Two = GREATEST_WHOLE_DELAY
-greatest_place Three = GREATEST_WHOLE_DELAY
-greatest_place Four = GREATEST_DELAY
-
--- the split of a line `s`, by the words after its first
-abbrev pub split_in : Version → List (List ℕ) → Option Node
-split_in version words = do
+-- the split of a line `s`, by the words after its first, where the lines say how time goes or not
+abbrev pub split_in : Bool → List (List ℕ) → Option Node
+split_in timed words = do
   first ← next_word words
-  packet ← number_of GREATEST_PACKET first.0
+  packet ← number_of (greatest_packet timed) first.0
   second ← next_word first.1
-  at ← number_of (greatest_place version) second.0
-  if nat_le 1 at && (length second.1 == 0) then Some (Split packet at) else None
+  at ← number_of (greatest_place timed) second.0
+  if nat_le (least_place timed) at && (length second.1 == 0) then Some (Split packet at) else None
 
 -- the lead leaf of a line `c`, by the words after its first
 abbrev pub latency_in : List (List ℕ) → Option Node
@@ -70,33 +64,31 @@ lead_in Two words = None
 lead_in Three words = latency_in words
 lead_in Four words = latency_in words
 
--- version 4 has no point leaves
-abbrev pub point_in : Version → Option Node
-point_in One = Some Point
-point_in Two = Some Point
-point_in Three = Some Point
-point_in Four = None
+-- a leaf of whole ticks alone
+abbrev pub in_ticks : Time → Node → Option Node
+in_ticks Ticks node = Some node
+in_ticks Real node = None
 
--- versions 1 and 4 have no stamp leaves
-abbrev pub stamp_in : Version → Option Node
-stamp_in One = None
-stamp_in Two = Some Stamp
-stamp_in Three = Some Stamp
-stamp_in Four = None
+-- version 1 has no stamp leaves
+abbrev pub stamp_in : Version → Time → Option Node
+stamp_in One time = None
+stamp_in Two time = in_ticks time Stamp
+stamp_in Three time = in_ticks time Stamp
+stamp_in Four time = in_ticks time Stamp
 
 -- the leaf that a line of one word is
-abbrev pub leaf_in : Version → List ℕ → Option Node
-leaf_in version word =
-    if bytes_eq word (codes "b") then Some Bound else if bytes_eq word (codes "p") then point_in version else if bytes_eq word (codes "t") then stamp_in version else None
+abbrev pub leaf_in : Version → Time → List ℕ → Option Node
+leaf_in version time word =
+    if bytes_eq word (codes "b") then Some Bound else if bytes_eq word (codes "p") then in_ticks time Point else if bytes_eq word (codes "t") then stamp_in version time else None
 
--- the node of a line in that version
-abbrev pub node_in : Version → List ℕ → Option Node
-node_in version line = do
+-- the node of a line in that version, where time goes so
+abbrev pub node_in : Version → Time → List ℕ → Option Node
+node_in version time line = do
   first ← next_word (words_of line)
-  if bytes_eq first.0 (codes "s") then split_in version first.1 else if bytes_eq first.0 (codes "c") then lead_in version first.1
-      else if length first.1 == 0 then leaf_in version first.0 else None
+  if bytes_eq first.0 (codes "s") then split_in (says_time version) first.1 else if bytes_eq first.0 (codes "c") then lead_in version first.1
+      else if length first.1 == 0 then leaf_in version time first.0 else None
 
 -- the node of a line, or none at the line `end`
-abbrev pub node_or_end : Version → List ℕ → Option (Option Node)
-node_or_end version line =
-    if bytes_eq line end_line then Some None else option_map (λ node. Some node) (node_in version line)
+abbrev pub node_or_end : Version → Time → List ℕ → Option (Option Node)
+node_or_end version time line =
+    if bytes_eq line end_line then Some None else option_map (λ node. Some node) (node_in version time line)

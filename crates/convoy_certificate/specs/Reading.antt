@@ -9,6 +9,8 @@ use Rattle.convoy_lines.specs.Labels.{number_in}
 use Rattle.convoy_lines.specs.Places.{Place, place_before, is_at_end}
 use Rattle.convoy_scenario_lines.specs.LineReading.{form_at, scenario_at}
 use Rattle.convoy_lines.specs.Results.{◌>>=◌}
+use Rattle.convoy_scenario.specs.declared.time.Time.{Time}
+use Rattle.convoy_scenario.specs.declared.time.Time.TheVariants.{Ticks, Real}
 use Rattle.convoy_scenario.specs.Scenario.{Scenario}
 use Rattle.convoy_packets.specs.declared.order.TheConstants.{GREATEST_RANK}
 use Rattle.convoy_packets.specs.Assignment.{ranges_of}
@@ -48,14 +50,16 @@ is_order_list scenario ranks =
     (length ranks == 0)
     || ((length ranks == rank_count scenario) && list_all (λ rank. nat_le rank GREATEST_RANK) ranks && not (is_no_order (order_of scenario ranks)))
 
--- the order of ties of the next line, in version 4; the others have no such line, and ties fall in the fixed order
-abbrev pub order_at : Version → Scenario → Place → Result (Order × Place) TextFault
-order_at One scenario place = Ok (no_order, place)
-order_at Two scenario place = Ok (no_order, place)
-order_at Three scenario place = Ok (no_order, place)
-order_at Four scenario place = do
+-- the order of ties of the next line, where time goes so; in whole ticks there is no such line, and ties fall in the fixed order
+abbrev pub order_in_time : Time → Scenario → Place → Result (Order × Place) TextFault
+order_in_time Ticks scenario place = Ok (no_order, place)
+order_in_time Real scenario place = do
   ranks ← in_text (form_at expected.Order order_in place)
   if is_order_list scenario ranks.0 then Ok (order_of scenario ranks.0, ranks.1) else Err faults.Schedule
+
+-- the order of ties of the scenario
+abbrev pub order_at : Scenario → Place → Result (Order × Place) TextFault
+order_at scenario place = order_in_time scenario.time scenario place
 
 -- how many lead leaves there are with that node, after so many of them
 abbrev pub leads_with : ℕ → Node → ℕ
@@ -71,16 +75,16 @@ from_node None past more = Ok ([], past)
 from_node (Some node) past more = more node >>= λ others. Ok (node ∷ others.0, others.1)
 
 -- the nodes up to the line `end`, after so many, of which so many are lead leaves
-unfoldable pub nodes_in : Version → ℕ → ℕ → ℕ → List ℕ → List (List ℕ) → Result (List Node × Place) TextFault
-nodes_in version count leads number rest [] = Err (faults.Line number expected.Node)
-nodes_in version count leads number rest (line ∷ lines) = do
-  next ← ok_or (node_or_end version line) (faults.Line number expected.Node)
+unfoldable pub nodes_in : Version → Time → ℕ → ℕ → ℕ → List ℕ → List (List ℕ) → Result (List Node × Place) TextFault
+nodes_in version time count leads number rest [] = Err (faults.Line number expected.Node)
+nodes_in version time count leads number rest (line ∷ lines) = do
+  next ← ok_or (node_or_end version time line) (faults.Line number expected.Node)
   from_node next (record { ended = lines; rest = rest; number = number + 1 })
       (λ node. if are_too_many count (leads_with leads node) then Err faults.TreeCount
-      else nodes_in version (count + 1) (leads_with leads node) (number + 1) rest lines)
+      else nodes_in version time (count + 1) (leads_with leads node) (number + 1) rest lines)
 
-abbrev pub nodes_at : Version → ℕ → ℕ → Place → Result (List Node × Place) TextFault
-nodes_at version count leads place = nodes_in version count leads place.number place.rest place.ended
+abbrev pub nodes_at : Version → Time → ℕ → ℕ → Place → Result (List Node × Place) TextFault
+nodes_at version time count leads place = nodes_in version time count leads place.number place.rest place.ended
 
 -- the two are one version
 abbrev pub is_same_version : Version → Version → Bool
@@ -108,8 +112,8 @@ certificate_of text = do
   scenario ← in_text (scenario_at (lines_version version.0) version.1)
   latency ← in_text (form_at expected.Latency (number_in (codes "latency")) scenario.1)
   delays ← in_text (form_at expected.Schedule schedule_in latency.1)
-  order ← if is_assignment scenario.0 delays.0 then order_at version.0 scenario.0 delays.1 else Err faults.Schedule
-  nodes ← nodes_at version.0 0 0 order.1
+  order ← if is_assignment scenario.0 delays.0 then order_at scenario.0 delays.1 else Err faults.Schedule
+  nodes ← nodes_at version.0 scenario.0.time 0 0 order.1
   whole version.0 (certificate_with scenario.0 latency.0 delays.0 order.0 nodes.0) nodes.1
 
 -- there are no more nodes, and no more lead leaves among them, than may be read

@@ -4,7 +4,7 @@ use Rattle.std.specs.List.{list_any}
 use Rattle.convoy_lines.specs.Texts.{line_of, number_line, text_of}
 use Rattle.convoy_scenario.specs.declared.time.Time.{Time}
 use Rattle.convoy_scenario.specs.declared.time.Time.TheVariants.{Ticks, Real}
-use Rattle.convoy_scenario.specs.Scenario.{Scenario}
+use Rattle.convoy_scenario.specs.Scenario.{Scenario, is_timed}
 use Rattle.convoy_packets.specs.Assignment.{Schedule}
 use Rattle.convoy_packets.specs.Order.{Order}
 use Rattle.convoy_packets.specs.OrderLists.{is_no_order, ranks_of}
@@ -25,15 +25,22 @@ abbrev pub is_lead : Node → Bool
 is_lead (Lead latency) = true
 is_lead node = false
 
--- the version for so many links and for nodes where time goes so: 4 in real time; in whole ticks 3 where the tree has a lead leaf, and else 1 where there is no link and the tree has no stamp leaf, and 2 where one of them is there
-abbrev pub version_for : Time → ℕ → List Node → Version
-version_for Real links nodes = Four
-version_for Ticks links nodes =
+-- the version for so many links and for nodes: 4 where time is real or some message may wait; else 3 where the tree has a lead leaf, and else 1 where there is no link and the tree has no stamp leaf, and 2 where one of them is there
+abbrev pub version_for : Bool → ℕ → List Node → Version
+version_for true links nodes = Four
+version_for false links nodes =
     if list_any is_lead nodes then Three else if links == 0 && not (list_any is_stamp nodes) then One else Two
 
 -- the version in which a certificate is written
 abbrev pub version_of : Certificate → Version
-version_of certificate = version_for certificate.scenario.time (length certificate.scenario.links) certificate.nodes
+version_of certificate = version_for (is_timed certificate.scenario) (length certificate.scenario.links) certificate.nodes
+
+-- the lines of that version say how time goes
+abbrev pub says_time : Version → Bool
+says_time One = false
+says_time Two = false
+says_time Three = false
+says_time Four = true
 
 -- the version of the lines of the scenario
 abbrev pub lines_version : Version → LinesVersion
@@ -87,7 +94,7 @@ end_line = codes "end"
 -- the lines of a certificate
 abbrev pub certificate_lines : Certificate → List (List ℕ)
 certificate_lines certificate =
-    version_line (version_of certificate) ∷ (scenario_lines certificate.scenario
+    version_line (version_of certificate) ∷ (scenario_lines (lines_version (version_of certificate)) certificate.scenario
     ++ (latency_line certificate.latency ∷ (schedule_lines certificate.scenario certificate.schedule
     ++ (map node_line certificate.nodes ++ end_line ∷ []))))
 

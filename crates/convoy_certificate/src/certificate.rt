@@ -7,7 +7,7 @@ ghost use Rattle.convoy_certificate.specs.Text.{is_stamp, is_lead, version_for, 
 use super::node::Node;
 use super::version::Version;
 use convoy_packets::{Instance, Schedule};
-use convoy_scenario::{Scenario, Time};
+use convoy_scenario::Scenario;
 use std::marker::Model;
 
 /// How many nodes a certificate that is read has at most.
@@ -22,9 +22,11 @@ pub const LONGEST_TEXT: usize = 67_108_864;
 /// What a certificate says: a scenario, the greatest latency of its target, in ticks, a schedule that
 /// has it, and the nodes of a tree that shows that no other schedule has a greater one.
 ///
-/// The schedule is an assignment of the scenario, and each split names a packet number from 0 to
-/// `GREATEST_PACKET` and a place from 1 to the greatest delay for how its time goes. In real time no node is a point or stamp
-/// leaf. Nothing else is known of the nodes: they may be no tree, and there may be none.
+/// The schedule is an assignment of the scenario. Where time goes in whole ticks and no message may
+/// wait, each split names a packet number from 0 to `GREATEST_UNTIMED_PACKET` and cuts after 1 to
+/// `GREATEST_WHOLE_DELAY` ticks; else it names one from 0 to `GREATEST_PACKET`, and cuts after 0 to
+/// `GREATEST_DELAY` ticks. In real time no node is a point or stamp leaf. Nothing else is known of the
+/// nodes: they may be no tree, and there may be none.
 #[derive(Debug, Drop)]
 pub struct Certificate {
     instance: Instance,
@@ -62,7 +64,7 @@ impl Certificate {
         nodes: Vec<Node>,
     ) -> Certificate
         requires assigned { IsAssignment instance schedule }
-        requires nodes { All (IsNode instance.time) nodes.items }
+        requires nodes { All (IsNode instance) nodes.items }
         ensures { result ≡ record {
           scenario = instance;
           latency = latency;
@@ -92,14 +94,14 @@ impl Certificate {
         &self.instance
     }
 
-    /// The version in which the certificate is written: `Four` where its scenario's time is real. In
-    /// whole ticks `Three` where its tree has a lead leaf; else `Two` where its scenario has a link or
-    /// its tree a stamp leaf; else `One` (docs/FORMATS.md, "Certificate text").
+    /// The version in which the certificate is written: `Four` where its scenario's time is real or one
+    /// of its messages may wait. Else `Three` where its tree has a lead leaf; else `Two` where its
+    /// scenario has a link or its tree a stamp leaf; else `One` (docs/FORMATS.md, "Certificate text").
     pub fn version(&self) -> Version
         ensures { result ≡ version_of self.now }
     {
         let scenario = self.scenario();
-        version_for(scenario.time(), scenario.link_count(), &self.nodes)
+        version_for(scenario.is_timed(), scenario.link_count(), &self.nodes)
     }
 
     /// The stated latency, in ticks.
@@ -142,15 +144,19 @@ impl Certificate {
     }
 }
 
-/// The version for so many links and for these nodes, where time goes so.
-fn version_for(time: Time, links: usize, nodes: &[Node]) -> Version
-    ensures { result ≡ version_for time links nodes.now }
+/// The version for so many links and for these nodes, where time is real or some message may wait, or
+/// not.
+pub(crate) fn version_for(timed: bool, links: usize, nodes: &[Node]) -> Version
+    ensures { result ≡ version_for timed links nodes.now }
 {
-    match time {
-        Time::Real => Version::Four,
-        Time::Ticks if has_lead(nodes) => Version::Three,
-        Time::Ticks if links == 0 && !has_stamp(nodes) => Version::One,
-        Time::Ticks => Version::Two,
+    if timed {
+        Version::Four
+    } else if has_lead(nodes) {
+        Version::Three
+    } else if links == 0 && !has_stamp(nodes) {
+        Version::One
+    } else {
+        Version::Two
     }
 }
 

@@ -1,18 +1,16 @@
 ghost use Rattle.std.specs.Prelude.{◌≡◌, ok_or, IfSome};
-ghost use Rattle.convoy_certificate.specs.Certificate.{IsNode};
+ghost use Rattle.convoy_certificate.specs.Certificate.{IsNodeWhere, greatest_packet, least_place, greatest_place};
 ghost use Rattle.std.specs.Result.{result_map_both};
 ghost use Rattle.convoy_scenario.specs.Memory.{IsUnlessMemory};
 ghost use Rattle.convoy_lines.specs.Labels.{words_after};
-ghost use Rattle.convoy_certificate.specs.Forms.{version_in, list_in, greatest_place, split_in, lead_in, point_in, stamp_in, leaf_in, node_in, node_or_end};
-ghost use Rattle.convoy_certificate.specs.Text.{lines_version};
-ghost use Rattle.convoy_scenario.specs.WellFormed.{greatest_delay};
-ghost use Rattle.convoy_scenario_lines.specs.Laws.{time_of};
+ghost use Rattle.convoy_certificate.specs.Forms.{version_in, list_in, split_in, lead_in, in_ticks, stamp_in, leaf_in, node_in, node_or_end};
+ghost use Rattle.convoy_certificate.specs.Text.{says_time};
 
-use super::node::{GREATEST_PACKET, Node};
+use super::node::{GREATEST_PACKET, GREATEST_UNTIMED_PACKET, Node};
 use super::text_fault::TextFault;
 use super::version::Version;
 use convoy_lines::{Words, number_of, words_after};
-use convoy_scenario::{GREATEST_DELAY, GREATEST_WHOLE_DELAY};
+use convoy_scenario::{GREATEST_DELAY, GREATEST_WHOLE_DELAY, Time};
 use std::alloc::Global;
 
 /// The version of a text whose first line this is.
@@ -32,21 +30,21 @@ pub fn version_in(line: &[u8]) -> Option<Version>
     }
 }
 
-/// The node of a line in that version, or `Some(None)` at the line `end`; None where the line has
-/// neither form.
-pub fn node_or_end(version: Version, line: &[u8]) -> Option<Option<Node>>
-    ensures value { result ≡ node_or_end version line.now }
-    ensures lawful { IfSome result (λ node. IfSome node (IsNode (time_of (lines_version version)))) }
+/// The node of a line in that version, where time goes so, or `Some(None)` at the line `end`; None where
+/// the line has neither form.
+pub fn node_or_end(version: Version, time: Time, line: &[u8]) -> Option<Option<Node>>
+    ensures value { result ≡ node_or_end version time line.now }
+    ensures lawful { IfSome result (λ node. IfSome node (IsNodeWhere (says_time version) time)) }
 {
     if line == b"end".as_slice() {
         return Some(None);
     }
-    Some(Some(node_in(version, line)?))
+    Some(Some(node_in(version, time, line)?))
 }
 
-fn node_in(version: Version, line: &[u8]) -> Option<Node>
-    ensures value { result ≡ node_in version line.now }
-    ensures lawful { IfSome result (IsNode (time_of (lines_version version))) }
+fn node_in(version: Version, time: Time, line: &[u8]) -> Option<Node>
+    ensures value { result ≡ node_in version time line.now }
+    ensures lawful { IfSome result (IsNodeWhere (says_time version) time) }
 {
     let mut words = Words::of(line);
     let first = words.next()?;
@@ -55,7 +53,7 @@ fn node_in(version: Version, line: &[u8]) -> Option<Node>
     } else if first == b"c".as_slice() {
         lead_in(version, words)
     } else if words.are_over() {
-        leaf_in(version, first)
+        leaf_in(version, time, first)
     } else {
         None
     }
@@ -63,22 +61,41 @@ fn node_in(version: Version, line: &[u8]) -> Option<Node>
 
 /// The split of a line `s`, by the words after its first.
 fn split_in(version: Version, words: Words) -> Option<Node>
-    ensures value { result ≡ split_in version words.entry }
-    ensures lawful { IfSome result (IsNode (time_of (lines_version version))) }
+    ensures value { result ≡ split_in (says_time version) words.entry }
+    ensures lawful { (time : Time) → IfSome result (IsNodeWhere (says_time version) time) }
 {
     let mut words = words;
-    let packet = number_of(words.next()?, u32::from(GREATEST_PACKET))?;
+    let packet = number_of(words.next()?, u32::from(greatest_packet(version)))?;
     let at = number_of(words.next()?, u32::from(greatest_place(version)))?;
-    (1 <= at && words.are_over()).then_some(Node::Split {
+    (least_place(version) <= at && words.are_over()).then_some(Node::Split {
         packet: packet as u16,
         at: at as u16,
     })
 }
 
-/// The greatest place of a split in that version.
+/// The greatest number of a packet that a split names in that version.
+fn greatest_packet(version: Version) -> u16
+    ensures { result ≡ greatest_packet (says_time version) }
+{
+    match version {
+        Version::One | Version::Two | Version::Three => GREATEST_UNTIMED_PACKET,
+        Version::Four => GREATEST_PACKET,
+    }
+}
+
+/// The least number of ticks after which a split cuts in that version.
+fn least_place(version: Version) -> u32
+    ensures { result ≡ least_place (says_time version) }
+{
+    match version {
+        Version::One | Version::Two | Version::Three => 1,
+        Version::Four => 0,
+    }
+}
+
+/// The greatest number of ticks after which a split cuts in that version.
 fn greatest_place(version: Version) -> u16
-    ensures value { result ≡ greatest_place version }
-    ensures lawful { result ≡ greatest_delay (time_of (lines_version version)) }
+    ensures { result ≡ greatest_place (says_time version) }
 {
     match version {
         Version::One | Version::Two | Version::Three => GREATEST_WHOLE_DELAY,
@@ -89,7 +106,7 @@ fn greatest_place(version: Version) -> u16
 /// The lead leaf of a line `c`, by the words after its first. Versions 1 and 2 have none.
 fn lead_in(version: Version, words: Words) -> Option<Node>
     ensures value { result ≡ lead_in version words.entry }
-    ensures lawful { IfSome result (IsNode (time_of (lines_version version))) }
+    ensures lawful { (time : Time) → IfSome result (IsNodeWhere (says_time version) time) }
 {
     match version {
         Version::One | Version::Two => None,
@@ -101,37 +118,36 @@ fn lead_in(version: Version, words: Words) -> Option<Node>
     }
 }
 
-fn leaf_in(version: Version, word: &[u8]) -> Option<Node>
-    ensures value { result ≡ leaf_in version word.now }
-    ensures lawful { IfSome result (IsNode (time_of (lines_version version))) }
+fn leaf_in(version: Version, time: Time, word: &[u8]) -> Option<Node>
+    ensures value { result ≡ leaf_in version time word.now }
+    ensures lawful { IfSome result (IsNodeWhere (says_time version) time) }
 {
     match word {
         b"b" => Some(Node::Bound),
-        b"p" => point_in(version),
-        b"t" => stamp_in(version),
+        b"p" => in_ticks(time, Node::Point),
+        b"t" => stamp_in(version, time),
         _ => None,
     }
 }
 
-/// The point leaf, which version 4 lacks.
-fn point_in(version: Version) -> Option<Node>
-    ensures value { result ≡ point_in version }
-    ensures lawful { IfSome result (IsNode (time_of (lines_version version))) }
+/// A leaf of whole ticks alone.
+fn in_ticks(time: Time, leaf: Node) -> Option<Node>
+    ensures { result ≡ in_ticks time leaf }
 {
-    match version {
-        Version::One | Version::Two | Version::Three => Some(Node::Point),
-        Version::Four => None,
+    match time {
+        Time::Ticks => Some(leaf),
+        Time::Real => None,
     }
 }
 
-/// The stamp leaf, which versions 1 and 4 lack.
-fn stamp_in(version: Version) -> Option<Node>
-    ensures value { result ≡ stamp_in version }
-    ensures lawful { IfSome result (IsNode (time_of (lines_version version))) }
+/// The stamp leaf, which is of whole ticks alone, and which version 1 lacks.
+fn stamp_in(version: Version, time: Time) -> Option<Node>
+    ensures value { result ≡ stamp_in version time }
+    ensures lawful { IfSome result (IsNodeWhere (says_time version) time) }
 {
     match version {
-        Version::One | Version::Four => None,
-        Version::Two | Version::Three => Some(Node::Stamp),
+        Version::One => None,
+        Version::Two | Version::Three | Version::Four => in_ticks(time, Node::Stamp),
     }
 }
 

@@ -1,5 +1,9 @@
 /// The greatest number of a packet that a split may name.
-pub const GREATEST_PACKET: u16 = 1_023;
+pub const GREATEST_PACKET: u16 = 1_039;
+
+/// The greatest number of a packet that a split may name where time goes in whole ticks and no message
+/// may wait: no wait has a place in the schedule.
+pub const GREATEST_UNTIMED_PACKET: u16 = 1_023;
 
 /// A node of the tree of a certificate, as it stands in the list of nodes: a split comes first, then
 /// the tree of its lower half, and then that of its upper half.

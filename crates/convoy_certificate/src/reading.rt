@@ -8,14 +8,13 @@ ghost use Rattle.convoy_packets.specs.declared.order.TheConstants.{GREATEST_RANK
 ghost use Rattle.convoy_packets.specs.Order.{IsOrder};
 ghost use Rattle.convoy_packets.specs.OrderLists.{AreSmall, order_of};
 ghost use Rattle.convoy_scenario.specs.declared.time.Time.TheVariants.{Real};
-ghost use Rattle.convoy_scenario_lines.specs.Laws.{time_of};
 ghost use Rattle.convoy_scenario_lines.specs.LineReading.{form_at, scenario_at};
-ghost use Rattle.convoy_certificate.specs.Certificate.{Certificate, IsCertificate, IsNode};
+ghost use Rattle.convoy_certificate.specs.Certificate.{Certificate, IsCertificate, IsNodeWhere};
 ghost use Rattle.convoy_certificate.specs.Forms.{version_in, schedule_in, order_in, node_or_end};
-ghost use Rattle.convoy_certificate.specs.Reading.{in_text, is_same_version, is_within, is_order_list, order_at, are_too_many, leads_with, nodes_at, certificate_of, IsTextOf};
-ghost use Rattle.convoy_certificate.specs.Text.{lines_version};
+ghost use Rattle.convoy_certificate.specs.Reading.{in_text, is_same_version, is_within, is_order_list, order_in_time, order_at, are_too_many, leads_with, nodes_at, certificate_of, IsTextOf};
+ghost use Rattle.convoy_certificate.specs.Text.{lines_version, says_time};
 
-use super::certificate::{Certificate, MOST_LEADS, MOST_NODES, is_lead};
+use super::certificate::{Certificate, MOST_LEADS, MOST_NODES, is_lead, version_for};
 use super::laws::{texts_are_kept, texts_are_read};
 use super::lines::{list_in, node_or_end, version_in};
 use super::node::Node;
@@ -24,8 +23,7 @@ use super::version::Version;
 use convoy_lines::{LineReader, number_in};
 use convoy_packets::laws::{fixed_order_is_order, no_ranks_give_fixed_order};
 use convoy_packets::{GREATEST_RANK, Instance, Order, Schedule};
-use convoy_scenario::Scenario;
-use convoy_scenario_lines::laws::scenarios_are_their_lines;
+use convoy_scenario::{Scenario, Time};
 use convoy_scenario_lines::{Expected, read_lines};
 use std::alloc::Global;
 
@@ -64,17 +62,18 @@ fn read_all(alloc: Global, text: &[u8]) -> Result<Certificate, TextFault>
     if !are_within(instance.table().ranges(), &delays) {
         return Err(TextFault::Schedule);
     }
-    let order = read_order(alloc, version, instance.scenario(), &mut reader)?;
-    let nodes = read_nodes(alloc, version, &mut reader)?;
-    let schedule = Schedule::with_order(delays, order);
-    let certificate = Certificate::new(instance, latency, schedule, nodes);
-    if !is_same_version(version, certificate.version()) {
+    let scenario = instance.scenario();
+    let order = read_order(alloc, scenario, &mut reader)?;
+    let nodes = read_nodes(alloc, version, scenario.time(), &mut reader)?;
+    let due = version_for(scenario.is_timed(), scenario.link_count(), &nodes);
+    if !is_same_version(version, due) {
         return Err(TextFault::Line(1, Expected::Convoy));
     }
     if !reader.at_end() {
         return Err(TextFault::AfterEnd);
     }
-    Ok(certificate)
+    let schedule = Schedule::with_order(delays, order);
+    Ok(Certificate::new(instance, latency, schedule, nodes))
 }
 
 fn is_same_version(version: Version, other: Version) -> bool
@@ -103,12 +102,10 @@ fn read_scenario(
     version: Version,
     reader: &mut LineReader,
 ) -> Result<Scenario, TextFault>
-    ensures value { IsUnlessMemory TextFault.Memory
+    ensures { IsUnlessMemory TextFault.Memory
         (in_text (scenario_at (lines_version version) reader.old))
         (result_map_both (λ scenario. (scenario, reader.new)) (λ fault. fault) result) }
-    ensures timed { IfOk result (λ scenario. scenario.time ≡ time_of (lines_version version)) }
 {
-    scenarios_are_their_lines();
     Ok(read_lines(alloc, version.of_lines(), reader)?)
 }
 
@@ -148,22 +145,20 @@ fn are_within(ranges: &[(u16, u16)], delays: &[u16]) -> bool
     rest.is_empty()
 }
 
-/// The order of ties: that of the next line in version 4, and the fixed one in the others.
+/// The order of ties: that of the next line in real time, and the fixed one in whole ticks.
 fn read_order(
     alloc: Global,
-    version: Version,
     scenario: &Scenario,
     reader: &mut LineReader,
 ) -> Result<Order, TextFault>
-    requires { scenario.now.time ≡ time_of (lines_version version) }
-    ensures value { IsUnlessMemory TextFault.Memory (order_at version scenario.now reader.old)
+    ensures value { IsUnlessMemory TextFault.Memory (order_at scenario.now reader.old)
         (result_map_both (λ order. (order, reader.new)) (λ fault. fault) result) }
     ensures lawful { IfOk result (λ order. IsOrder scenario.now order) }
 {
     fixed_order_is_order();
-    match version {
-        Version::One | Version::Two | Version::Three => Ok(Order::none()),
-        Version::Four => {
+    match scenario.time() {
+        Time::Ticks => Ok(Order::none()),
+        Time::Real => {
             let ranks = read_ranks(alloc, reader)?;
             order_of(scenario, &ranks).ok_or(TextFault::Schedule)
         }
@@ -210,15 +205,16 @@ fn are_small(ranks: &[u16]) -> bool
 fn read_nodes(
     alloc: Global,
     version: Version,
+    time: Time,
     reader: &mut LineReader,
 ) -> Result<Vec<Node>, TextFault>
-    ensures value { IsUnlessMemory TextFault.Memory (nodes_at version 0 0 reader.old)
+    ensures value { IsUnlessMemory TextFault.Memory (nodes_at version time 0 0 reader.old)
         (result_map_both (λ nodes. (nodes.items, reader.new)) (λ fault. fault) result) }
-    ensures lawful { IfOk result (λ nodes. All (IsNode (time_of (lines_version version))) nodes.items) }
+    ensures lawful { IfOk result (λ nodes. All (IsNodeWhere (says_time version) time) nodes.items) }
 {
     let mut nodes = Vec::new(alloc);
     let mut leads = 0;
-    while let Some(node) = read_node(version, reader)? {
+    while let Some(node) = read_node(version, time, reader)? {
         leads = leads_with(leads, node);
         if are_too_many(nodes.len(), leads) {
             return Err(TextFault::TreeCount);
@@ -244,12 +240,16 @@ fn are_too_many(count: usize, leads: usize) -> bool
 }
 
 /// The node of the next line, or None at the line `end`.
-fn read_node(version: Version, reader: &mut LineReader) -> Result<Option<Node>, TextFault>
+fn read_node(
+    version: Version,
+    time: Time,
+    reader: &mut LineReader,
+) -> Result<Option<Node>, TextFault>
     ensures value { result_map_both (λ node. (node, reader.new)) (λ fault. fault) result
-        ≡ in_text (form_at Expected.Node (node_or_end version) reader.old) }
-    ensures lawful { IfOk result (λ node. IfSome node (IsNode (time_of (lines_version version)))) }
+        ≡ in_text (form_at Expected.Node (node_or_end version time) reader.old) }
+    ensures lawful { IfOk result (λ node. IfSome node (IsNodeWhere (says_time version) time)) }
 {
     let wrong = TextFault::Line(reader.number(), Expected::Node);
     let line = reader.line().ok_or(wrong)?;
-    node_or_end(version, line).ok_or(wrong)
+    node_or_end(version, time, line).ok_or(wrong)
 }

@@ -3,15 +3,18 @@ use convoy_scenario_lines::Version as LinesVersion;
 /// A version of the text of a certificate (docs/FORMATS.md, "Certificate text").
 #[derive(Clone, Copy, Debug, PartialEq, Eq)]
 pub enum Version {
-    /// A scenario in whole ticks without links, and a tree of splits, bound leaves and point leaves.
+    /// A scenario in whole ticks in which no message may wait, without links, and a tree of splits,
+    /// bound leaves and point leaves.
     One,
-    /// A scenario in whole ticks: lines `link` and stamp leaves may stand in the text, and one of them
-    /// does.
+    /// A scenario in whole ticks in which no message may wait: lines `link` and stamp leaves may stand
+    /// in the text, and one of them does.
     Two,
-    /// A scenario in whole ticks: lead leaves may stand in the text too, and one of them does.
+    /// A scenario in whole ticks in which no message may wait: lead leaves may stand in the text too,
+    /// and one of them does.
     Three,
-    /// A scenario in real time, a schedule with an order of ties, and a tree of splits, bound leaves
-    /// and lead leaves.
+    /// A scenario in real time, with a schedule with an order of ties and a tree of splits, bound leaves
+    /// and lead leaves; or one in whole ticks in which some message may wait, with a tree of all kinds
+    /// of leaves.
     Four,
 }
 

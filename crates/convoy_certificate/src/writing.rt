@@ -24,9 +24,10 @@ pub fn write(alloc: Global, certificate: &Certificate, out: &mut Vec<u8>) -> Res
 fn text_of(alloc: Global, certificate: &Certificate) -> Result<Vec<u8>, AllocError>
     ensures { IfOk result (λ text. text.items ≡ certificate_text certificate.now) }
 {
-    let mut text = Vec::from_slice(alloc, version_line(certificate.version()))?;
+    let version = certificate.version();
+    let mut text = Vec::from_slice(alloc, version_line(version))?;
     let scenario = certificate.scenario();
-    write_lines(alloc, scenario, &mut text)?;
+    write_lines(alloc, version.of_lines(), scenario, &mut text)?;
     push_number_line(&mut text, "latency", certificate.latency())?;
     push_schedule(alloc, scenario, certificate.schedule(), &mut text)?;
     push_nodes(&mut text, certificate.nodes())?;

@@ -1,6 +1,6 @@
-//! What a chain wants of the delay of a packet.
+//! What a chain wants of the delay of a packet, or of a wait.
 
-ghost use Rattle.std.specs.Prelude.{◌≡◌, ◌-◌, ◌<◌, ◌≤◌, max, min, nat_lt};
+ghost use Rattle.std.specs.Prelude.{◌≡◌, ◌-◌, ◌<◌, ◌≤◌, max, min, nat_lt, IfSome};
 
 /// The delays of a packet, in ticks, that all links of a chain want which speak of it: at least so
 /// many, and at most so many. Where a link wants fewer than another one does, there are none.
@@ -63,8 +63,8 @@ impl Want {
 
     /// How much is to be had from a split of the packet's range: 0 where nothing is wanted of it or it
     /// has one delay, more the wider it is, and more than by any width where links want different
-    /// delays.
-    pub(crate) fn weight(self, range: (u16, u16)) -> u32
+    /// delays. Where ranges are split at edges, a range with an edge comes between.
+    pub(crate) fn weight(self, range: (u16, u16), at_edges: bool) -> u32
         requires { range.0 ≤ range.1 }
         ensures { 0 < result → range.0 < range.1 }
     {
@@ -72,6 +72,8 @@ impl Want {
         if width == 0 || self.is_nothing() {
             0
         } else if self.is_torn() {
+            width + 2 * u32::from(u16::MAX)
+        } else if at_edges && self.edge(range).is_some() {
             width + u32::from(u16::MAX)
         } else {
             width
@@ -79,19 +81,37 @@ impl Want {
     }
 
     /// The delay after which the range is to be split: halfway between those that two links want, or
-    /// else in the middle, rounded down.
-    pub(crate) fn place(self, range: (u16, u16)) -> u16
+    /// else in the middle, rounded down. Where ranges are split at edges, it is the edge instead of the
+    /// middle, if there is one.
+    pub(crate) fn place(self, range: (u16, u16), at_edges: bool) -> u16
         requires { range.0 < range.1 }
         ensures low { range.0 ≤ result }
         ensures high { result < range.1 }
     {
-        let (least, most) = range;
-        if !self.is_torn() {
-            return least + (most - least) / 2;
+        if self.is_torn() {
+            let small = nearest(self.most, range);
+            let great = nearest(self.least - 1, range);
+            return small + (great - small) / 2;
         }
-        let small = nearest(self.most, range);
-        let great = nearest(self.least - 1, range);
-        small + (great - small) / 2
+        if at_edges && let Some(edge) = self.edge(range) {
+            return edge;
+        }
+        range.0 + (range.1 - range.0) / 2
+    }
+
+    /// The edge of what is wanted in the range: the last delay that is wanted, if the range has greater
+    /// ones too; or else the last one before those that are wanted.
+    fn edge(self, range: (u16, u16)) -> Option<u16>
+        ensures { IfSome result (λ at. (range.0 ≤ at) × (at < range.1)) }
+    {
+        let (least, most) = (u32::from(range.0), u32::from(range.1));
+        if least <= self.most && self.most < most {
+            Some(self.most as u16)
+        } else if least < self.least && self.least <= most {
+            Some((self.least - 1) as u16)
+        } else {
+            None
+        }
     }
 }
 

@@ -3,25 +3,30 @@ ghost use Rattle.convoy_scenario.specs.declared.limits.TheConstants.{MOST_GROUPS
 ghost use Rattle.convoy_leads.specs.Openings.{IsLink, IsOpenCase, IsOpening};
 
 use super::want::Want;
+use convoy_intervals::DelayBox;
 use convoy_leads::{Commit, Link, OpenCase, Opening};
 use convoy_packets::Instance;
 use convoy_scenario::{MOST_GROUPS, MOST_MULTICASTS};
 use convoy_sure::{Windows, destinations, target_group};
 use std::alloc::{AllocError, Global};
 
-/// What a chain speaks of: a scenario, and windows that are cut for a case.
+/// What a chain speaks of: a scenario, a box of its delays and waits, and windows of it that are cut for
+/// a case.
 #[derive(Drop)]
 struct Scene<'a> {
     instance: &'a Instance,
+    delay_box: &'a DelayBox,
     windows: &'a Windows,
 }
 
-/// What the links of a chain want of the delay of each packet: the case that leads leave open for a
-/// latency in ticks, and how a stamp of the target may exceed the rival's there. The error is that
-/// memory ran out.
+/// What the links of a chain want of the delay of each packet of a box, and of the waits: the case that
+/// leads leave open for a latency in ticks, and how a stamp of the target may exceed the rival's there.
+/// Where some message may wait, the case wants nothing beside a chain: waits make it hold in most halves.
+/// The error is that memory ran out.
 pub(crate) fn wants_of(
     alloc: Global,
     instance: &Instance,
+    delay_box: &DelayBox,
     opening: &Opening,
     latency: u32,
 ) -> Result<Vec<Want>, AllocError>
@@ -31,9 +36,12 @@ pub(crate) fn wants_of(
     wants.resize(instance.table().len(), Want::nothing())?;
     let scene = Scene {
         instance,
+        delay_box,
         windows: &opening.case.windows,
     };
-    scene.add_case(wants.as_mut_slice(), &opening.case, latency);
+    if opening.links.is_empty() || !some_may_wait(instance) {
+        scene.add_case(wants.as_mut_slice(), &opening.case, latency);
+    }
     if opening.links.is_empty() {
         scene.add_order(wants.as_mut_slice(), opening.case.rival);
     }
@@ -41,6 +49,16 @@ pub(crate) fn wants_of(
         scene.add_link(wants.as_mut_slice(), link);
     }
     Ok(wants)
+}
+
+/// Whether some message may wait.
+pub(crate) fn some_may_wait(instance: &Instance) -> bool {
+    for message in 0..instance.message_count() {
+        if instance.longest_wait(message) > 0 {
+            return true;
+        }
+    }
+    false
 }
 
 /// Adds what a link wants to what is wanted of the packet at a place, if there is such a packet.
@@ -54,22 +72,42 @@ fn add(wants: &mut [Want], place: Option<u16>, want: Want) {
 }
 
 impl<'a> Scene<'a> {
-    /// A message is to arrive at a group at that tick or later.
+    /// The least and the greatest ticks of a place in the box, 0 and 0 where there is no such place.
+    fn range_at(&self, place: Option<u16>) -> (u32, u32) {
+        match place {
+            Some(place) if usize::from(place) < self.delay_box.len() => {
+                let (least, most) = self.delay_box.range(usize::from(place));
+                (u32::from(least), u32::from(most))
+            }
+            _ => (0, 0),
+        }
+    }
+
+    /// A message is to arrive at a group at that tick or later, by its delay on the way there or by its
+    /// wait.
     fn arrives_from(&self, wants: &mut [Want], message: usize, group: usize, tick: u32)
         requires { message < length self.now.instance.now.multicasts }
     {
-        let place = self.instance.table().multicast_to(message, group);
-        let delay = tick.saturating_sub(self.instance.issue_tick(message));
-        add(wants, place, Want::at_least(delay));
+        let table = self.instance.table();
+        let (wait, delay) = (table.wait(message), table.multicast_to(message, group));
+        let ticks = tick.saturating_sub(self.instance.issue_tick(message));
+        let (_, longest) = self.range_at(wait);
+        let (_, slowest) = self.range_at(delay);
+        add(wants, delay, Want::at_least(ticks.saturating_sub(longest)));
+        add(wants, wait, Want::at_least(ticks.saturating_sub(slowest)));
     }
 
-    /// A message is to arrive at a group by that tick.
+    /// A message is to arrive at a group by that tick, by its delay on the way there or by its wait.
     fn arrives_by(&self, wants: &mut [Want], message: usize, group: usize, tick: u32)
         requires { message < length self.now.instance.now.multicasts }
     {
-        let place = self.instance.table().multicast_to(message, group);
-        let delay = tick.saturating_sub(self.instance.issue_tick(message));
-        add(wants, place, Want::at_most(delay));
+        let table = self.instance.table();
+        let (wait, delay) = (table.wait(message), table.multicast_to(message, group));
+        let ticks = tick.saturating_sub(self.instance.issue_tick(message));
+        let (shortest, _) = self.range_at(wait);
+        let (fastest, _) = self.range_at(delay);
+        add(wants, delay, Want::at_most(ticks.saturating_sub(shortest)));
+        add(wants, wait, Want::at_most(ticks.saturating_sub(fastest)));
     }
 
     /// The stamp of a message at group `from` is to come to another group at that tick or later.

@@ -1,5 +1,5 @@
 -- Scenarios that differ from another in one thing.
-use Rattle.std.specs.Prelude.{ℕ, ◌==◌, Bool, false, ◌&&◌, nat_lt, if◌then◌else◌, List, [], ◌∷◌, ◌++◌, length, map, Result}
+use Rattle.std.specs.Prelude.{ℕ, ◌==◌, Bool, false, ◌&&◌, not, nat_lt, if◌then◌else◌, List, [], ◌∷◌, ◌++◌, length, map, Result}
 use Rattle.std.specs.List.{flat_map, list_any, range_with_len}
 use Rattle.convoy_scenario.specs.declared.fault.ScenarioFault.{ScenarioFault}
 use Rattle.convoy_scenario.specs.declared.sender.Sender.{Sender}
@@ -10,7 +10,7 @@ use Rattle.convoy_scenario.specs.Numbering.{scenario_of_draft}
 use Rattle.convoy_scenario.specs.Scenario.{Link, Scenario, is_same_sender, message_at, message_numbers, range_between}
 use Rattle.convoy_packets.specs.declared.packet.Packet.{Packet}
 use Rattle.convoy_packets.specs.Assignment.{receiver_of, sender_of}
-use Rattle.convoy_packets.specs.Packets.{packets_of}
+use Rattle.convoy_packets.specs.Packets.{is_wait, packets_of}
 use Rattle.convoy_changes.specs.declared.kinds.Change.{Change}
 use Rattle.convoy_changes.specs.declared.kinds.Change.TheVariants.{Nothing, Without, AtLeast, AtMost}
 
@@ -68,9 +68,9 @@ changed scenario change = scenario_of_draft (changed_draft scenario change)
 abbrev pub message_changes : Scenario → ℕ → List Change
 message_changes scenario m = if m == scenario.target_message then [] else Without m ∷ []
 
--- the packet goes from the one to the other
+-- the packet travels from the one to the other
 abbrev pub goes_between : Scenario → Sender → ℕ → Packet → Bool
-goes_between scenario sender to packet = is_same_sender sender (sender_of scenario packet) && (to == receiver_of packet)
+goes_between scenario sender to packet = not (is_wait packet) && is_same_sender sender (sender_of scenario packet) && (to == receiver_of packet)
 
 -- some packet goes from the one to the other, and may take longer than its least
 abbrev pub can_narrow : Scenario → Sender → ℕ → Bool

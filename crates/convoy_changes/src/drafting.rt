@@ -200,6 +200,7 @@ fn draft_message(
         sender: sender_name(alloc, scenario, scenario.sender(message))?,
         to: group_names(alloc, scenario, scenario.destinations(message))?,
         at: i64::from(scenario.issue_tick(message)),
+        until: i64::from(scenario.issue_tick(message)) + i64::from(scenario.longest_wait(message)),
     })
 }
 

@@ -2,7 +2,7 @@ ghost use Rattle.std.specs.Prelude.{◌≡◌, ◌++◌, ◌&&◌, ◌==◌, IfO
 ghost use Rattle.std.specs.List.{flat_map, list_any};
 ghost use Rattle.convoy_scenario.specs.declared.sender.Sender.TheVariants.{Group};
 ghost use Rattle.convoy_scenario.specs.Scenario.{is_same_sender, message_numbers};
-ghost use Rattle.convoy_packets.specs.Assignment.{receiver_of, sender_of};
+ghost use Rattle.convoy_scenario.specs.Scenario.{message_at};
 ghost use Rattle.convoy_packets.specs.Packets.{packets_of};
 ghost use Rattle.convoy_changes.specs.Changes.{can_narrow, changes_of, goes_between, group_numbers, link_changes, message_changes, sender_changes};
 
@@ -111,31 +111,32 @@ fn is_travelled(instance: &Instance, sender: Sender, to: usize) -> bool
     travelled
 }
 
-/// Whether the packet goes from the sender to the group.
+/// Whether the packet travels from the sender to the group.
 fn goes_between(instance: &Instance, sender: Sender, to: usize, packet: Packet) -> bool
     ensures { result ≡ goes_between instance.now sender to packet }
 {
-    is_same_sender(sender, sender_of(instance, packet)) && to == receiver_of(packet)
-}
-
-/// Who sends a packet; a client where the scenario has no such message.
-fn sender_of(instance: &Instance, packet: Packet) -> Sender
-    ensures { result ≡ sender_of instance.now packet }
-{
     match packet {
-        Packet::Multicast { message, .. } if message < instance.message_count() => {
-            instance.sender(message)
-        }
-        Packet::Multicast { .. } => Sender::Client,
-        Packet::Propose { from, .. } => Sender::Group(from),
+        Packet::Wait { .. } => false,
+        Packet::Multicast {
+            message,
+            to: receiver,
+        } => is_same_sender(sender, sender_of(instance, message)) && to == receiver,
+        Packet::Propose {
+            from,
+            to: receiver,
+            ..
+        } => is_same_sender(sender, Sender::Group(from)) && to == receiver,
     }
 }
 
-fn receiver_of(packet: Packet) -> usize
-    ensures { result ≡ receiver_of packet }
+/// Who sends a message; a client where the scenario has no such message.
+fn sender_of(instance: &Instance, message: usize) -> Sender
+    ensures { result ≡ (message_at instance.now message).sender }
 {
-    match packet {
-        Packet::Multicast { to, .. } | Packet::Propose { to, .. } => to,
+    if message < instance.message_count() {
+        instance.sender(message)
+    } else {
+        Sender::Client
     }
 }
 

@@ -25,7 +25,7 @@ use Rattle.convoy_checker.specs.Checks.{checked}
 
 message : List ℕ → Sender → List ℕ → ℕ → Message
 message name sender destinations at =
-    record { name = name; sender = sender; destinations = destinations; at = at }
+    record { name = name; sender = sender; destinations = destinations; at = at; longest_wait = 0 }
 
 -- the base scenario, with its greatest delay and the tick at which y is issued
 base_with : ℕ → ℕ → Scenario

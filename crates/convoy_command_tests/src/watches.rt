@@ -20,6 +20,7 @@ struct Seen {
     most: AtomicU32,
     branches: AtomicU64,
     ended: AtomicU32,
+    greatest: AtomicU32,
 }
 
 impl Seen {
@@ -31,6 +32,7 @@ impl Seen {
             most: AtomicU32::new(0),
             branches: AtomicU64::new(0),
             ended: AtomicU32::new(0),
+            greatest: AtomicU32::new(0),
         }
     }
 }
@@ -56,8 +58,10 @@ impl Watch for Seen {
         self.most.store(most.unwrap_or(0), Ordering::Relaxed);
     }
 
-    fn ends(&self) {
+    fn ends(&self, greatest: Option<u32>) {
         let _ = self.ended.fetch_add(1, Ordering::Relaxed);
+        self.greatest
+            .store(greatest.unwrap_or(0), Ordering::Relaxed);
     }
 }
 
@@ -99,6 +103,7 @@ fn a_search_is_watched(rt: HostRuntime) -> Result<(), Fail> {
         assert_eq!(rt; seen.most.load(Ordering::Relaxed), 12);
         assert!(rt; seen.branches.load(Ordering::Relaxed) >= 10);
         assert_eq!(rt; seen.ended.load(Ordering::Relaxed), 1);
+        assert_eq!(rt; seen.greatest.load(Ordering::Relaxed), 0);
     }
     Ok(())
 }
@@ -116,5 +121,6 @@ fn one_ticket_is_not_watched(rt: HostRuntime) -> Result<(), Fail> {
     assert_eq!(rt; seen.begun.load(Ordering::Relaxed), 0);
     assert_eq!(rt; seen.branches.load(Ordering::Relaxed), 0);
     assert_eq!(rt; seen.ended.load(Ordering::Relaxed), 1);
+    assert_eq!(rt; seen.greatest.load(Ordering::Relaxed), 6);
     Ok(())
 }

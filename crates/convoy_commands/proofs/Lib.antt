@@ -1,5 +1,6 @@
 pub mod Acceptance
 pub mod AskTexts
+pub mod BesideTexts
 pub mod CeilingTexts
 pub mod CheckTexts
 pub mod CommandTexts

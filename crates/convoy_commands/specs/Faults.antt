@@ -21,6 +21,7 @@ limit_word limits.Delay = codes "delay"
 limit_word limits.Groups = codes "groups"
 limit_word limits.Multicasts = codes "multicasts"
 limit_word limits.At = codes "at"
+limit_word limits.Until = codes "until"
 limit_word limits.Link = codes "link"
 limit_word limits.Tick = codes "tick"
 
@@ -42,6 +43,7 @@ row_of_scenario scenario.DoubleDestination = (8, codes "double destination")
 row_of_scenario scenario.UnknownTarget = (9, codes "unknown target")
 row_of_scenario scenario.TargetNotAddressed = (10, codes "target not addressed")
 row_of_scenario scenario.LinkToItself = (14, codes "link to itself")
+row_of_scenario scenario.TargetWaits = (19, codes "target with until")
 row_of_scenario scenario.Memory = memory_row
 
 -- a fault's number and its text

@@ -56,6 +56,7 @@ pub mod Asks
 pub mod Searches
 pub mod Ceilings
 pub mod Commands
+pub mod Besides
 pub mod Runs
 pub mod SearchEnds
 pub mod Laws

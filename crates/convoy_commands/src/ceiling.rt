@@ -36,7 +36,7 @@ pub(crate) fn ceiling_answer(
 }
 
 /// The ceiling of the target of a scenario.
-fn target_ceiling(scenario: &Scenario) -> u32
+pub(crate) fn target_ceiling(scenario: &Scenario) -> u32
     ensures value { result ≡ ceiling_of scenario.now }
     ensures lawful { IsScenario scenario.now }
     ensures safe { IsUpperInTraffic scenario.now scenario.now.target_message scenario.now.target_group

@@ -202,6 +202,7 @@ pub(crate) fn scenario_row(fault: ScenarioFault) -> (u8, &'static str, FaultEndi
         ScenarioFault::UnknownTarget => (9, "unknown target", NOTHING),
         ScenarioFault::TargetNotAddressed => (10, "target not addressed", NOTHING),
         ScenarioFault::LinkToItself => (14, "link to itself", NOTHING),
+        ScenarioFault::TargetWaits => (19, "target with until", NOTHING),
         ScenarioFault::Memory => (11, "out of memory", NOTHING),
     }
 }
@@ -214,6 +215,7 @@ fn word_of_limit(limit: Limit) -> &'static str
         Limit::Groups => "groups",
         Limit::Multicasts => "multicasts",
         Limit::At => "at",
+        Limit::Until => "until",
         Limit::Link => "link",
         Limit::Tick => "tick",
     }

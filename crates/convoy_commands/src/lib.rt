@@ -2,6 +2,7 @@
 #![tactic(auto)]
 
 pub use asking::{Asking, ask};
+pub use beside::{Question, run_beside};
 pub use calls::{run_analyse, run_check, run_first, run_latency, run_simulate, run_timeline};
 pub use command::{Command, Direct, Goal, run, run_search};
 pub use convoy_branch::{
@@ -27,6 +28,8 @@ pub use writing::write_reply;
 
 mod analyse;
 mod asking;
+mod beside;
+mod beside_answers;
 mod calls;
 mod ceiling;
 mod command;

@@ -30,17 +30,39 @@ pub(crate) fn search_text<R: Threads + Wait + Sync, W: Watch + Sync>(
 {
     let scenario = read_toml(alloc, text)?.scenario;
     let instance = Instance::of(alloc, scenario)?;
-    let outcome = search_instance(rt, alloc, &instance, options, watch);
-    watch.ends();
-    Ok((instance, outcome?))
+    let outcome = search_instance(rt, alloc, &instance, options, watch)?;
+    Ok((instance, outcome))
 }
 
 /// Searches for the greatest latency of an instance as `latency` does: by the options' limit of tickets,
 /// by their bounds or both ways, and with their number of workers. Where one ticket does not end the
 /// search, a good schedule is sought first, by the options' number of simulations, and the search starts
-/// from that (docs/PROTOCOL.md, "Seeking"). Who watches is told as it begins, and not as it ends. Fails
-/// where memory runs out, and else never.
+/// from that (docs/PROTOCOL.md, "Seeking"). Who watches is told as it begins and as it ends. Fails where
+/// memory runs out, and else never.
 pub fn search_instance<R: Threads + Wait + Sync, W: Watch + Sync>(
+    rt: &R,
+    alloc: Global,
+    instance: &Instance,
+    options: &Options,
+    watch: &W,
+) -> Result<Outcome, AllocError>
+    ensures { IfOk result (IsEnd options.now instance.now) }
+{
+    let outcome = search(rt, alloc, instance, options, watch);
+    watch.ends(greatest_of(&outcome));
+    outcome
+}
+
+/// The greatest latency, where the search found it.
+fn greatest_of(outcome: &Result<Outcome, AllocError>) -> Option<u32> {
+    match outcome {
+        Ok(Outcome::Proved { certificate, .. }) => Some(certificate.latency()),
+        Ok(Outcome::Open { .. }) | Err(_) => None,
+    }
+}
+
+/// The search of [`search_instance`], of whose end nobody is told.
+fn search<R: Threads + Wait + Sync, W: Watch + Sync>(
     rt: &R,
     alloc: Global,
     instance: &Instance,

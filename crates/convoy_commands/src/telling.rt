@@ -143,7 +143,7 @@ fn told_timeline(alloc: Global, scheduled: &Scheduled) -> Result<Vec<u8>, AllocE
     let (instance, schedule) = (scheduled.instance(), scheduled.schedule());
     let run = simulate(alloc, instance, schedule)?;
     let mut text = Vec::new(alloc);
-    write_timeline(instance.scenario(), &run, &mut text)?;
+    write_timeline(instance, schedule, &run, &mut text)?;
     Ok(text)
 }
 

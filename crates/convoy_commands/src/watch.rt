@@ -16,8 +16,9 @@ pub trait Watch: Gate {
         most: Option<u32>,
     );
 
-    /// The search has ended. Nothing is written of it yet.
-    fn ends(&self);
+    /// The search has ended, with that greatest latency in ticks where it is known now. Nothing is written
+    /// of it yet.
+    fn ends(&self, greatest: Option<u32>);
 }
 
 impl Watch for NoGate {
@@ -30,5 +31,5 @@ impl Watch for NoGate {
         _most: Option<u32>,
     ) {}
 
-    fn ends(&self) {}
+    fn ends(&self, _greatest: Option<u32>) {}
 }

@@ -8,7 +8,7 @@ use Rattle.convoy_picture.specs.Pictures.{Picture}
 use Rattle.convoy_picture.specs.Words.{answer_text, entry_text, flight_text}
 use Rattle.convoy_picture.specs.declared.role.Role.{Role}
 use Rattle.convoy_picture.specs.declared.role.Role.TheVariants.{Target, Holder, Other}
-use Rattle.convoy_draw.specs.Drawings.{IsDrawing, Tells, titled}
+use Rattle.convoy_draw.specs.Drawings.{IsDrawing, Tells, TellsWindows, titled}
 use Rattle.convoy_draw.specs.Layers.{IsToldIn, Layers, element_text, layer_of, with_element}
 
 -- a text tells what a part of it tells
@@ -20,10 +20,10 @@ tells_within piece part front back text told whole = record {
 }
 
 -- a layer tells what it told before more was put into it, and what that tells
-tells_before : (piece layer element : List ℕ) → Tells piece layer → Tells piece (layer ++ element)
+pub tells_before : (piece layer element : List ℕ) → Tells piece layer → Tells piece (layer ++ element)
 tells_before piece layer element told = tells_within piece layer [] element (layer ++ element) told refl
 
-tells_after : (piece layer element : List ℕ) → Tells piece element → Tells piece (layer ++ element)
+pub tells_after : (piece layer element : List ℕ) → Tells piece element → Tells piece (layer ++ element)
 tells_after piece layer element told =
     tells_within piece element layer [] (layer ++ element) told (rw append-nil refl)
 
@@ -103,18 +103,20 @@ joined_tells layers first second third text whole piece told =
     joined_tells_of layers first second third piece text whole told.role told.told
 
 -- an image tells what its parts tell
-pub drawing_tells : (scenario : Scenario) (picture : Picture) (head ground packets signs labels foot text : List ℕ)
-    → text ≡ head ++ (ground ++ (packets ++ (signs ++ (labels ++ foot))))
+pub drawing_tells : (scenario : Scenario) (picture : Picture) (head ground windows packets signs labels foot text : List ℕ)
+    → text ≡ head ++ (ground ++ (windows ++ (packets ++ (signs ++ (labels ++ foot)))))
     → Tells (answer_text scenario picture.why) head
+    → TellsWindows scenario windows
     → All (λ flight. Tells (flight_text scenario flight) packets) picture.flights
     → All (λ entry. Tells (entry_text scenario entry) signs) picture.entries
     → IsDrawing scenario picture text
-drawing_tells scenario picture head ground packets signs labels foot text whole answer flights entries = record {
-  answer = tells_within _ head [] (ground ++ (packets ++ (signs ++ (labels ++ foot)))) text answer whole;
+drawing_tells scenario picture head ground windows packets signs labels foot text whole answer waits flights entries = record {
+  answer = tells_within _ head [] (ground ++ (windows ++ (packets ++ (signs ++ (labels ++ foot))))) text answer whole;
+  windows = λ m known may. tells_within _ windows (head ++ ground) (packets ++ (signs ++ (labels ++ foot))) text (waits m known may) (rw whole (simp append_assoc));
   flights = All-weaker (λ flight. Tells (flight_text scenario flight) packets) (λ flight. Tells (flight_text scenario flight) text)
-      (λ flight told. tells_within _ packets (head ++ ground) (signs ++ (labels ++ foot)) text told (rw whole (simp append_assoc)))
+      (λ flight told. tells_within _ packets (head ++ (ground ++ windows)) (signs ++ (labels ++ foot)) text told (rw whole (simp append_assoc)))
       picture.flights flights;
   entries = All-weaker (λ entry. Tells (entry_text scenario entry) signs) (λ entry. Tells (entry_text scenario entry) text)
-      (λ entry told. tells_within _ signs (head ++ (ground ++ packets)) (labels ++ foot) text told (rw whole (simp append_assoc)))
+      (λ entry told. tells_within _ signs (head ++ (ground ++ (windows ++ packets))) (labels ++ foot) text told (rw whole (simp append_assoc)))
       picture.entries entries;
 }

@@ -1,7 +1,8 @@
 -- What the image of a picture tells in words, for readers that show no images and where the mouse rests on a line or a sign.
-use Rattle.std.specs.Prelude.{◌≡◌, ℕ, List, ◌++◌, codes}
+use Rattle.std.specs.Prelude.{◌≡◌, ℕ, ◌<◌, List, ◌++◌, length, codes, IsTrue}
 use Rattle.std.specs.List.{All}
-use Rattle.convoy_scenario.specs.Scenario.{Scenario}
+use Rattle.convoy_scenario.specs.Scenario.{Scenario, message_at, may_wait}
+use Rattle.convoy_explain.specs.Explanations.{window_text}
 use Rattle.convoy_picture.specs.Pictures.{Picture}
 use Rattle.convoy_picture.specs.Words.{answer_text, entry_text, flight_text}
 
@@ -15,8 +16,14 @@ pub record Tells (words text : List ℕ) : Type 0 where
   pub after : List ℕ
   pub whole : text ≡ before ++ (titled words ++ after)
 
--- the text of an image is that of a picture: it has the answer, each packet and all that happens as titles
+-- a text has as titles from when to when each message may be issued that may wait
+abbrev pub TellsWindows : Scenario → List ℕ → Type 0
+TellsWindows scenario text =
+    (m : ℕ) → m < length scenario.multicasts → IsTrue (may_wait (message_at scenario m)) → Tells (window_text scenario m) text
+
+-- the text of an image is that of a picture: it has the answer, when messages may be issued, each packet and all that happens as titles
 pub record IsDrawing (scenario : Scenario) (picture : Picture) (text : List ℕ) : Type 0 where
   pub answer : Tells (answer_text scenario picture.why) text
+  pub windows : TellsWindows scenario text
   pub flights : All (λ flight. Tells (flight_text scenario flight) text) picture.flights
   pub entries : All (λ entry. Tells (entry_text scenario entry) text) picture.entries

@@ -7,6 +7,7 @@ use super::legend::legend;
 use super::packets::packets;
 use super::sheet::{MARGIN, Sheet, WIDTH};
 use super::signs::{labels, signs};
+use super::windows::windows;
 use convoy_picture::{Picture, answer_words, message_name, sender_name};
 use convoy_scenario::{Scenario, Sender};
 use std::alloc::{AllocError, Global};
@@ -14,8 +15,8 @@ use std::alloc::{AllocError, Global};
 /// Appends the picture of a run of the scenario as an image, the text of which is SVG and ASCII
 /// (docs/FORMATS.md, "What `draw` writes"). Where memory runs out the vector is as it was.
 ///
-/// What is drawn is what the picture tells, with each packet and all that happens at a group told in
-/// words too. Of a picture of another scenario messages and groups that this one has not are drawn
+/// What is drawn is what the picture tells, with each packet, all that happens at a group and the ticks at
+/// which a message may be issued that may wait told in words too. Of a picture of another scenario messages and groups that this one has not are drawn
 /// without a name.
 pub fn write_drawing(
     scenario: &Scenario,
@@ -37,11 +38,12 @@ fn drawing(alloc: Global, scenario: &Scenario, picture: &Picture) -> Result<Stri
     let sheet = Sheet::of(alloc, scenario, picture)?;
     let head = head(alloc, scenario, picture, &sheet)?;
     let ground = ground(alloc, scenario, picture, &sheet)?;
+    let windows = windows(alloc, scenario, picture, &sheet)?;
     let packets = packets(alloc, scenario, picture, &sheet)?;
     let signs = signs(alloc, scenario, picture, &sheet)?;
     let labels = labels(alloc, scenario, picture, &sheet)?;
     let foot = foot(alloc, scenario, picture, &sheet)?;
-    format!(in alloc; "{head}{ground}{packets}{signs}{labels}{foot}")
+    format!(in alloc; "{head}{ground}{windows}{packets}{signs}{labels}{foot}")
 }
 
 /// The head of the image: its size, the answer, and why the target is so late.

@@ -85,7 +85,7 @@ impl Layers {
 }
 
 /// An element that is drawn so and that tells so.
-fn element(alloc: Global, told: &str, drawn: &str) -> Result<String, AllocError>
+pub(crate) fn element(alloc: Global, told: &str, drawn: &str) -> Result<String, AllocError>
     ensures { IfOk result (λ element. string_bytes element ≡ element_text told.now drawn.now) }
 {
     format!(in alloc; "<g><title>{told}</title>{drawn}</g>\n")

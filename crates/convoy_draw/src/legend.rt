@@ -1,8 +1,9 @@
 use super::mark::MarkKind;
 use super::sheet::{MARGIN, Sheet};
 use super::signs::sign;
-use super::style::color_of;
+use super::style::{BAR, color_of};
 use super::widths::width_of;
+use convoy_explain::may_wait;
 use convoy_picture::{Picture, Role, message_name};
 use convoy_scenario::Scenario;
 use std::alloc::{AllocError, Global};
@@ -48,7 +49,7 @@ fn write_legend(
 ) -> Result<(), AllocError> {
     let y = sheet.bottom.saturating_add(400);
     write_colors(alloc, scenario, picture, y, text)?;
-    write_lines(sheet, y.saturating_add(LINE), text)?;
+    write_lines(scenario, sheet, y.saturating_add(LINE), text)?;
     let waits = picture.why().holder.is_some();
     write_signs(alloc, waits, y.saturating_add(LINE + LINE), text)?;
     let y = y.saturating_add(LINE + LINE + LINE);
@@ -86,9 +87,15 @@ fn write_color(
     write_line(across, down, (color_of(role), PLAIN), words, text)
 }
 
-/// The lines of packets, and how many signs have no words.
-fn write_lines(sheet: &Sheet, down: u32, text: &mut String) -> Result<(), AllocError> {
+/// The lines of packets, the bar of a message that may wait, and how many signs have no words.
+fn write_lines(
+    scenario: &Scenario,
+    sheet: &Sheet,
+    down: u32,
+    text: &mut String,
+) -> Result<(), AllocError> {
     let x = write_samples(down, text)?;
+    let x = write_bar(scenario, x, down, text)?;
     let wordless = sheet.wordless();
     if wordless == 0 {
         return Ok(());
@@ -110,6 +117,37 @@ fn write_samples(down: u32, text: &mut String) -> Result<u32, AllocError> {
         x = write_line(x, down, ("#000000", style), words, text)?;
     }
     Ok(x)
+}
+
+/// The bar along the ticks at which a message may be issued, where some message may wait; answers where the
+/// next sample stands.
+fn write_bar(
+    scenario: &Scenario,
+    across: u32,
+    down: u32,
+    text: &mut String,
+) -> Result<u32, AllocError> {
+    if is_any_waiting(scenario) {
+        write_line(
+            across,
+            down,
+            ("#000000", BAR),
+            "when it may be issued",
+            text,
+        )
+    } else {
+        Ok(across)
+    }
+}
+
+/// Whether some message may wait before its issue.
+fn is_any_waiting(scenario: &Scenario) -> bool {
+    for message in 0..scenario.message_count() {
+        if may_wait(scenario, message) {
+            return true;
+        }
+    }
+    false
 }
 
 /// A line of that colour and style, with words; answers where the next sample stands.

@@ -16,3 +16,4 @@ mod sheet;
 mod signs;
 mod style;
 mod widths;
+mod windows;

@@ -40,17 +40,26 @@ pub(crate) struct Mark {
 }
 
 /// The mark of a message where it is issued.
-pub(crate) fn issue_mark(scenario: &Scenario, message: usize) -> Mark {
-    let (tick, sender) = if message < scenario.message_count() {
-        (scenario.issue_tick(message), scenario.sender(message))
-    } else {
-        (0, Sender::Client)
-    };
+pub(crate) fn issue_mark(scenario: &Scenario, picture: &Picture, message: usize) -> Mark {
     Mark {
         kind: MarkKind::Issue,
         message,
-        tick,
-        lane: lane_of(sender),
+        tick: issue_tick(picture, message),
+        lane: lane_of(sender_of(scenario, message)),
+    }
+}
+
+/// The tick at which a message is issued; 0 where the picture has no such message.
+pub(crate) fn issue_tick(picture: &Picture, message: usize) -> u32 {
+    picture.issues().get(message).copied().unwrap_or(0)
+}
+
+/// Who issues a message; a client where the scenario has no such message.
+fn sender_of(scenario: &Scenario, message: usize) -> Sender {
+    if message < scenario.message_count() {
+        scenario.sender(message)
+    } else {
+        Sender::Client
     }
 }
 

@@ -93,6 +93,8 @@ fn line(
     );
     let width = width_for(last, flight.number);
     match flight.packet {
+        // A wait goes nowhere, and no picture has a flight of one.
+        Packet::Wait { .. } => Ok(String::new(alloc)),
         Packet::Multicast { .. } => {
             format!(in alloc; r#"<path d="M{left} {from}L{right} {to}"{width}/>"#)
         }
@@ -135,6 +137,7 @@ fn is_numbered(flight: &Option<convoy_explain::Flight>, number: usize) -> bool {
 /// The message that a packet is of.
 fn message_of(packet: Packet) -> usize {
     match packet {
+        Packet::Wait { message } => message,
         Packet::Multicast { message, .. } => message,
         Packet::Propose { message, .. } => message,
     }

@@ -1,4 +1,6 @@
+use super::mark::issue_tick;
 use super::sheet::{LEFT, RIGHT};
+use convoy_explain::window;
 use convoy_picture::Picture;
 use convoy_scenario::{Scenario, Time};
 use std::alloc::{AllocError, Global};
@@ -171,7 +173,7 @@ fn moments_of(alloc: Global, spans: &[(u32, u32)]) -> Result<Vec<u32>, AllocErro
 }
 
 /// From when to when something is under way, in the order of their first ticks: each packet, and each
-/// message as it is issued.
+/// message as it is issued, and at the first and the last tick at which it may be.
 fn busy_spans(
     alloc: Global,
     scenario: &Scenario,
@@ -179,8 +181,10 @@ fn busy_spans(
 ) -> Result<Vec<(u32, u32)>, AllocError> {
     let mut spans = flight_spans(alloc, picture)?;
     for message in 0..scenario.message_count() {
-        let at = scenario.issue_tick(message);
-        spans.push((at, at))?;
+        let (first, last) = window(scenario, message);
+        for tick in [first, issue_tick(picture, message), last] {
+            spans.push((tick, tick))?;
+        }
     }
     spans.sort()?;
     Ok(spans)

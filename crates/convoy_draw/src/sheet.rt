@@ -93,7 +93,7 @@ impl Sheet {
         for message in 0..scenario.message_count() {
             if Role::of(scenario, picture, message).is_in_focus() == is_focus {
                 let label = issue_label(alloc, scenario, message)?;
-                let row = self.put(&issue_mark(scenario, message), &label)?;
+                let row = self.put(&issue_mark(scenario, picture, message), &label)?;
                 set(&mut self.issue_rows, message, row);
             }
         }

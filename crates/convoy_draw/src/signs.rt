@@ -84,7 +84,7 @@ fn push_issue_signs(
     sheet: &Sheet,
 ) -> Result<(), AllocError> {
     for message in 0..scenario.message_count() {
-        let mark = issue_mark(scenario, message);
+        let mark = issue_mark(scenario, picture, message);
         let drawn = sign_at(alloc, sheet, &mark, sheet.issue_row(message))?;
         layers.push(Role::of(scenario, picture, message), &drawn)?;
     }
@@ -187,7 +187,7 @@ fn push_issue_labels(
 ) -> Result<(), AllocError> {
     for message in 0..scenario.message_count() {
         let label = issue_label(alloc, scenario, message)?;
-        let mark = issue_mark(scenario, message);
+        let mark = issue_mark(scenario, picture, message);
         let words = words_at(alloc, sheet, &mark, sheet.issue_row(message), &label)?;
         layers.push(Role::of(scenario, picture, message), &words)?;
     }

@@ -3,6 +3,9 @@ use convoy_picture::Role;
 /// How many packets there are at most in a picture that is not crowded.
 const CROWD: usize = 200;
 
+/// How a bar is drawn along the ticks at which a message may be issued.
+pub(crate) const BAR: &str = r#"stroke-width="60" stroke-opacity="0.3""#;
+
 /// The colour of the lines, signs and words of a message.
 pub(crate) fn color_of(role: Role) -> &'static str {
     match role {

@@ -14,7 +14,7 @@ use Rattle.convoy_sim.specs.Stamps.{clocks_of, local_stamp, final_stamp}
 use Rattle.convoy_sim.specs.Delivery.{holds_back, deliver, latency_at, latency_of}
 use Rattle.convoy_sim.proofs.RowScenarios.{message, base_with, base, swapped}
 use Rattle.convoy_explain.specs.Causes.{holder_of, tied_before, last_proposer, explanation_of}
-use Rattle.convoy_explain.specs.Explanations.{answered_text, awaited_text, commit_text, flight_text, holder_text, in_unit_text, latency_text, sent_text, stamp_text, text_of, ticks_text, worst_text}
+use Rattle.convoy_explain.specs.Explanations.{answered_text, awaited_text, commit_text, flight_text, holder_text, in_unit_text, issue_text, latency_text, sent_text, stamp_text, text_of, ticks_text, window_text, worst_text}
 use Rattle.convoy_explain.specs.PacketLists.{packet_line, packet_text, packets_text, scheduled_packets_text, taken_text}
 
 -- the base with every packet's delay three ticks, where y holds t back
@@ -112,6 +112,32 @@ tied_ones : text_of tied (explanation_of tied (record { delays = replicate 8 1; 
 unfolding tied message packets_of delay_of arrive settle arrival_rank commit_rank no_order moments_of clocks_of local_stamp final_stamp holds_back deliver latency_at latency_of digits holder_of tied_before last_proposer explanation_of stamp_text flight_text in_unit_text ticks_text latency_text commit_text holder_text awaited_text sent_text answered_text worst_text text_of
 tied_ones = refl
 
+-- y may wait up to eight ticks, and holds t back where it is issued at tick 6
+waiting : Scenario
+waiting = record {
+  time = Ticks;
+  tick = None;
+  delay = 3;
+  groups = codes "a" ∷ codes "b" ∷ [];
+  links = [];
+  multicasts = message (codes "x") Client (1 ∷ []) 0 ∷ message (codes "t") Client (0 ∷ 1 ∷ []) 0
+      ∷ record { name = codes "y"; sender = Group 0; destinations = 0 ∷ 1 ∷ []; at = 2; longest_wait = 8 } ∷ [];
+  target_message = 1;
+  target_group = 0;
+}
+
+waits_four : text_of waiting (explanation_of waiting (in_fixed_order (3 ∷ 3 ∷ 3 ∷ 3 ∷ 3 ∷ 4 ∷ 3 ∷ 3 ∷ 3 ∷ []))) 1 ≡
+    codes "t at a: at worst 12 ticks, from its issue at tick 0 to its delivery at tick 12" ++ 10 ∷ (
+    codes "committed at a at tick 6 with stamp 2.b, given by b at tick 3, after x in a tie" ++ 10 ∷ (
+    codes "held back by y, which came to a at tick 6 with stamp 2.a, before 2.b" ++ 10 ∷ (
+    codes "y may be issued from tick 2 to 10: here a issues it at tick 6" ++ 10 ∷ (
+    codes "y is committed at a at tick 12, when the last proposal comes:" ++ 10 ∷ (
+    codes "  tick 6   a sends y to b, packet 6, 3 ticks" ++ 10 ∷ (
+    codes "  tick 9   b proposes 3.b to a, packet 8, 3 ticks" ++ 10 ∷ (
+    codes "no schedule is worse: 1 node, checked" ++ 10 ∷ ([]))))))))
+unfolding waiting message packets_of delay_of arrive settle arrival_rank commit_rank no_order moments_of clocks_of local_stamp final_stamp holds_back deliver latency_at latency_of digits holder_of tied_before last_proposer explanation_of stamp_text flight_text in_unit_text ticks_text latency_text commit_text holder_text window_text issue_text awaited_text sent_text answered_text worst_text text_of
+waits_four = refl
+
 -- ---- packets
 base_packets : packets_text base ≡
     codes "packet 0: x from client to b, 1 to 3 ticks" ++ 10 ∷ (
@@ -136,3 +162,16 @@ linked_packets : scheduled_packets_text linked (in_fixed_order (3 ∷ 2 ∷ 1 �
     codes "packet 3: proposal of t from b to a, 1 to 1 ticks, takes 1" ++ 10 ∷ ([]))))
 unfolding linked late message packets_of digits packet_line packet_text scheduled_packets_text taken_text
 linked_packets = refl
+
+waiting_packets : scheduled_packets_text waiting (in_fixed_order (3 ∷ 3 ∷ 3 ∷ 3 ∷ 3 ∷ 4 ∷ 3 ∷ 3 ∷ 3 ∷ [])) ≡
+    codes "packet 0: x from client to b, 1 to 3 ticks, takes 3" ++ 10 ∷ (
+    codes "packet 1: t from client to a, 1 to 3 ticks, takes 3" ++ 10 ∷ (
+    codes "packet 2: t from client to b, 1 to 3 ticks, takes 3" ++ 10 ∷ (
+    codes "packet 3: proposal of t from a to b, 1 to 3 ticks, takes 3" ++ 10 ∷ (
+    codes "packet 4: proposal of t from b to a, 1 to 3 ticks, takes 3" ++ 10 ∷ (
+    codes "packet 5: y waits, 0 to 8 ticks, takes 4" ++ 10 ∷ (
+    codes "packet 6: y from a to b, 1 to 3 ticks, takes 3" ++ 10 ∷ (
+    codes "packet 7: proposal of y from a to b, 1 to 3 ticks, takes 3" ++ 10 ∷ (
+    codes "packet 8: proposal of y from b to a, 1 to 3 ticks, takes 3" ++ 10 ∷ ([])))))))))
+unfolding waiting message packets_of digits packet_line packet_text scheduled_packets_text taken_text
+waiting_packets = refl

@@ -121,7 +121,7 @@ holder_by plan schedule run told m g None right = refl
 pub explanation-true : (plan : Scenario) (schedule : Schedule) (run : Run)
     → FinalStampIsLocal → LocalStampNamesGroup → HoldersHold → LastProposalsCommit → IsScenario plan → IsRunOf plan schedule run
     → explanation_told plan (packets_of plan) schedule run ≡ explanation_of plan schedule
-unfolding explanation_told explanation_of
+unfolding explanation_told explanation_of delay_of
 explanation-true plan schedule run is_local names hold commit well told =
     let m = plan.target_message in
     let g = plan.target_group in

@@ -9,7 +9,7 @@ use Rattle.convoy_packets.specs.declared.packet.Packet.TheVariants.{Multicast, P
 use Rattle.convoy_packets.specs.Packets.{packets_of, place_of}
 use Rattle.convoy_packets.specs.Assignment.{Schedule}
 use Rattle.convoy_sim.specs.declared.run.Proposal.{Proposal}
-use Rattle.convoy_sim.specs.Times.{arrive, settle, propose_arrive}
+use Rattle.convoy_sim.specs.Times.{issue, arrive, settle, propose_arrive}
 use Rattle.convoy_sim.specs.Stamps.{is_less, local_stamp, final_stamp}
 use Rattle.convoy_sim.specs.Delivery.{deliver, latency_of}
 use Rattle.convoy_explain.specs.declared.explanation.Explanation.{Explanation}
@@ -58,12 +58,13 @@ abbrev pub proposal_of : Scenario → Schedule → ℕ → ℕ → Proposal
 proposal_of scenario schedule n h =
     record { tick = arrive scenario schedule n h; stamp = local_stamp scenario schedule n h }
 
--- how the last proposal for message n comes to group g: n goes to the group h, which proposes a stamp to g
+-- how the last proposal for message n comes to group g: n is issued and goes to the group h, which proposes a stamp to g
 abbrev pub last_proposal_of : Scenario → Schedule → ℕ → ℕ → LastProposal
 last_proposal_of scenario schedule n g =
     let h = last_proposer scenario schedule n g in
     record {
       message = n;
+      issued = issue scenario schedule n;
       from = h;
       sent = flight_of scenario schedule (Multicast n h);
       proposal = proposal_of scenario schedule n h;

@@ -1,8 +1,8 @@
 -- The text of an explanation: why a schedule has its latency, of which a certificate shows that it is the greatest.
-use Rattle.std.specs.Prelude.{ℕ, ◌*◌, ◌==◌, ◌&&◌, nat_lt, List, [], ◌∷◌, ◌++◌, Option, Some, None, codes, decimal, if◌then◌else◌}
+use Rattle.std.specs.Prelude.{ℕ, ◌+◌, ◌*◌, ◌==◌, ◌&&◌, nat_lt, List, [], ◌∷◌, ◌++◌, Option, Some, None, codes, decimal, if◌then◌else◌}
 use Rattle.convoy_scenario.specs.declared.sender.Sender.{Sender}
 use Rattle.convoy_scenario.specs.declared.sender.Sender.TheVariants.{Client, Group}
-use Rattle.convoy_scenario.specs.Scenario.{Scenario, message_at, group_name_at}
+use Rattle.convoy_scenario.specs.Scenario.{Message, Scenario, message_at, may_wait, group_name_at}
 use Rattle.convoy_scenario.specs.Durations.{count_of, unit_of, unit_word}
 use Rattle.convoy_sim.specs.declared.timestamp.Timestamp.{Timestamp}
 use Rattle.convoy_explain.specs.Causes.{is_real}
@@ -35,6 +35,16 @@ message_name_at scenario m = (message_at scenario m).name
 abbrev pub sender_text : Scenario → Sender → List ℕ
 sender_text scenario Client = codes "a client"
 sender_text scenario (Group g) = group_name_at scenario g
+
+-- the first and the last tick at which a message may be issued
+abbrev pub window_of : Message → ℕ × ℕ
+window_of message = (message.at, message.at + message.longest_wait)
+
+-- from when to when message m may be issued
+unfoldable pub window_text : Scenario → ℕ → List ℕ
+window_text scenario m =
+    let window = window_of (message_at scenario m) in
+    message_name_at scenario m ++ (codes " may be issued from tick " ++ (decimal window.0 ++ (codes " to " ++ decimal window.1)))
 
 -- a packet on its way
 unfoldable pub flight_text : Flight → List ℕ
@@ -90,6 +100,17 @@ holder_text scenario why (Some holder) =
     ++ (codes ", before " ++ (stamp_text scenario why.stamped.stamp
     ++ (tie_won_text scenario why holder ++ 10 ∷ []))))))))))
 
+-- who issues the awaited message, and when, of the ticks at which it may be
+unfoldable pub issue_text : Scenario → LastProposal → List ℕ
+issue_text scenario last =
+    window_text scenario last.message
+    ++ (codes ": here " ++ (sender_text scenario (message_at scenario last.message).sender
+    ++ (codes " issues it at tick " ++ (decimal last.issued ++ 10 ∷ []))))
+
+-- the same where the awaited message may wait; else it has one tick to be issued
+abbrev pub wait_text : Scenario → LastProposal → List ℕ
+wait_text scenario last = if may_wait (message_at scenario last.message) then issue_text scenario last else []
+
 -- when the awaited message is committed
 unfoldable pub awaited_text : Scenario → LastProposal → List ℕ
 awaited_text scenario last =
@@ -101,12 +122,11 @@ awaited_text scenario last =
 -- the awaited message goes to the group of the last proposal, or is there as it is issued
 unfoldable pub sent_text : Scenario → LastProposal → Option Flight → List ℕ
 sent_text scenario last None =
-    let message = message_at scenario last.message in
-    codes "  tick " ++ (decimal message.at ++ (gap_after message.at
-    ++ (group_name_at scenario last.from ++ (codes " issues " ++ (message.name ++ 10 ∷ [])))))
+    codes "  tick " ++ (decimal last.issued ++ (gap_after last.issued
+    ++ (group_name_at scenario last.from ++ (codes " issues " ++ (message_name_at scenario last.message ++ 10 ∷ [])))))
 sent_text scenario last (Some flight) =
     let message = message_at scenario last.message in
-    codes "  tick " ++ (decimal message.at ++ (gap_after message.at
+    codes "  tick " ++ (decimal last.issued ++ (gap_after last.issued
     ++ (sender_text scenario message.sender ++ (codes " sends " ++ (message.name
     ++ (codes " to " ++ (group_name_at scenario last.from ++ (flight_text flight ++ 10 ∷ []))))))))
 
@@ -133,6 +153,7 @@ text_of scenario why nodes =
     latency_text scenario why
     ++ (commit_text scenario why
     ++ (holder_text scenario why why.holder
+    ++ (wait_text scenario why.last
     ++ (awaited_text scenario why.last
     ++ (sent_text scenario why.last why.last.sent
-    ++ (answered_text scenario why.last why.last.answered ++ worst_text nodes)))))
+    ++ (answered_text scenario why.last why.last.answered ++ worst_text nodes))))))

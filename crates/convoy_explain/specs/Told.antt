@@ -3,7 +3,7 @@ use Rattle.std.specs.Prelude.{ℕ, ◌+◌, ◌==◌, Bool, ◌&&◌, List, Opti
 use Rattle.std.specs.Option.{option_map}
 use Rattle.convoy_scenario.specs.Scenario.{Scenario, message_at, message_numbers, is_addressed}
 use Rattle.convoy_packets.specs.declared.packet.Packet.{Packet}
-use Rattle.convoy_packets.specs.declared.packet.Packet.TheVariants.{Multicast, Propose}
+use Rattle.convoy_packets.specs.declared.packet.Packet.TheVariants.{Wait, Multicast, Propose}
 use Rattle.convoy_packets.specs.Assignment.{Schedule, delay_in}
 use Rattle.convoy_sim.specs.declared.run.Proposal.{Proposal}
 use Rattle.convoy_sim.specs.declared.timestamp.Timestamp.{Timestamp}
@@ -52,12 +52,17 @@ unfoldable pub last_proposer_told : Scenario → List Packet → Schedule → Ru
 last_proposer_told scenario packets schedule run n g =
     unwrap_or (find (λ h. propose_told packets schedule run n g h == committed_told run n g) (message_at scenario n).destinations) g
 
+-- the tick at which message n is issued
+abbrev pub issue_told : Scenario → List Packet → Schedule → ℕ → ℕ
+issue_told scenario packets schedule n = (message_at scenario n).at + delay_in packets schedule.delays (Wait n)
+
 -- how the last proposal for message n comes to group g
 abbrev pub last_proposal_told : Scenario → List Packet → Schedule → Run → ℕ → ℕ → LastProposal
 last_proposal_told scenario packets schedule run n g =
     let h = last_proposer_told scenario packets schedule run n g in
     record {
       message = n;
+      issued = issue_told scenario packets schedule n;
       from = h;
       sent = flight_in packets schedule.delays (Multicast n h);
       proposal = proposal_told run n h;

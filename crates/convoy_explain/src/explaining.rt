@@ -6,7 +6,7 @@ ghost use Rattle.convoy_scenario.specs.Scenario.{message_at, is_addressed};
 ghost use Rattle.convoy_sim.specs.Run.{IsRunOf};
 ghost use Rattle.convoy_explain.specs.Causes.{explanation_of, flight_in};
 ghost use Rattle.convoy_explain.specs.Told.{committed_told, delivered_told, explanation_told, final_told};
-ghost use Rattle.convoy_explain.specs.Told.{holder_told, holder_told_at, is_last_ahead_told};
+ghost use Rattle.convoy_explain.specs.Told.{holder_told, holder_told_at, is_last_ahead_told, issue_told};
 ghost use Rattle.convoy_explain.specs.Told.{last_proposal_told, last_proposer_told, propose_told};
 ghost use Rattle.convoy_explain.specs.Told.{proposal_told, stamped_told, is_tied_before_told, tied_before_told};
 
@@ -144,6 +144,7 @@ fn last_proposal(
     let from = last_proposer(instance, schedule, run, message, group);
     LastProposal {
         message,
+        issued: issued(instance, schedule, message),
         from,
         sent: sent(instance.table(), schedule, message, from),
         proposal: proposal(run, message, from),
@@ -188,6 +189,15 @@ fn comes_last(
     let delay = u64::from(table.propose_delay(schedule, message, from, group));
     let tick = u64::from(proposal(run, message, from).tick) + delay;
     tick == u64::from(committed(run, message, group))
+}
+
+/// The tick at which a message is issued: the first at which it may be, and its wait.
+fn issued(instance: &Instance, schedule: &Schedule, message: usize) -> u32
+    requires { message < length instance.now.multicasts }
+    ensures { result ≡ issue_told instance.now (table_of instance.now).packets schedule.now message }
+{
+    let wait = instance.table().wait_in(schedule, message);
+    instance.issue_tick(message) + u32::from(wait)
 }
 
 /// The message on its way to a group.

@@ -23,6 +23,8 @@ pub struct Holder {
 pub struct LastProposal {
     /// The number of the message.
     pub message: usize,
+    /// The tick at which it is issued.
+    pub issued: u32,
     /// The number of the group that proposes.
     pub from: usize,
     /// The message on its way to that group; none where that group sends it.

@@ -5,7 +5,7 @@
 pub use explaining::explain;
 pub use explanation::{Explanation, Flight, Holder, LastProposal};
 pub use packet_list::{write_packets, write_scheduled_packets};
-pub use telling::{ticks_text, write_explanation};
+pub use telling::{may_wait, ticks_text, window, window_text, write_explanation};
 
 mod explaining;
 mod explanation;

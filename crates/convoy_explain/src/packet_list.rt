@@ -12,9 +12,11 @@ use convoy_packets::{Instance, Packet, Schedule};
 use convoy_scenario::{Scenario, Sender};
 use std::alloc::{AllocError, Global};
 
-/// Appends the list of an instance's packets: for each, in packet order, one of the lines
+/// Appends the list of an instance's packets and of the waits of its messages: for each, in packet order,
+/// one of the lines
 ///
 /// ```text
+/// packet N: MESSAGE waits, 0 to MOST ticks
 /// packet N: MESSAGE from SENDER to GROUP, LEAST to MOST ticks
 /// packet N: proposal of MESSAGE from GROUP to GROUP, LEAST to MOST ticks
 /// ```
@@ -29,8 +31,8 @@ pub fn write_packets(instance: &Instance, out: &mut Vec<u8>) -> Result<(), Alloc
     out.extend_from_slice(&text)
 }
 
-/// Appends the list of a scenario's packets as [`write_packets`] does, each line with the delay that
-/// a schedule of the scenario gives the packet, after `takes`. Where memory runs out the vector is as
+/// Appends the list of a scenario's packets as [`write_packets`] does, each line with the ticks that
+/// a schedule of the scenario gives the packet or the wait, after `takes`. Where memory runs out the vector is as
 /// it was.
 pub fn write_scheduled_packets(
     instance: &Instance,
@@ -45,7 +47,7 @@ pub fn write_scheduled_packets(
     out.extend_from_slice(&text)
 }
 
-/// The lines of all packets.
+/// The lines of all packets and waits.
 fn packets_text(alloc: Global, instance: &Instance) -> Result<Vec<u8>, AllocError>
     ensures { IfOk result (λ text. text.items ≡ packets_text instance.now) }
 {
@@ -58,7 +60,7 @@ fn packets_text(alloc: Global, instance: &Instance) -> Result<Vec<u8>, AllocErro
     Ok(text)
 }
 
-/// The lines of all packets with their delays.
+/// The lines of all packets and waits with their ticks.
 fn scheduled_text(
     alloc: Global,
     instance: &Instance,
@@ -96,12 +98,16 @@ fn packet_line(
     format!(in alloc; "packet {i}: {what}, {least} to {most} ticks{taken}\n")
 }
 
-/// What a packet is.
+/// What a packet is, or which message waits.
 #[tactic(auto, unfolding(crate::specs::PacketLists::packet_text))]
 fn packet_text(alloc: Global, scenario: &Scenario, packet: Packet) -> Result<String, AllocError>
     ensures { IfOk result (λ text. string_bytes text ≡ packet_text scenario.now packet) }
 {
     match packet {
+        Packet::Wait { message } => {
+            let name = message_name(scenario, message);
+            format!(in alloc; "{name} waits")
+        }
         Packet::Multicast { message, to } => {
             let name = message_name(scenario, message);
             let sender = sender_word(scenario, message);
@@ -117,7 +123,7 @@ fn packet_text(alloc: Global, scenario: &Scenario, packet: Packet) -> Result<Str
     }
 }
 
-/// The delay that a schedule gives a packet, if there is one.
+/// The ticks that a schedule gives a packet, if there is one.
 #[tactic(auto, unfolding(crate::specs::PacketLists::taken_text))]
 fn taken_text(alloc: Global, delay: Option<u16>) -> Result<String, AllocError>
     ensures { IfOk result (λ text. string_bytes text ≡ taken_text delay) }

@@ -3,8 +3,9 @@ ghost use Rattle.convoy_scenario.specs.Scenario.{group_name_at};
 ghost use Rattle.convoy_explain.specs.Explanations.{answered_text, awaited_text, commit_text, flight_text};
 ghost use Rattle.convoy_explain.specs.Explanations.{gap_after, holder_text, latency_text, message_name_at};
 ghost use Rattle.convoy_explain.specs.Explanations.{node_word, sender_text, sent_text, stamp_text, text_of};
-ghost use Rattle.convoy_explain.specs.Explanations.{in_unit_text, tick_word, ticks_text, tie_won_text, tied_text, worst_text};
-ghost use Rattle.convoy_scenario.specs.Scenario.{message_at};
+ghost use Rattle.convoy_explain.specs.Explanations.{in_unit_text, issue_text, tick_word, ticks_text, tie_won_text};
+ghost use Rattle.convoy_explain.specs.Explanations.{tied_text, wait_text, window_of, window_text, worst_text};
+ghost use Rattle.convoy_scenario.specs.Scenario.{may_wait, message_at};
 
 use super::explanation::{Explanation, Flight, Holder, LastProposal};
 use convoy_scenario::{Scenario, Sender, Time};
@@ -19,11 +20,14 @@ use std::alloc::{AllocError, Global};
 /// MESSAGE at GROUP: at worst N ticks, from its issue at tick N to its delivery at tick N
 /// committed at GROUP at tick N with stamp TIME.GROUP, given by GROUP at tick N
 /// held back by MESSAGE, which came to GROUP at tick N with stamp TIME.GROUP, before TIME.GROUP
+/// MESSAGE may be issued from tick N to N: here SENDER issues it at tick N
 /// MESSAGE is committed at GROUP at tick N, when the last proposal comes:
 ///   tick N   SENDER sends MESSAGE to GROUP, packet N, N ticks
 ///   tick N   GROUP proposes TIME.GROUP to GROUP, packet N, N ticks
 /// no schedule is worse: N nodes, checked
 /// ```
+///
+/// The fourth line is there where the message that it names may wait before its issue.
 ///
 /// Where the length of a tick is known, the greatest latency is told in its unit, too, as `N ticks (N
 /// UNIT)`. Where time is real and the order of a tie gave the target its stamp, or lets the message hold
@@ -58,6 +62,7 @@ fn text(
     text.extend_from_slice(latency_line(alloc, scenario, why)?.as_bytes())?;
     text.extend_from_slice(commit_line(alloc, scenario, why)?.as_bytes())?;
     text.extend_from_slice(holder_line(alloc, scenario, why)?.as_bytes())?;
+    text.extend_from_slice(wait_line(alloc, scenario, &why.last)?.as_bytes())?;
     text.extend_from_slice(awaited_line(alloc, scenario, &why.last)?.as_bytes())?;
     text.extend_from_slice(sent_line(alloc, scenario, &why.last)?.as_bytes())?;
     text.extend_from_slice(answered_line(alloc, scenario, &why.last)?.as_bytes())?;
@@ -126,6 +131,29 @@ fn held_line(
     )
 }
 
+/// When the awaited message is issued, where it may wait before.
+fn wait_line(alloc: Global, scenario: &Scenario, last: &LastProposal) -> Result<String, AllocError>
+    ensures { IfOk result (λ line. string_bytes line ≡ wait_text scenario.now last.now) }
+{
+    if may_wait(scenario, last.message) {
+        issue_line(alloc, scenario, last)
+    } else {
+        Ok(String::new(alloc))
+    }
+}
+
+/// Who issues the awaited message, and when, of the ticks at which it may be.
+fn issue_line(alloc: Global, scenario: &Scenario, last: &LastProposal) -> Result<String, AllocError>
+    ensures { IfOk result (λ line. string_bytes line ≡ issue_text scenario.now last.now) }
+{
+    let window = window_text(alloc, scenario, last.message)?;
+    let sender = sender_name(scenario, last.message);
+    format!(in alloc;
+        "{window}: here {sender} issues it at tick {}\n",
+        last.issued
+    )
+}
+
 /// When the awaited message is committed.
 fn awaited_line(
     alloc: Global,
@@ -161,7 +189,7 @@ fn flown_line(
 ) -> Result<String, AllocError>
     ensures { IfOk result (λ line. string_bytes line ≡ sent_text scenario.now last.now (Some flight.now)) }
 {
-    let tick = issue_tick(scenario, last.message);
+    let tick = last.issued;
     let gap = gap_after(tick);
     let sender = sender_name(scenario, last.message);
     let message = message_name(scenario, last.message);
@@ -178,7 +206,7 @@ fn issued_line(
 ) -> Result<String, AllocError>
     ensures { IfOk result (λ line. string_bytes line ≡ sent_text scenario.now last.now None) }
 {
-    let tick = issue_tick(scenario, last.message);
+    let tick = last.issued;
     let gap = gap_after(tick);
     let group = group_name(scenario, last.from);
     let message = message_name(scenario, last.message);
@@ -287,6 +315,38 @@ fn tie_won_text(scenario: &Scenario, why: &Explanation, holder: &Holder) -> &'st
     }
 }
 
+/// From when to when a message may be issued, as `y may be issued from tick 2 to 10`; 0 to 0 and without a
+/// name where the scenario has no such message. Fails where memory runs out, and else never.
+#[tactic(auto, unfolding(crate::specs::Explanations::window_text))]
+pub fn window_text(alloc: Global, scenario: &Scenario, message: usize) -> Result<String, AllocError>
+    ensures { IfOk result (λ text. string_bytes text ≡ window_text scenario.now message) }
+{
+    let name = message_name(scenario, message);
+    let (first, last) = window(scenario, message);
+    format!(in alloc; "{name} may be issued from tick {first} to {last}")
+}
+
+/// The first and the last tick at which a message may be issued; 0 and 0 where the scenario has no such
+/// message.
+pub fn window(scenario: &Scenario, message: usize) -> (u32, u32)
+    ensures { result ≡ window_of (message_at scenario.now message) }
+{
+    if message < scenario.message_count() {
+        let first = scenario.issue_tick(message);
+        (first, first + u32::from(scenario.longest_wait(message)))
+    } else {
+        (0, 0)
+    }
+}
+
+/// Whether a message may wait before its issue, so that it has several ticks to be issued at; not where the
+/// scenario has no such message.
+pub fn may_wait(scenario: &Scenario, message: usize) -> bool
+    ensures { result ≡ may_wait (message_at scenario.now message) }
+{
+    message < scenario.message_count() && 0 < scenario.longest_wait(message)
+}
+
 /// A packet on its way.
 #[tactic(auto, unfolding(crate::specs::Explanations::flight_text))]
 fn flight_text(alloc: Global, flight: &Flight) -> Result<String, AllocError>
@@ -340,17 +400,6 @@ fn sender_name(scenario: &Scenario, message: usize) -> &str
     match scenario.sender(message) {
         Sender::Client => "a client",
         Sender::Group(group) => group_name(scenario, group),
-    }
-}
-
-/// The tick at which a message is issued; 0 where the scenario has no such message.
-fn issue_tick(scenario: &Scenario, message: usize) -> u32
-    ensures { result ≡ (message_at scenario.now message).at }
-{
-    if message < scenario.message_count() {
-        scenario.issue_tick(message)
-    } else {
-        0
     }
 }
 

@@ -81,6 +81,11 @@ flat_map_made h f g [] made = refl
 flat_map_made h f g (a ∷ zs) made =
     ap₂ ◌++◌ (made a (inl refl)) (flat_map_made h f g zs (λ b i. made b (inr i))) ∙ sym (map-append h (g a) (flat_map g zs))
 
+pub map_made : {A X Y : Type 0} (h : X → Y) (f : A → Y) (g : A → X) (zs : List A) → ((a : A) → IsIn a zs → f a ≡ h (g a))
+    → map f zs ≡ map h (map g zs)
+map_made h f g [] made = refl
+map_made h f g (a ∷ zs) made = ap₂ (λ y ys. y ∷ ys) (made a (inl refl)) (map_made h f g zs (λ b i. made b (inr i)))
+
 -- what holds of two lists made of one, holds of what is made of each element
 pub zip_at : {A X Y : Type 0} (R : X → Y → Type 0) (f : A → X) (g : A → Y) (zs : List A) → AllZip R (map f zs) (map g zs) → (a : A) → IsIn a zs → R (f a) (g a)
 zip_at R f g [] h a i = absurd i

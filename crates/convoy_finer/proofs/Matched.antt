@@ -4,13 +4,13 @@ use Rattle.convoy_scenario.specs.declared.time.Time.TheVariants.{Real}
 use Rattle.convoy_scenario.specs.Scenario.{Scenario, GoesTo, message_at}
 use Rattle.convoy_scenario.specs.WellFormed.{IsScenario}
 use Rattle.convoy_packets.specs.Assignment.{Schedule, IsAssignment}
-use Rattle.convoy_sim.specs.Times.{arrive, settle}
+use Rattle.convoy_sim.specs.Times.{issue, arrive, settle}
 use Rattle.convoy_sim.specs.Moments.{unordered_moments}
 use Rattle.convoy_sim.specs.Delivery.{deliver, latency_at, latency_of}
 use Rattle.convoy_finer.proofs.Used.{Used}
 use Rattle.convoy_finer.specs.FinerTicks.{IsFiner, FinerRunsAreMatched, WholeTicksAreEnough}
 use Rattle.convoy_finer.proofs.Ceiling.{up, up_holds, up_at_most, up_past, times_rise, times_plus}
-use Rattle.convoy_finer.proofs.SameParts.{same_message, same_addressed_to}
+use Rattle.convoy_finer.proofs.SameParts.{same_addressed_to, fixed_too}
 use Rattle.convoy_finer.proofs.Delays.{whole_in, arrives, settles, delays_within}
 use Rattle.convoy_finer.proofs.Ranks.{rank_among, order_among, is_order}
 use Rattle.convoy_finer.proofs.SameRun.{same_local, same_final}
@@ -52,15 +52,19 @@ module _ (used : Used) (k : ℕ) (plan fine : Scenario) (is : IsFiner k plan fin
       delivered_by fine schedule m g (k * tick) (omega arith)
       (sym (free_same plan whole fine schedule m g tick (k * tick) (holds_same m g tick)) ∙ least.free)
 
-  latency_within : (m g : ℕ) → GoesTo plan m g → latency_at fine schedule m g ≤ k * latency_at plan whole m g
+  -- so a message that is issued at its tick has no greater latency
+  latency_within : (m g : ℕ) → (message_at plan m).longest_wait ≡ 0 → GoesTo plan m g → latency_at fine schedule m g ≤ k * latency_at plan whole m g
   unfolding latency_at
-  latency_within m g goes =
+  latency_within m g fixed goes =
       let delivered = delivers m g goes in
       let low = used.issue plan whole well m g goes in
-      let issue = (same_message k plan fine is m).at in
-      let wait : ℕ = deliver plan whole m g - (message_at plan m).at in
-      let whole_wait : deliver plan whole m g ≡ (message_at plan m).at + wait = omega arith in
-      let parts : k * deliver plan whole m g ≡ k * (message_at plan m).at + k * wait = ap (λ n. k * n) whole_wait ∙ times_plus k (message_at plan m).at wait in
+      let too = fixed_too k plan fine is m fixed in
+      let issued = used.at_tick plan whole m fixed in
+      let issued_too : issue fine schedule m ≡ k * (message_at plan m).at = used.at_tick fine schedule m too.1 ∙ too.0 in
+      let times_issued : k * issue plan whole m ≡ k * (message_at plan m).at = ap (λ n. k * n) issued in
+      let wait : ℕ = deliver plan whole m g - issue plan whole m in
+      let whole_wait : deliver plan whole m g ≡ issue plan whole m + wait = omega arith in
+      let parts : k * deliver plan whole m g ≡ k * issue plan whole m + k * wait = ap (λ n. k * n) whole_wait ∙ times_plus k (issue plan whole m) wait in
       omega arith
 
 pub runs_matched : Used → FinerRunsAreMatched
@@ -70,7 +74,7 @@ runs_matched used k plan fine schedule well real is given = (
   whole_is_assignment used k plan fine is well real schedule given,
   subst₂ (λ m g. latency_at fine schedule m g ≤ k * latency_at plan (whole_in k plan fine schedule (order_among plan fine schedule)) plan.target_message plan.target_group)
       (sym is.target_message) (sym is.target_group)
-      (latency_within used k plan fine is well real schedule plan.target_message plan.target_group well.addressed),
+      (latency_within used k plan fine is well real schedule plan.target_message plan.target_group well.fixed well.addressed),
 )
 
 pub whole_enough : FinerRunsAreMatched → WholeTicksAreEnough

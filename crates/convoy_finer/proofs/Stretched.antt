@@ -1,24 +1,29 @@
 -- A run in whole ticks, told in finer ones: each delay so many times as long, and the same ranks. It is as many times as late.
-use Rattle.std.proofs.Common.{◌≡◌, ℕ, ◌+◌, ◌-◌, ◌*◌, ◌/◌, ◌≤◌, ◌==◌, max, Bool, ◌&&◌, ◌||◌, Option, Some, None, if◌then◌else◌, nat_lt, nat_le, List, [], ◌∷◌, map, fold, refl, sym, ap, ap₂, subst, subst₂, ◌∙◌, arith}
-use Rattle.convoy_scenario.specs.Scenario.{Scenario, GoesTo, message_at}
+use Rattle.std.proofs.Common.{◌≡◌, ℕ, suc, ◌+◌, ◌-◌, ◌*◌, ◌/◌, ◌≤◌, ◌==◌, max, Bool, true, false, ◌&&◌, ◌||◌, Option, Some, None, if◌then◌else◌, nat_lt, nat_le, inl, inr, List, [], ◌∷◌, ◌++◌, get_or, map, fold, refl, sym, ap, ap₂, subst, subst₂, ◌∙◌, arith}
+use Rattle.std.specs.List.{AllZip, flat_map, enumerate_from}
+use Rattle.std.proofs.lemmas.Bool.{cases_Bool, ltb-false}
+use Rattle.convoy_scenario.specs.declared.sender.Sender.{Sender}
+use Rattle.convoy_scenario.specs.Scenario.{Message, Scenario, GoesTo, may_wait, no_message, message_at}
 use Rattle.convoy_scenario.specs.WellFormed.{IsScenario}
 use Rattle.convoy_packets.specs.declared.packet.Packet.{Packet}
-use Rattle.convoy_packets.specs.declared.packet.Packet.TheVariants.{Multicast, Propose}
-use Rattle.convoy_packets.specs.Packets.{packets_of, place_of}
+use Rattle.convoy_packets.specs.declared.packet.Packet.TheVariants.{Wait, Multicast, Propose}
+use Rattle.convoy_packets.specs.Packets.{message_packets, multicast_packets, propose_packets, packets_of, place_of}
 use Rattle.convoy_packets.specs.Order.{AreRanks, rank_at}
-use Rattle.convoy_packets.specs.Assignment.{Schedule, AreWithin, IsAssignment, delay_of, ranges_of}
+use Rattle.convoy_packets.specs.Assignment.{Schedule, AreWithin, IsAssignment, delay_of, range_of, ranges_of}
+use Rattle.convoy_packets.specs.Laws.{PacketsAreThoseSent}
 use Rattle.convoy_sim.specs.declared.moment.Moment.{Moment}
 use Rattle.convoy_sim.specs.declared.moment.MomentKind.TheVariants.{Arrival, Commit}
-use Rattle.convoy_sim.specs.Times.{arrive, settle, propose_arrive}
+use Rattle.convoy_sim.specs.Times.{issue, arrive, settle, propose_arrive}
 use Rattle.convoy_sim.specs.Moments.{is_before, is_kind_before, is_same_kind, rank_in, arrival_rank, rank_then, commit_rank}
 use Rattle.convoy_sim.specs.Delivery.{deliver, latency_at, latency_of}
 use Rattle.convoy_sim.specs.Laws.{DeliveryIsLeast, LatencyIsNeverNegative}
-use Rattle.convoy_finer.specs.FinerTicks.{AreSameRanges, IsFiner, FinerRunsAreMatched, GreatestInFinerTicks, GreatestIsWhole, WholeTicksAreEnough}
-use Rattle.convoy_finer.proofs.PacketDelays.{delay_at_place, no_delay}
+use Rattle.convoy_finer.specs.FinerTicks.{AreSameRanges, IsFiner, IsFinerMessage, finer_range, FinerRunsAreMatched, GreatestInFinerTicks, GreatestIsWhole, WholeTicksAreEnough}
+use Rattle.convoy_finer.proofs.PacketDelays.{delay_at_place, no_delay, sent_of_in}
 use Rattle.convoy_finer.proofs.Ceiling.{times_rise, times_fall, times_plus}
 use Rattle.convoy_finer.proofs.Scaled.{times_greatest, times_at, times_within, times_before, times_same, floor_rises, floor_falls, floor_at_most, floor_past}
-use Rattle.convoy_finer.proofs.SameParts.{same_message, same_numbers, same_packets, same_addressed, same_addressed_to, goes_too}
+use Rattle.convoy_finer.proofs.SameParts.{same_message, same_numbers, fixed_too, same_addressed, same_addressed_to, goes_too}
 use Rattle.convoy_finer.proofs.SameRun.{IsMoved, moment_at, moved, same_local, same_final}
+use Rattle.convoy_finer.proofs.Lists.{map_made}
 use Rattle.convoy_finer.proofs.Delivered.{IsSameHold, free_same, delivered_free}
 
 -- the schedule in finer ticks
@@ -41,7 +46,65 @@ stretch_before k some x y =
     || (is_same_kind x.kind y.kind && (nat_lt x.message y.message || ((x.message == y.message) && nat_lt x.group y.group))))))))
     (times_before k some x.tick y.tick) (times_same k some x.tick y.tick)
 
-module _ (k : ℕ) (plan fine : Scenario) (is : IsFiner k plan fine) (time : fine.time ≡ plan.time) (schedule : Schedule) where
+-- the list of packets tells of a message who sends it, where it goes, and whether it may wait
+abbrev packets_told : ℕ → Bool → Sender → List ℕ → List Packet
+packets_told m waits sender destinations = message_packets m (record { name = []; sender = sender; destinations = destinations; at = 0; longest_wait = if waits then 1 else 0 })
+
+told_packets : (m : ℕ) (message : Message) → message_packets m message ≡ packets_told m (may_wait message) message.sender message.destinations
+told_packets m message =
+    ap (λ (waits : Bool). (if waits then Wait m ∷ [] else []) ++ (multicast_packets m message ++ flat_map (propose_packets m message) message.destinations))
+    (sym (may_wait_told (may_wait message))) where
+      may_wait_told : (waits : Bool) → nat_lt 0 (if waits then 1 else 0) ≡ waits
+      may_wait_told true = refl
+      may_wait_told false = refl
+
+packets_in : (k n : ℕ) (xs ys : List Message) → AllZip (IsFinerMessage k) xs ys
+    → ((m : ℕ) → may_wait (get_or ys m no_message) ≡ may_wait (get_or xs m no_message))
+    → flat_map (λ p. message_packets p.0 p.1) (enumerate_from n ys) ≡ flat_map (λ p. message_packets p.0 p.1) (enumerate_from n xs)
+packets_in k n [] [] h waits = refl
+packets_in k n [] (y ∷ ys) h waits = absurd h
+packets_in k n (x ∷ xs) [] h waits = absurd h
+packets_in k n (x ∷ xs) (y ∷ ys) h waits =
+    ap₂ ◌++◌
+    (told_packets n y
+    ∙ ap (λ b. packets_told n b y.sender y.destinations) (waits 0)
+    ∙ ap₂ (packets_told n (may_wait x)) h.0.sender h.0.destinations
+    ∙ sym (told_packets n x))
+    (packets_in k (n + 1) xs ys h.1 (λ m. waits (suc m)))
+
+-- ---- with the same ranges a message may be issued at the same times, so the packets are the same
+module _ (sent : PacketsAreThoseSent) (k : ℕ) (plan fine : Scenario) (is : IsFiner k plan fine) (same : AreSameRanges k plan fine) where
+  same_window : (m : ℕ) → ((message_at fine m).at ≡ k * (message_at plan m).at) × ((message_at fine m).longest_wait ≡ k * (message_at plan m).longest_wait)
+  same_window m = elim (cases_Bool (may_wait (message_at plan m))) [
+    | inl waits ↦
+        let wait : (message_at fine m).longest_wait ≡ k * (message_at plan m).longest_wait = ap (λ (range : ℕ × ℕ). range.1) (same (Wait m) waits) in
+        let first = (same_message k plan fine is m).at in
+        let last = (same_message k plan fine is m).until in
+        let parts = times_plus k (message_at plan m).at (message_at plan m).longest_wait in
+        (omega arith, wait)
+    | inr fixed ↦
+        let none : (message_at plan m).longest_wait ≡ 0 = omega (arith, ltb-false 0 (message_at plan m).longest_wait fixed) in
+        let too = fixed_too k plan fine is m none in
+        let times = ap (λ n. k * n) none in
+        (too.0, omega arith)
+  ]
+
+  waits_too : (m : ℕ) → may_wait (message_at fine m) ≡ may_wait (message_at plan m)
+  waits_too m =
+      let never : 0 ≡ k * 0 = omega arith in
+      ap₂ nat_lt never (same_window m).1 ∙ times_before k is.some 0 (message_at plan m).longest_wait
+
+  same_packets : packets_of fine ≡ packets_of plan
+  unfolding packets_of
+  same_packets = packets_in k 0 plan.multicasts fine.multicasts is.messages waits_too
+
+  same_list : ranges_of fine ≡ map (finer_range k) (ranges_of plan)
+  unfolding ranges_of
+  same_list =
+      ap (map (range_of fine)) same_packets
+      ∙ map_made (finer_range k) (range_of fine) (range_of plan) (packets_of plan) (λ p i. same p (sent_of_in sent plan p i))
+
+module _ (sent : PacketsAreThoseSent) (k : ℕ) (plan fine : Scenario) (is : IsFiner k plan fine) (same : AreSameRanges k plan fine) (time : fine.time ≡ plan.time) (schedule : Schedule) where
   abbrev long : Schedule
   long = stretched k schedule
 
@@ -52,19 +115,26 @@ module _ (k : ℕ) (plan fine : Scenario) (is : IsFiner k plan fine) (time : fin
     by_place None e =
         let none = no_delay plan schedule p e in
         let times : k * delay_of plan schedule p ≡ k * 0 = ap (λ n. k * n) none in
-        let finer = no_delay fine long p (ap (place_of p) (same_packets k plan fine is) ∙ e) in
+        let finer = no_delay fine long p (ap (place_of p) (same_packets sent k plan fine is same) ∙ e) in
         omega arith
     by_place (Some i) e =
-        delay_at_place fine long p i (ap (place_of p) (same_packets k plan fine is) ∙ e)
+        delay_at_place fine long p i (ap (place_of p) (same_packets sent k plan fine is same) ∙ e)
         ∙ times_at k schedule.delays i
         ∙ ap (λ n. k * n) (sym (delay_at_place plan schedule p i e))
+
+  issues : (m : ℕ) → issue fine long m ≡ k * issue plan schedule m
+  issues m =
+      let first = (same_window sent k plan fine is same m).0 in
+      let wait = delay_is (Wait m) in
+      let parts = times_plus k (message_at plan m).at (delay_of plan schedule (Wait m)) in
+      omega arith
 
   arrives : (m g : ℕ) → arrive fine long m g ≡ k * arrive plan schedule m g
   unfolding arrive
   arrives m g =
-      let issue = (same_message k plan fine is m).at in
+      let start = issues m in
       let delay = delay_is (Multicast m g) in
-      let parts = times_plus k (message_at plan m).at (delay_of plan schedule (Multicast m g)) in
+      let parts = times_plus k (issue plan schedule m) (delay_of plan schedule (Multicast m g)) in
       omega arith
 
   proposes : (m g h : ℕ) → propose_arrive fine long m g h ≡ k * propose_arrive plan schedule m g h
@@ -137,10 +207,10 @@ module _ (k : ℕ) (plan fine : Scenario) (is : IsFiner k plan fine) (time : fin
     latency_past m g goes =
         let delivered = delivers m g goes in
         let low = never_negative plan schedule well m g goes in
-        let issue = (same_message k plan fine is m).at in
-        let wait : ℕ = deliver plan schedule m g - (message_at plan m).at in
-        let whole_wait : deliver plan schedule m g ≡ (message_at plan m).at + wait = omega arith in
-        let parts : k * deliver plan schedule m g ≡ k * (message_at plan m).at + k * wait = ap (λ n. k * n) whole_wait ∙ times_plus k (message_at plan m).at wait in
+        let issued = issues m in
+        let wait : ℕ = deliver plan schedule m g - issue plan schedule m in
+        let whole_wait : deliver plan schedule m g ≡ issue plan schedule m + wait = omega arith in
+        let parts : k * deliver plan schedule m g ≡ k * issue plan schedule m + k * wait = ap (λ n. k * n) whole_wait ∙ times_plus k (issue plan schedule m) wait in
         omega arith
 
     target_past : k * latency_of plan schedule ≤ latency_of fine long
@@ -157,9 +227,9 @@ module _ (k : ℕ) (plan fine : Scenario) (is : IsFiner k plan fine) (time : fin
     nowhere = λ m g few below elsewhere. are.nowhere m g few below (sym (same_addressed k plan fine is m g) ∙ elsewhere);
   }
 
-  is_assignment : AreSameRanges k plan fine → IsAssignment plan schedule → IsAssignment fine long
-  is_assignment same given = record {
-    delays = subst (λ ranges. AreWithin ranges (map (λ d. k * d) schedule.delays)) (sym same) (times_within k (ranges_of plan) schedule.delays given.delays);
+  is_assignment : IsAssignment plan schedule → IsAssignment fine long
+  is_assignment given = record {
+    delays = subst (λ ranges. AreWithin ranges (map (λ d. k * d) schedule.delays)) (sym (same_list sent k plan fine is same)) (times_within k (ranges_of plan) schedule.delays given.delays);
     order = record {
       arrivals = ranks_too schedule.order.arrivals given.order.arrivals;
       commits = ranks_too schedule.order.commits given.order.commits;
@@ -167,19 +237,19 @@ module _ (k : ℕ) (plan fine : Scenario) (is : IsFiner k plan fine) (time : fin
     };
   }
 
-pub greatest_in_finer : WholeTicksAreEnough → DeliveryIsLeast → LatencyIsNeverNegative → GreatestInFinerTicks
-greatest_in_finer enough delivery never_negative k plan fine latency well real finer_real is same greatest =
+pub greatest_in_finer : WholeTicksAreEnough → PacketsAreThoseSent → DeliveryIsLeast → LatencyIsNeverNegative → GreatestInFinerTicks
+greatest_in_finer enough sent delivery never_negative k plan fine latency well real finer_real is same greatest =
     let upper = enough k plan fine latency well real is greatest.upper in
     let time : fine.time ≡ plan.time = finer_real ∙ sym real in
     let run = greatest.reached in
-    let given = is_assignment k plan fine is time run.0 same run.1 in
-    let past = target_past k plan fine is time run.0 delivery never_negative well in
+    let given = is_assignment sent k plan fine is same time run.0 run.1 in
+    let past = target_past sent k plan fine is same time run.0 delivery never_negative well in
     let times : k * latency_of plan run.0 ≡ k * latency = ap (λ n. k * n) run.2 in
     let most = upper (stretched k run.0) given in
     record { reached = (stretched k run.0, given, omega arith); upper = upper }
 
-pub greatest_whole : FinerRunsAreMatched → DeliveryIsLeast → LatencyIsNeverNegative → GreatestIsWhole
-greatest_whole matched delivery never_negative k plan fine greatest well real finer_real is same top =
+pub greatest_whole : FinerRunsAreMatched → PacketsAreThoseSent → DeliveryIsLeast → LatencyIsNeverNegative → GreatestIsWhole
+greatest_whole matched sent delivery never_negative k plan fine greatest well real finer_real is same top =
     let run = top.reached in
     let whole = matched k plan fine run.0 well real is run.1 in
     let latency : ℕ = latency_of plan whole.0 in
@@ -198,6 +268,6 @@ greatest_whole matched delivery never_negative k plan fine greatest well real fi
       stretched_below : (schedule : Schedule) → IsAssignment plan schedule → k * latency_of plan schedule ≤ greatest
       stretched_below schedule given =
           let time : fine.time ≡ plan.time = finer_real ∙ sym real in
-          let past = target_past k plan fine is time schedule delivery never_negative well in
-          let most = top.upper (stretched k schedule) (is_assignment k plan fine is time schedule same given) in
+          let past = target_past sent k plan fine is same time schedule delivery never_negative well in
+          let most = top.upper (stretched k schedule) (is_assignment sent k plan fine is same time schedule given) in
           omega arith

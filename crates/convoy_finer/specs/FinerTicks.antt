@@ -1,29 +1,33 @@
 -- One scenario in ticks and in ticks that are a number of times as fine, and why whole ticks are enough in real time.
-use Rattle.std.specs.Prelude.{◌≡◌, ℕ, ◌*◌, ◌≤◌, length, map}
+use Rattle.std.specs.Prelude.{◌≡◌, ℕ, ◌+◌, ◌*◌, ◌≤◌, length, IsFalse, IsTrue}
 use Rattle.std.specs.List.{AllZip}
 use Rattle.convoy_scenario.specs.declared.time.Time.TheVariants.{Real}
 use Rattle.convoy_scenario.specs.Scenario.{Message, Scenario}
 use Rattle.convoy_scenario.specs.WellFormed.{IsScenario}
-use Rattle.convoy_packets.specs.Assignment.{Schedule, IsAssignment, ranges_of}
+use Rattle.convoy_packets.specs.declared.packet.Packet.{Packet}
+use Rattle.convoy_packets.specs.Packets.{is_wait}
+use Rattle.convoy_packets.specs.Assignment.{Schedule, IsAssignment, range_of}
+use Rattle.convoy_packets.specs.Laws.{is_sent}
 use Rattle.convoy_sim.specs.Delivery.{latency_of}
 use Rattle.convoy_sim.specs.Greatest.{IsUpper, IsGreatest}
 
--- a message with the issue told in ticks so many times as fine: its sender and its destinations are the same
+-- a message with the issue told in ticks so many times as fine: its sender and its destinations are the same, and it is issued at none but the times at which it may be in ticks
 pub record IsFinerMessage (times : ℕ) (message finer : Message) : Type 0 where
   pub sender : finer.sender ≡ message.sender
   pub destinations : finer.destinations ≡ message.destinations
-  pub at : finer.at ≡ times * message.at
+  pub at : times * message.at ≤ finer.at
+  pub until : finer.at + finer.longest_wait ≤ times * (message.at + message.longest_wait)
 
 -- a range in ticks so many times as fine lies within a range in ticks
 abbrev pub IsInRange : ℕ → ℕ × ℕ → ℕ × ℕ → Type 0
 IsInRange times range finer = (times * range.0 ≤ finer.0) × (finer.1 ≤ times * range.1)
 
--- a scenario told in ticks so many times as fine: it has as many groups, the same messages and the same target, and each packet's range lies within the one that it has in ticks
+-- a scenario told in ticks so many times as fine: it has as many groups, the same messages and the same target, and the range of each packet that travels lies within the one that it has in ticks
 pub record IsFiner (times : ℕ) (scenario finer : Scenario) : Type 0 where
   pub some : 1 ≤ times
   pub groups : length finer.groups ≡ length scenario.groups
   pub messages : AllZip (IsFinerMessage times) scenario.multicasts finer.multicasts
-  pub ranges : AllZip (IsInRange times) (ranges_of scenario) (ranges_of finer)
+  pub ranges : (packet : Packet) → IsTrue (is_sent scenario packet) → IsFalse (is_wait packet) → IsInRange times (range_of scenario packet) (range_of finer packet)
   pub target_message : finer.target_message ≡ scenario.target_message
   pub target_group : finer.target_group ≡ scenario.target_group
 
@@ -31,9 +35,9 @@ pub record IsFiner (times : ℕ) (scenario finer : Scenario) : Type 0 where
 abbrev pub finer_range : ℕ → ℕ × ℕ → ℕ × ℕ
 finer_range times range = (times * range.0, times * range.1)
 
--- the packets have the very ranges that they have in ticks
+-- the packets have the very ranges that they have in ticks, and so have the waits of messages
 abbrev pub AreSameRanges : ℕ → Scenario → Scenario → Type 0
-AreSameRanges times scenario finer = ranges_of finer ≡ map (finer_range times) (ranges_of scenario)
+AreSameRanges times scenario finer = (packet : Packet) → IsTrue (is_sent scenario packet) → range_of finer packet ≡ finer_range times (range_of scenario packet)
 
 -- In real time there is for each run in finer ticks one in whole ticks that is at least as late.
 abbrev pub FinerRunsAreMatched : Type 0

@@ -8,8 +8,13 @@ ghost use Rattle.convoy_finer.specs.FinerTicks.{
   WholeTicksAreEnough,
 };
 
-use convoy_packets::laws::{delays_are_within, packets_are_those_sent, places_lead_back};
-use convoy_sim::laws::{arrives_before_commit, delivery_is_least, latency_is_never_negative};
+use convoy_packets::laws::{
+    delays_are_within, packets_are_those_sent, places_lead_back, unsent_takes_no_time,
+};
+use convoy_sim::laws::{
+    arrives_before_commit, delivery_is_least, issued_at_its_tick, issued_within_its_wait,
+    latency_is_never_negative,
+};
 
 /// For each run of a scenario in finer ticks there is one in whole ticks that is at least as late.
 pub fn finer_runs_are_matched()
@@ -18,6 +23,9 @@ pub fn finer_runs_are_matched()
     packets_are_those_sent();
     places_lead_back();
     delays_are_within();
+    unsent_takes_no_time();
+    issued_at_its_tick();
+    issued_within_its_wait();
     arrives_before_commit();
     delivery_is_least();
     latency_is_never_negative();
@@ -25,8 +33,9 @@ pub fn finer_runs_are_matched()
 
 /// A latency in ticks that no run of a scenario in real time exceeds, none exceeds in finer ticks either,
 /// whatever part of a tick they are: so a bound that is certified in ticks bounds every finer run. The
-/// ranges in finer ticks may be narrower, so a scenario whose ranges are rounded outwards to greater ticks
-/// gives a bound, too.
+/// ranges in finer ticks may be narrower, and so may be the times at which messages may be issued: so a
+/// scenario in which both are rounded outwards to greater ticks gives a bound, too, where the target, whose
+/// issue is known, is issued at a whole one.
 pub fn whole_ticks_are_enough()
     ensures { WholeTicksAreEnough }
 {
@@ -34,11 +43,12 @@ pub fn whole_ticks_are_enough()
 }
 
 /// In real time the greatest latency does not depend on how fine the ticks are in which it is told: with
-/// the same ranges in ticks a number of times as fine it is as many times the number of ticks.
+/// the same ranges and waits in ticks a number of times as fine it is as many times the number of ticks.
 pub fn greatest_in_finer_ticks()
     ensures { GreatestInFinerTicks }
 {
     whole_ticks_are_enough();
+    packets_are_those_sent();
     delivery_is_least();
     latency_is_never_negative();
 }
@@ -48,6 +58,7 @@ pub fn greatest_is_whole()
     ensures { GreatestIsWhole }
 {
     finer_runs_are_matched();
+    packets_are_those_sent();
     delivery_is_least();
     latency_is_never_negative();
 }

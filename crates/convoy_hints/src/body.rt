@@ -85,8 +85,13 @@ impl<'a> Body<'a> {
     }
 }
 
-/// Whether a certificate with that text has a line `order` after its schedule: it is of version 4.
+/// Whether a certificate with that text has a line `order` after its schedule: it is in real time.
 pub(crate) fn has_order(text: &[u8]) -> bool {
+    text.starts_with(b"convoy 4\ntime real\n")
+}
+
+/// Whether the lines of a certificate with that text say how time goes: it is of version 4.
+pub(crate) fn says_time(text: &[u8]) -> bool {
     text.starts_with(b"convoy 4\n")
 }
 

@@ -1,4 +1,4 @@
-use super::body::has_order;
+use super::body::{has_order, says_time};
 use super::lines::{numbers_of, scenario_in, sketch_of_lines};
 use super::tree_hints::hint_for_refused;
 use convoy_certificate::{TextFault, read};
@@ -208,7 +208,7 @@ fn hint_for_line(
     number: usize,
     expected: Expected,
 ) -> Result<String, AllocError> {
-    let form = form_of_line(expected, has_order(text.as_bytes()));
+    let form = form_of_line(expected, text.as_bytes());
     let Some(line) = line_at(text, number) else {
         return format!(in alloc;
             "the text ends before line {number}, which is to be {form}: a part of it is missing"
@@ -225,7 +225,13 @@ fn hint_for_line(
             "line {number}, {shown}, is another version than the lines below need"
         );
     }
-    match flaw_of(line) {
+    let flaw = match flaw_of(line) {
+        None if expected == Expected::Multicast => {
+            flaw_of_issue(line, says_time(text.as_bytes()))
+        }
+        flaw => flaw,
+    };
+    match flaw {
         Some(flaw) => format!(in alloc; "line {number}, {shown}, {flaw}, and is to be {form}"),
         None => format!(in alloc; "line {number} is {shown}, and is to be {form}"),
     }
@@ -248,25 +254,38 @@ fn flaw_of(line: &str) -> Option<&'static str> {
     }
 }
 
-/// The form of a line of a certificate, in real time or in whole ticks (docs/FORMATS.md, "Certificate
-/// text").
-fn form_of_line(expected: Expected, is_real: bool) -> &'static str {
+/// What is wrong with the ticks at which a message may be issued, in its line; None where it has one tick
+/// alone, or two that are not of their form. They may stand there where the lines say how time goes.
+fn flaw_of_issue(line: &str, is_timed: bool) -> Option<&'static str> {
+    let (first, last) = line.split(' ').nth(3)?.split_once("..")?;
+    if !is_timed {
+        return Some("has two ticks of issue, which stand in certificates 'convoy 4' alone");
+    }
+    let first: u32 = first.parse().ok()?;
+    let last: u32 = last.parse().ok()?;
+    (last <= first).then_some("has a last tick of issue that is not after the first")
+}
+
+/// The form of a line of a certificate with that text (docs/FORMATS.md, "Certificate text").
+fn form_of_line(expected: Expected, text: &[u8]) -> &'static str {
     match expected {
         Expected::Convoy => "one of 'convoy 1' to 'convoy 4'",
-        Expected::Time => "'time real'",
+        Expected::Time => "'time real' or 'time ticks'",
         Expected::Tick =>
             "'tick COUNT UNIT', in the greatest of the units s, ms, us and ns that divides it",
         Expected::Delay => "'delay D'",
         Expected::Groups => "'groups G ..'",
         Expected::Link =>
             "'link FROM TO LEAST MOST', in ascending order, and not with the range 1 to D",
+        Expected::Multicast if says_time(text) =>
+            "'multicast NAME FROM AT TO ..', with FIRST..LAST for AT where the message may wait, and the destinations in the order of the groups",
         Expected::Multicast =>
             "'multicast NAME FROM AT TO ..', with the destinations in the order of the groups",
         Expected::Target => "'target MESSAGE GROUP'",
         Expected::Latency => "'latency L'",
         Expected::Schedule => "'schedule C ..'",
         Expected::Order => "'order R ..', or 'order' alone where all ranks are 0",
-        Expected::Node if is_real => "'s P A', 'b', 'c N' or 'end'",
+        Expected::Node if has_order(text) => "'s P A', 'b', 'c N' or 'end'",
         Expected::Node => "'s P A', 'b', 'p', 't', 'c N' or 'end'",
     }
 }

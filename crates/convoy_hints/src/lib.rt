@@ -10,8 +10,8 @@ pub use device_hints::{
 };
 pub use job_hints::hint_for_batch;
 pub use search_hints::{
-    hint_for_both, hint_for_ceiling, hint_for_first, hint_for_leads, hint_for_limit,
-    hint_for_real_time, hint_for_tickets, is_in_real_time,
+    hint_for_both, hint_for_ceiling, hint_for_explained, hint_for_first, hint_for_greatest,
+    hint_for_leads, hint_for_limit, hint_for_real_time, hint_for_tickets, is_in_real_time,
 };
 pub use word_hints::hint_for_words;
 

@@ -76,12 +76,14 @@ fn add_line<'a>(
         }
         ["multicast", name, sender, at, to @ ..] => {
             let place = sketch.multicasts.len();
+            let (at, until) = issue_of(at);
             sketch.multicasts.push(Multicast {
                 part: part_at(PartKind::Multicast, place, Some(name), number),
                 name,
                 sender: sender_of(sender),
                 to: Vec::from_slice(alloc, to)?,
-                at: number_of(at),
+                at,
+                until,
             })?;
         }
         ["target", message, group] => {
@@ -107,6 +109,12 @@ fn length_of(count: &str, unit: &str) -> Option<Duration> {
     let unit = TimeUnit::named(unit.as_bytes())?;
     let count: u64 = count.parse().ok()?;
     Duration::from_nanoseconds(count.checked_mul(unit.nanoseconds())?)
+}
+
+/// The first and the last tick at which a message may be issued, by the word for its issue.
+fn issue_of(word: &str) -> (i64, i64) {
+    let (first, last) = word.split_once("..").unwrap_or((word, word));
+    (number_of(first), number_of(last))
 }
 
 /// The sender that a word names; None is a client.

@@ -1,5 +1,7 @@
-use convoy_scenario::Time;
-use convoy_scenario_hints::noun;
+use convoy_ceiling::ceiling;
+use convoy_certificate::read;
+use convoy_scenario::{Scenario, Time};
+use convoy_scenario_hints::{has_waits, noun};
 use convoy_toml::read_toml_any_target;
 use std::alloc::{AllocError, Global};
 
@@ -22,6 +24,49 @@ pub fn hint_for_ceiling(alloc: Global, simulations: u64, most: u64) -> Result<St
     format!(in alloc;
         "hint: no latency is above the ceiling; the traffic that was found does not attain it{rest}\n"
     )
+}
+
+/// What the greatest latency of a scenario text says where messages may wait for their issue and it is the
+/// ceiling of their system, in one line `hint: ..`: that only narrower windows change it. None where it is
+/// below the ceiling, or each issue is known.
+pub fn hint_for_greatest(
+    alloc: Global,
+    text: &[u8],
+    greatest: u32,
+) -> Result<Option<String>, AllocError> {
+    match read_toml_any_target(alloc, text) {
+        Ok(input) => hint_at_ceiling(alloc, &input.scenario, greatest),
+        Err(_) => Ok(None),
+    }
+}
+
+/// The same of a certificate that was explained.
+pub fn hint_for_explained(alloc: Global, text: &[u8]) -> Result<Option<String>, AllocError> {
+    match read(alloc, text) {
+        Ok(certificate) => { hint_at_ceiling(alloc, certificate.scenario(), certificate.latency()) }
+        Err(_) => Ok(None),
+    }
+}
+
+/// What to say of a greatest latency that is the ceiling, where messages may wait.
+fn hint_at_ceiling(
+    alloc: Global,
+    scenario: &Scenario,
+    greatest: u32,
+) -> Result<Option<String>, AllocError> {
+    if !has_waits(scenario) || greatest < ceiling_of_target(scenario) {
+        return Ok(None);
+    }
+    let hint = String::from_str(
+        alloc,
+        "hint: this is the ceiling of the system: wider windows and further messages of these kinds give no more, and narrower windows may give less\n",
+    )?;
+    Ok(Some(hint))
+}
+
+/// The latency that no traffic of the scenario's kinds exceeds at its target.
+fn ceiling_of_target(scenario: &Scenario) -> u32 {
+    ceiling(scenario, scenario.target_message(), scenario.target_group())
 }
 
 /// What to do where a search by plain or stamp bounds alone, or both ways with no ticket for leads, did not

@@ -8,10 +8,12 @@ use Rattle.std.proofs.lemmas.List.{get_or_past}
 use Rattle.std.proofs.lemmas.List.Elements.{All-head, All-tail}
 use Rattle.convoy_scenario.specs.Scenario.{Scenario, no_message, message_at, is_addressed, GoesTo}
 use Rattle.convoy_scenario.specs.WellFormed.{IsScenario}
-use Rattle.convoy_packets.specs.Assignment.{ranges_of}
+use Rattle.convoy_packets.specs.Assignment.{IsAssignment, Schedule, ranges_of}
 use Rattle.convoy_packets.specs.Table.{least_of, least_delays, greatest_delays}
 use Rattle.convoy_packets.proofs.Orders.{fixed_is_order}
+use Rattle.convoy_sim.specs.Times.{issue}
 use Rattle.convoy_sim.specs.Laws.{ArrivesWithinOneDelay}
+use Rattle.convoy_sim.proofs.Destinations.{issued_soon}
 use Rattle.convoy_intervals.specs.Boxes.{IsBox, greatest_of}
 use Rattle.convoy_intervals.specs.Spans.{arrival_span}
 use Rattle.convoy_intervals.proofs.Members.{AreRanges-box, AreWithin-outer, IsIn-least, IsIn-greatest}
@@ -39,19 +41,21 @@ module _ (plan : Scenario) (well : IsScenario plan) where
       below_any g (length plan.groups) (message_at plan m).destinations (well.messages m no_message (message_of_goes plan m g goes)).known goes
 
   -- and no message is issued later than it may be
-  pub issued_by : (m : ℕ) → m < length plan.multicasts → (message_at plan m).at ≤ 1000000
-  issued_by m known = (well.messages m no_message known).at
+  pub issued_by : {schedule : Schedule} → IsAssignment plan schedule → (m : ℕ) → m < length plan.multicasts → issue plan schedule m ≤ 1065535
+  issued_by {schedule} is m known = issued_soon plan well schedule is m known
 
   -- so over a box of the scenario each arrival fits into its number
-  pub arrival_fits : ArrivesWithinOneDelay → (ranges : List (ℕ × ℕ)) → IsBox plan ranges → (m g : ℕ) → m < length plan.multicasts → ((arrival_span plan ranges m g).0 ≤ 1065535) × ((arrival_span plan ranges m g).1 ≤ 1065535)
+  pub arrival_fits : ArrivesWithinOneDelay → (ranges : List (ℕ × ℕ)) → IsBox plan ranges → (m g : ℕ) → m < length plan.multicasts → ((arrival_span plan ranges m g).0 ≤ 1131070) × ((arrival_span plan ranges m g).1 ≤ 1131070)
   arrival_fits soon ranges box m g known =
       let all = AreRanges-box (ranges_of plan) ranges box in
-      let low = soon plan (least_of ranges) well (record {
+      let least : IsAssignment plan (least_of ranges) = record {
         delays = AreWithin-outer (ranges_of plan) ranges (least_delays ranges) box (IsIn-least ranges all);
         order = fixed_is_order plan;
-      }) m g in
-      let high = soon plan (greatest_of ranges) well (record {
+      } in
+      let most : IsAssignment plan (greatest_of ranges) = record {
         delays = AreWithin-outer (ranges_of plan) ranges (greatest_delays ranges) box (IsIn-greatest ranges all);
         order = fixed_is_order plan;
-      }) m g in
-      (omega (arith, low, issued_by m known, well.delay_high), omega (arith, high, issued_by m known, well.delay_high))
+      } in
+      let low = soon plan (least_of ranges) well least m g in
+      let high = soon plan (greatest_of ranges) well most m g in
+      (omega (arith, low, issued_by least m known, well.delay_high), omega (arith, high, issued_by most m known, well.delay_high))

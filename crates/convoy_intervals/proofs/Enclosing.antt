@@ -5,7 +5,7 @@ use Rattle.std.specs.Option.{option_map_or}
 use Rattle.std.proofs.Common.{arith, get_or}
 use Rattle.convoy_scenario.specs.Scenario.{Scenario, message_at}
 use Rattle.convoy_packets.specs.declared.packet.Packet.{Packet}
-use Rattle.convoy_packets.specs.declared.packet.Packet.TheVariants.{Multicast, Propose}
+use Rattle.convoy_packets.specs.declared.packet.Packet.TheVariants.{Wait, Multicast, Propose}
 use Rattle.convoy_packets.specs.Packets.{packets_of, place_of}
 use Rattle.convoy_packets.specs.Assignment.{AreWithin, Schedule, delay_of}
 use Rattle.convoy_packets.specs.Table.{least_of, least_delays, greatest_delays}
@@ -55,7 +55,7 @@ module _ (plan : Scenario) (low high : Schedule) (below : AreAtMost low.delays h
 
   pub arrive_le : (m g : ℕ) → arrive plan low m g ≤ arrive plan high m g
   unfolding arrive
-  arrive_le m g = omega (arith, delay_le (Multicast m g))
+  arrive_le m g = omega (arith, delay_le (Wait m), delay_le (Multicast m g))
 
   propose_le : (m g h : ℕ) → propose_arrive plan low m g h ≤ propose_arrive plan high m g h
   propose_le m g h = omega (arith, arrive_le m h, delay_le (Propose m h g))

@@ -6,7 +6,7 @@ use Rattle.std.proofs.lemmas.List.Elements.{All-nil, All-cons, All-head, All-tai
 use Rattle.convoy_scenario.specs.Scenario.{Scenario}
 use Rattle.convoy_scenario.specs.WellFormed.{IsScenario}
 use Rattle.convoy_packets.specs.Packets.{packets_of}
-use Rattle.convoy_packets.proofs.Ranges.{range_within}
+use Rattle.convoy_packets.proofs.Ranges.{range_lawful}
 use Rattle.convoy_packets.specs.Assignment.{Schedule, range_of, ranges_of, AreWithin, IsAssignment}
 use Rattle.convoy_packets.proofs.Orders.{fixed_is_order}
 use Rattle.convoy_packets.specs.Table.{IsTable, PacketTable, table_of, least_of, greatest_delays}
@@ -83,7 +83,7 @@ pub AreRanges-root : (plan : Scenario) → IsScenario plan → AreRanges (root_o
 unfolding ranges_of
 AreRanges-root plan lawful =
     let P : ℕ × ℕ → Type 0 = λ range. range.0 ≤ range.1 in
-    All-map P (range_of plan) (packets_of plan) (λ k d below. (range_within plan (get_or (packets_of plan) k d) lawful).ordered)
+    All-map P (range_of plan) (packets_of plan) (λ k d below. (range_lawful plan (get_or (packets_of plan) k d) lawful).ordered)
 
 pub IsBox-root : (plan : Scenario) → IsScenario plan → IsBox plan (root_of plan)
 IsBox-root plan lawful = AllZip-itself (ranges_of plan) (AreRanges-root plan lawful)

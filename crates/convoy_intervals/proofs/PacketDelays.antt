@@ -7,11 +7,11 @@ use Rattle.std.proofs.lemmas.List.Elements.{length_all_zip}
 use Rattle.std.proofs.lemmas.List.Quantifiers.{position-Some}
 use Rattle.convoy_scenario.specs.Scenario.{Scenario, message_at}
 use Rattle.convoy_packets.specs.declared.packet.Packet.{Packet}
-use Rattle.convoy_packets.specs.declared.packet.Packet.TheVariants.{Multicast, Propose}
+use Rattle.convoy_packets.specs.declared.packet.Packet.TheVariants.{Wait, Multicast, Propose}
 use Rattle.convoy_packets.specs.Packets.{packets_of, place_of, is_packet}
 use Rattle.convoy_packets.specs.Assignment.{delay_of, in_fixed_order, range_of, ranges_of}
 use Rattle.convoy_packets.specs.Table.{PacketTable, table_of}
-use Rattle.convoy_sim.specs.Times.{arrive, propose_arrive}
+use Rattle.convoy_sim.specs.Times.{issue, arrive, propose_arrive}
 use Rattle.convoy_intervals.specs.Boxes.{IsBox, IsInside, range_at}
 
 -- a box has a range for each packet
@@ -43,10 +43,14 @@ module _ (plan : Scenario) (table : PacketTable) (ranges : List (ℕ × ℕ)) (o
         at_place (Some i) = get_or-map_end end none ranges i
         at_place None = sym none
 
-  -- arrival with that end of each range, from the range of the message's packet
-  pub arrive_at_end : (m g : ℕ) → arrive plan (in_fixed_order (map end ranges)) m g ≡ (message_at plan m).at + end (option_map_or (range_at ranges) (place_of (Multicast m g) table.packets) (0, 0))
+  -- the issue with that end of each range, from the range of the message's wait
+  pub issue_at_end : (m : ℕ) → issue plan (in_fixed_order (map end ranges)) m ≡ (message_at plan m).at + end (option_map_or (range_at ranges) (place_of (Wait m) table.packets) (0, 0))
+  issue_at_end m = ap (λ d. (message_at plan m).at + d) (delay_at_end (Wait m))
+
+  -- arrival with that end of each range, from the issue and the range of the message's packet
+  pub arrive_at_end : (m g : ℕ) → arrive plan (in_fixed_order (map end ranges)) m g ≡ issue plan (in_fixed_order (map end ranges)) m + end (option_map_or (range_at ranges) (place_of (Multicast m g) table.packets) (0, 0))
   unfolding arrive
-  arrive_at_end m g = ap (λ d. (message_at plan m).at + d) (delay_at_end (Multicast m g))
+  arrive_at_end m g = ap (λ d. issue plan (in_fixed_order (map end ranges)) m + d) (delay_at_end (Multicast m g))
 
   -- and the arrival of a proposal, from the range of the proposal's packet
   pub propose_at_end : (m g h : ℕ) → propose_arrive plan (in_fixed_order (map end ranges)) m g h ≡ arrive plan (in_fixed_order (map end ranges)) m h + end (option_map_or (range_at ranges) (place_of (Propose m h g) table.packets) (0, 0))

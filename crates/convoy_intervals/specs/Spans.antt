@@ -2,7 +2,7 @@
 use Rattle.std.specs.Prelude.{◌≡◌, ◌≢◌, ℕ, ◌+◌, ◌*◌, ◌<◌, ◌==◌, Bool, false, ◌&&◌, List, length, slice_index_or, IsFalse}
 use Rattle.convoy_scenario.specs.Scenario.{Scenario}
 use Rattle.convoy_packets.specs.declared.packet.Packet.{Packet}
-use Rattle.convoy_packets.specs.declared.packet.Packet.TheVariants.{Multicast, Propose}
+use Rattle.convoy_packets.specs.declared.packet.Packet.TheVariants.{Wait, Multicast, Propose}
 use Rattle.convoy_intervals.specs.declared.spans.Span.{Span}
 use Rattle.convoy_intervals.specs.Boxes.{Box}
 use Rattle.convoy_intervals.specs.Bounds.{Tables, tables_of}
@@ -22,13 +22,15 @@ abbrev pub span_of : Scenario → Box → ℕ → ℕ → Span
 span_of scenario ranges m g =
     record { arrival = arrival_span scenario ranges m g; settling = settling_span scenario ranges m g }
 
--- the delay of the packet is a part of the arrival of message m at group g: it brings the message there
+-- the delay of the packet is a part of the arrival of message m at group g: the message waits so long for its issue, or it brings the message there
 abbrev pub moves_arrival : Packet → ℕ → ℕ → Bool
+moves_arrival (Wait n) m g = n == m
 moves_arrival (Multicast n h) m g = (n == m) && (h == g)
 moves_arrival (Propose n h k) m g = false
 
--- the delay of the packet is a part of the settling of message m at group g: it brings the message to some group, or a stamp of it to this one
+-- the delay of the packet is a part of the settling of message m at group g: the message waits so long for its issue, or it brings the message to some group, or a stamp of it to this one
 abbrev pub moves_settling : Packet → ℕ → ℕ → Bool
+moves_settling (Wait n) m g = n == m
 moves_settling (Multicast n h) m g = n == m
 moves_settling (Propose n h k) m g = (n == m) && (k == g)
 

@@ -4,7 +4,7 @@
 pub use bounds::bound;
 pub use delay_box::DelayBox;
 pub use spans::Span;
-pub use times::{arrivals, proposal_delays, settlings};
+pub use times::{arrivals, multicast_delays, proposal_delays, settlings};
 pub use tracked::Tracked;
 
 mod bounds;

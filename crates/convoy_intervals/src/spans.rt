@@ -9,7 +9,7 @@ ghost use Rattle.convoy_intervals.specs.Spans.{AreSpans, AreSpansBut};
 use super::delay_box::DelayBox;
 use super::times::{arrivals, proposals_after};
 use convoy_packets::{Instance, Packet};
-use convoy_scenario::GREATEST_AT;
+use convoy_scenario::GREATEST_UNTIL;
 use convoy_sim::laws::arrives_within_one_delay;
 use std::alloc::{AllocError, Global};
 
@@ -85,6 +85,9 @@ pub(crate) fn follow_packet(
 {
     let _delay = instance.delay();
     match packet {
+        Packet::Wait { message } => {
+            write_message(spans, instance, delay_box, message);
+        }
         Packet::Multicast { message, .. } => {
             write_message(spans, instance, delay_box, message);
         }
@@ -193,7 +196,7 @@ fn arrival_from(
     requires arrivals { AreArrivals instance.now delay_box.now spans.now message
         (length instance.now.groups) }
     ensures value { result ≡ arrival_span instance.now delay_box.now message group }
-    ensures fits { (result.0 ≤ GREATEST_AT + u16.MAX) × (result.1 ≤ GREATEST_AT + u16.MAX) }
+    ensures fits { (result.0 ≤ GREATEST_UNTIL + u16.MAX) × (result.1 ≤ GREATEST_UNTIL + u16.MAX) }
 {
     arrives_within_one_delay();
     let _delay_box = delay_box;

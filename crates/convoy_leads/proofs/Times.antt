@@ -81,7 +81,7 @@ proposal_takes_time scenario schedule well assigned m h g from to away =
     and_from goes (not (h == g)) (and_from (is_addressed (message_at scenario m) h) (is_addressed (message_at scenario m) g) from to)
     (not_from_false (h == g) (false_from_ne_true (h == g) (λ t. away (eqb-true h g t)))) in
     let within = within_if_sent scenario schedule (Propose m h g) assigned sent in
-    let range = range_within scenario (Propose m h g) well in
+    let range = range_within scenario (Propose m h g) well refl in
     omega (arith, within.0, range.low)
 
 -- ---- times of stamps

@@ -24,7 +24,7 @@ use Rattle.convoy_machine.specs.Replays.{left_of}
 
 message : List ℕ → Sender → List ℕ → Message
 message name sender destinations =
-    record { name = name; sender = sender; destinations = destinations; at = 0 }
+    record { name = name; sender = sender; destinations = destinations; at = 0; longest_wait = 0 }
 
 base_in : Time → Scenario
 base_in time = record {
@@ -34,7 +34,7 @@ base_in time = record {
   groups = codes "a" ∷ codes "b" ∷ [];
   links = [];
   multicasts = message (codes "x") Client (1 ∷ []) ∷ message (codes "t") Client (0 ∷ 1 ∷ [])
-      ∷ record { name = codes "y"; sender = Group 0; destinations = 0 ∷ 1 ∷ []; at = 6 } ∷ [];
+      ∷ record { name = codes "y"; sender = Group 0; destinations = 0 ∷ 1 ∷ []; at = 6; longest_wait = 0 } ∷ [];
   target_message = 1;
   target_group = 0;
 }
@@ -102,7 +102,7 @@ met_in time = record {
   groups = codes "a" ∷ codes "b" ∷ [];
   links = [];
   multicasts = message (codes "t") Client (0 ∷ 1 ∷ [])
-      ∷ record { name = codes "n"; sender = Client; destinations = 0 ∷ 1 ∷ []; at = 1 } ∷ [];
+      ∷ record { name = codes "n"; sender = Client; destinations = 0 ∷ 1 ∷ []; at = 1; longest_wait = 0 } ∷ [];
   target_message = 0;
   target_group = 0;
 }

@@ -1,9 +1,11 @@
-//! Tests of the model and what is computed over it: packets, runs, bounds, leads and their chains, what a seeker finds,
-//! timelines and pictures.
+//! Tests of the model and what is computed over it: packets, runs, bounds, leads and their chains, ceilings and the
+//! traffic that is sought for them, what a seeker finds, timelines and pictures.
 #![tactic(auto)]
 
 #[cfg(test)]
 mod boxes;
+#[cfg(test)]
+mod ceilings;
 #[cfg(test)]
 mod chains;
 #[cfg(test)]
@@ -24,3 +26,5 @@ mod seeking;
 mod stamp_bounds;
 #[cfg(test)]
 mod timelines;
+#[cfg(test)]
+mod traffic;

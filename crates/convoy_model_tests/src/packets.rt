@@ -1,7 +1,7 @@
 //! Packets, their ranges, and schedules.
 
 use super::scenarios::{base, instance_of, linked, of_client};
-use convoy_packets::{ListFault, MOST_PACKETS, Packet, Schedule};
+use convoy_packets::{ListFault, Packet, Schedule};
 use convoy_scenario::LinkParts;
 use std::alloc::Global;
 use std::test::Fail;
@@ -134,7 +134,7 @@ fn lists_the_largest(rt: HostRuntime) -> Result<(), Fail> {
     let groups = ["a", "b", "c", "d", "e", "f", "g", "h"];
     let instance = instance_of(rt.alloc(), 16, &groups, &messages, ("m0", "a"))?;
     let table = instance.table();
-    assert_eq!(rt; table.len(), MOST_PACKETS);
+    assert_eq!(rt; table.len(), 1_024);
     assert_eq!(rt; table.multicast_to(15, 7), Some(967));
     assert_eq!(rt; table.propose(15, 7, 6), Some(1023));
     assert_eq!(rt;

@@ -76,6 +76,7 @@ fn lone_message(rt: HostRuntime) -> Result<(), Fail> {
             sender,
             to,
             at: 7,
+            until: 7,
         };
         let instance = instance_of(alloc, 5, &["a", "b"], &[message], ("m", "a"))?;
         assert_eq!(rt; least_run(&rt, alloc, &instance)?.latency(), want);

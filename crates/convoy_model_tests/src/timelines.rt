@@ -61,7 +61,7 @@ fn least_timeline(alloc: Global, instance: &Instance) -> Result<Vec<u8>, AllocEr
     let schedule = least(alloc, instance)?;
     let run = simulate(alloc, instance, &schedule)?;
     let mut timeline = Vec::new(alloc);
-    write_timeline(instance.scenario(), &run, &mut timeline)?;
+    write_timeline(instance, &schedule, &run, &mut timeline)?;
     Ok(timeline)
 }
 

@@ -6,6 +6,7 @@ use Rattle.convoy_scenario.specs.Scenario.{Scenario, message_at, GoesTo}
 use Rattle.convoy_scenario.specs.WellFormed.{IsScenario}
 use Rattle.convoy_sim.specs.Times.{greatest}
 use Rattle.convoy_sim.proofs.Membership.{IsIn, in_greatest}
+use Rattle.convoy_sim.proofs.Addressed.{goes_from_in}
 use Rattle.convoy_intervals.specs.Boxes.{Box, AreRanges}
 use Rattle.convoy_intervals.specs.Bounds.{Tables, rivals, tables_of, plain_bound}
 use Rattle.convoy_intervals.specs.Laws.{MembersAreEnclosed}
@@ -38,9 +39,9 @@ module _ (scenario : Scenario) (well : IsScenario scenario) where
         ])
       ]
 
-  by_too : (outer inner : Windows) → AreTighter outer inner → AreOpen scenario inner → (n m k tick later : ℕ) → tick ≤ later
+  by_too : (outer inner : Windows) → AreTighter outer inner → AreOpen scenario inner → (n m k tick later : ℕ) → GoesTo scenario m k → tick ≤ later
       → is_behind_by scenario outer n m k tick ≡ true → is_behind_by scenario inner n m k later ≡ true
-  by_too outer inner tight can n m k tick later late behind =
+  by_too outer inner tight can n m k tick later goes late behind =
       let old_last : ℕ = (tables_by outer).times.greatest_arrival m k in
       let new_last : ℕ = (tables_by inner).times.greatest_arrival m k in
       let high = (tighter_tables outer inner tight).arrival_high m k in
@@ -52,13 +53,13 @@ module _ (scenario : Scenario) (well : IsScenario scenario) where
           | inl e ↦ let less = ltb-true old_last tick e in absurd (omega arith)
           | inr e ↦ or_right (nat_lt new_last later) (is_behind scenario (tables_by new_cut) n)
               (behind_too (tables_by old_cut) (tables_by new_cut) (tighter_tables old_cut new_cut (tighter_cut scenario outer inner m k tick later tight late))
-              (open_tables scenario new_cut (open_cut scenario inner m k later can l)) n e)
+              (open_tables scenario new_cut (open_cut scenario inner m k later can goes l)) n e)
         ]
       ]
 
-  after_too : (outer inner : Windows) → AreTighter outer inner → AreOpen scenario inner → (n k tick later : ℕ) → tick ≤ later
+  after_too : (outer inner : Windows) → AreTighter outer inner → AreOpen scenario inner → (n k tick later : ℕ) → GoesTo scenario n k → tick ≤ later
       → is_behind_after scenario outer n k tick ≡ true → is_behind_after scenario inner n k later ≡ true
-  after_too outer inner tight can n k tick later late behind =
+  after_too outer inner tight can n k tick later goes late behind =
       let t : ℕ = scenario.target_message in
       let g : ℕ = scenario.target_group in
       let to : List ℕ = (message_at scenario t).destinations in
@@ -68,7 +69,7 @@ module _ (scenario : Scenario) (well : IsScenario scenario) where
       let at_once : Bool = is_behind_by scenario inner n n k later in
       let by_way : Bool = list_all (is_behind_target scenario new_cut n) to in
       elim (or_cases (is_behind_by scenario outer n n k tick) (list_all (is_behind_target scenario old_cut n) to) behind) [
-        | inl e ↦ or_left at_once by_way (by_too outer inner tight can n n k tick later late e)
+        | inl e ↦ or_left at_once by_way (by_too outer inner tight can n n k tick later goes late e)
         | inr all ↦ elim (cases_lt new_last later) [
           | inl l ↦ or_left at_once by_way (or_left (nat_lt new_last later) (is_behind scenario (tables_by new_cut) n) (lt-ltb new_last later l))
           | inr l ↦
@@ -77,9 +78,9 @@ module _ (scenario : Scenario) (well : IsScenario scenario) where
               or_right at_once by_way (all_too (is_behind_target scenario old_cut n) (is_behind_target scenario new_cut n) to (λ f i e.
               let low = both.arrival_low n g in
               let high = both.proposal_high t f g in
-              by_too old_cut new_cut tight_cut (open_cut scenario inner n k later can l) n t f
+              by_too old_cut new_cut tight_cut (open_cut scenario inner n k later can goes l) n t f
               ((tables_by old_cut).times.least_arrival n g - (tables_by old_cut).greatest_proposal t f g)
-              ((tables_by new_cut).times.least_arrival n g - (tables_by new_cut).greatest_proposal t f g) (omega arith) e) all)
+              ((tables_by new_cut).times.least_arrival n g - (tables_by new_cut).greatest_proposal t f g) (goes_from_in scenario t f i) (omega arith) e) all)
         ]
       ]
 
@@ -97,7 +98,7 @@ module _ (scenario : Scenario) (well : IsScenario scenario) where
         | inl e ↦ or_left (nat_lt new_last later) (list_all new_test to) (lt_apart old_last tick new_last later (both.settling_high n g) late e)
         | inr all ↦ or_right (nat_lt new_last later) (list_all new_test to) (all_too old_test new_test to (λ k i e.
             let high = both.proposal_high n k g in
-            after_too outer inner tight can n k (tick - (tables_by outer).greatest_proposal n k g) (later - (tables_by inner).greatest_proposal n k g) (omega arith) e) all)
+            after_too outer inner tight can n k (tick - (tables_by outer).greatest_proposal n k g) (later - (tables_by inner).greatest_proposal n k g) (goes_from_in scenario n k i) (omega arith) e) all)
       ]
 
   narrower_of : (outer inner : LeadTables) → IsTighter outer inner → AreNarrower scenario outer.times inner.times

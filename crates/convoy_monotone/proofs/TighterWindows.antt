@@ -1,22 +1,23 @@
 -- The windows of a box inside another one allow no more than those of the other one, and stay so where both are cut.
-use Rattle.std.proofs.Common.{◌≡◌, ℕ, zero, suc, ◌+◌, ◌*◌, ◌/◌, ◌%◌, ◌≤◌, max, Bool, true, false, cond, ◌&&◌, List, [], ◌∷◌, length, map, get_or, slice_set, fold, refl, arith}
+use Rattle.std.proofs.Common.{◌≡◌, ℕ, zero, suc, ◌+◌, ◌-◌, ◌*◌, ◌/◌, ◌%◌, ◌≤◌, max, Bool, true, false, cond, ◌&&◌, List, [], ◌∷◌, length, map, get_or, slice_set, fold, refl, inl, inr, arith}
 use Rattle.std.specs.List.{AllZip, range_with_len}
 use Rattle.convoy_scenario.specs.declared.limits.TheConstants.{MOST_GROUPS}
 use Rattle.convoy_scenario.specs.Scenario.{Scenario, message_at, is_addressed, GoesTo}
 use Rattle.convoy_scenario.specs.WellFormed.{IsScenario}
-use Rattle.convoy_packets.specs.declared.packet.Packet.TheVariants.{Propose}
+use Rattle.convoy_packets.specs.declared.packet.Packet.TheVariants.{Wait, Multicast, Propose}
 use Rattle.convoy_packets.specs.Assignment.{AreWithin, Schedule, delay_of}
 use Rattle.convoy_packets.specs.Order.{place}
 use Rattle.convoy_packets.specs.Table.{least_of, greatest_delays}
-use Rattle.convoy_sim.specs.Times.{arrive, settle, propose_arrive}
-use Rattle.convoy_sim.proofs.Membership.{in_greatest}
-use Rattle.convoy_sim.proofs.Addressed.{in_of_goes}
+use Rattle.convoy_sim.specs.Times.{issue, arrive, settle, propose_arrive}
+use Rattle.convoy_sim.proofs.Membership.{IsIn, in_greatest}
+use Rattle.convoy_sim.proofs.Addressed.{goes_from_in, in_of_goes}
 use Rattle.convoy_intervals.specs.Boxes.{Box, greatest_of}
 use Rattle.convoy_intervals.specs.Bounds.{Tables, tables_of}
 use Rattle.convoy_intervals.specs.Laws.{MembersAreEnclosed}
-use Rattle.convoy_sure.specs.Windows.{LeadTables, Windows, entry_at, entry_of, entries_of, proposal_delay, proposal_entry, proposals_of, tables_by, windows_of, with_settling, with_arrival}
+use Rattle.convoy_sure.specs.Windows.{LeadTables, Windows, entry_at, entry_of, entries_of, proposal_delay, proposal_entry, proposals_of, tables_by, windows_of, issued_since, with_issue, with_settling, with_arrival}
 use Rattle.convoy_sure.specs.Laws.{WindowsAreTables}
 use Rattle.convoy_sure.proofs.MemberDelays.{least_delay, greatest_delay}
+use Rattle.convoy_sure.proofs.WindowLaws.{entry_is}
 use Rattle.convoy_monotone.specs.Narrower.{IsInsideBox}
 use Rattle.convoy_monotone.specs.Laws.{InnerTablesAreNarrower}
 use Rattle.convoy_monotone.proofs.InnerBoxes.{least_within, greatest_within}
@@ -62,12 +63,16 @@ pub record AreTighter (outer inner : Windows) : Type 0 where
   pub greatest_arrivals : AreBelow inner.greatest_arrivals outer.greatest_arrivals
   pub least_settlings : AreBelow outer.least_settlings inner.least_settlings
   pub greatest_settlings : AreBelow inner.greatest_settlings outer.greatest_settlings
+  pub least_multicasts : AreBelow outer.least_multicasts inner.least_multicasts
+  pub greatest_multicasts : AreBelow inner.greatest_multicasts outer.greatest_multicasts
   pub least_proposals : AreBelow outer.least_proposals inner.least_proposals
   pub greatest_proposals : AreBelow inner.greatest_proposals outer.greatest_proposals
 
--- no message has to arrive later than it may, nor may arrive later than it may be committed
+-- no message has to arrive later than it may, whichever of its destinations tells its issue, nor may arrive later than it may be committed
 pub record AreOpen (scenario : Scenario) (windows : Windows) : Type 0 where
   pub arrivals : AreBelow windows.least_arrivals windows.greatest_arrivals
+  pub issues : (m h g : ℕ) → GoesTo scenario m h → GoesTo scenario m g
+      → (entry_at windows.greatest_arrivals m h - entry_at windows.greatest_multicasts m h) + entry_at windows.least_multicasts m g ≤ entry_at windows.greatest_arrivals m g
   pub commits : (m h g : ℕ) → GoesTo scenario m h → GoesTo scenario m g → entry_at windows.greatest_arrivals m h ≤ entry_at windows.greatest_settlings m g
 
 -- the same of tables
@@ -101,6 +106,22 @@ open_tables scenario windows can = record {
 
 -- ---- cuts
 module _ (scenario : Scenario) (outer inner : Windows) (m k tick later : ℕ) (tight : AreTighter outer inner) (late : tick ≤ later) where
+  issued_later : issued_since outer m k tick ≤ issued_since inner m k later
+  issued_later =
+      let high : (tables_by inner).greatest_multicast m k ≤ (tables_by outer).greatest_multicast m k =
+      below_at inner.greatest_multicasts outer.greatest_multicasts tight.greatest_multicasts (place m k) in
+      omega arith
+
+  arrivals_below : (gs xs ys : List ℕ) → AreBelow xs ys → AreBelow (fold (with_issue outer m k tick) xs gs) (fold (with_issue inner m k later) ys gs)
+  arrivals_below [] xs ys below = below
+  arrivals_below (g ∷ gs) xs ys below =
+      let low : (tables_by outer).least_multicast m g ≤ (tables_by inner).least_multicast m g =
+      below_at outer.least_multicasts inner.least_multicasts tight.least_multicasts (place m g) in
+      let old : entry_at xs m g ≤ entry_at ys m g = below_at xs ys below (place m g) in
+      arrivals_below gs (with_issue outer m k tick xs g) (with_issue inner m k later ys g)
+      (below_set xs ys below (place m g) (max (issued_since outer m k tick + (tables_by outer).least_multicast m g) (entry_at xs m g))
+      (max (issued_since inner m k later + (tables_by inner).least_multicast m g) (entry_at ys m g)) (omega (arith, issued_later)))
+
   settlings_below : (gs xs ys : List ℕ) → AreBelow xs ys → AreBelow (fold (with_settling outer m k tick) xs gs) (fold (with_settling inner m k later) ys gs)
   settlings_below [] xs ys below = below
   settlings_below (g ∷ gs) xs ys below =
@@ -113,28 +134,44 @@ module _ (scenario : Scenario) (outer inner : Windows) (m k tick later : ℕ) (t
 
   pub tighter_cut : AreTighter (with_arrival scenario outer m k tick) (with_arrival scenario inner m k later)
   tighter_cut =
-      let old : entry_at outer.least_arrivals m k ≤ entry_at inner.least_arrivals m k =
-      below_at outer.least_arrivals inner.least_arrivals tight.least_arrivals (place m k) in
+      let to : List ℕ = (message_at scenario m).destinations in
+      let first : List ℕ = fold (with_issue outer m k tick) outer.least_arrivals to in
+      let second : List ℕ = fold (with_issue inner m k later) inner.least_arrivals to in
+      let below : AreBelow first second = arrivals_below to outer.least_arrivals inner.least_arrivals tight.least_arrivals in
+      let old : entry_at first m k ≤ entry_at second m k = below_at first second below (place m k) in
       record {
-        least_arrivals = below_set outer.least_arrivals inner.least_arrivals tight.least_arrivals (place m k)
-            (max tick (entry_at outer.least_arrivals m k)) (max later (entry_at inner.least_arrivals m k)) (omega arith);
+        least_arrivals = below_set first second below (place m k) (max tick (entry_at first m k)) (max later (entry_at second m k)) (omega arith);
         greatest_arrivals = tight.greatest_arrivals;
         least_settlings = settlings_below (message_at scenario m).destinations outer.least_settlings inner.least_settlings tight.least_settlings;
         greatest_settlings = tight.greatest_settlings;
+        least_multicasts = tight.least_multicasts;
+        greatest_multicasts = tight.greatest_multicasts;
         least_proposals = tight.least_proposals;
         greatest_proposals = tight.greatest_proposals;
       }
 
 -- a cut at a tick by which the message may arrive
-pub open_cut : (scenario : Scenario) (windows : Windows) (m k tick : ℕ) → AreOpen scenario windows → tick ≤ (tables_by windows).times.greatest_arrival m k
-    → AreOpen scenario (with_arrival scenario windows m k tick)
-open_cut scenario windows m k tick can soon =
-    let old : entry_at windows.least_arrivals m k ≤ entry_at windows.greatest_arrivals m k =
-    below_at windows.least_arrivals windows.greatest_arrivals can.arrivals (place m k) in
-    record {
-      arrivals = below_raised windows.least_arrivals windows.greatest_arrivals can.arrivals (place m k) (max tick (entry_at windows.least_arrivals m k)) (omega arith);
-      commits = can.commits;
-    }
+module _ (scenario : Scenario) (windows : Windows) (m k tick : ℕ) (can : AreOpen scenario windows) (goes : GoesTo scenario m k) (soon : tick ≤ (tables_by windows).times.greatest_arrival m k) where
+  open_issues : (gs xs : List ℕ) → ((g : ℕ) → IsIn g gs → GoesTo scenario m g) → AreBelow xs windows.greatest_arrivals
+      → AreBelow (fold (with_issue windows m k tick) xs gs) windows.greatest_arrivals
+  open_issues [] xs to below = below
+  open_issues (g ∷ gs) xs to below =
+      let may = can.issues m k g goes (to g (inl refl)) in
+      let old : entry_at xs m g ≤ entry_at windows.greatest_arrivals m g = below_at xs windows.greatest_arrivals below (place m g) in
+      open_issues gs (with_issue windows m k tick xs g) (λ h i. to h (inr i))
+      (below_raised xs windows.greatest_arrivals below (place m g) (max (issued_since windows m k tick + (tables_by windows).least_multicast m g) (entry_at xs m g)) (omega arith))
+
+  pub open_cut : AreOpen scenario (with_arrival scenario windows m k tick)
+  open_cut =
+      let to : List ℕ = (message_at scenario m).destinations in
+      let first : List ℕ = fold (with_issue windows m k tick) windows.least_arrivals to in
+      let below : AreBelow first windows.greatest_arrivals = open_issues to windows.least_arrivals (λ g i. goes_from_in scenario m g i) can.arrivals in
+      let old : entry_at first m k ≤ entry_at windows.greatest_arrivals m k = below_at first windows.greatest_arrivals below (place m k) in
+      record {
+        arrivals = below_raised first windows.greatest_arrivals below (place m k) (max tick (entry_at first m k)) (omega arith);
+        issues = can.issues;
+        commits = can.commits;
+      }
 
 -- ---- the windows of boxes
 entries_below : (scenario : Scenario) (low high : ℕ → ℕ → ℕ) → ((m g : ℕ) → GoesTo scenario m g → low m g ≤ high m g)
@@ -163,6 +200,10 @@ tighter_windows narrower scenario outer inner inside =
       greatest_arrivals = entries_below scenario (tables_of scenario inner).greatest_arrival (tables_of scenario outer).greatest_arrival narrow.arrival_high;
       least_settlings = entries_below scenario (tables_of scenario outer).least_settling (tables_of scenario inner).least_settling narrow.settling_low;
       greatest_settlings = entries_below scenario (tables_of scenario inner).greatest_settling (tables_of scenario outer).greatest_settling narrow.settling_high;
+      least_multicasts = entries_below scenario (λ m g. delay_of scenario (least_of outer) (Multicast m g)) (λ m g. delay_of scenario (least_of inner) (Multicast m g)) (λ m g goes.
+          least_delay scenario outer (least_of inner) (least_within outer inner inside) (Multicast m g));
+      greatest_multicasts = entries_below scenario (λ m g. delay_of scenario (greatest_of inner) (Multicast m g)) (λ m g. delay_of scenario (greatest_of outer) (Multicast m g)) (λ m g goes.
+          greatest_delay scenario outer (greatest_of inner) (greatest_within outer inner inside) (Multicast m g));
       least_proposals = proposals_below scenario (least_of outer) (least_of inner) (λ m h g.
           least_delay scenario outer (least_of inner) (least_within outer inner inside) (Propose m h g));
       greatest_proposals = proposals_below scenario (greatest_of inner) (greatest_of outer) (λ m h g.
@@ -183,12 +224,28 @@ arrives_by_commit scenario schedule m h g goes =
     let most = in_greatest (propose_arrive scenario schedule m g) h (message_at scenario m).destinations (in_of_goes scenario m h goes) in
     omega arith
 
+-- over a box the greatest arrivals of a message are those of its greatest issue
+issues_open : (scenario : Scenario) (inner : Box) → AreWithin inner (greatest_delays inner) → (m h g : ℕ)
+    → (arrive scenario (greatest_of inner) m h - delay_of scenario (greatest_of inner) (Multicast m h)) + delay_of scenario (least_of inner) (Multicast m g)
+    ≤ arrive scenario (greatest_of inner) m g
+unfolding arrive
+issues_open scenario inner within m h g =
+    let low = least_delay scenario inner (greatest_of inner) within (Multicast m g) in
+    omega arith
+
 pub open_windows : MembersAreEnclosed → WindowsAreTables → (scenario : Scenario) (outer inner : Box) → IsScenario scenario → IsInsideBox outer inner
     → AreOpen scenario (windows_of scenario inner)
 open_windows enclosed same scenario outer inner well inside =
     let member = enclosed scenario inner (greatest_of inner) (greatest_inside outer inner inside) in
     record {
       arrivals = entries_below scenario (tables_of scenario inner).least_arrival (tables_of scenario inner).greatest_arrival member.arrival_low;
+      issues = λ m h g from to.
+          let by = issues_open scenario inner (greatest_inside outer inner inside) m h g in
+          let first = (same scenario inner well m h from).greatest_arrival in
+          let last = (same scenario inner well m g to).greatest_arrival in
+          let longest = entry_is scenario (λ n i. delay_of scenario (greatest_of inner) (Multicast n i)) well m h from in
+          let shortest = entry_is scenario (λ n i. delay_of scenario (least_of inner) (Multicast n i)) well m g to in
+          omega (arith, first, last, longest, shortest, by);
       commits = λ m h g from to.
           let first = (same scenario inner well m h from).greatest_arrival in
           let last = (same scenario inner well m g to).greatest_settling in

@@ -1,44 +1,80 @@
 -- What holds of the packet list of a well-formed scenario.
-use Rattle.std.proofs.Common.{◌≡◌, ℕ, ◌<◌, ◌≤◌, ◌==◌, Bool, true, false, cond, not, length, get_or, arith, refl, sym, ap, ◌∙◌}
-use Rattle.std.specs.List.{All, AllPairs, filter, flat_map, enumerate_from}
+use Rattle.std.proofs.Common.{◌≡◌, ℕ, ◌<◌, zero, suc, ◌≤◌, ◌==◌, ◌||◌, Bool, true, false, cond, not, List, [], ◌∷◌, ◌++◌, length, get_or, arith, refl, sym, ap, ◌∙◌}
+use Rattle.std.specs.List.{All, AllPairs, filter, flat_map, enumerate_from, list_any}
 use Rattle.std.proofs.lemmas.Bool.{eq-eqb, true≢false}
 use Rattle.std.proofs.lemmas.Bool.Decides.{nat_tests}
 use Rattle.std.proofs.lemmas.List.{length-map, length-append}
 use Rattle.std.proofs.lemmas.List.Concat.{length-flat_map}
-use Rattle.std.proofs.lemmas.List.Elements.{All-append, All-filter, All-map}
+use Rattle.std.proofs.lemmas.List.Elements.{All-nil, All-cons, All-append, All-filter, All-map}
 use Rattle.std.proofs.lemmas.List.Filters.{length-filter_both}
 use Rattle.std.proofs.lemmas.List.FromFn.{length-enumerate_from}
-use Rattle.std.proofs.lemmas.List.Kept.{AllPairs-filter, AllPairs-from_increasing}
+use Rattle.std.proofs.lemmas.List.Kept.{AllPairs-cons, AllPairs-filter, AllPairs-from_increasing}
 use Rattle.std.proofs.lemmas.List.Sums.{length-filter, count_by-le-length, get_or-le-sum_by, sum_by-le}
-use Rattle.convoy_scenario.specs.Scenario.{Message, Scenario, is_sent_by}
+use Rattle.convoy_scenario.specs.Scenario.{Message, Scenario, is_sent_by, may_wait}
 use Rattle.convoy_scenario.specs.WellFormed.{IsMulticast, IsScenario}
 use Rattle.convoy_packets.specs.declared.packet.Packet.{Packet}
-use Rattle.convoy_packets.specs.declared.packet.Packet.TheVariants.{Multicast, Propose}
-use Rattle.convoy_packets.specs.Packets.{multicast_packets, propose_packets, message_packets, packets_of}
+use Rattle.convoy_packets.specs.declared.packet.Packet.TheVariants.{Wait, Multicast, Propose}
+use Rattle.convoy_packets.specs.Packets.{wait_packets, multicast_packets, propose_packets, message_packets, packets_of, is_wait}
 use Rattle.convoy_packets.specs.Slots.{is_within_limits, HaveSlots}
 use Rattle.convoy_packets.proofs.Lists.{All-flat_map, All-numbered, length-increasing-le}
-use Rattle.convoy_packets.proofs.Pairs.{AllPairs-append, AllPairs-map, AllPairs-weaker, AllPairs-flat_map, numbers_rise}
+use Rattle.convoy_packets.proofs.Pairs.{AllPairs-nil, AllPairs-append, AllPairs-map, AllPairs-weaker, AllPairs-flat_map, numbers_rise}
+
+wait_within : (m : ℕ) → m < 16 → is_within_limits (Wait m) ≡ true
+wait_within m a = grind (arith, nat_tests)
 
 multicast_within : (m g : ℕ) → m < 16 → g < 8 → is_within_limits (Multicast m g) ≡ true
 multicast_within m g a b = grind (arith, nat_tests)
 
+or_none : (a b : Bool) → (a || b) ≡ false → (a ≡ false) × (b ≡ false)
+or_none false b e = (refl, e)
+or_none true b e = absurd (true≢false e)
+
 propose_within : (m h g : ℕ) → m < 16 → h < 8 → g < 8 → is_within_limits (Propose m h g) ≡ true
 propose_within m h g a b c = grind (arith, nat_tests)
 
+-- where a test passes no element it passes none at a place
+pub none_at : {X : Type 0} (p : X → Bool) (xs : List X) (k : ℕ) (d : X) → list_any p xs ≡ false → k < length xs → p (get_or xs k d) ≡ false
+none_at p [] k d none l = absurd (omega arith)
+none_at p (x ∷ xs) zero d none l = (or_none (p x) (list_any p xs) none).0
+none_at p (x ∷ xs) (suc k) d none l = none_at p xs k d (or_none (p x) (list_any p xs) none).1 (omega arith)
+
 -- the message of a packet, and the group that a local stamp comes from
 abbrev pub message_of : Packet → ℕ
+message_of (Wait m) = m
 message_of (Multicast m g) = m
 message_of (Propose m h g) = m
 
 abbrev sender_of : Packet → ℕ
+sender_of (Wait m) = 0
 sender_of (Multicast m g) = g
 sender_of (Propose m h g) = h
 
 abbrev pub is_multicast : Packet → Bool
+is_multicast (Wait m) = false
 is_multicast (Multicast m g) = true
 is_multicast (Propose m h g) = false
 
+-- the wait of a message, if there is one
+pub each_wait : (P : Packet → Type 0) (m : ℕ) (message : Message) → P (Wait m) → All P (wait_packets m message)
+each_wait P m message h =
+    elim (may_wait message) as (λ b. All P (cond b (Wait m ∷ []) [])) [
+      | true ↦ All-cons P (Wait m) [] h (All-nil P)
+      | false ↦ All-nil P
+    ]
+
 module _ (m : ℕ) (message : Message) where
+  pub are_waits : All (λ p. is_wait p ≡ true) (wait_packets m message)
+  are_waits = each_wait (λ p. is_wait p ≡ true) m message refl
+
+  pub are_sent_off : All (λ p. is_wait p ≡ false) (multicast_packets m message ++ flat_map (propose_packets m message) message.destinations)
+  are_sent_off =
+      All-append (λ p. is_wait p ≡ false) (multicast_packets m message) (flat_map (propose_packets m message) message.destinations)
+      (All-map (λ p. is_wait p ≡ false) (λ g. Multicast m g) (filter (λ g. not (is_sent_by message g)) message.destinations)
+      (λ k d l. refl))
+      (All-flat_map (λ p. is_wait p ≡ false) (propose_packets m message) message.destinations
+      (λ k d l. All-map (λ p. is_wait p ≡ false) (λ g. Propose m (get_or message.destinations k d) g)
+      (filter (λ g. not (get_or message.destinations k d == g)) message.destinations) (λ i e h. refl)))
+
   pub are_multicasts : All (λ p. is_multicast p ≡ true) (multicast_packets m message)
   are_multicasts =
       All-map (λ p. is_multicast p ≡ true) (λ g. Multicast m g) (filter (λ g. not (is_sent_by message g)) message.destinations)
@@ -52,12 +88,14 @@ module _ (m : ℕ) (message : Message) where
 
   of_message : All (λ p. message_of p ≡ m) (message_packets m message)
   of_message =
-      All-append (λ p. message_of p ≡ m) (multicast_packets m message) (flat_map (propose_packets m message) message.destinations)
+      All-append (λ p. message_of p ≡ m) (wait_packets m message) (multicast_packets m message ++ flat_map (propose_packets m message) message.destinations)
+      (each_wait (λ p. message_of p ≡ m) m message refl)
+      (All-append (λ p. message_of p ≡ m) (multicast_packets m message) (flat_map (propose_packets m message) message.destinations)
       (All-map (λ p. message_of p ≡ m) (λ g. Multicast m g) (filter (λ g. not (is_sent_by message g)) message.destinations)
       (λ k d l. refl))
       (All-flat_map (λ p. message_of p ≡ m) (propose_packets m message) message.destinations
       (λ k d l. All-map (λ p. message_of p ≡ m) (λ g. Propose m (get_or message.destinations k d) g)
-      (filter (λ g. not (get_or message.destinations k d == g)) message.destinations) (λ i e h. refl)))
+      (filter (λ g. not (get_or message.destinations k d == g)) message.destinations) (λ i e h. refl))))
 
 module _ (m : ℕ) (message : Message) (groups : ℕ) (few : groups ≤ 8) (is : IsMulticast groups message) where
   multicasts_within : m < 16 → HaveSlots (multicast_packets m message)
@@ -74,10 +112,12 @@ module _ (m : ℕ) (message : Message) (groups : ℕ) (few : groups ≤ 8) (is :
 
   message_within : m < 16 → HaveSlots (message_packets m message)
   message_within low =
-      All-append (λ p. is_within_limits p ≡ true) (multicast_packets m message) (flat_map (propose_packets m message) message.destinations)
+      All-append (λ p. is_within_limits p ≡ true) (wait_packets m message) (multicast_packets m message ++ flat_map (propose_packets m message) message.destinations)
+      (each_wait (λ p. is_within_limits p ≡ true) m message (wait_within m low))
+      (All-append (λ p. is_within_limits p ≡ true) (multicast_packets m message) (flat_map (propose_packets m message) message.destinations)
       (multicasts_within low)
       (All-flat_map (λ p. is_within_limits p ≡ true) (propose_packets m message) message.destinations
-      (λ k d l. let known = is.known k d l in proposals_within low (get_or message.destinations k d) (omega arith)))
+      (λ k d l. let known = is.known k d l in proposals_within low (get_or message.destinations k d) (omega arith))))
 
   length-destinations : length message.destinations ≤ 8
   length-destinations = let most = length-increasing-le message.destinations groups is.ascending is.known in omega arith
@@ -100,13 +140,22 @@ module _ (m : ℕ) (message : Message) (groups : ℕ) (few : groups ≤ 8) (is :
       let most = length-destinations in
       rw length-map (omega arith)
 
-  length-message : length (message_packets m message) ≤ 64
-  length-message =
+  length-waits : length (wait_packets m message) ≤ 1
+  length-waits = elim (may_wait message) as (λ b. length (cond b (Wait m ∷ []) []) ≤ 1) [ true ↦ omega arith | false ↦ omega arith ]
+
+  length-travelling : length (multicast_packets m message ++ flat_map (propose_packets m message) message.destinations) ≤ 64
+  length-travelling =
       let gs = message.destinations in
       let all = sum_by-le (λ h. length (propose_packets m message h)) 7 gs length-proposals in
       let first = length-multicasts in
       let most = length-destinations in
       rw (length-append, length-flat_map) (omega arith)
+
+  length-message : length (message_packets m message) ≤ 65
+  length-message = let first = length-waits in let rest = length-travelling in rw length-append (omega arith)
+
+  length-unwaiting : may_wait message ≡ false → length (message_packets m message) ≤ 64
+  length-unwaiting none = rw none length-travelling
 
   destinations_differ : AllPairs (λ g h. g ≡ h → ⊥) message.destinations
   destinations_differ =
@@ -127,8 +176,15 @@ module _ (m : ℕ) (message : Message) (groups : ℕ) (few : groups ≤ 8) (is :
       (AllPairs-weaker (λ g h. g ≡ h → ⊥) (λ g h. Propose m from g ≡ Propose m from h → ⊥) message.destinations
       (λ g h ne e. ne cc) destinations_differ))
 
-  message_differs : AllPairs (λ p q. p ≡ q → ⊥) (message_packets m message)
-  message_differs =
+  waits_differ : AllPairs (λ p q. p ≡ q → ⊥) (wait_packets m message)
+  waits_differ =
+      elim (may_wait message) as (λ b. AllPairs (λ p q. p ≡ q → ⊥) (cond b (Wait m ∷ []) [])) [
+        | true ↦ AllPairs-cons (λ p q. p ≡ q → ⊥) (Wait m) [] (All-nil (λ q. Wait m ≡ q → ⊥)) (AllPairs-nil (λ p q. p ≡ q → ⊥))
+        | false ↦ AllPairs-nil (λ p q. p ≡ q → ⊥)
+      ]
+
+  travelling_differ : AllPairs (λ p q. p ≡ q → ⊥) (multicast_packets m message ++ flat_map (propose_packets m message) message.destinations)
+  travelling_differ =
       AllPairs-append (λ p q. p ≡ q → ⊥) (multicast_packets m message) (flat_map (propose_packets m message) message.destinations)
       multicasts_differ
       (AllPairs-flat_map (λ h. h) sender_of (propose_packets m message) message.destinations
@@ -136,6 +192,20 @@ module _ (m : ℕ) (message : Message) (groups : ℕ) (few : groups ≤ 8) (is :
       (λ k d l. proposals_differ (get_or message.destinations k d))
       destinations_differ)
       (λ k d l i e h same. true≢false (sym (are_multicasts m message k d l) ∙ ap is_multicast same ∙ are_stamps m message i e h))
+
+  message_differs : AllPairs (λ p q. p ≡ q → ⊥) (message_packets m message)
+  message_differs =
+      AllPairs-append (λ p q. p ≡ q → ⊥) (wait_packets m message) (multicast_packets m message ++ flat_map (propose_packets m message) message.destinations)
+      waits_differ travelling_differ
+      (λ k d l i e h same. true≢false (sym (are_waits m message k d l) ∙ ap is_wait same ∙ are_sent_off m message i e h))
+
+-- where no message waits, all packets travel
+pub all_travel : (plan : Scenario) → list_any may_wait plan.multicasts ≡ false → All (λ p. is_wait p ≡ false) (packets_of plan)
+unfolding packets_of
+all_travel plan none =
+    All-flat_map (λ p. is_wait p ≡ false) (λ p. message_packets p.0 p.1) (enumerate_from 0 plan.multicasts)
+    (All-numbered (λ p. All (λ q. is_wait q ≡ false) (message_packets p.0 p.1)) plan.multicasts
+    (λ k d l. let unwaiting = none_at may_wait plan.multicasts k d none l in rw unwaiting (are_sent_off k (get_or plan.multicasts k d))))
 
 module _ (plan : Scenario) (is : IsScenario plan) where
   pub packets_within : HaveSlots (packets_of plan)
@@ -146,12 +216,23 @@ module _ (plan : Scenario) (is : IsScenario plan) where
       (λ k d l. let low = is.multicasts_high in
       message_within k (get_or plan.multicasts k d) (length plan.groups) is.groups_high (is.messages k d l) (omega arith)))
 
-  pub length-packets_of-le : length (packets_of plan) ≤ 1024
+  pub length-packets_of-le : length (packets_of plan) ≤ 1040
   unfolding packets_of
   length-packets_of-le =
+      let each = sum_by-le (λ p. length (message_packets p.0 p.1)) 65 (enumerate_from 0 plan.multicasts)
+      (All-numbered (λ p. length (message_packets p.0 p.1) ≤ 65) plan.multicasts
+      (λ k d l. length-message k (get_or plan.multicasts k d) (length plan.groups) is.groups_high (is.messages k d l))) in
+      let few = is.multicasts_high in
+      let long = length-enumerate_from 0 plan.multicasts in
+      rw length-flat_map (omega arith)
+
+  -- where no message waits
+  pub length-packets_of-unwaiting : list_any may_wait plan.multicasts ≡ false → length (packets_of plan) ≤ 1024
+  unfolding packets_of
+  length-packets_of-unwaiting none =
       let each = sum_by-le (λ p. length (message_packets p.0 p.1)) 64 (enumerate_from 0 plan.multicasts)
       (All-numbered (λ p. length (message_packets p.0 p.1) ≤ 64) plan.multicasts
-      (λ k d l. length-message k (get_or plan.multicasts k d) (length plan.groups) is.groups_high (is.messages k d l))) in
+      (λ k d l. length-unwaiting k (get_or plan.multicasts k d) (length plan.groups) is.groups_high (is.messages k d l) (none_at may_wait plan.multicasts k d none l))) in
       let few = is.multicasts_high in
       let long = length-enumerate_from 0 plan.multicasts in
       rw length-flat_map (omega arith)

@@ -9,24 +9,35 @@ use Rattle.std.proofs.lemmas.Bool.{lt-ltb, false≢true, false_from_ne_true, con
 use Rattle.std.proofs.lemmas.List.{length-set, get_or-set_same, get_or-set_other, length-take-le, take_more}
 use Rattle.std.proofs.lemmas.Bool.Decides.{nat_tests}
 use Rattle.convoy_packets.specs.declared.packet.Packet.{Packet}
-use Rattle.convoy_packets.specs.declared.packet.Packet.TheVariants.{Multicast, Propose}
+use Rattle.convoy_packets.specs.declared.packet.Packet.TheVariants.{Wait, Multicast, Propose}
 use Rattle.convoy_packets.specs.Packets.{is_packet, place_of}
 use Rattle.convoy_packets.specs.declared.slots.TheConstants.{SLOT_COUNT}
 use Rattle.convoy_packets.specs.Slots.{is_within_limits, slot_number, entry_of, with_place, HoldPlaces, HaveSlots}
 use Rattle.convoy_packets.proofs.Lists.{position_push, position_none}
 
 pub same_packet : (p q : Packet) → is_packet p q ≡ true → p ≡ q
+same_packet (Wait m) (Wait n) e = grind (arith, nat_tests)
+same_packet (Wait m) (Multicast n k) e = absurd (false≢true e)
+same_packet (Wait m) (Propose n i k) e = absurd (false≢true e)
+same_packet (Multicast m g) (Wait n) e = absurd (false≢true e)
+same_packet (Propose m h g) (Wait n) e = absurd (false≢true e)
 same_packet (Multicast m g) (Multicast n k) e = grind (arith, nat_tests)
 same_packet (Multicast m g) (Propose n i k) e = absurd (false≢true e)
 same_packet (Propose m h g) (Multicast n k) e = absurd (false≢true e)
 same_packet (Propose m h g) (Propose n i k) e = grind (arith, nat_tests)
 
 pub is_packet_itself : (p : Packet) → is_packet p p ≡ true
+is_packet_itself (Wait m) = grind (arith, nat_tests)
 is_packet_itself (Multicast m g) = grind (arith, nat_tests)
 is_packet_itself (Propose m h g) = grind (arith, nat_tests)
 
 -- two packets within the limits have one slot only if they are the same
 pub same_slot : (p q : Packet) → is_within_limits p ≡ true → is_within_limits q ≡ true → slot_number p ≡ slot_number q → p ≡ q
+same_slot (Wait m) (Wait n) a b e = grind (arith, nat_tests)
+same_slot (Wait m) (Multicast n k) a b e = grind (arith, nat_tests)
+same_slot (Wait m) (Propose n i k) a b e = grind (arith, nat_tests)
+same_slot (Multicast m g) (Wait n) a b e = grind (arith, nat_tests)
+same_slot (Propose m h g) (Wait n) a b e = grind (arith, nat_tests)
 same_slot (Multicast m g) (Multicast n k) a b e = grind (arith, nat_tests)
 same_slot (Multicast m g) (Propose n i k) a b e = grind (arith, nat_tests)
 same_slot (Propose m h g) (Multicast n k) a b e = grind (arith, nat_tests)
@@ -49,6 +60,7 @@ no_place p packets known out =
     absurd (false≢true (sym out ∙ ap is_within_limits same ∙ known k d h))))
 
 slot_within : (p : Packet) → is_within_limits p ≡ true → slot_number p < SLOT_COUNT
+slot_within (Wait m) a = grind (arith, nat_tests)
 slot_within (Multicast m g) a = grind (arith, nat_tests)
 slot_within (Propose m h g) a = grind (arith, nat_tests)
 

@@ -1,16 +1,16 @@
 -- The list has just the packets that are sent: a look-up's test, carried through the list's definition.
-use Rattle.std.proofs.Common.{◌≡◌, ℕ, zero, suc, ◌+◌, ◌<◌, ◌==◌, Bool, true, false, cond, ◌&&◌, ◌||◌, not, List, [], ◌∷◌, length, map, get_or, refl, sym, ap, ◌∙◌, arith, inl, inr, ◌⊎◌, zero-add, position, ltb, Some, None}
+use Rattle.std.proofs.Common.{◌≡◌, ℕ, zero, suc, ◌+◌, ◌<◌, ◌==◌, Bool, true, false, cond, ◌&&◌, ◌||◌, not, List, [], ◌∷◌, ◌++◌, length, map, get_or, refl, sym, ap, ◌∙◌, arith, inl, inr, ◌⊎◌, zero-add, position, ltb, Some, None}
 use Rattle.std.specs.List.{filter, flat_map, enumerate_from, list_any, position_or_len}
 use Rattle.std.specs.Option.{is_some}
 use Rattle.std.proofs.lemmas.Bool.{cases_eq, ne_eqb, eq-eqb, and_right, lt-ltb, true≢false, false≢true}
 use Rattle.std.proofs.lemmas.Bool.Decides.{nat_tests}
 use Rattle.std.proofs.lemmas.List.Folds.{list_any-append, list_any_none}
-use Rattle.convoy_scenario.specs.Scenario.{Message, Scenario, message_at, no_message, is_sent_by, is_addressed}
+use Rattle.convoy_scenario.specs.Scenario.{Message, Scenario, message_at, may_wait, no_message, is_sent_by, is_addressed}
 use Rattle.convoy_packets.specs.declared.packet.Packet.{Packet}
-use Rattle.convoy_packets.specs.declared.packet.Packet.TheVariants.{Multicast, Propose}
-use Rattle.convoy_packets.specs.Packets.{multicast_packets, propose_packets, message_packets, packets_of, is_packet, place_of}
+use Rattle.convoy_packets.specs.declared.packet.Packet.TheVariants.{Wait, Multicast, Propose}
+use Rattle.convoy_packets.specs.Packets.{wait_packets, multicast_packets, propose_packets, message_packets, packets_of, is_packet, is_wait, place_of}
 use Rattle.convoy_packets.specs.Laws.{is_sent}
-use Rattle.convoy_packets.proofs.Listed.{are_multicasts, are_stamps, is_multicast, message_of}
+use Rattle.convoy_packets.proofs.Listed.{are_multicasts, are_stamps, are_sent_off, are_waits, is_multicast, message_of}
 
 list_any-flat_map : {X A : Type 0} (p : A → Bool) (f : X → List A) (xs : List X) → list_any p (flat_map f xs) ≡ list_any (λ x. list_any p (f x)) xs
 list_any-flat_map p f [] = refl
@@ -41,6 +41,14 @@ or_false : (a : Bool) → (a || false) ≡ a
 or_false true = refl
 or_false false = refl
 
+and_true : (a : Bool) → a ≡ (a && true)
+and_true true = refl
+and_true false = refl
+
+and_none : (a : Bool) → false ≡ (a && false)
+and_none true = refl
+and_none false = refl
+
 and_assoc : (a b c : Bool) → (a && (b && c)) ≡ ((a && b) && c)
 and_assoc true b c = refl
 and_assoc false b c = refl
@@ -60,10 +68,12 @@ any_numbered F S m n (suc k) (x ∷ xs) d h none e =
 
 -- the message sends the packet, whatever its own number
 abbrev sends : Message → Packet → Bool
+sends message (Wait m) = may_wait message
 sends message (Multicast m g) = is_addressed message g && not (is_sent_by message g)
 sends message (Propose m h g) = is_addressed message h && is_addressed message g && not (h == g)
 
 unaddressed : (p : Packet) → sends no_message p ≡ false
+unaddressed (Wait m) = refl
 unaddressed (Multicast m g) = refl
 unaddressed (Propose m h g) = refl
 
@@ -77,20 +87,59 @@ regrouped : (e a s b : Bool) → (((e && a) && s) && b) ≡ (e && ((b && a) && s
 regrouped e a s b = grind arith
 
 not_stamp : (m g : ℕ) (p : Packet) → is_multicast p ≡ false → is_packet (Multicast m g) p ≡ false
+not_stamp m g (Wait n) e = refl
 not_stamp m g (Multicast n k) e = absurd (true≢false e)
 not_stamp m g (Propose n i k) e = refl
 
 not_multicast : (m h g : ℕ) (p : Packet) → is_multicast p ≡ true → is_packet (Propose m h g) p ≡ false
+not_multicast m h g (Wait n) e = refl
 not_multicast m h g (Multicast n k) e = refl
 not_multicast m h g (Propose n i k) e = absurd (false≢true e)
 
+not_wait : (m : ℕ) (p : Packet) → is_wait p ≡ false → is_packet (Wait m) p ≡ false
+not_wait m (Wait n) e = absurd (true≢false e)
+not_wait m (Multicast n k) e = refl
+not_wait m (Propose n i k) e = refl
+
+no_packet : (q p : Packet) → is_wait q ≡ false → is_wait p ≡ true → is_packet q p ≡ false
+no_packet (Wait m) p e f = absurd (true≢false e)
+no_packet (Multicast m g) (Wait n) e f = refl
+no_packet (Propose m h g) (Wait n) e f = refl
+no_packet q (Multicast n k) e f = absurd (false≢true f)
+no_packet q (Propose n i k) e f = absurd (false≢true f)
+
 module _ (n : ℕ) (message : Message) where
+  travelling : List Packet
+  travelling = multicast_packets n message ++ flat_map (propose_packets n message) message.destinations
+
+  -- what travels is not found among the waits
+  past_waits : (q : Packet) → is_wait q ≡ false → list_any (is_packet q) (message_packets n message) ≡ list_any (is_packet q) travelling
+  unfolding travelling
+  past_waits q other =
+      list_any-append (is_packet q) (wait_packets n message) travelling
+      ∙ ap (λ b. b || list_any (is_packet q) travelling)
+      (list_any_none (is_packet q) (wait_packets n message) (λ k d l. no_packet q (get_or (wait_packets n message) k d) other (are_waits n message k d l)))
+
+  wait_found : (m : ℕ) → list_any (is_packet (Wait m)) (message_packets n message) ≡ ((m == n) && sends message (Wait m))
+  unfolding travelling
+  wait_found m =
+      list_any-append (is_packet (Wait m)) (wait_packets n message) travelling
+      ∙ ap (λ b. list_any (is_packet (Wait m)) (wait_packets n message) || b)
+      (list_any_none (is_packet (Wait m)) travelling (λ k d l. not_wait m (get_or travelling k d) (are_sent_off n message k d l)))
+      ∙ or_false (list_any (is_packet (Wait m)) (wait_packets n message))
+      ∙ by_wait (may_wait message) where
+        by_wait : (b : Bool) → list_any (is_packet (Wait m)) (cond b (Wait n ∷ []) []) ≡ ((m == n) && b)
+        by_wait true = or_false (m == n) ∙ and_true (m == n)
+        by_wait false = and_none (m == n)
+
   multicast_found : (m g : ℕ) → list_any (is_packet (Multicast m g)) (message_packets n message) ≡ ((m == n) && sends message (Multicast m g))
+  unfolding travelling
   multicast_found m g =
       let sent = λ (k : ℕ). not (is_sent_by message k) in
       let gs = message.destinations in
       let q = Multicast m g in
-      list_any-append (is_packet q) (multicast_packets n message) (flat_map (propose_packets n message) gs)
+      past_waits q refl
+      ∙ list_any-append (is_packet q) (multicast_packets n message) (flat_map (propose_packets n message) gs)
       ∙ ap (λ b. list_any (is_packet q) (multicast_packets n message) || b)
       (list_any_none (is_packet q) (flat_map (propose_packets n message) gs)
       (λ k d l. not_stamp m g (get_or (flat_map (propose_packets n message) gs) k d) (are_stamps n message k d l)))
@@ -107,10 +156,12 @@ module _ (n : ℕ) (message : Message) where
       (λ i. and_assoc (not (k == i)) ((m == n) && (h == k)) (g == i) ∙ to_one (λ j. not (k == j) && ((m == n) && (h == k))) g i)
 
   propose_found : (m h g : ℕ) → list_any (is_packet (Propose m h g)) (message_packets n message) ≡ ((m == n) && sends message (Propose m h g))
+  unfolding travelling
   propose_found m h g =
       let gs = message.destinations in
       let q = Propose m h g in
-      list_any-append (is_packet q) (multicast_packets n message) (flat_map (propose_packets n message) gs)
+      past_waits q refl
+      ∙ list_any-append (is_packet q) (multicast_packets n message) (flat_map (propose_packets n message) gs)
       ∙ ap (λ b. b || list_any (is_packet q) (flat_map (propose_packets n message) gs))
       (list_any_none (is_packet q) (multicast_packets n message) (λ k d l. not_multicast m h g (get_or (multicast_packets n message) k d) (are_multicasts n message k d l)))
       ∙ list_any-flat_map (is_packet q) (propose_packets n message) gs
@@ -121,6 +172,7 @@ module _ (n : ℕ) (message : Message) where
       ∙ regrouped (m == n) (is_addressed message g) (not (h == g)) (is_addressed message h)
 
   found : (p : Packet) → list_any (is_packet p) (message_packets n message) ≡ ((message_of p == n) && sends message p)
+  found (Wait m) = wait_found m
   found (Multicast m g) = multicast_found m g
   found (Propose m h g) = propose_found m h g
 
@@ -148,5 +200,6 @@ found_if_sent plan p =
     ∙ any_numbered (λ q. list_any (is_packet p) (message_packets q.0 q.1)) (λ message. sends message p) (message_of p) 0 (message_of p) plan.multicasts no_message (λ q. found q.0 q.1 p) (unaddressed p) (sym (zero-add (message_of p)))
     ∙ named p where
       named : (p : Packet) → sends (message_at plan (message_of p)) p ≡ is_sent plan p
+      named (Wait m) = refl
       named (Multicast m g) = refl
       named (Propose m h g) = refl

@@ -6,22 +6,25 @@ use Rattle.convoy_scenario.specs.declared.sender.Sender.{Sender}
 use Rattle.convoy_scenario.specs.declared.sender.Sender.TheVariants.{Group}
 use Rattle.convoy_scenario.specs.Scenario.{Scenario, message_at, range_between}
 use Rattle.convoy_packets.specs.declared.packet.Packet.{Packet}
-use Rattle.convoy_packets.specs.declared.packet.Packet.TheVariants.{Multicast, Propose}
+use Rattle.convoy_packets.specs.declared.packet.Packet.TheVariants.{Wait, Multicast, Propose}
 use Rattle.convoy_packets.specs.Packets.{packets_of, place_of}
 use Rattle.convoy_packets.specs.Order.{Order, IsOrder, no_order}
 
--- who sends a packet: the sender of its message, or the group of which it is the stamp
+-- who sends a packet: the sender of its message, also before its issue, or the group of which it is the stamp
 abbrev pub sender_of : Scenario → Packet → Sender
+sender_of scenario (Wait m) = (message_at scenario m).sender
 sender_of scenario (Multicast m g) = (message_at scenario m).sender
 sender_of scenario (Propose m h g) = Group h
 
--- the group to which a packet goes
+-- the group to which a packet goes; a wait goes nowhere, and 0 stands for that
 abbrev pub receiver_of : Packet → ℕ
+receiver_of (Wait m) = 0
 receiver_of (Multicast m g) = g
 receiver_of (Propose m h g) = g
 
--- the least and the greatest delay of a packet, in ticks: those of the link between its ends, or 1 and D without one
+-- the least and the greatest delay of a packet, in ticks: those of the link between its ends, or 1 and D without one; a message waits from 0 ticks to as long as it may
 abbrev pub range_of : Scenario → Packet → ℕ × ℕ
+range_of scenario (Wait m) = (0, (message_at scenario m).longest_wait)
 range_of scenario packet = range_between scenario (sender_of scenario packet) (receiver_of packet)
 
 -- the ranges of all packets, in the order of the packet list

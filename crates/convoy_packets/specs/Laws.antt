@@ -1,23 +1,24 @@
 -- What always holds of packet lists, ranges and schedules.
-use Rattle.std.specs.Prelude.{◌≡◌, ◌↔◌, ℕ, ℤ, pos, ◌*◌, ◌≤◌, ◌==◌, Bool, ◌&&◌, not, List, [], length, map, Some, Ok, slice_index, IsTrue}
+use Rattle.std.specs.Prelude.{◌≡◌, ◌↔◌, ℕ, ℤ, pos, ◌*◌, ◌≤◌, ◌==◌, Bool, ◌&&◌, not, List, [], length, map, Some, Ok, slice_index, IsFalse, IsTrue}
 use Rattle.std.specs.List.{slice_get}
 use Rattle.std.specs.Option.{is_some}
 use Rattle.convoy_scenario.specs.declared.time.Time.TheVariants.{Real}
-use Rattle.convoy_scenario.specs.Scenario.{Scenario, message_at, is_sent_by, is_addressed}
+use Rattle.convoy_scenario.specs.Scenario.{Scenario, message_at, may_wait, is_sent_by, is_addressed}
 use Rattle.convoy_scenario.specs.WellFormed.{IsScenario}
 use Rattle.convoy_packets.specs.declared.packet.TheConstants.{MOST_PACKETS}
 use Rattle.convoy_packets.specs.declared.table_places.TheConstants.{PLACES}
 use Rattle.convoy_packets.specs.declared.packet.Packet.{Packet}
-use Rattle.convoy_packets.specs.declared.packet.Packet.TheVariants.{Multicast, Propose}
-use Rattle.convoy_packets.specs.Packets.{packets_of, place_of}
+use Rattle.convoy_packets.specs.declared.packet.Packet.TheVariants.{Wait, Multicast, Propose}
+use Rattle.convoy_packets.specs.Packets.{is_wait, packets_of, place_of}
 use Rattle.convoy_packets.specs.Assignment.{Schedule, AreWithin, IsAssignment, IsWithin, delay_of, range_of, ranges_of}
 use Rattle.convoy_packets.specs.Order.{IsOrder, Order, no_order}
 use Rattle.convoy_packets.specs.OrderLists.{AreSmall, is_no_order, order_of, rank_count, ranks_of}
 use Rattle.convoy_packets.specs.Given.{schedule_of}
 use Rattle.convoy_packets.specs.Table.{least_of}
 
--- the scenario sends the packet: a message to a destination that does not send it, or the stamp of a destination to another one
+-- the scenario has the packet: the wait of a message that may wait, a message to a destination that does not send it, or the stamp of a destination to another one
 abbrev pub is_sent : Scenario → Packet → Bool
+is_sent scenario (Wait m) = may_wait (message_at scenario m)
 is_sent scenario (Multicast m g) = is_addressed (message_at scenario m) g && not (is_sent_by (message_at scenario m) g)
 is_sent scenario (Propose m h g) = is_addressed (message_at scenario m) h && is_addressed (message_at scenario m) g && not (h == g)
 
@@ -37,7 +38,7 @@ PlacesLeadBack =
     (scenario : Scenario) (i : ℕ) (packet : Packet) → place_of packet (packets_of scenario) ≡ Some i
     → slice_get (packets_of scenario) i ≡ Some packet
 
--- a scenario has at most 1,024 packets
+-- a scenario has at most 1,040 packets
 abbrev pub PacketsAreFew : Type 0
 PacketsAreFew = (scenario : Scenario) → IsScenario scenario → length (packets_of scenario) ≤ MOST_PACKETS
 
@@ -68,11 +69,17 @@ UnsentTakesNoTime =
     (scenario : Scenario) (schedule : Schedule) (packet : Packet) → IsTrue (not (is_sent scenario packet))
     → delay_of scenario schedule packet ≡ 0
 
--- in an assignment nothing takes longer than the greatest delay
+-- in an assignment no packet travels longer than the greatest delay
 abbrev pub DelaysAreAtMost : Type 0
 DelaysAreAtMost =
-    (scenario : Scenario) (schedule : Schedule) (packet : Packet) → IsScenario scenario → IsAssignment scenario schedule
+    (scenario : Scenario) (schedule : Schedule) (packet : Packet) → IsScenario scenario → IsAssignment scenario schedule → IsFalse (is_wait packet)
     → delay_of scenario schedule packet ≤ scenario.delay
+
+-- in an assignment no message waits longer than it may
+abbrev pub WaitsAreAtMost : Type 0
+WaitsAreAtMost =
+    (scenario : Scenario) (schedule : Schedule) (m : ℕ) → IsAssignment scenario schedule
+    → delay_of scenario schedule (Wait m) ≤ (message_at scenario m).longest_wait
 
 -- a list of numbers gives a schedule just where its members are the delays, each in the range at its place
 abbrev pub ListsOfDelaysAreSchedules : Type 0

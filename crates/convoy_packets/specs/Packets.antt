@@ -1,9 +1,13 @@
 -- The packets of a scenario, in the order in which schedules list their delays.
-use Rattle.std.specs.Prelude.{ℕ, ◌==◌, Bool, false, ◌&&◌, not, List, ◌++◌, map, Option, position}
+use Rattle.std.specs.Prelude.{ℕ, ◌==◌, Bool, true, false, ◌&&◌, not, if◌then◌else◌, List, [], ◌∷◌, ◌++◌, map, Option, position}
 use Rattle.std.specs.List.{filter, flat_map, enumerate_from}
-use Rattle.convoy_scenario.specs.Scenario.{Message, Scenario, is_sent_by}
+use Rattle.convoy_scenario.specs.Scenario.{Message, Scenario, is_sent_by, may_wait}
 use Rattle.convoy_packets.specs.declared.packet.Packet.{Packet}
-use Rattle.convoy_packets.specs.declared.packet.Packet.TheVariants.{Multicast, Propose}
+use Rattle.convoy_packets.specs.declared.packet.Packet.TheVariants.{Wait, Multicast, Propose}
+
+-- the wait of message m before its issue, where it may wait: it has a place in schedules, as packets have
+abbrev pub wait_packets : ℕ → Message → List Packet
+wait_packets m message = if may_wait message then Wait m ∷ [] else []
 
 -- message m to each of its destinations but the group that sends it, in the order of their numbers
 abbrev pub multicast_packets : ℕ → Message → List Packet
@@ -14,19 +18,29 @@ multicast_packets m message =
 abbrev pub propose_packets : ℕ → Message → ℕ → List Packet
 propose_packets m message h = map (λ g. Propose m h g) (filter (λ g. not (h == g)) message.destinations)
 
--- the packets of message m: the message itself, and then the stamps by (from, to)
+-- the packets of message m: its wait, the message itself, and then the stamps by (from, to)
 abbrev pub message_packets : ℕ → Message → List Packet
-message_packets m message = multicast_packets m message ++ flat_map (propose_packets m message) message.destinations
+message_packets m message = wait_packets m message ++ (multicast_packets m message ++ flat_map (propose_packets m message) message.destinations)
 
 -- all packets of a scenario, message by message
 unfoldable pub packets_of : Scenario → List Packet
 packets_of scenario = flat_map (λ p. message_packets p.0 p.1) (enumerate_from 0 scenario.multicasts)
 
+-- a wait before an issue, and no packet that travels
+abbrev pub is_wait : Packet → Bool
+is_wait (Wait m) = true
+is_wait packet = false
+
 -- the two are one packet
 abbrev pub is_packet : Packet → Packet → Bool
 is_packet (Multicast m g) (Multicast n k) = (m == n) && (g == k)
 is_packet (Propose m h g) (Propose n i k) = (m == n) && (h == i) && (g == k)
+is_packet (Wait m) (Wait n) = m == n
+is_packet (Wait m) (Multicast n k) = false
+is_packet (Wait m) (Propose n i k) = false
+is_packet (Multicast m g) (Wait n) = false
 is_packet (Multicast m g) (Propose n i k) = false
+is_packet (Propose m h g) (Wait n) = false
 is_packet (Propose m h g) (Multicast n k) = false
 
 -- the place of a packet in a list of packets, from 0

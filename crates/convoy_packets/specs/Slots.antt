@@ -4,19 +4,21 @@ use Rattle.std.specs.List.{All}
 use Rattle.std.specs.Option.{option_and_then, is_none}
 use Rattle.convoy_scenario.specs.declared.limits.TheConstants.{MOST_GROUPS, MOST_MULTICASTS}
 use Rattle.convoy_packets.specs.declared.packet.Packet.{Packet}
-use Rattle.convoy_packets.specs.declared.packet.Packet.TheVariants.{Multicast, Propose}
+use Rattle.convoy_packets.specs.declared.packet.Packet.TheVariants.{Wait, Multicast, Propose}
 use Rattle.convoy_packets.specs.declared.slots.TheConstants.{SLOTS_PER_MESSAGE, SLOT_COUNT}
 use Rattle.convoy_packets.specs.Packets.{place_of}
 
 -- the message and the groups of the packet are within the limits of scenarios
 abbrev pub is_within_limits : Packet → Bool
+is_within_limits (Wait m) = nat_lt m MOST_MULTICASTS
 is_within_limits (Multicast m g) = nat_lt m MOST_MULTICASTS && nat_lt g MOST_GROUPS
 is_within_limits (Propose m h g) = nat_lt m MOST_MULTICASTS && nat_lt h MOST_GROUPS && nat_lt g MOST_GROUPS
 
--- the number of a packet's slot: those of a message stand together, the message's own before the stamps by (from, to)
+-- the number of a packet's slot: those of a message stand together, its wait first, and the message's own before the stamps by (from, to)
 abbrev pub slot_number : Packet → ℕ
-slot_number (Multicast m g) = m * SLOTS_PER_MESSAGE + g
-slot_number (Propose m h g) = m * SLOTS_PER_MESSAGE + MOST_GROUPS + h * MOST_GROUPS + g
+slot_number (Wait m) = m * SLOTS_PER_MESSAGE
+slot_number (Multicast m g) = m * SLOTS_PER_MESSAGE + 1 + g
+slot_number (Propose m h g) = m * SLOTS_PER_MESSAGE + 1 + MOST_GROUPS + h * MOST_GROUPS + g
 
 -- the slot of a packet, if it has one
 abbrev pub slot_of : Packet → Option ℕ

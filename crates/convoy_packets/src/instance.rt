@@ -139,6 +139,16 @@ impl Instance {
         self.scenario.issue_tick(message)
     }
 
+    /// How many ticks a message waits at most, from the first at which it may be issued to its issue; 0
+    /// where its issue is known.
+    pub fn longest_wait(&self, message: usize) -> u16
+        requires { message < length self.now.multicasts }
+        ensures value { result ≡ (message_at self.now message).longest_wait }
+        ensures lawful { IsScenario self.now }
+    {
+        self.scenario.longest_wait(message)
+    }
+
     /// The number of the message of which the latency is asked.
     pub fn target_message(&self) -> usize
         ensures value { result ≡ self.now.target_message }

@@ -2,14 +2,14 @@
 ghost use Rattle.convoy_packets.specs.Laws.{PacketsAreThoseSent, PacketsStandOnce};
 ghost use Rattle.convoy_packets.specs.Laws.{PlacesLeadBack, PacketsAreFew};
 ghost use Rattle.convoy_packets.specs.Laws.{RangesAreOneEach, DelaysAreOneEach, DelaysAreByPlace};
-ghost use Rattle.convoy_packets.specs.Laws.{DelaysAreWithin, UnsentTakesNoTime, DelaysAreAtMost};
+ghost use Rattle.convoy_packets.specs.Laws.{DelaysAreWithin, UnsentTakesNoTime, DelaysAreAtMost, WaitsAreAtMost};
 ghost use Rattle.convoy_packets.specs.Laws.{FixedOrderIsOrder, LeastIsAssignment, ListsOfDelaysAreSchedules};
 ghost use Rattle.convoy_packets.specs.Laws.{OrdersAreTheirLists, ListsAreTheirOrders, RanksAreOneEach};
 ghost use Rattle.convoy_packets.specs.Laws.{RanksGiveOrders, RanksAreFew, NoRanksGiveFixedOrder};
 ghost use Rattle.convoy_packets.specs.Laws.{FixedOrderIsDecided};
 
-/// The list has just the packets that the scenario sends: each message to each of its destinations
-/// but its sender, and the stamp of each destination to each other one.
+/// The list has just the packets of the scenario: the wait of each message that may wait, each message
+/// to each of its destinations but its sender, and the stamp of each destination to each other one.
 pub fn packets_are_those_sent()
     ensures { PacketsAreThoseSent }
 {}
@@ -24,7 +24,7 @@ pub fn places_lead_back()
     ensures { PlacesLeadBack }
 {}
 
-/// A scenario has 1,024 packets at most.
+/// A scenario has 1,040 packets at most, with the waits of its messages.
 pub fn packets_are_few()
     ensures { PacketsAreFew }
 {}
@@ -54,9 +54,14 @@ pub fn unsent_takes_no_time()
     ensures { UnsentTakesNoTime }
 {}
 
-/// In an assignment nothing takes longer than the greatest delay of the scenario.
+/// In an assignment no packet travels longer than the greatest delay of the scenario.
 pub fn delays_are_at_most()
     ensures { DelaysAreAtMost }
+{}
+
+/// In an assignment no message waits longer than it may.
+pub fn waits_are_at_most()
+    ensures { WaitsAreAtMost }
 {}
 
 /// The list of the delays of an assignment gives that assignment, and no other list does.

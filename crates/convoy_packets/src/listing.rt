@@ -1,15 +1,15 @@
 ghost use Rattle.std.specs.Prelude.{◌≡◌, ◌<◌, ◌≤◌, ◌++◌, length, OnOk, IfOk};
 ghost use Rattle.std.specs.List.{flat_map};
 ghost use Rattle.convoy_scenario.specs.Scenario.{message_at, is_sent_by};
-ghost use Rattle.convoy_packets.specs.Packets.{multicast_packets, propose_packets, packets_of};
+ghost use Rattle.convoy_packets.specs.Packets.{wait_packets, multicast_packets, propose_packets, packets_of};
 ghost use Rattle.convoy_packets.specs.Slots.{HaveSlots};
 
 use super::packet::{MOST_PACKETS, Packet};
 use convoy_scenario::{Scenario, Sender};
 use std::alloc::{AllocError, Global};
 
-/// Lists the packets of a scenario: message by message, the message itself to each of its
-/// destinations, and then the local stamps by (from, to).
+/// Lists the packets of a scenario: message by message its wait, if it may wait, the message itself to
+/// each of its destinations, and then the local stamps by (from, to).
 pub(crate) fn list_packets(alloc: Global, scenario: &Scenario) -> Result<Vec<Packet>, AllocError>
     ensures value { IfOk result (λ packets. packets.items ≡ packets_of scenario.now) }
     ensures few { IfOk result (λ packets. length packets.items ≤ MOST_PACKETS) }
@@ -17,10 +17,28 @@ pub(crate) fn list_packets(alloc: Global, scenario: &Scenario) -> Result<Vec<Pac
 {
     let mut packets = Vec::new(alloc);
     for message in 0..scenario.message_count() {
+        list_wait(&mut packets, scenario, message)?;
         list_multicasts(&mut packets, scenario, message)?;
         list_proposals(&mut packets, scenario, message)?;
     }
     Ok(packets)
+}
+
+/// Adds the wait of a message, if it may wait.
+fn list_wait(
+    packets: &mut Vec<Packet>,
+    scenario: &Scenario,
+    message: usize,
+) -> Result<(), AllocError>
+    requires { message < length scenario.now.multicasts }
+    ensures { OnOk result
+        (packets.new.items ≡ packets.old.items
+        ++ wait_packets message (message_at scenario.now message)) }
+{
+    if 0 < scenario.longest_wait(message) {
+        packets.push(Packet::Wait { message })?;
+    }
+    Ok(())
 }
 
 /// Adds a message on its way to each of its destinations but its sender.

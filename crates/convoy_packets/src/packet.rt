@@ -1,11 +1,16 @@
 use convoy_scenario::{MOST_GROUPS, MOST_MULTICASTS};
 
-/// How many packets a scenario has at most.
-pub const MOST_PACKETS: usize = MOST_MULTICASTS * MOST_GROUPS * MOST_GROUPS;
+/// How many packets a scenario has at most, with the waits of its messages.
+pub const MOST_PACKETS: usize = MOST_MULTICASTS * (1 + MOST_GROUPS * MOST_GROUPS);
 
-/// A packet that one place sends another: a place never sends one to itself.
+/// What a schedule gives a number of ticks: a packet that one place sends another, where a place never
+/// sends one to itself, or the wait of a message, which goes nowhere.
 #[derive(Clone, Copy, Debug, PartialEq, Eq)]
 pub enum Packet {
+    /// The wait of a message, from the first tick at which it may be issued to its issue.
+    Wait {
+        message: usize,
+    },
     /// The message itself, on its way from its sender to the group `to`.
     Multicast {
         message: usize,

@@ -5,9 +5,9 @@ use super::packet::Packet;
 use convoy_scenario::{MOST_GROUPS, MOST_MULTICASTS};
 use std::alloc::{AllocError, Global};
 
-/// How many slots a message has: one for each group that it may go to, and one for each pair of
-/// groups.
-const SLOTS_PER_MESSAGE: usize = MOST_GROUPS + MOST_GROUPS * MOST_GROUPS;
+/// How many slots a message has: one for its wait, one for each group that it may go to, and one for
+/// each pair of groups.
+const SLOTS_PER_MESSAGE: usize = 1 + MOST_GROUPS + MOST_GROUPS * MOST_GROUPS;
 
 /// How many slots there are.
 const SLOT_COUNT: usize = MOST_MULTICASTS * SLOTS_PER_MESSAGE;
@@ -17,12 +17,13 @@ fn slot_of(packet: Packet) -> Option<usize>
     ensures { result ≡ slot_of packet }
 {
     match packet {
+        Packet::Wait { message } if message < MOST_MULTICASTS => Some(message * SLOTS_PER_MESSAGE),
         Packet::Multicast { message, to } if message < MOST_MULTICASTS && to < MOST_GROUPS => {
-            Some(message * SLOTS_PER_MESSAGE + to)
+            Some(message * SLOTS_PER_MESSAGE + 1 + to)
         }
         Packet::Propose { message, from, to }
             if message < MOST_MULTICASTS && from < MOST_GROUPS && to < MOST_GROUPS => {
-            Some(message * SLOTS_PER_MESSAGE + MOST_GROUPS + from * MOST_GROUPS + to)
+            Some(message * SLOTS_PER_MESSAGE + 1 + MOST_GROUPS + from * MOST_GROUPS + to)
         }
         _ => None,
     }

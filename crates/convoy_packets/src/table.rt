@@ -1,15 +1,16 @@
 ghost use Rattle.std.specs.Prelude.{◌≡◌, ◌<◌, ◌==◌, length, map, IfOk, Some};
 ghost use Rattle.std.specs.List.{All, slice_get};
-ghost use Rattle.convoy_packets.specs.Assignment.{delay_in, sender_of, receiver_of, range_of};
+ghost use Rattle.convoy_scenario.specs.Scenario.{message_at};
+ghost use Rattle.convoy_packets.specs.Assignment.{delay_in, range_of};
 ghost use Rattle.convoy_packets.specs.Packets.{place_of};
 ghost use Rattle.convoy_packets.specs.Table.{table_of, IsRange, IsTable};
-ghost use Rattle.convoy_packets.specs.declared.packet.Packet.TheVariants.{Multicast, Propose};
+ghost use Rattle.convoy_packets.specs.declared.packet.Packet.TheVariants.{Wait, Multicast, Propose};
 
 use super::listing::list_packets;
 use super::packet::Packet;
 use super::schedule::Schedule;
 use super::slots::{entry_of, slots_for};
-use convoy_scenario::{Scenario, Sender, Time};
+use convoy_scenario::{Scenario, Sender};
 use std::alloc::{AllocError, Global};
 use std::marker::Model;
 
@@ -17,7 +18,7 @@ use std::marker::Model;
 /// each, and where each packet stands. A look-up takes constant time.
 #[derive(Debug, Drop)]
 pub struct PacketTable {
-    time: Time,
+    timed: bool,
     packets: Vec<Packet>,
     ranges: Vec<(u16, u16)>,
     slots: Vec<Option<u16>>,
@@ -28,10 +29,10 @@ impl Model for PacketTable {
 
     ghost Value = { PacketTable };
 
-    ghost view = { λ t. record { time = t.time; packets = t.packets.items; ranges = t.ranges.items } };
+    ghost view = { λ t. record { timed = t.timed; packets = t.packets.items; ranges = t.ranges.items } };
 
     ghost invariant = { λ t. IsIndexed
-        (record { time = t.time; packets = t.packets.items; ranges = t.ranges.items }) t.slots.items };
+        (record { timed = t.timed; packets = t.packets.items; ranges = t.ranges.items }) t.slots.items };
 }
 
 impl PacketTable {
@@ -40,12 +41,12 @@ impl PacketTable {
         ensures value { IfOk result (λ table. table ≡ table_of scenario.now) }
         ensures lawful { IfOk result (λ table. IsTable table) }
     {
-        let time = scenario.time();
+        let timed = scenario.is_timed();
         let packets = list_packets(alloc, scenario)?;
         let ranges = list_ranges(alloc, scenario, &packets)?;
         let slots = slots_for(alloc, &packets)?;
         Ok(PacketTable {
-            time,
+            timed,
             packets,
             ranges,
             slots,
@@ -99,6 +100,13 @@ impl PacketTable {
         entry_of(&self.slots, packet)
     }
 
+    /// The place of the wait of a message; None where it does not wait.
+    pub fn wait(&self, message: usize) -> Option<u16>
+        ensures { result ≡ place_of (Wait message) self.now.packets }
+    {
+        self.place(Packet::Wait { message })
+    }
+
     /// The place of the message on its way from its sender to the group `to`; None where there is
     /// no such packet.
     pub fn multicast_to(&self, message: usize, to: usize) -> Option<u16>
@@ -113,6 +121,13 @@ impl PacketTable {
         ensures { result ≡ place_of (Propose message from to) self.now.packets }
     {
         self.place(Packet::Propose { message, from, to })
+    }
+
+    /// How many ticks a message waits in a schedule before it is issued; 0 where it does not wait.
+    pub fn wait_in(&self, schedule: &Schedule, message: usize) -> u16
+        ensures { result ≡ delay_in self.now.packets schedule.now.delays (Wait message) }
+    {
+        schedule.delay_at(self.wait(message))
     }
 
     /// The delay in a schedule of the message on its way from its sender to the group `to`, in
@@ -149,32 +164,39 @@ fn list_ranges(
 }
 
 /// The least and the greatest delay of a packet, in ticks.
-#[tactic(auto, using(crate::proofs::Ranges::range_within))]
+#[tactic(auto, using(crate::proofs::Ranges::range_lawful))]
 fn range_of(scenario: &Scenario, packet: Packet) -> (u16, u16)
     ensures value { result ≡ range_of scenario.now packet }
     ensures lawful { IsRange result }
 {
-    scenario.range_between(sender_of(scenario, packet), receiver_of(packet))
-}
-
-/// Who sends a packet; a client where the scenario has no such message.
-fn sender_of(scenario: &Scenario, packet: Packet) -> Sender
-    ensures { result ≡ sender_of scenario.now packet }
-{
     match packet {
-        Packet::Multicast { message, .. } if message < scenario.message_count() => {
-            scenario.sender(message)
-        }
-        Packet::Multicast { .. } => Sender::Client,
-        Packet::Propose { from, .. } => Sender::Group(from),
+        Packet::Wait { message } => (0, longest_wait(scenario, message)),
+        Packet::Multicast { message, to } => scenario.range_between(
+            sender_of(scenario, message),
+            to,
+        ),
+        Packet::Propose { from, to, .. } => scenario.range_between(Sender::Group(from), to),
     }
 }
 
-fn receiver_of(packet: Packet) -> usize
-    ensures { result ≡ receiver_of packet }
+/// How many ticks a message waits at most; 0 where the scenario has no such message.
+fn longest_wait(scenario: &Scenario, message: usize) -> u16
+    ensures { result ≡ (message_at scenario.now message).longest_wait }
 {
-    match packet {
-        Packet::Multicast { to, .. } => to,
-        Packet::Propose { to, .. } => to,
+    if message < scenario.message_count() {
+        scenario.longest_wait(message)
+    } else {
+        0
+    }
+}
+
+/// Who sends a message; a client where the scenario has no such message.
+fn sender_of(scenario: &Scenario, message: usize) -> Sender
+    ensures { result ≡ (message_at scenario.now message).sender }
+{
+    if message < scenario.message_count() {
+        scenario.sender(message)
+    } else {
+        Sender::Client
     }
 }

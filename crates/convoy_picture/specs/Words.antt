@@ -3,7 +3,7 @@ use Rattle.std.specs.Prelude.{ℕ, List, ◌∷◌, ◌++◌, codes, decimal}
 use Rattle.convoy_scenario.specs.Scenario.{Scenario, group_name_at}
 use Rattle.convoy_packets.specs.Assignment.{receiver_of}
 use Rattle.convoy_packets.specs.declared.packet.Packet.{Packet}
-use Rattle.convoy_packets.specs.declared.packet.Packet.TheVariants.{Multicast, Propose as Proposal}
+use Rattle.convoy_packets.specs.declared.packet.Packet.TheVariants.{Wait, Multicast, Propose as Proposal}
 use Rattle.convoy_timeline.specs.declared.entry.Entry.{Entry}
 use Rattle.convoy_timeline.specs.declared.entry.EntryKind.{EntryKind}
 use Rattle.convoy_timeline.specs.declared.entry.EntryKind.TheVariants.{Propose, Commit, Deliver}
@@ -20,6 +20,7 @@ answer_text scenario why =
 
 -- what a packet brings
 abbrev pub load_text : Scenario → Packet → List ℕ
+load_text scenario (Wait m) = codes "wait of " ++ message_name_at scenario m
 load_text scenario (Multicast m g) = message_name_at scenario m
 load_text scenario (Proposal m h g) = codes "proposal of " ++ message_name_at scenario m
 

@@ -7,6 +7,7 @@ ghost use Rattle.convoy_sim.specs.Times.{arrive};
 
 use convoy_packets::{Instance, Packet, Schedule};
 use convoy_scenario::{GREATEST_AT, Scenario, Sender};
+use convoy_timeline::issue_of;
 
 /// A packet of a run on its way. Ticks are counted from the start of the run.
 #[derive(Clone, Copy, Debug, PartialEq, Eq)]
@@ -43,13 +44,14 @@ pub(crate) fn flight_of(
     }
 }
 
-/// The tick at which a packet is sent.
+/// The tick at which a packet is sent, or a wait begins.
 fn sent_tick(instance: &Instance, schedule: &Schedule, packet: Packet) -> u32
     ensures value { result ≡ sent_at instance.now schedule.now packet }
-    ensures soon { result ≤ GREATEST_AT + u16.MAX }
+    ensures soon { result ≤ GREATEST_AT + u16.MAX + u16.MAX }
 {
     match packet {
-        Packet::Multicast { message, .. } => issue_tick(instance.scenario(), message),
+        Packet::Wait { message } => first_tick(instance.scenario(), message),
+        Packet::Multicast { message, .. } => issue_of(instance, schedule, message),
         Packet::Propose { message, from, .. } => arrival(instance, schedule, message, from),
     }
 }
@@ -58,19 +60,20 @@ fn sent_tick(instance: &Instance, schedule: &Schedule, packet: Packet) -> u32
 #[tactic(auto, unfolding(convoy_sim::specs::Times::arrive, convoy_packets::specs::Assignment::delay_of))]
 fn arrival(instance: &Instance, schedule: &Schedule, message: usize, group: usize) -> u32
     ensures tick { result ≡ arrive instance.now schedule.now message group }
-    ensures soon { result ≤ GREATEST_AT + u16.MAX }
+    ensures soon { result ≤ GREATEST_AT + u16.MAX + u16.MAX }
 {
     let delay = instance.table().multicast_delay(schedule, message, group);
-    issue_tick(instance.scenario(), message) + u32::from(delay)
+    issue_of(instance, schedule, message) + u32::from(delay)
 }
 
-/// The delay of a packet in a schedule, in ticks.
+/// The delay of a packet in a schedule, or how long a message waits there, in ticks.
 #[tactic(auto, unfolding(convoy_packets::specs::Assignment::delay_of))]
 fn delay(instance: &Instance, schedule: &Schedule, packet: Packet) -> u32
     ensures value { result ≡ delay_of instance.now schedule.now packet }
     ensures short { result ≤ u16.MAX }
 {
     match packet {
+        Packet::Wait { message } => u32::from(instance.table().wait_in(schedule, message)),
         Packet::Multicast { message, to } => {
             u32::from(instance.table().multicast_delay(schedule, message, to))
         }
@@ -85,16 +88,24 @@ fn sender(scenario: &Scenario, packet: Packet) -> Sender
     ensures { result ≡ sender_of scenario.now packet }
 {
     match packet {
-        Packet::Multicast { message, .. } if message < scenario.message_count() => {
-            scenario.sender(message)
-        }
-        Packet::Multicast { .. } => Sender::Client,
+        Packet::Wait { message } | Packet::Multicast { message, .. } => issuer(scenario, message),
         Packet::Propose { from, .. } => Sender::Group(from),
     }
 }
 
-/// The tick at which a message is issued; 0 where the scenario has no such message.
-fn issue_tick(scenario: &Scenario, message: usize) -> u32
+/// Who issues a message; a client where the scenario has no such message.
+fn issuer(scenario: &Scenario, message: usize) -> Sender
+    ensures { result ≡ (message_at scenario.now message).sender }
+{
+    if message < scenario.message_count() {
+        scenario.sender(message)
+    } else {
+        Sender::Client
+    }
+}
+
+/// The first tick at which a message may be issued; 0 where the scenario has no such message.
+fn first_tick(scenario: &Scenario, message: usize) -> u32
     ensures value { result ≡ (message_at scenario.now message).at }
     ensures soon { result ≤ GREATEST_AT }
 {

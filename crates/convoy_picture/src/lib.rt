@@ -1,5 +1,5 @@
-//! What is drawn of a run, as plain values: each packet on its way, what happens at each group, and
-//! what the target waits for; and what is told of that in words.
+//! What is drawn of a run, as plain values: each packet on its way, when each message is issued, what
+//! happens at each group, and what the target waits for; and what is told of that in words.
 #![tactic(auto)]
 
 pub use flight::Flight;

@@ -1,13 +1,14 @@
 ghost use Rattle.std.specs.Prelude.{◌≡◌, IfOk};
-ghost use Rattle.convoy_picture.specs.Pictures.{flights_of, picture_of};
+ghost use Rattle.convoy_picture.specs.Pictures.{flights_of, issues_of, picture_of};
 ghost use Rattle.convoy_packets.specs.Assignment.{IsAssignment};
+ghost use Rattle.convoy_packets.specs.Packets.{is_wait};
 ghost use Rattle.convoy_sim.specs.Run.{IsRunOf};
 
 use super::flight::{Flight, flight_of};
 use convoy_explain::{Explanation, explain};
-use convoy_packets::{Instance, Schedule};
+use convoy_packets::{Instance, Packet, Schedule};
 use convoy_sim::Run;
-use convoy_timeline::{Entry, entries_of};
+use convoy_timeline::{Entry, entries_of, issue_of};
 use std::alloc::{AllocError, Global};
 use std::marker::Model;
 
@@ -16,6 +17,7 @@ use std::marker::Model;
 #[derive(Debug, Drop)]
 pub struct Picture {
     flights: Vec<Flight>,
+    issues: Vec<u32>,
     entries: Vec<Entry>,
     why: Explanation,
 }
@@ -25,7 +27,12 @@ impl Model for Picture {
 
     ghost Value = { Picture };
 
-    ghost view = { λ p. record { flights = p.flights.items; entries = p.entries.items; why = p.why } };
+    ghost view = { λ p. record {
+      flights = p.flights.items;
+      issues = p.issues.items;
+      entries = p.entries.items;
+      why = p.why;
+    } };
 }
 
 impl Picture {
@@ -43,16 +50,24 @@ impl Picture {
     {
         Ok(Picture {
             flights: list_flights(alloc, instance, schedule)?,
+            issues: list_issues(alloc, instance, schedule)?,
             entries: entries_of(alloc, instance.scenario(), run)?,
             why: explain(instance, schedule, run),
         })
     }
 
-    /// Each packet on its way, in packet order.
+    /// Each packet that travels, on its way, in packet order.
     pub fn flights(&self) -> &[Flight]
         ensures { result.now ≡ self.now.flights }
     {
         self.flights.as_slice()
+    }
+
+    /// The tick at which each message is issued, by the number of the message.
+    pub fn issues(&self) -> &[u32]
+        ensures { result.now ≡ self.now.issues }
+    {
+        self.issues.as_slice()
     }
 
     /// What happens at each group, in the order of the timeline.
@@ -71,7 +86,7 @@ impl Picture {
     }
 }
 
-/// The flights of all packets.
+/// The flights of all packets that travel.
 fn list_flights(
     alloc: Global,
     instance: &Instance,
@@ -83,7 +98,34 @@ fn list_flights(
     let mut flights = Vec::with_capacity(alloc, table.len())?;
     for number in 0..table.len() {
         let packet = table.packet(number);
-        flights.push(flight_of(instance, schedule, number, packet))?;
+        if !is_wait(packet) {
+            flights.push(flight_of(instance, schedule, number, packet))?;
+        }
     }
     Ok(flights)
+}
+
+/// Whether it is the wait of a message before its issue, which goes nowhere.
+fn is_wait(packet: Packet) -> bool
+    ensures { result ≡ is_wait packet }
+{
+    match packet {
+        Packet::Wait { .. } => true,
+        Packet::Multicast { .. } | Packet::Propose { .. } => false,
+    }
+}
+
+/// The tick at which each message is issued.
+fn list_issues(
+    alloc: Global,
+    instance: &Instance,
+    schedule: &Schedule,
+) -> Result<Vec<u32>, AllocError>
+    ensures { IfOk result (λ issues. issues.items ≡ issues_of instance.now schedule.now) }
+{
+    let mut issues = Vec::new(alloc);
+    for message in 0..instance.message_count() {
+        issues.push(issue_of(instance, schedule, message))?;
+    }
+    Ok(issues)
 }

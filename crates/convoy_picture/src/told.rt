@@ -52,6 +52,10 @@ fn load_words(alloc: Global, scenario: &Scenario, packet: Packet) -> Result<Stri
     ensures { IfOk result (λ words. string_bytes words ≡ load_text scenario.now packet) }
 {
     match packet {
+        Packet::Wait { message } => {
+            let name = message_name(scenario, message);
+            format!(in alloc; "wait of {name}")
+        }
         Packet::Multicast { message, .. } => {
             String::from_str(alloc, message_name(scenario, message))
         }
@@ -90,11 +94,12 @@ fn doing_word(kind: EntryKind) -> &'static str
     }
 }
 
-/// The number of the group to which a packet goes.
+/// The number of the group to which a packet goes; 0 for a wait, which goes nowhere.
 pub fn receiver_of(packet: Packet) -> usize
     ensures { result ≡ receiver_of packet }
 {
     match packet {
+        Packet::Wait { .. } => 0,
         Packet::Multicast { to, .. } => to,
         Packet::Propose { to, .. } => to,
     }

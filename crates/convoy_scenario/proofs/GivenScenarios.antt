@@ -38,7 +38,7 @@ target_name draft among =
 pub named_target : (draft : Draft) (scenario : Scenario) → scenario_of_draft draft ≡ Ok scenario → IsNamedTarget draft scenario
 named_target draft scenario e =
     let p = passed (judge (checks draft)) (scenario_of draft) scenario e in
-    let references = (all_hold (checks draft) p.0).1.1.1.1.1.1.1.1.1.1.1 in
+    let references = (all_hold (checks draft) p.0).1.1.1.1.1.1.1.1.1.1.1.1 in
     subst (IsNamedTarget draft) p.1 (record {
       message = target_name draft references.1.1.1.1.1.0;
       group = name_at_place draft.target_group draft.groups references.1.0;

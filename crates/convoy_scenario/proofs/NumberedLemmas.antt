@@ -1,5 +1,5 @@
 -- A draft that passes all the checks gives a scenario that is well formed.
-use Rattle.std.proofs.Common.{◌≡◌, ℕ, ℤ, int_le, leb, le-leb, ◌&&◌, ◌∙◌, ap, arith, subst, leb-true, ◌||◌, pos, negsuc, ◌<◌, ◌≤◌, Bool, true, false, not, cond, nat_le, List, [], ◌∷◌, length, get_or, map, Option, Some, None, Result, Ok, Err, refl, sym}
+use Rattle.std.proofs.Common.{◌≡◌, ℕ, ◌+◌, ◌-◌, ℤ, int_le, leb, le-leb, ◌&&◌, ◌∙◌, ap, arith, subst, leb-true, ◌||◌, pos, negsuc, ◌<◌, ◌≤◌, Bool, true, false, not, cond, nat_le, List, [], ◌∷◌, length, get_or, map, Option, Some, None, Result, Ok, Err, refl, sym}
 use Rattle.std.specs.List.{list_all, list_any, find, AllByRecursion, IsDistinct}
 use Rattle.std.specs.Str.{bytes_eq}
 use Rattle.std.proofs.lemmas.Bool.{and_parts, and_from, eqb-true, false≢true, false_from_ne_true}
@@ -9,15 +9,15 @@ use Rattle.std.proofs.lemmas.List.Elements.{All-map, All-from_recursion}
 use Rattle.std.proofs.lemmas.List.Sums.{AllPass-from_list_all}
 use Rattle.std.proofs.lemmas.Slice.Eq.{bytes_eq-Decides}
 use Rattle.convoy_scenario.specs.declared.fault.ScenarioFault.{ScenarioFault}
-use Rattle.convoy_scenario.specs.declared.limits.TheConstants.{GREATEST_AT, GREATEST_DELAY, GREATEST_WHOLE_DELAY, MOST_GROUPS, MOST_MULTICASTS}
+use Rattle.convoy_scenario.specs.declared.limits.TheConstants.{GREATEST_AT, GREATEST_DELAY, GREATEST_UNTIL, GREATEST_WHOLE_DELAY, LONGEST_WAIT, MOST_GROUPS, MOST_MULTICASTS}
 use Rattle.convoy_scenario.specs.Scenario.{Link, Message, message_at, no_message, is_same_sender}
 use Rattle.convoy_scenario.specs.WellFormed.{greatest_delay, is_name, is_group_name, is_tick, is_whole, IsSender, IsLink, IsMulticast, IsScenario}
 use Rattle.convoy_scenario.specs.declared.sender.Sender.TheVariants.{Group}
 use Rattle.convoy_scenario.specs.declared.time.Time.{Time}
 use Rattle.convoy_scenario.specs.declared.time.Time.TheVariants.{Ticks, Real}
 use Rattle.convoy_scenario.specs.Draft.{Draft, DraftLink, DraftMessage}
-use Rattle.convoy_scenario.specs.Checks.{is_within, is_count, is_among, all_differ, is_message, messages_differ, is_known_sender, knows, is_named_alike, has_range, knows_link, leads_elsewhere, is_target_addressed, checks, judge, Check}
-use Rattle.convoy_scenario.specs.Numbering.{place, message_place, ticks, sender_of, numbers_of, link_of, message_of, in_order, delay_of_draft, links_of_draft, scenario_of}
+use Rattle.convoy_scenario.specs.Checks.{is_within, ticks, has_wait, is_count, is_among, all_differ, is_message, messages_differ, is_known_sender, knows, is_named_alike, has_range, knows_link, leads_elsewhere, is_target_addressed, is_target_fixed, checks, judge, Check}
+use Rattle.convoy_scenario.specs.Numbering.{place, message_place, sender_of, numbers_of, link_of, message_of, in_order, delay_of_draft, links_of_draft, scenario_of}
 use Rattle.convoy_scenario.proofs.LinkLemmas.{ticks_again, in_order_all, in_order_ascends}
 use Rattle.convoy_scenario.proofs.NumberLemmas.{numbers_have, numbers_some, numbers_rise, numbers_below}
 use Rattle.convoy_scenario.proofs.PlaceLemmas.{place_within, find_place, name_at_place}
@@ -28,6 +28,7 @@ record Passes (draft : Draft) : Type 0 where
   groups : is_count MOST_GROUPS draft.groups ≡ true
   messages : is_count MOST_MULTICASTS draft.messages ≡ true
   at : list_all (λ m. is_within 0 GREATEST_AT m.at) draft.messages ≡ true
+  waits : list_all has_wait draft.messages ≡ true
   ranges : list_all (has_range draft.delay) draft.links ≡ true
   tick : is_tick draft.time draft.tick ≡ true
   group_names : list_all is_group_name draft.groups ≡ true
@@ -41,6 +42,7 @@ record Passes (draft : Draft) : Type 0 where
   target : is_message draft.target_message draft.messages ≡ true
   addressed : is_target_addressed draft ≡ true
   elsewhere : list_all leads_elsewhere draft.links ≡ true
+  fixed : is_target_fixed draft ≡ true
 
 next_holds : (b : Bool) (fault : ScenarioFault) (rest : Result (Unit {0}) ScenarioFault) → cond b rest (Err fault) ≡ Ok tt → (b ≡ true) × (rest ≡ Ok tt)
 next_holds true fault rest h = (refl, h)
@@ -55,15 +57,16 @@ all_hold (c ∷ cs) h =
 passes : (draft : Draft) → judge (checks draft) ≡ Ok tt → Passes draft
 passes draft h =
     let a = all_hold (checks draft) h in
-    let b = a.1.1.1.1.1.1 in
+    let b = a.1.1.1.1.1.1.1 in
     let c = b.1.1.1.1.1 in
     record {
       delay = a.0;
       groups = a.1.0;
       messages = a.1.1.0;
       at = a.1.1.1.0;
-      ranges = a.1.1.1.1.0;
-      tick = a.1.1.1.1.1.0;
+      waits = a.1.1.1.1.0;
+      ranges = a.1.1.1.1.1.0;
+      tick = a.1.1.1.1.1.1.0;
       group_names = b.0;
       message_names = b.1.0;
       groups_differ = b.1.1.0;
@@ -75,6 +78,7 @@ passes draft h =
       target = c.1.1.1.1.1.0;
       addressed = c.1.1.1.1.1.1.0;
       elsewhere = c.1.1.1.1.1.1.1.0;
+      fixed = c.1.1.1.1.1.1.1.1.0;
     }
 
 ticks-within : (least most : ℕ) (z : ℤ) → is_within least most z ≡ true → (least ≤ ticks most z) × (ticks most z ≤ most)
@@ -84,6 +88,25 @@ ticks-within least most (pos n) h =
     let high = leb-true _ _ parts.1 in
     rw (leb-zero n, parts.1) (low, high)
 ticks-within least most (negsuc n) h = absurd (false≢true h)
+
+-- a message waits no longer than it may
+wait-within : (at until : ℤ) → is_within (ticks GREATEST_AT at) (ticks GREATEST_AT at + LONGEST_WAIT) until ≡ true → ticks GREATEST_AT at ≤ GREATEST_AT
+    → ticks GREATEST_UNTIL until - ticks GREATEST_AT at ≤ LONGEST_WAIT
+wait-within at (pos n) h low =
+    let parts = and_parts (nat_le (ticks GREATEST_AT at) n) (nat_le n (ticks GREATEST_AT at + LONGEST_WAIT)) h in
+    let high = leb-true _ _ parts.1 in
+    rw (ticks_again GREATEST_UNTIL n (omega (arith, high, low))) (omega (arith, high))
+wait-within at (negsuc n) h low = absurd (false≢true h)
+
+-- where the last tick is no later than the first there is nothing to wait for
+no-wait : (at until : ℤ) → int_le until at ≡ true → is_within 0 GREATEST_AT at ≡ true → ticks GREATEST_UNTIL until - ticks GREATEST_AT at ≡ 0
+no-wait (pos m) (pos n) h within =
+    let low = leb-true _ _ h in
+    let high = (ticks-within 0 GREATEST_AT (pos m) within).1 in
+    let m_high = leb-true _ _ (and_parts (nat_le 0 m) (nat_le m GREATEST_AT) within).1 in
+    rw (ticks_again GREATEST_UNTIL n (omega (arith, low, m_high)), ticks_again GREATEST_AT m m_high) (omega (arith, low))
+no-wait (pos m) (negsuc n) h within = omega arith
+no-wait (negsuc m) until h within = absurd (false≢true within)
 
 -- no name is told twice
 apart : {A : Type 0} (p : A → Bool) (xs : List A) → not (list_any p xs) ≡ true → AllByRecursion (λ x. p x ≡ false) xs
@@ -125,9 +148,9 @@ destinations_some groups (name ∷ named) known some =
     let at = name_at_place name groups here in
     numbers_some groups (name ∷ named) (place name groups) (place_within (bytes_eq name) groups here) (rw at (rw ((bytes_eq-Decides name name).1 refl) refl))
 
-multicast_formed : (groups : List (List ℕ)) (message : DraftMessage) → is_name message.name ≡ true → knows groups message ≡ true → nat_le 1 (length message.to) ≡ true → is_within 0 GREATEST_AT message.at ≡ true
+multicast_formed : (groups : List (List ℕ)) (message : DraftMessage) → is_name message.name ≡ true → knows groups message ≡ true → nat_le 1 (length message.to) ≡ true → is_within 0 GREATEST_AT message.at ≡ true → has_wait message ≡ true
     → IsMulticast (length groups) (message_of groups message)
-multicast_formed groups message name known some within =
+multicast_formed groups message name known some within waits =
     let parts = and_parts (is_known_sender groups message.sender) _ known in
     record {
       name = name;
@@ -136,6 +159,7 @@ multicast_formed groups message name known some within =
       ascending = numbers_rise groups message.to;
       known = numbers_below groups message.to;
       at = (ticks-within 0 GREATEST_AT message.at within).1;
+      wait = wait-within message.at message.until waits (ticks-within 0 GREATEST_AT message.at within).1;
     }
 
 pub ranged : (least most delay : ℤ) → is_within 1 GREATEST_DELAY delay ≡ true → (int_le (pos 1) least && int_le least most && int_le most delay) ≡ true
@@ -192,9 +216,12 @@ links_formed draft (link ∷ links) within ranges known other =
 target_is : (draft : Draft) (m : DraftMessage) → find (λ message. bytes_eq draft.target_message message.name) draft.messages ≡ Some m → is_target_addressed draft ≡ true → is_among draft.target_group m.to ≡ true
 target_is draft m e h = rw e at h
 
+target_stays : (draft : Draft) (m : DraftMessage) → find (λ message. bytes_eq draft.target_message message.name) draft.messages ≡ Some m → is_target_fixed draft ≡ true → int_le m.until m.at ≡ true
+target_stays draft m e h = rw e at h
+
 -- a message of which nothing is written
 abbrev pub nothing : DraftMessage
-nothing = record { name = []; sender = None; to = []; at = pos 0 }
+nothing = record { name = []; sender = None; to = []; at = pos 0; until = pos 0 }
 
 -- D is within the limit of its kind of time, and within that of both
 within_both : (time : Time) (delay : ℤ) → is_within 1 (greatest_delay time) delay ≡ true → is_within 1 GREATEST_DELAY delay ≡ true
@@ -225,12 +252,15 @@ scenario_formed draft h =
     let known = AllPass-from_list_all (knows draft.groups) draft.messages p.known in
     let some = AllPass-from_list_all (λ m. nat_le 1 (length m.to)) draft.messages p.somewhere in
     let at = AllPass-from_list_all (λ m. is_within 0 GREATEST_AT m.at) draft.messages p.at in
+    let waits = AllPass-from_list_all has_wait draft.messages p.waits in
     let numbered : length (map (message_of draft.groups) draft.messages) ≡ length draft.messages = length-map draft.messages (message_of draft.groups) in
     let by_name : DraftMessage → Bool = λ m. bytes_eq draft.target_message m.name in
     let t = message_place draft.target_message draft.messages in
     let t_within : t < length draft.messages = place_within by_name draft.messages p.target in
     let target : DraftMessage = get_or draft.messages t nothing in
-    let goes : is_among draft.target_group target.to ≡ true = target_is draft target (find_place by_name draft.messages nothing p.target) p.addressed in
+    let found = find_place by_name draft.messages nothing p.target in
+    let goes : is_among draft.target_group target.to ≡ true = target_is draft target found p.addressed in
+    let stays : int_le target.until target.at ≡ true = target_stays draft target found p.fixed in
     let g = place draft.target_group draft.groups in
     let g_within : g < length draft.groups = place_within (bytes_eq draft.target_group) draft.groups p.target_group in
     let at_g : get_or draft.groups g [] ≡ draft.target_group = name_at_place draft.target_group draft.groups p.target_group in
@@ -249,9 +279,10 @@ scenario_formed draft h =
       links = All-from_recursion (IsLink (length draft.groups) (delay_of_draft draft)) (in_order (delay_of_draft draft) (links_of_draft draft)) (in_order_all (IsLink (length draft.groups) (delay_of_draft draft)) (delay_of_draft draft) (links_of_draft draft) (links_formed draft draft.links within p.ranges p.ends p.elsewhere));
       ascending = in_order_ascends (delay_of_draft draft) (links_of_draft draft);
       message_names_differ = messages_distinct draft.groups draft.messages p.messages_differ;
-      messages = All-map (IsMulticast (length draft.groups)) (message_of draft.groups) draft.messages (λ k d within. multicast_formed draft.groups (get_or draft.messages k d) (names k d within) (known k d within) (some k d within) (at k d within));
+      messages = All-map (IsMulticast (length draft.groups)) (message_of draft.groups) draft.messages (λ k d within. multicast_formed draft.groups (get_or draft.messages k d) (names k d within) (known k d within) (some k d within) (at k d within) (waits k d within));
       target = rw numbered t_within;
       addressed = rw stands (numbers_have draft.groups target.to g g_within (rw at_g goes));
+      fixed = rw stands (no-wait target.at target.until stays (at t nothing t_within));
     }
 
 -- the same of a scenario that is made part by part, each from a part of the draft or from an equal of it

@@ -1,6 +1,6 @@
 -- Worked rows: what the definitions give for some drafts.
 use Rattle.std.proofs.Common.{◌≡◌, refl, ℕ, pos, negsuc, List, [], ◌∷◌, Option, Some, None, Ok, Err, codes}
-use Rattle.convoy_scenario.specs.declared.fault.ScenarioFault.TheVariants.{OverLimit, BadName, DoubleName, UnknownGroup, NoDestination, DoubleDestination, UnknownTarget, TargetNotAddressed, LinkToItself}
+use Rattle.convoy_scenario.specs.declared.fault.ScenarioFault.TheVariants.{OverLimit, BadName, DoubleName, UnknownGroup, NoDestination, DoubleDestination, UnknownTarget, TargetNotAddressed, LinkToItself, TargetWaits}
 use Rattle.convoy_scenario.specs.declared.fault.Limit.TheVariants as limit
 use Rattle.convoy_scenario.specs.declared.sender.Sender.TheVariants.{Client, Group}
 use Rattle.convoy_scenario.specs.declared.time.Time.TheVariants.{Ticks, Real}
@@ -19,9 +19,9 @@ base = record {
   groups = codes "a" ∷ codes "b" ∷ [];
   links = [];
   messages =
-      record { name = codes "x"; sender = None; to = codes "b" ∷ []; at = pos 0 }
-      ∷ record { name = codes "t"; sender = None; to = codes "b" ∷ codes "a" ∷ []; at = pos 0 }
-      ∷ record { name = codes "y"; sender = Some (codes "a"); to = codes "a" ∷ codes "b" ∷ []; at = pos 6 }
+      record { name = codes "x"; sender = None; to = codes "b" ∷ []; at = pos 0; until = pos 0 }
+      ∷ record { name = codes "t"; sender = None; to = codes "b" ∷ codes "a" ∷ []; at = pos 0; until = pos 0 }
+      ∷ record { name = codes "y"; sender = Some (codes "a"); to = codes "a" ∷ codes "b" ∷ []; at = pos 6; until = pos 6 }
       ∷ [];
   target_message = codes "t";
   target_group = codes "a";
@@ -35,9 +35,9 @@ base_scenario = record {
   groups = codes "a" ∷ codes "b" ∷ [];
   links = [];
   multicasts =
-      record { name = codes "x"; sender = Client; destinations = 1 ∷ []; at = 0 }
-      ∷ record { name = codes "t"; sender = Client; destinations = 0 ∷ 1 ∷ []; at = 0 }
-      ∷ record { name = codes "y"; sender = Group 0; destinations = 0 ∷ 1 ∷ []; at = 6 }
+      record { name = codes "x"; sender = Client; destinations = 1 ∷ []; at = 0; longest_wait = 0 }
+      ∷ record { name = codes "t"; sender = Client; destinations = 0 ∷ 1 ∷ []; at = 0; longest_wait = 0 }
+      ∷ record { name = codes "y"; sender = Group 0; destinations = 0 ∷ 1 ∷ []; at = 6; longest_wait = 0 }
       ∷ [];
   target_message = 1;
   target_group = 0;
@@ -51,7 +51,7 @@ real_numbered = refl
 
 -- one message
 abbrev lone : List ℕ → List (List ℕ) → Draft
-lone name to = record base { messages = record { name = name; sender = None; to = to; at = pos 0 } ∷ [] }
+lone name to = record base { messages = record { name = name; sender = None; to = to; at = pos 0; until = pos 0 } ∷ [] }
 
 delay_low : scenario_of_draft (record base { delay = pos 0 }) ≡ Err (OverLimit limit.Delay)
 delay_low = refl
@@ -77,7 +77,7 @@ bad_message = refl
 double_group : scenario_of_draft (record base { groups = codes "a" ∷ codes "a" ∷ [] }) ≡ Err DoubleName
 double_group = refl
 
-unknown_sender : scenario_of_draft (record base { messages = record { name = codes "t"; sender = Some (codes "client"); to = []; at = pos 0 } ∷ [] }) ≡ Err UnknownGroup
+unknown_sender : scenario_of_draft (record base { messages = record { name = codes "t"; sender = Some (codes "client"); to = []; at = pos 0; until = pos 0 } ∷ [] }) ≡ Err UnknownGroup
 unknown_sender = refl
 
 unknown_destination : scenario_of_draft (lone (codes "t") (codes "a" ∷ codes "c" ∷ [])) ≡ Err UnknownGroup
@@ -97,6 +97,36 @@ unknown_target = refl
 
 not_addressed : scenario_of_draft (lone (codes "t") (codes "b" ∷ [])) ≡ Err TargetNotAddressed
 not_addressed = refl
+
+-- ---- waits
+
+-- the base in which y is issued at a tick from 6 to that one, and t from tick 0 to that one
+abbrev waiting : ℕ → ℕ → Draft
+waiting y t = record base {
+  messages =
+      record { name = codes "x"; sender = None; to = codes "b" ∷ []; at = pos 0; until = pos 0 }
+      ∷ record { name = codes "t"; sender = None; to = codes "b" ∷ codes "a" ∷ []; at = pos 0; until = pos t }
+      ∷ record { name = codes "y"; sender = Some (codes "a"); to = codes "a" ∷ codes "b" ∷ []; at = pos 6; until = pos y }
+      ∷ [];
+}
+
+wait_numbered : scenario_of_draft (waiting 9 0) ≡ Ok (record base_scenario {
+  multicasts =
+      record { name = codes "x"; sender = Client; destinations = 1 ∷ []; at = 0; longest_wait = 0 }
+      ∷ record { name = codes "t"; sender = Client; destinations = 0 ∷ 1 ∷ []; at = 0; longest_wait = 0 }
+      ∷ record { name = codes "y"; sender = Group 0; destinations = 0 ∷ 1 ∷ []; at = 6; longest_wait = 3 }
+      ∷ [];
+})
+wait_numbered = refl
+
+until_before_at : scenario_of_draft (waiting 5 0) ≡ Err (OverLimit limit.Until)
+until_before_at = refl
+
+until_too_far : scenario_of_draft (waiting 65542 0) ≡ Err (OverLimit limit.Until)
+until_too_far = refl
+
+target_waits : scenario_of_draft (waiting 9 1) ≡ Err TargetWaits
+target_waits = refl
 
 -- ---- links
 

@@ -1,17 +1,25 @@
 -- The rules for a scenario as it is written, in the order in which they are asked.
-use Rattle.std.specs.Prelude.{ℕ, ℤ, pos, int_le, Bool, true, false, ◌&&◌, not, nat_le, if◌then◌else◌, List, [], ◌∷◌, ◌++◌, length, Option, Some, None, find, Result, Ok, Err}
+use Rattle.std.specs.Prelude.{ℕ, ◌+◌, ℤ, nat_abs, pos, int_le, Bool, true, false, ◌&&◌, not, nat_le, if◌then◌else◌, List, [], ◌∷◌, ◌++◌, length, Option, Some, None, find, Result, Ok, Err}
 use Rattle.std.specs.List.{list_all, list_any}
 use Rattle.std.specs.Str.{bytes_eq}
 use Rattle.convoy_scenario.specs.declared.fault.ScenarioFault.{ScenarioFault}
-use Rattle.convoy_scenario.specs.declared.fault.ScenarioFault.TheVariants.{OverLimit, BadName, DoubleName, UnknownGroup, NoDestination, DoubleDestination, UnknownTarget, TargetNotAddressed, LinkToItself}
-use Rattle.convoy_scenario.specs.declared.fault.Limit.TheVariants.{Delay, Groups, Multicasts, At, Link, Tick}
-use Rattle.convoy_scenario.specs.declared.limits.TheConstants.{GREATEST_AT, MOST_GROUPS, MOST_MULTICASTS}
+use Rattle.convoy_scenario.specs.declared.fault.ScenarioFault.TheVariants.{OverLimit, BadName, DoubleName, UnknownGroup, NoDestination, DoubleDestination, UnknownTarget, TargetNotAddressed, LinkToItself, TargetWaits}
+use Rattle.convoy_scenario.specs.declared.fault.Limit.TheVariants.{Delay, Groups, Multicasts, At, Until, Link, Tick}
+use Rattle.convoy_scenario.specs.declared.limits.TheConstants.{GREATEST_AT, LONGEST_WAIT, MOST_GROUPS, MOST_MULTICASTS}
 use Rattle.convoy_scenario.specs.Draft.{Draft, DraftLink, DraftMessage}
 use Rattle.convoy_scenario.specs.WellFormed.{greatest_delay, is_name, is_group_name, is_tick}
 
 -- a number from the least to the most
 abbrev pub is_within : ℕ → ℕ → ℤ → Bool
 is_within least most z = int_le (pos least) z && int_le z (pos most)
+
+-- the number, or 0 where it is not from 0 to the most
+abbrev pub ticks : ℕ → ℤ → ℕ
+ticks most z = if is_within 0 most z then nat_abs z else 0
+
+-- a message is issued no earlier than it may be, and at most so long after
+abbrev pub has_wait : DraftMessage → Bool
+has_wait message = is_within (ticks GREATEST_AT message.at) (ticks GREATEST_AT message.at + LONGEST_WAIT) message.until
 
 -- a list of at least one and at most so many
 abbrev pub is_count : {A : Type 0} → ℕ → List A → Bool
@@ -79,6 +87,13 @@ is_target_addressed draft = goes (find (λ message. bytes_eq draft.target_messag
   goes None = false
   goes (Some message) = is_among draft.target_group message.to
 
+-- the first message of the target's name is issued at the tick that is written
+abbrev pub is_target_fixed : Draft → Bool
+is_target_fixed draft = is_fixed (find (λ message. bytes_eq draft.target_message message.name) draft.messages) where
+  is_fixed : Option DraftMessage → Bool
+  is_fixed None = false
+  is_fixed (Some message) = int_le message.until message.at
+
 -- a rule and the fault that is told where it does not hold
 abbrev pub Check : Type 0
 Check = Bool × ScenarioFault
@@ -90,6 +105,7 @@ limit_checks draft =
     ∷ (is_count MOST_GROUPS draft.groups, OverLimit Groups)
     ∷ (is_count MOST_MULTICASTS draft.messages, OverLimit Multicasts)
     ∷ (list_all (λ message. is_within 0 GREATEST_AT message.at) draft.messages, OverLimit At)
+    ∷ (list_all has_wait draft.messages, OverLimit Until)
     ∷ (list_all (has_range draft.delay) draft.links, OverLimit Link)
     ∷ (is_tick draft.time draft.tick, OverLimit Tick)
     ∷ []
@@ -115,6 +131,7 @@ reference_checks draft =
     ∷ (is_message draft.target_message draft.messages, UnknownTarget)
     ∷ (is_target_addressed draft, TargetNotAddressed)
     ∷ (list_all leads_elsewhere draft.links, LinkToItself)
+    ∷ (is_target_fixed draft, TargetWaits)
     ∷ []
 
 -- all the rules, in order

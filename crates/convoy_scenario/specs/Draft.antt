@@ -2,12 +2,13 @@
 use Rattle.std.specs.Prelude.{ℕ, ℤ, List, Option}
 use Rattle.convoy_scenario.specs.declared.time.Time.{Time}
 
--- a message as it is written: its name, the group that sends it (none for a client), the groups that it goes to, and its tick
+-- a message as it is written: its name, the group that sends it (none for a client), the groups that it goes to, and the first and the last tick at which it may be issued
 pub record DraftMessage : Type 0 where
   pub name : List ℕ
   pub sender : Option (List ℕ)
   pub to : List (List ℕ)
   pub at : ℤ
+  pub until : ℤ
 
 -- a link as it is written: the group that sends (none for a client), the group that it leads to, and the least and the greatest delay
 pub record DraftLink : Type 0 where

@@ -2,7 +2,7 @@
 use Rattle.std.specs.Prelude.{ℕ, if◌then◌else◌, List, Option, Some, None, codes}
 use Rattle.std.specs.Str.{bytes_eq}
 use Rattle.convoy_scenario.specs.declared.fault.Key.{Key}
-use Rattle.convoy_scenario.specs.declared.fault.Key.TheVariants.{Time, Tick, Delay, Groups, Multicast, Name, From, To, At, Target, Message, Group, Link, Least, Most, Both, Schedule, Order, Unknown}
+use Rattle.convoy_scenario.specs.declared.fault.Key.TheVariants.{Time, Tick, Delay, Groups, Multicast, Name, From, To, At, Until, Target, Message, Group, Link, Least, Most, Both, Schedule, Order, Unknown}
 use Rattle.convoy_scenario.specs.declared.time.Time.{Time as AnyTime}
 use Rattle.convoy_scenario.specs.declared.time.Time.TheVariants.{Ticks, Real}
 
@@ -17,6 +17,7 @@ key_word Name = codes "name"
 key_word From = codes "from"
 key_word To = codes "to"
 key_word At = codes "at"
+key_word Until = codes "until"
 key_word Target = codes "target"
 key_word Message = codes "message"
 key_word Group = codes "group"

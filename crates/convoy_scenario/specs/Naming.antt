@@ -1,5 +1,5 @@
 -- A scenario with names in place of numbers: the draft of which it is the scenario.
-use Rattle.std.specs.Prelude.{ℕ, pos, List, map, Option, Some, None}
+use Rattle.std.specs.Prelude.{ℕ, ◌+◌, pos, List, map, Option, Some, None}
 use Rattle.convoy_scenario.specs.declared.sender.Sender.{Sender}
 use Rattle.convoy_scenario.specs.declared.sender.Sender.TheVariants.{Client, Group}
 use Rattle.convoy_scenario.specs.Draft.{Draft, DraftLink, DraftMessage}
@@ -23,6 +23,7 @@ draft_message scenario message = record {
   sender = sender_name scenario message.sender;
   to = map (group_name_at scenario) message.destinations;
   at = pos message.at;
+  until = pos (message.at + message.longest_wait);
 }
 
 -- a link by names

@@ -1,16 +1,16 @@
 -- The scenario of a draft, with numbers in place of names. Each word here has a value for any draft; only where all the checks hold do they mean what they say.
-use Rattle.std.specs.Prelude.{ℕ, ℤ, nat_abs, if◌then◌else◌, List, [], ◌∷◌, map, length, filter, Option, Some, None, unwrap_or, position, Result, Ok}
+use Rattle.std.specs.Prelude.{ℕ, ◌-◌, if◌then◌else◌, List, [], ◌∷◌, map, length, filter, Option, Some, None, unwrap_or, position, Result, Ok}
 use Rattle.std.specs.List.{range_with_len}
 use Rattle.std.specs.Result.{result_and}
 use Rattle.std.specs.Str.{bytes_eq}
 use Rattle.std.proofs.Common.{get_or}
 use Rattle.convoy_scenario.specs.declared.fault.ScenarioFault.{ScenarioFault}
-use Rattle.convoy_scenario.specs.declared.limits.TheConstants.{GREATEST_AT, GREATEST_DELAY}
+use Rattle.convoy_scenario.specs.declared.limits.TheConstants.{GREATEST_AT, GREATEST_DELAY, GREATEST_UNTIL}
 use Rattle.convoy_scenario.specs.declared.sender.Sender.{Sender}
 use Rattle.convoy_scenario.specs.declared.sender.Sender.TheVariants.{Client, Group}
 use Rattle.convoy_scenario.specs.Scenario.{Link, Message, Scenario}
 use Rattle.convoy_scenario.specs.Draft.{Draft, DraftLink, DraftMessage}
-use Rattle.convoy_scenario.specs.Checks.{is_within, is_among, checks, judge}
+use Rattle.convoy_scenario.specs.Checks.{is_among, ticks, checks, judge}
 use Rattle.convoy_scenario.specs.WellFormed.{is_before, is_whole}
 
 -- the place of the name, or 0 where it is not there
@@ -20,10 +20,6 @@ place name names = unwrap_or (position (bytes_eq name) names) 0
 -- the place of the first message of the name, or 0 where there is none
 abbrev pub message_place : List ℕ → List DraftMessage → ℕ
 message_place name messages = unwrap_or (position (λ message. bytes_eq name message.name) messages) 0
-
--- the number, or 0 where it is not from 0 to the most
-abbrev pub ticks : ℕ → ℤ → ℕ
-ticks most z = if is_within 0 most z then nat_abs z else 0
 
 -- the sender that is written so
 abbrev pub sender_of : List (List ℕ) → Option (List ℕ) → Sender
@@ -41,6 +37,7 @@ message_of groups message = record {
   sender = sender_of groups message.sender;
   destinations = numbers_of groups message.to;
   at = ticks GREATEST_AT message.at;
+  longest_wait = ticks GREATEST_UNTIL message.until - ticks GREATEST_AT message.at;
 }
 
 -- a link with numbers

@@ -1,17 +1,19 @@
 -- What a scenario says, as plain data: groups and messages go by number, from 0, in the order of the text.
-use Rattle.std.specs.Prelude.{ℕ, Bool, true, false, ◌==◌, ◌&&◌, List, [], length, find, slice_index_or, Option, IsTrue}
+use Rattle.std.specs.Prelude.{ℕ, nat_lt, Bool, true, false, ◌==◌, ◌&&◌, List, [], length, find, slice_index_or, Option, IsTrue}
 use Rattle.std.specs.List.{list_any, range_with_len}
 use Rattle.std.specs.Option.{option_map_or}
 use Rattle.convoy_scenario.specs.declared.sender.Sender.{Sender}
 use Rattle.convoy_scenario.specs.declared.sender.Sender.TheVariants.{Client, Group}
 use Rattle.convoy_scenario.specs.declared.time.Time.{Time}
+use Rattle.convoy_scenario.specs.declared.time.Time.TheVariants.{Ticks, Real}
 
--- a message: its name, who sends it, the groups that it goes to, and the tick at which it is issued
+-- a message: its name, who sends it, the groups that it goes to, the tick from which it may be issued, and how long it may wait from then to its issue
 pub record Message : Type 0 where
   pub name : List ℕ
   pub sender : Sender
   pub destinations : List ℕ
   pub at : ℕ
+  pub longest_wait : ℕ
 
 -- a link: what goes from the sender to the group takes a number of ticks from the least to the most
 pub record Link : Type 0 where
@@ -33,11 +35,22 @@ pub record Scenario : Type 0 where
 
 -- what stands for a message past the last one: it goes to no group
 abbrev pub no_message : Message
-no_message = record { name = []; sender = Client; destinations = []; at = 0 }
+no_message = record { name = []; sender = Client; destinations = []; at = 0; longest_wait = 0 }
 
 -- the message of that number
 abbrev pub message_at : Scenario → ℕ → Message
 message_at scenario m = slice_index_or scenario.multicasts m no_message
+
+-- the message may wait: it is not known at which tick it is issued
+abbrev pub may_wait : Message → Bool
+may_wait message = nat_lt 0 message.longest_wait
+
+-- time is real, or some message may wait: lines that tell such a scenario say how time goes
+abbrev pub is_timed : Scenario → Bool
+is_timed scenario = by_time scenario.time where
+  by_time : Time → Bool
+  by_time Real = true
+  by_time Ticks = list_any may_wait scenario.multicasts
 
 -- the name of the group of that number
 abbrev pub group_name_at : Scenario → ℕ → List ℕ

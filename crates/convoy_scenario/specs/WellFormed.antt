@@ -5,7 +5,7 @@ use Rattle.std.specs.List.Sorted.{IsStrictlyIncreasing}
 use Rattle.std.specs.Str.{bytes_eq}
 use Rattle.convoy_scenario.specs.declared.sender.Sender.{Sender}
 use Rattle.convoy_scenario.specs.declared.sender.Sender.TheVariants.{Client, Group}
-use Rattle.convoy_scenario.specs.declared.limits.TheConstants.{GREATEST_AT, GREATEST_DELAY, GREATEST_WHOLE_DELAY, LONGEST_NAME, MOST_GROUPS, MOST_MULTICASTS}
+use Rattle.convoy_scenario.specs.declared.limits.TheConstants.{GREATEST_AT, GREATEST_DELAY, GREATEST_WHOLE_DELAY, LONGEST_NAME, LONGEST_WAIT, MOST_GROUPS, MOST_MULTICASTS}
 use Rattle.convoy_scenario.specs.declared.duration.TheConstants.{LONGEST_DURATION, MOST_UNITS}
 use Rattle.convoy_scenario.specs.declared.time.Time.{Time}
 use Rattle.convoy_scenario.specs.declared.time.Time.TheVariants.{Ticks, Real}
@@ -53,7 +53,7 @@ abbrev pub IsSender : ℕ → Sender → Type 0
 IsSender groups Client = Unit {0}
 IsSender groups (Group g) = g < groups
 
--- a message among so many groups: it has a name and an issue tick within the limits, and goes to one group or more, each named once, in the order of their numbers
+-- a message among so many groups: it has a name, a first tick and a longest wait within the limits, and goes to one group or more, each named once, in the order of their numbers
 pub record IsMulticast (groups : ℕ) (message : Message) : Type 0 where
   pub name : IsTrue (is_name message.name)
   pub sender : IsSender groups message.sender
@@ -61,6 +61,7 @@ pub record IsMulticast (groups : ℕ) (message : Message) : Type 0 where
   pub ascending : IsStrictlyIncreasing message.destinations
   pub known : All (λ g. g < groups) message.destinations
   pub at : message.at ≤ GREATEST_AT
+  pub wait : message.longest_wait ≤ LONGEST_WAIT
 
 -- the link has the range of what has no link: 1 to D
 abbrev pub is_whole : ℕ → Link → Bool
@@ -97,7 +98,7 @@ abbrev pub ascend_after : Option Link → List Link → Bool
 ascend_after before [] = true
 ascend_after before (link ∷ links) = follows before link && ascend_after (Some link) links
 
--- the limits hold, names are names and differ, links stand in their order, and all that is referred to is there
+-- the limits hold, names are names and differ, links stand in their order, all that is referred to is there, and the target does not wait
 pub record IsScenario (scenario : Scenario) : Type 0 where
   pub delay_low : 1 ≤ scenario.delay
   pub delay_high : scenario.delay ≤ GREATEST_DELAY
@@ -115,3 +116,4 @@ pub record IsScenario (scenario : Scenario) : Type 0 where
   pub messages : All (IsMulticast (length scenario.groups)) scenario.multicasts
   pub target : scenario.target_message < length scenario.multicasts
   pub addressed : IsTrue (is_addressed (message_at scenario scenario.target_message) scenario.target_group)
+  pub fixed : (message_at scenario scenario.target_message).longest_wait ≡ 0

@@ -1,13 +1,13 @@
-ghost use Rattle.std.specs.Prelude.{◌≡◌, ◌&&◌, length, nat_le, find, not, option_copied};
+ghost use Rattle.std.specs.Prelude.{◌≡◌, ◌≤◌, ◌&&◌, length, nat_le, find, not, option_copied};
 ghost use Rattle.std.specs.List.{list_all, list_any};
 ghost use Rattle.std.specs.Str.{bytes_eq};
 ghost use Rattle.convoy_scenario.specs.WellFormed.{is_name, is_group_name, is_tick};
-ghost use Rattle.convoy_scenario.specs.Checks.{is_within, is_count, is_among, all_differ, is_known_sender, is_message, messages_differ, knows, is_target_addressed, is_named_alike, is_same_pair, links_differ, has_range, knows_link, leads_elsewhere, limit_checks, name_checks, reference_checks, checks, judge};
+ghost use Rattle.convoy_scenario.specs.Checks.{is_within, ticks, has_wait, is_count, is_among, all_differ, is_known_sender, is_message, messages_differ, knows, is_target_addressed, is_target_fixed, is_named_alike, is_same_pair, links_differ, has_range, knows_link, leads_elsewhere, limit_checks, name_checks, reference_checks, checks, judge};
 
 use super::draft::{DraftLink, DraftMulticast, DraftScenario};
 use super::duration::{Duration, LONGEST_DURATION, MOST_UNITS};
 use super::fault::{Limit, ScenarioFault};
-use super::limits::{GREATEST_AT, MOST_GROUPS, MOST_MULTICASTS};
+use super::limits::{GREATEST_AT, LONGEST_WAIT, MOST_GROUPS, MOST_MULTICASTS};
 use super::name::Name;
 use super::time::Time;
 
@@ -34,6 +34,9 @@ fn check_limits(draft: &DraftScenario) -> Result<(), ScenarioFault>
     }
     if !ticks_are_within(&draft.multicasts) {
         return Err(ScenarioFault::OverLimit(Limit::At));
+    }
+    if !all_have_waits(&draft.multicasts) {
+        return Err(ScenarioFault::OverLimit(Limit::Until));
     }
     if !all_have_ranges(draft.delay, &draft.links) {
         return Err(ScenarioFault::OverLimit(Limit::Link));
@@ -92,6 +95,9 @@ fn check_references(draft: &DraftScenario) -> Result<(), ScenarioFault>
     if !all_lead_elsewhere(&draft.links) {
         return Err(ScenarioFault::LinkToItself);
     }
+    if !is_target_fixed(draft) {
+        return Err(ScenarioFault::TargetWaits);
+    }
     Ok(())
 }
 
@@ -117,6 +123,18 @@ pub fn is_within(number: i64, least: u32, most: u32) -> bool
     i64::from(least) <= number && number <= i64::from(most)
 }
 
+/// The number, or 0 where it is not from 0 to `most`.
+pub fn ticks(number: i64, most: u32) -> u32
+    ensures value { result ≡ ticks most number }
+    ensures bounded { result ≤ most }
+{
+    if is_within(number, 0, most) {
+        number as u32
+    } else {
+        0
+    }
+}
+
 fn is_count(count: usize, most: usize) -> bool
     ensures { result ≡ (nat_le 1 count && nat_le count most) }
 {
@@ -127,6 +145,21 @@ fn ticks_are_within(multicasts: &[DraftMulticast]) -> bool
     ensures { result ≡ list_all (λ m. is_within 0 GREATEST_AT m.at) multicasts.now }
 {
     multicasts.iter().all(|m| is_within(m.at, 0, GREATEST_AT))
+}
+
+/// Whether the last tick at which the message may be issued is no earlier than the first, and at most
+/// `LONGEST_WAIT` after it.
+fn has_wait(multicast: &DraftMulticast) -> bool
+    ensures { result ≡ has_wait multicast.now }
+{
+    let at = ticks(multicast.at, GREATEST_AT);
+    is_within(multicast.until, at, at + u32::from(LONGEST_WAIT))
+}
+
+fn all_have_waits(multicasts: &[DraftMulticast]) -> bool
+    ensures { result ≡ list_all has_wait multicasts.now }
+{
+    multicasts.iter().all(|m| has_wait(m))
 }
 
 fn group_names_are_good(groups: &[Name]) -> bool
@@ -219,6 +252,15 @@ fn is_target_addressed(draft: &DraftScenario) -> bool
 {
     match find_message(&draft.target_message, &draft.multicasts) {
         Some(multicast) => draft.target_group.is_among(&multicast.to),
+        None => false,
+    }
+}
+
+fn is_target_fixed(draft: &DraftScenario) -> bool
+    ensures { result ≡ is_target_fixed draft.now }
+{
+    match find_message(&draft.target_message, &draft.multicasts) {
+        Some(multicast) => multicast.until <= multicast.at,
         None => false,
     }
 }

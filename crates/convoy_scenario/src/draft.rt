@@ -11,8 +11,10 @@ pub struct DraftMulticast {
     pub sender: Option<Name>,
     /// The groups that it goes to, in the order in which they are written.
     pub to: Vec<Name>,
-    /// The tick at which it is issued, within the limits or not.
+    /// The first tick at which it may be issued, within the limits or not.
     pub at: i64,
+    /// The last tick at which it may be issued: `at` where its issue is known.
+    pub until: i64,
 }
 
 impl Model for DraftMulticast {
@@ -25,6 +27,7 @@ impl Model for DraftMulticast {
       sender = m.sender;
       to = m.to.items;
       at = m.at;
+      until = m.until;
     } };
 }
 

@@ -1,7 +1,7 @@
 use super::duration::{LONGEST_DURATION, MOST_UNITS};
 use super::limits::{
-    GREATEST_AT, GREATEST_DELAY, GREATEST_WHOLE_DELAY, LONGEST_NAME, MOST_GROUPS, MOST_LINKS,
-    MOST_MULTICASTS,
+    GREATEST_AT, GREATEST_DELAY, GREATEST_WHOLE_DELAY, LONGEST_NAME, LONGEST_WAIT, MOST_GROUPS,
+    MOST_LINKS, MOST_MULTICASTS,
 };
 use std::alloc::{AllocError, AllocFailed};
 use std::fmt;
@@ -19,6 +19,7 @@ pub enum Key {
     From,
     To,
     At,
+    Until,
     Target,
     Message,
     Group,
@@ -42,8 +43,11 @@ pub enum Limit {
     Groups,
     /// There are 1 to `MOST_MULTICASTS` multicasts.
     Multicasts,
-    /// A message is issued at a tick from 0 to `GREATEST_AT`.
+    /// A message is issued at a tick from 0 to `GREATEST_AT`, or waits from then on.
     At,
+    /// The last tick at which a message may be issued is not before the first, and at most
+    /// `LONGEST_WAIT` after it.
+    Until,
     /// There are at most `MOST_LINKS` lines `link`; the least delay of a link is 1 or more, and its
     /// greatest not less and at most D.
     Link,
@@ -93,6 +97,9 @@ pub enum ScenarioFault {
     /// A link leads from a group to that group.
     #[error("a link leads from a group to itself")]
     LinkToItself,
+    /// The target's message may wait, so that its issue is not known.
+    #[error("the target's message may be issued later than at its first tick")]
+    TargetWaits,
     /// Memory ran out, which says nothing of the text.
     #[error("out of memory")]
     Memory,
@@ -116,6 +123,7 @@ impl Key {
             Key::From => "from",
             Key::To => "to",
             Key::At => "at",
+            Key::Until => "until",
             Key::Target => "target",
             Key::Message => "message",
             Key::Group => "group",
@@ -146,6 +154,10 @@ impl fmt::Display for Limit {
             Limit::Groups => write!(f, "there are 1 to {MOST_GROUPS} groups"),
             Limit::Multicasts => write!(f, "there are 1 to {MOST_MULTICASTS} multicasts"),
             Limit::At => write!(f, "a message is issued at a tick from 0 to {GREATEST_AT}"),
+            Limit::Until => write!(
+                f,
+                "a message is issued at most {LONGEST_WAIT} ticks after the first tick at which it may be"
+            ),
             Limit::Link => write!(
                 f,
                 "there are at most {MOST_LINKS} links, each with 1 <= least <= most <= delay"

@@ -6,8 +6,8 @@ pub use draft::{DraftLink, DraftMulticast, DraftScenario};
 pub use duration::{Duration, LONGEST_DURATION, MOST_UNITS, TimeUnit};
 pub use fault::{Key, Limit, ScenarioFault};
 pub use limits::{
-    GREATEST_AT, GREATEST_DELAY, GREATEST_WHOLE_DELAY, LONGEST_NAME, MOST_GROUPS, MOST_LINKS,
-    MOST_MULTICASTS,
+    GREATEST_AT, GREATEST_DELAY, GREATEST_UNTIL, GREATEST_WHOLE_DELAY, LONGEST_NAME, LONGEST_WAIT,
+    MOST_GROUPS, MOST_LINKS, MOST_MULTICASTS,
 };
 pub use link::Link;
 pub use name::Name;

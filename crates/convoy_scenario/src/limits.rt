@@ -13,8 +13,15 @@ pub const MOST_MULTICASTS: usize = 16;
 /// How many links a scenario has at most: one from each sender, the client among them, to each group.
 pub const MOST_LINKS: usize = (MOST_GROUPS + 1) * MOST_GROUPS;
 
-/// The last tick at which a message may be issued.
+/// The last tick that may be written as the first at which a message is issued.
 pub const GREATEST_AT: u32 = 1_000_000;
+
+/// How many ticks a message waits at most, from the first tick at which it may be issued to its issue.
+pub const LONGEST_WAIT: u16 = 65_535;
+
+/// The last tick of all at which a message is issued: it waits as long as any may from the last tick
+/// that may be written for it.
+pub const GREATEST_UNTIL: u32 = 1_065_535;
 
 /// How many bytes a name has at most.
 pub const LONGEST_NAME: usize = 16;

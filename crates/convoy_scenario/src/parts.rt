@@ -15,8 +15,10 @@ pub struct MessageParts<'a> {
     pub sender: Option<&'a str>,
     /// The groups that it goes to, in any order.
     pub to: &'a [&'a str],
-    /// The tick at which it is issued.
+    /// The first tick at which it may be issued.
     pub at: u32,
+    /// The last tick at which it may be issued: `at` where its issue is known.
+    pub until: u32,
 }
 
 impl<'a> Model for MessageParts<'a> {
@@ -30,6 +32,7 @@ impl<'a> Model for MessageParts<'a> {
       sender = option_map (λ name. name.now) m.sender;
       to = map (λ name. name.now) m.to.now;
       at = pos m.at;
+      until = pos m.until;
     } };
 }
 
@@ -160,6 +163,7 @@ fn messages_of(alloc: Global, parts: &[MessageParts]) -> Result<Vec<DraftMultica
             sender: sender_of(alloc, message.sender)?,
             to: names_of(alloc, message.to)?,
             at: i64::from(message.at),
+            until: i64::from(message.until),
         })?;
     }
     Ok(messages)

@@ -1,5 +1,6 @@
 ghost use Rattle.std.specs.Prelude.{◌≡◌, ◌<◌, length, IfOk};
-ghost use Rattle.convoy_scenario.specs.Scenario.{GoesTo, message_at, group_name_at, range_between};
+ghost use Rattle.std.specs.List.{list_any};
+ghost use Rattle.convoy_scenario.specs.Scenario.{GoesTo, message_at, may_wait, is_timed, group_name_at, range_between};
 ghost use Rattle.convoy_scenario.specs.Targets.{with_target};
 ghost use Rattle.convoy_scenario.specs.WellFormed.{IsScenario};
 
@@ -23,6 +24,7 @@ pub struct Multicast {
     pub sender: Sender,
     pub destinations: Vec<usize>,
     pub at: u32,
+    pub longest_wait: u32,
 }
 
 impl Model for Multicast {
@@ -35,6 +37,7 @@ impl Model for Multicast {
       sender = m.sender;
       destinations = m.destinations.items;
       at = m.at;
+      longest_wait = m.longest_wait;
     } };
 }
 
@@ -50,6 +53,7 @@ impl Multicast {
             sender: self.sender,
             destinations,
             at: self.at,
+            longest_wait: self.longest_wait,
         })
     }
 }
@@ -166,11 +170,13 @@ impl Scenario {
         })
     }
 
-    /// The same scenario with another target, in memory of its own: the latency of that message is asked
-    /// at that group, which is one that it goes to. Fails where memory runs out, and else never.
+    /// The same scenario with another target, in memory of its own: the latency of that message, which
+    /// does not wait, is asked at that group, which is one that it goes to. Fails where memory runs out,
+    /// and else never.
     pub fn with_target(&self, message: usize, group: usize) -> Result<Scenario, AllocError>
         requires known { message < length self.now.multicasts }
         requires addressed { GoesTo self.now message group }
+        requires fixed { (message_at self.now message).longest_wait ≡ 0 }
         ensures { IfOk result (λ other. other ≡ with_target self.now message group) }
     {
         let same = self.copy()?;
@@ -195,6 +201,18 @@ impl Scenario {
         ensures lawful { IsScenario self.now }
     {
         self.tick
+    }
+
+    /// Whether time is real, or some message may wait: then lines that tell the scenario say how time
+    /// goes (docs/FORMATS.md, "Certificate text").
+    pub fn is_timed(&self) -> bool
+        ensures value { result ≡ is_timed self.now }
+        ensures lawful { IsScenario self.now }
+    {
+        match self.time {
+            Time::Real => true,
+            Time::Ticks => some_may_wait(&self.multicasts),
+        }
     }
 
     /// D, the greatest delay of a packet, in ticks.
@@ -286,7 +304,7 @@ impl Scenario {
         multicast.destinations.as_slice()
     }
 
-    /// The tick at which a message is issued.
+    /// The first tick at which a message may be issued: it is issued then, if it does not wait.
     pub fn issue_tick(&self, message: usize) -> u32
         requires { message < length self.now.multicasts }
         ensures value { result ≡ (message_at self.now message).at }
@@ -294,6 +312,17 @@ impl Scenario {
     {
         let multicast = &self.multicasts[message];
         multicast.at
+    }
+
+    /// How many ticks a message waits at most, from the first at which it may be issued to its issue; 0
+    /// where its issue is known.
+    pub fn longest_wait(&self, message: usize) -> u16
+        requires { message < length self.now.multicasts }
+        ensures value { result ≡ (message_at self.now message).longest_wait }
+        ensures lawful { IsScenario self.now }
+    {
+        let multicast = &self.multicasts[message];
+        multicast.longest_wait as u16
     }
 
     /// The number of the message of which the latency is asked.
@@ -311,6 +340,13 @@ impl Scenario {
     {
         self.target_group
     }
+}
+
+/// Whether some of the messages may wait.
+fn some_may_wait(multicasts: &[Multicast]) -> bool
+    ensures { result ≡ list_any may_wait multicasts.now }
+{
+    multicasts.iter().any(|m| 0 < m.longest_wait)
 }
 
 /// The same names, in memory of their own.

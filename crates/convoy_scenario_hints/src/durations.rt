@@ -14,6 +14,31 @@ impl fmt::Display for Length {
     }
 }
 
+/// A time of a scenario as a hint shows it: `6` ticks, or where the length of a tick is known `6 ms`.
+pub(crate) fn shown_time(
+    alloc: Global,
+    ticks: i64,
+    tick: Option<Duration>,
+) -> Result<String, AllocError> {
+    let Some(tick) = tick else {
+        return format!(in alloc; "{ticks}");
+    };
+    let each = Length(tick);
+    match time_after(ticks, tick) {
+        Some(time) => {
+            let time = Length(time);
+            format!(in alloc; "{time}")
+        }
+        None => format!(in alloc; "{ticks} ticks of {each}"),
+    }
+}
+
+/// How long so many ticks last; None for less than none, and where that is longer than a duration may be.
+fn time_after(ticks: i64, tick: Duration) -> Option<Duration> {
+    let ticks = u64::try_from(ticks).ok()?;
+    Duration::from_nanoseconds(ticks.checked_mul(tick.nanoseconds())?)
+}
+
 /// What a duration is.
 const RULE: &str =
     "a duration is a number and one of the units s, ms, us and ns, as \"80 ms\" or \"0.35 ms\"";

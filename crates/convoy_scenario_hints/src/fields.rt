@@ -62,8 +62,11 @@ pub(crate) const HEAD: [Field; 3] = [
     },
 ];
 
+/// The key of the last time at which a message may be issued, which no other table has.
+pub(crate) const UNTIL: &str = "until";
+
 /// The keys of a multicast.
-pub(crate) const MULTICAST_KEYS: [Field; 4] = [
+pub(crate) const MULTICAST_KEYS: [Field; 5] = [
     Field {
         key: "name",
         kind: Kind::Text,
@@ -87,6 +90,12 @@ pub(crate) const MULTICAST_KEYS: [Field; 4] = [
         kind: Kind::Time,
         is_needed: true,
         sample: "at = 0",
+    },
+    Field {
+        key: UNTIL,
+        kind: Kind::Time,
+        is_needed: false,
+        sample: "until = 10",
     },
 ];
 

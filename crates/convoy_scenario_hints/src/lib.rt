@@ -12,7 +12,7 @@ pub use quoting::Quoted;
 pub use scenario_hints::{
     hint_for_fault, hint_for_run, hint_for_scenario, hint_for_sketch, with_label,
 };
-pub use schedules::{hint_for_order, hint_for_schedule};
+pub use schedules::{has_waits, hint_for_order, hint_for_schedule};
 pub use sketch::{Link, Multicast, Sketch};
 
 mod counting;

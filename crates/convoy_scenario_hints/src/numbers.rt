@@ -1,7 +1,7 @@
-use super::durations::Length;
+use super::durations::{Length, shown_time};
 use super::sketch::{Link, Multicast, Sketch};
 use convoy_scenario::{
-    Duration, GREATEST_AT, GREATEST_DELAY, Limit, MOST_GROUPS, MOST_MULTICASTS, Time,
+    Duration, GREATEST_AT, GREATEST_DELAY, LONGEST_WAIT, Limit, MOST_GROUPS, MOST_MULTICASTS, Time,
 };
 use convoy_toml::MOST_WRITTEN_LINKS;
 use std::alloc::{AllocError, Global};
@@ -27,7 +27,13 @@ pub(crate) fn hint_for_limit(
             ).map(Some)
         }
         Limit::At => hint_for_at(alloc, sketch),
+        Limit::Until => hint_for_until(alloc, sketch),
         Limit::Link => hint_for_range(alloc, sketch),
+        Limit::Tick if sketch.time == Time::Ticks => String::from_str(
+            alloc,
+            "a tick has a length where time is real, and here time goes in whole ticks",
+        )
+        .map(Some),
         Limit::Tick => hint_for_long_tick(alloc, sketch.tick),
     }
 }
@@ -133,6 +139,43 @@ fn hint_for_issue(
             )
         }
         None => format!(in alloc; "'at' in {part} is {at}, and may be 0 to {GREATEST_AT}"),
+    }
+}
+
+fn hint_for_until(alloc: Global, sketch: &Sketch<'_>) -> Result<Option<String>, AllocError> {
+    for multicast in &sketch.multicasts {
+        let latest = multicast.at.saturating_add(i64::from(LONGEST_WAIT));
+        if multicast.until < multicast.at || latest < multicast.until {
+            return hint_for_window(alloc, sketch, multicast).map(Some);
+        }
+    }
+    Ok(None)
+}
+
+/// That the last time at which a message may be issued is before the first, or too long after it.
+fn hint_for_window(
+    alloc: Global,
+    sketch: &Sketch<'_>,
+    multicast: &Multicast<'_>,
+) -> Result<String, AllocError> {
+    let part = multicast.part;
+    let first = shown_time(alloc, multicast.at, sketch.tick)?;
+    let last = shown_time(alloc, multicast.until, sketch.tick)?;
+    if multicast.until < multicast.at {
+        return format!(in alloc;
+            "'until' in {part} is {last}, and its 'at' is {first}: 'until' is the last time of issue, counted as 'at' is, and may be no earlier"
+        );
+    }
+    match sketch.tick {
+        Some(tick) => {
+            let tick = Length(tick);
+            format!(in alloc;
+                "'until' in {part} is {last}, and its 'at' is {first}: it may be at most {LONGEST_WAIT} ticks of {tick} later, so choose a larger tick, or a shorter window"
+            )
+        }
+        None => format!(in alloc;
+            "'until' in {part} is {last}, and its 'at' is {first}: it may be at most {LONGEST_WAIT} ticks later"
+        ),
     }
 }
 

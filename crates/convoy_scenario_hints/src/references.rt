@@ -223,6 +223,27 @@ fn hint_for_elsewhere(
     format!(in alloc; "the target asks for {part} at {group}, and it goes to {to} alone")
 }
 
+/// The target's message may be issued at several ticks. Where no target is written, each message may be
+/// one, unless it has an 'until'.
+pub(crate) fn hint_for_waiting_target(
+    alloc: Global,
+    sketch: &Sketch<'_>,
+) -> Result<Option<String>, AllocError> {
+    for multicast in &sketch.multicasts {
+        if multicast.name == sketch.target_message {
+            let part = multicast.part;
+            return format!(in alloc;
+                "the latency of the target counts from its issue, so that has to be known: leave 'until' out of {part}; windows of the others say how much earlier or later they may come"
+            ).map(Some);
+        }
+    }
+    String::from_str(
+        alloc,
+        "each message has an 'until', and a latency counts from an issue that is known: leave 'until' out of one message at least",
+    )
+    .map(Some)
+}
+
 /// Which link leads to its own sender.
 pub(crate) fn hint_for_link_to_itself(
     alloc: Global,

@@ -6,6 +6,7 @@ use super::quoting::Quoted;
 use super::references::{
     hint_for_double_destination, hint_for_link_to_itself, hint_for_no_destination,
     hint_for_target_not_addressed, hint_for_unknown_group, hint_for_unknown_target,
+    hint_for_waiting_target,
 };
 use super::schedules::{hint_for_order, hint_for_schedule};
 use super::shape::hint_for_shape;
@@ -181,6 +182,7 @@ pub fn hint_for_sketch(
         ScenarioFault::UnknownTarget => hint_for_unknown_target(alloc, sketch),
         ScenarioFault::TargetNotAddressed => hint_for_target_not_addressed(alloc, sketch),
         ScenarioFault::LinkToItself => hint_for_link_to_itself(alloc, sketch),
+        ScenarioFault::TargetWaits => hint_for_waiting_target(alloc, sketch),
         ScenarioFault::NotToml
         | ScenarioFault::Shape(_)
         | ScenarioFault::NotWhole(_)

@@ -6,8 +6,8 @@ use convoy_scenario::{Scenario, Time};
 use std::alloc::{AllocError, Global};
 
 /// What is wrong with a schedule of the scenario: how many delays it has, or the first that its packet
-/// may not take. Delays count ticks, in packet order (docs/PROTOCOL.md). The label of a hint is not in it.
-/// None where nothing is wrong.
+/// may not take, or its message not wait. Delays count ticks, in packet order (docs/PROTOCOL.md). The
+/// label of a hint is not in it. None where nothing is wrong.
 pub fn hint_for_schedule(
     alloc: Global,
     instance: &Instance,
@@ -15,7 +15,8 @@ pub fn hint_for_schedule(
 ) -> Result<Option<String>, AllocError> {
     let table = instance.table();
     if delays.len() != table.len() {
-        return hint_for_length(alloc, delays.len(), table.len()).map(Some);
+        let scenario = instance.scenario();
+        return hint_for_length(alloc, scenario, delays.len(), table.len()).map(Some);
     }
     match first_outside(table.ranges(), delays) {
         Some((packet, delay)) => hint_for_outside(alloc, instance, packet, delay),
@@ -23,17 +24,31 @@ pub fn hint_for_schedule(
     }
 }
 
-/// There are too many delays, or too few.
-fn hint_for_length(alloc: Global, found: usize, wanted: usize) -> Result<String, AllocError> {
+/// There are too many delays, or too few. Where a message may wait, its wait has one as well.
+fn hint_for_length(
+    alloc: Global,
+    scenario: &Scenario,
+    found: usize,
+    wanted: usize,
+) -> Result<String, AllocError> {
     let delays = noun(found == 1, "delay", "delays");
-    let packets = noun(wanted == 1, "packet", "packets");
+    let packets = if has_waits(scenario) {
+        noun(wanted == 1, "wait", "packets and waits")
+    } else {
+        noun(wanted == 1, "packet", "packets")
+    };
     let which = noun(wanted == 1, "which it is", "which they are");
     format!(in alloc;
         "the schedule has {found} {delays}, and the scenario has {wanted} {packets}: 'convoy packets' tells {which}"
     )
 }
 
-/// A packet may not take its delay.
+/// Whether a message may wait before its issue.
+pub fn has_waits(scenario: &Scenario) -> bool {
+    (0..scenario.message_count()).any(|message| scenario.longest_wait(message) > 0)
+}
+
+/// A packet may not take its delay, or a message not wait so long.
 fn hint_for_outside(
     alloc: Global,
     instance: &Instance,

@@ -1,7 +1,7 @@
 use super::durations::hint_for_duration;
 use super::fields::{
     Field, HEAD, Kind, LINK_KEYS, LINKS, MULTICAST_KEYS, SCHEDULE, TARGET, TARGET_KEYS, TICK, TIME,
-    TOP_WORDS,
+    TOP_WORDS, UNTIL,
 };
 use super::headers::header_line;
 use super::near::nearest;
@@ -318,6 +318,9 @@ fn hint_for_when(
 ) -> Result<String, AllocError> {
     let key = field.key;
     match (value.as_str(), time) {
+        _ if key == "at" && is_window(value) => format!(in alloc;
+            "'{key}' in {part} is the first time alone: write the last at which the message may be issued as '{UNTIL}'"
+        ),
         (Some(text), Time::Real) => hint_for_duration(alloc, key, part, text),
         (Some(text), Time::Ticks) if duration_in(value).is_some() => {
             let shown = Quoted(text);
@@ -326,6 +329,14 @@ fn hint_for_when(
             )
         }
         _ => hint_for_kind(alloc, field, value, part),
+    }
+}
+
+/// Whether the value is meant as several times, the first and the last of them perhaps.
+fn is_window(value: &Value) -> bool {
+    match value.as_str() {
+        Some(text) => text.contains(".."),
+        None => value.is_array(),
     }
 }
 
@@ -526,6 +537,11 @@ fn hint_for_other_key(
     if part.kind != PartKind::Scenario && TOP_WORDS.contains(&word) {
         return format!(in alloc;
             "'{word}' stands below the header of {part}, and so belongs to that: write it above the first header"
+        );
+    }
+    if word == UNTIL {
+        return format!(in alloc;
+            "'{word}' stands in {part}, and is a key of a message: write it below the 'at' of that"
         );
     }
     hint_for_strange_key(alloc, word, words, part)

@@ -1,3 +1,4 @@
+use super::fields::UNTIL;
 use super::part::{Part, PartKind};
 use super::shape::part_of;
 use super::times::{spells_of_table, tick_of, ticks_at, time_of_table};
@@ -39,8 +40,10 @@ pub struct Multicast<'a> {
     pub sender: Option<&'a str>,
     /// The names of the groups to which it goes.
     pub to: Vec<&'a str>,
-    /// The tick of its issue.
+    /// The first tick at which it may be issued.
     pub at: i64,
+    /// The last tick at which it may be issued: the first one, where no other is written.
+    pub until: i64,
 }
 
 /// A link as it is written, one of several perhaps in one table.
@@ -135,12 +138,18 @@ fn multicast_of_table<'a>(
     part: Part<'a>,
     tick: u64,
 ) -> Result<Multicast<'a>, AllocError> {
+    let last = if table.contains_key(UNTIL) {
+        UNTIL
+    } else {
+        "at"
+    };
     Ok(Multicast {
         part,
         name: text_at(table, "name").unwrap_or(""),
         sender: text_at(table, "from"),
         to: texts_of(alloc, array_at(table, "to"))?,
         at: ticks_at(table, "at", tick),
+        until: ticks_at(table, last, tick),
     })
 }
 

@@ -2,7 +2,7 @@ use super::durations::Length;
 use super::part::{Part, PartKind};
 use super::quoting::Quoted;
 use super::shape::part_of;
-use convoy_scenario::{Duration, GREATEST_AT, GREATEST_DELAY, MOST_UNITS, Time};
+use convoy_scenario::{Duration, GREATEST_AT, GREATEST_DELAY, LONGEST_WAIT, MOST_UNITS, Time};
 use convoy_toml::common_divisor;
 use std::alloc::{AllocError, Global};
 use toml::{Table, Value};
@@ -40,7 +40,13 @@ pub(crate) fn spells_of_table<'a>(
         line: None,
     };
     add_spell(&mut spells, table, "delay", top)?;
-    add_spells(&mut spells, text, table, PartKind::Multicast, &["at"])?;
+    add_spells(
+        &mut spells,
+        text,
+        table,
+        PartKind::Multicast,
+        &["at", "until"],
+    )?;
     add_spells(&mut spells, text, table, PartKind::Link, &["least", "most"])?;
     Ok(spells)
 }
@@ -230,10 +236,13 @@ fn is_length_of_tick(nanoseconds: u64) -> bool {
 
 /// Whether a time would be more ticks than it may be, by a smaller tick than this one.
 fn has_too_many(spells: &[Spell<'_>], tick: u64, smaller: u64) -> bool {
+    let mut before = 0;
     for spell in spells {
-        if ticks_by(spell.value, tick, smaller) > most_ticks(spell.key) {
+        let ticks = ticks_by(spell.value, tick, smaller);
+        if ticks > most_ticks(spell.key, before) {
             return true;
         }
+        before = ticks;
     }
     false
 }
@@ -251,12 +260,13 @@ fn ticks_by(value: &Value, tick: u64, smaller: u64) -> u64 {
     }
 }
 
-/// How many ticks the time at a key may be at most: an issue has a limit of its own.
-fn most_ticks(key: &str) -> u64 {
-    if key == "at" {
-        u64::from(GREATEST_AT)
-    } else {
-        u64::from(GREATEST_DELAY)
+/// How many ticks the time at a key may be at most, where the time before it is so many: the first issue
+/// has a limit of its own, and the last, which follows it, may be so much later.
+fn most_ticks(key: &str, before: u64) -> u64 {
+    match key {
+        "at" => u64::from(GREATEST_AT),
+        "until" => before.saturating_add(u64::from(LONGEST_WAIT)),
+        _ => u64::from(GREATEST_DELAY),
     }
 }
 

@@ -1,5 +1,5 @@
 -- The forms of lines: what is read was written so, and what is written is read again.
-use Rattle.std.proofs.Common.{◌≡◌, ℕ, pos, ◌<◌, ◌==◌, cond, leb, List, [], ◌∷◌, length, map, Option, Some, None, refl, ap, sym, subst, ◌∙◌, arith, inl, inr, codes, decimal}
+use Rattle.std.proofs.Common.{◌≡◌, ℕ, pos, ◌+◌, ◌<◌, ◌==◌, cond, leb, List, [], ◌∷◌, length, map, Option, Some, None, refl, ap, sym, subst, ◌∙◌, arith, inl, inr, codes, decimal}
 use Rattle.std.specs.List.{AllByRecursion}
 use Rattle.std.specs.Str.{is_utf8}
 use Rattle.std.proofs.lemmas.Bool.{cases_Bool, eqb-true}
@@ -8,8 +8,11 @@ use Rattle.std.proofs.lemmas.Option.{cond_some, same_Some}
 use Rattle.convoy_scenario.specs.Draft.{DraftLink, DraftMessage}
 use Rattle.convoy_lines.specs.Words.{next_word, number_of}
 use Rattle.convoy_lines.specs.Chains.{◌>>=◌}
-use Rattle.convoy_lines.specs.Labels.{greatest_number, words_after}
-use Rattle.convoy_scenario_lines.specs.LineForms.{name_of, named_sender, greatest_delay_number, groups_in, link_in, multicast_in, target_in}
+use Rattle.convoy_lines.specs.Labels.{words_after}
+use Rattle.convoy_scenario_lines.specs.declared.version.Version.{Version}
+use Rattle.convoy_scenario_lines.specs.LineForms.{name_of, named_sender, greatest_delay_number, groups_in, link_in, issue_in, multicast_in, target_in}
+use Rattle.convoy_scenario_lines.specs.Lines.{issue_word}
+use Rattle.convoy_scenario_lines.proofs.Issues.{CanWait, issue_takes}
 use Rattle.convoy_lines.specs.Texts.{line_of}
 use Rattle.convoy_scenario_lines.proofs.LineLaws.{LineLaws, bind_some, next_takes, number_takes, label_takes}
 
@@ -29,13 +32,15 @@ names_take (w ∷ ws) some = rw (← name_takes w some.0, ← names_take ws some
 -- ---- the lines of a scenario
 
 -- what a line `multicast` says
-pub record Says (line : List ℕ) (message : DraftMessage) : Type 0 where
+pub record Says (version : Version) (line : List ℕ) (message : DraftMessage) : Type 0 where
   pub name : List ℕ
   pub from : List ℕ
   pub tick : ℕ
+  pub wait : ℕ
   pub to : List (List ℕ)
-  pub written : line ≡ line_of (codes "multicast") (name ∷ from ∷ decimal tick ∷ to)
-  pub said : message ≡ record { name = name_of name; sender = named_sender from; to = map name_of to; at = pos tick }
+  pub written : line ≡ line_of (codes "multicast") (name ∷ from ∷ issue_word tick wait ∷ to)
+  pub said : message ≡ record { name = name_of name; sender = named_sender from; to = map name_of to; at = pos tick; until = pos (tick + wait) }
+  pub can : CanWait version wait
 
 -- what a line `link` says
 pub record SaysLink (line : List ℕ) (link : DraftLink) : Type 0 where
@@ -88,27 +93,30 @@ module _ (laws : LineLaws) where
         said = sym i.1;
       }
 
-  pub message_takes : (line : List ℕ) (message : DraftMessage) → multicast_in line ≡ Some message → Says line message
-  message_takes line message e =
-      let a = bind_some (words_after (codes "multicast") line) (λ words. next_word words >>= λ name. next_word name.1 >>= λ from. next_word from.1 >>= λ at. number_of greatest_number at.0 >>= λ tick.
-      Some (record { name = name_of name.0; sender = named_sender from.0; to = map name_of at.1; at = pos tick })) message e in
-      let b = bind_some (next_word a.0) (λ name. next_word name.1 >>= λ from. next_word from.1 >>= λ at. number_of greatest_number at.0 >>= λ tick.
-      Some (record { name = name_of name.0; sender = named_sender from.0; to = map name_of at.1; at = pos tick })) message a.2 in
-      let c = bind_some (next_word b.0.1) (λ from. next_word from.1 >>= λ at. number_of greatest_number at.0 >>= λ tick.
-      Some (record { name = name_of b.0.0; sender = named_sender from.0; to = map name_of at.1; at = pos tick })) message b.2 in
-      let d = bind_some (next_word c.0.1) (λ at. number_of greatest_number at.0 >>= λ tick.
-      Some (record { name = name_of b.0.0; sender = named_sender c.0.0; to = map name_of at.1; at = pos tick })) message c.2 in
-      let f = bind_some (number_of greatest_number d.0.0) (λ tick. Some (record { name = name_of b.0.0; sender = named_sender c.0.0; to = map name_of d.0.1; at = pos tick })) message d.2 in
-      let number = number_takes laws greatest_number d.0.0 f.0 (omega arith) f.1 in
-      let words : a.0 ≡ b.0.0 ∷ c.0.0 ∷ decimal f.0 ∷ d.0.1 =
-      next_takes a.0 b.0 b.1 ∙ ap (λ ws. b.0.0 ∷ ws) (next_takes b.0.1 c.0 c.1 ∙ ap (λ ws. c.0.0 ∷ ws) (next_takes c.0.1 d.0 d.1 ∙ ap (λ w. w ∷ d.0.1) number.0)) in
+  pub message_takes : (version : Version) (line : List ℕ) (message : DraftMessage) → multicast_in version line ≡ Some message → Says version line message
+  message_takes version line message e =
+      let a = bind_some (words_after (codes "multicast") line) (λ words. next_word words >>= λ name. next_word name.1 >>= λ from. next_word from.1 >>= λ word. issue_in version word.0 >>= λ issue.
+      Some (record { name = name_of name.0; sender = named_sender from.0; to = map name_of word.1; at = pos issue.0; until = pos issue.1 })) message e in
+      let b = bind_some (next_word a.0) (λ name. next_word name.1 >>= λ from. next_word from.1 >>= λ word. issue_in version word.0 >>= λ issue.
+      Some (record { name = name_of name.0; sender = named_sender from.0; to = map name_of word.1; at = pos issue.0; until = pos issue.1 })) message a.2 in
+      let c = bind_some (next_word b.0.1) (λ from. next_word from.1 >>= λ word. issue_in version word.0 >>= λ issue.
+      Some (record { name = name_of b.0.0; sender = named_sender from.0; to = map name_of word.1; at = pos issue.0; until = pos issue.1 })) message b.2 in
+      let d = bind_some (next_word c.0.1) (λ word. issue_in version word.0 >>= λ issue.
+      Some (record { name = name_of b.0.0; sender = named_sender c.0.0; to = map name_of word.1; at = pos issue.0; until = pos issue.1 })) message c.2 in
+      let f = bind_some (issue_in version d.0.0) (λ issue. Some (record { name = name_of b.0.0; sender = named_sender c.0.0; to = map name_of d.0.1; at = pos issue.0; until = pos issue.1 })) message d.2 in
+      let issue = issue_takes laws version d.0.0 f.0 f.1 in
+      let words : a.0 ≡ b.0.0 ∷ c.0.0 ∷ issue_word f.0.0 issue.wait ∷ d.0.1 =
+      next_takes a.0 b.0 b.1 ∙ ap (λ ws. b.0.0 ∷ ws) (next_takes b.0.1 c.0 c.1 ∙ ap (λ ws. c.0.0 ∷ ws) (next_takes c.0.1 d.0 d.1 ∙ ap (λ w. w ∷ d.0.1) issue.written)) in
+      let until_at : ℕ → DraftMessage = λ last. record { name = name_of b.0.0; sender = named_sender c.0.0; to = map name_of d.0.1; at = pos f.0.0; until = pos last } in
       record {
         name = b.0.0;
         from = c.0.0;
-        tick = f.0;
+        tick = f.0.0;
+        wait = issue.wait;
         to = d.0.1;
         written = label_takes laws (codes "multicast") line a.0 a.1 ∙ ap (line_of (codes "multicast")) words;
-        said = sym (same_Some _ message f.2);
+        said = sym (same_Some _ message f.2) ∙ ap until_at issue.last;
+        can = issue.can;
       }
 
   pub target_takes : (line : List ℕ) (target : List ℕ × List ℕ) → target_in line ≡ Some target → 0 < length target.0 → 0 < length target.1 → line ≡ line_of (codes "target") (target.0 ∷ target.1 ∷ [])

@@ -12,7 +12,7 @@ use Rattle.convoy_scenario_lines.specs.declared.version.Version.{Version}
 use Rattle.convoy_lines.specs.Labels.{number_in}
 use Rattle.convoy_lines.specs.Places.{Place, line_at, past_line}
 use Rattle.convoy_lines.specs.Results.{◌>>=◌}
-use Rattle.convoy_scenario.specs.Checks.{Check, is_count, all_differ, is_message, messages_differ, knows, is_target_addressed, checks, judge}
+use Rattle.convoy_scenario.specs.Checks.{Check, is_count, all_differ, is_message, messages_differ, knows, is_target_addressed, is_target_fixed, checks, judge}
 use Rattle.convoy_scenario.specs.declared.time.Time.{Time}
 use Rattle.convoy_scenario.specs.Draft.{Draft, DraftLink, DraftMessage}
 use Rattle.convoy_scenario.specs.Laws.{DifferentNamesAreDistinct, JudgedRulesHold}
@@ -104,55 +104,63 @@ alike_few distinct draft few =
             all_same _ _ keep draft.messages (λ m. refl),
             refl,
             λ at. (
+              all_same _ _ keep draft.messages (λ m. refl),
               refl,
-              refl,
-              λ ranges. (
+              λ until. (
                 refl,
                 refl,
-                λ tick. (
+                λ ranges. (
                   refl,
                   refl,
-                  λ group_names. (
-                    all_same _ _ keep draft.messages (λ m. refl),
+                  λ tick. (
                     refl,
-                    λ message_names. (
+                    refl,
+                    λ group_names. (
+                      all_same _ _ keep draft.messages (λ m. refl),
                       refl,
-                      refl,
-                      λ groups_differ. (
-                        differ_same draft.groups draft.messages,
+                      λ message_names. (
                         refl,
-                        λ messages_differ. (
+                        refl,
+                        λ groups_differ. (
+                          differ_same draft.groups draft.messages,
                           refl,
-                          refl,
-                          λ links_differ. (
-                            all_same _ _ keep draft.messages (knows_kept draft.groups),
+                          λ messages_differ. (
                             refl,
-                            λ known. (
+                            refl,
+                            λ links_differ. (
+                              all_same _ _ keep draft.messages (knows_kept draft.groups),
                               refl,
-                              refl,
-                              λ target_group. (
+                              λ known. (
                                 refl,
                                 refl,
-                                λ ends. (
-                                  all_same _ _ keep draft.messages (λ m. some_kept draft.groups m.to),
+                                λ target_group. (
                                   refl,
-                                  λ somewhere. (
-                                    all_same_where (knows draft.groups) _ _ keep draft.messages known (λ m. differ_kept distinct draft.groups m few),
+                                  refl,
+                                  λ ends. (
+                                    all_same _ _ keep draft.messages (λ m. some_kept draft.groups m.to),
                                     refl,
-                                    λ differ.
-                                        let same = whole distinct draft.groups draft.messages few known differ in (
-                                          ap (is_message draft.target_message) same,
-                                          refl,
-                                          λ target. (
-                                            ap (λ ms. is_target_addressed (with_messages draft ms)) same,
+                                    λ somewhere. (
+                                      all_same_where (knows draft.groups) _ _ keep draft.messages known (λ m. differ_kept distinct draft.groups m few),
+                                      refl,
+                                      λ differ.
+                                          let same = whole distinct draft.groups draft.messages few known differ in (
+                                            ap (is_message draft.target_message) same,
                                             refl,
-                                            λ addressed. (
+                                            λ target. (
+                                              ap (λ ms. is_target_addressed (with_messages draft ms)) same,
                                               refl,
-                                              refl,
-                                              λ elsewhere. tt,
+                                              λ addressed. (
+                                                refl,
+                                                refl,
+                                                λ elsewhere. (
+                                                  ap (λ ms. is_target_fixed (with_messages draft ms)) same,
+                                                  refl,
+                                                  λ fixed. tt,
+                                                ),
+                                              ),
                                             ),
                                           ),
-                                        ),
+                                    ),
                                   ),
                                 ),
                               ),
@@ -201,7 +209,7 @@ all_kept hold distinct draft holds =
     let a = hold (checks draft) holds in
     let few = leb-true (length draft.groups) 8 (and_parts (nat_le 1 (length draft.groups)) _ a.1.0).1 in
     let groups : kept_groups draft.groups ≡ draft.groups = take_all 9 draft.groups (omega arith) in
-    let c = a.1.1.1.1.1.1.1.1.1.1.1 in
+    let c = a.1.1.1.1.1.1.1.1.1.1.1.1 in
     let messages = whole distinct draft.groups draft.messages few c.0 c.1.1.1.1.0 in
     ap (λ gs. kept_by gs draft) groups ∙ ap (with_messages draft) messages
 
@@ -271,11 +279,11 @@ messages_kept hold distinct time tick delay groups first_link links first (Ok me
 
 abbrev from_groups : Version → Time → Option ℕ → ℕ → List (List ℕ) × Place → Result (Scenario × Place) LineFault
 from_groups version time tick delay groups =
-    links_at version 0 groups.1 >>= λ links. messages_at 0 links.1 >>= from_messages time tick delay groups.0 groups.1.number links.0 links.1.number
+    links_at version 0 groups.1 >>= λ links. messages_at version 0 links.1 >>= from_messages time tick delay groups.0 groups.1.number links.0 links.1.number
 
 abbrev from_kept : Version → Time → Option ℕ → ℕ → List (List ℕ) × Place → Result (Scenario × Place) LineFault
 from_kept version time tick delay groups =
-    links_at version 0 groups.1 >>= λ links. kept_messages_at groups.0 0 links.1 >>= from_messages time tick delay groups.0 groups.1.number links.0 links.1.number
+    links_at version 0 groups.1 >>= λ links. kept_messages_at version groups.0 0 links.1 >>= from_messages time tick delay groups.0 groups.1.number links.0 links.1.number
 
 groups_kept : (hold : JudgedRulesHold) (distinct : DifferentNamesAreDistinct) (version : Version) (time : Time) (tick : Option ℕ) (delay : ℕ) (place : Place) → (form_at Groups kept_groups_in place >>= from_kept version time tick delay) ≡ (form_at Groups groups_in place >>= from_groups version time tick delay)
 groups_kept hold distinct version time tick delay place =
@@ -283,9 +291,9 @@ groups_kept hold distinct version time tick delay place =
     ∙ then_kept (form_at Groups groups_in place) (kept kept_groups) (from_kept version time tick delay)
     ∙ then_same (form_at Groups groups_in place) (λ groups. from_kept version time tick delay (kept kept_groups groups)) (from_groups version time tick delay)
     (λ groups. then_same (links_at version 0 groups.1)
-    (λ links. kept_messages_at (kept_groups groups.0) 0 links.1 >>= from_messages time tick delay (kept_groups groups.0) groups.1.number links.0 links.1.number)
-    (λ links. messages_at 0 links.1 >>= from_messages time tick delay groups.0 groups.1.number links.0 links.1.number)
-    (λ links. messages_kept hold distinct time tick delay groups.0 groups.1.number links.0 links.1.number (messages_at 0 links.1)))
+    (λ links. kept_messages_at version (kept_groups groups.0) 0 links.1 >>= from_messages time tick delay (kept_groups groups.0) groups.1.number links.0 links.1.number)
+    (λ links. messages_at version 0 links.1 >>= from_messages time tick delay groups.0 groups.1.number links.0 links.1.number)
+    (λ links. messages_kept hold distinct time tick delay groups.0 groups.1.number links.0 links.1.number (messages_at version 0 links.1)))
 
 -- what the lines give with what is kept of them is what they give whole
 pub kept_scenario : (hold : JudgedRulesHold) (distinct : DifferentNamesAreDistinct) (version : Version) (place : Place) → kept_scenario_at version place ≡ scenario_at version place
@@ -302,6 +310,6 @@ kept_scenario hold distinct version place =
     (λ delay. form_at Groups groups_in delay.1 >>= from_groups version time.0 tick.0 delay.0)
     (λ delay. groups_kept hold distinct version time.0 tick.0 delay.0 delay.1)))
 
-pub multicast_kept : (groups : List (List ℕ)) (place : Place)
-    → form_at Multicast (kept_multicast_in groups) place ≡ (form_at Multicast multicast_in place >>= λ next. Ok (kept_message groups next.0, next.1))
-multicast_kept groups place = form_kept (line_at place) (faults.Line place.number Multicast) (past_line place) multicast_in (kept_message groups)
+pub multicast_kept : (version : Version) (groups : List (List ℕ)) (place : Place)
+    → form_at Multicast (kept_multicast_in version groups) place ≡ (form_at Multicast (multicast_in version) place >>= λ next. Ok (kept_message groups next.0, next.1))
+multicast_kept version groups place = form_kept (line_at place) (faults.Line place.number Multicast) (past_line place) (multicast_in version) (kept_message groups)

@@ -113,7 +113,7 @@ kept_same distinct groups message few known differ =
     let to = (and_parts _ (all_among groups message.to) known).1 in
     let most = few_differ distinct groups message.to to differ in
     let same : kept_destinations groups message.to ≡ message.to = kept_first groups message.to to ∙ take_all 9 message.to (omega arith) in
-    let sent_to : List (List ℕ) → DraftMessage = λ names. record { name = message.name; sender = message.sender; to = names; at = message.at } in
+    let sent_to : List (List ℕ) → DraftMessage = λ names. record { name = message.name; sender = message.sender; to = names; at = message.at; until = message.until } in
     ap sent_to same
 
 -- some name is kept of some names

@@ -7,6 +7,7 @@ pub mod Texts
 pub mod FormLaws
 pub mod LineLaws
 pub mod TickLines
+pub mod Issues
 pub mod DraftLaws
 pub mod ScenarioTakes
 pub mod ScenarioAgain

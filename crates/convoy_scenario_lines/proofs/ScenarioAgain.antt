@@ -1,8 +1,9 @@
 -- The lines of a scenario are read again.
 use Rattle.std.proofs.Common.{◌≡◌, ℕ, zero, suc, ◌+◌, ◌<◌, ◌≤◌, ◌==◌, ◌&&◌, ◌||◌, not, true, false, leb, le-leb, List, [], ◌∷◌, ◌++◌, length, get_or, map, filter, All, Option, Some, None, Result, Ok, append_assoc, refl, ap, sym, ◌∙◌, arith, inl, inr, codes, decimal}
-use Rattle.std.specs.List.{list_all}
+use Rattle.std.specs.List.{list_all, list_any, AllByRecursion}
 use Rattle.std.specs.Str.{bytes_eq}
-use Rattle.std.proofs.lemmas.Bool.{and_parts, and_from, or_cases, or_from, or_right, eqb-true, ne_eqb, leb-true, not-true, false≢true}
+use Rattle.std.proofs.lemmas.Bool.{and_parts, and_from, or_cases, or_from, or_parts, or_right, eqb-true, ne_eqb, leb-true, not-true, false≢true}
+use Rattle.std.proofs.lemmas.Bool.Decides.{nat_tests}
 use Rattle.std.proofs.lemmas.List.Elements.{All-head, All-tail, All-cons, All-get_or}
 use Rattle.std.proofs.lemmas.Slice.Eq.{slice_eq-Decides, bytes_eq-Decides}
 use Rattle.std.proofs.lemmas.Str.{IsUtf8-from_ascii, is_utf8-from_IsUtf8}
@@ -18,16 +19,16 @@ use Rattle.convoy_scenario.specs.declared.time.Time.TheVariants.{Ticks, Real}
 use Rattle.convoy_scenario.specs.declared.sender.Sender.{Sender}
 use Rattle.convoy_scenario.specs.declared.sender.Sender.TheVariants.{Client, Group}
 use Rattle.convoy_scenario.specs.Scenario as plans
-use Rattle.convoy_scenario.specs.Scenario.{Scenario, Message, message_at, group_name_at, no_message}
+use Rattle.convoy_scenario.specs.Scenario.{Scenario, Message, message_at, may_wait, is_timed, group_name_at, no_message}
 use Rattle.convoy_scenario.specs.WellFormed.{is_tick, is_letter, is_digit, is_name_byte, is_name, is_group_name, client_word, IsSender, IsLink, IsMulticast, IsScenario}
 use Rattle.convoy_scenario.specs.Checks.{checks, is_among, judge}
 use Rattle.convoy_scenario.specs.Laws.{LinksAreFew}
-use Rattle.convoy_scenario_lines.specs.Laws.{time_of, CanSayLinks, CanSay}
+use Rattle.convoy_scenario_lines.specs.Laws.{CanSayTime, CanSayLinks, CanSay}
 use Rattle.convoy_scenario.specs.Durations.{count_of, unit_of, unit_word}
 use Rattle.convoy_scenario.specs.declared.duration.TheConstants.{LONGEST_DURATION, MOST_UNITS}
 use Rattle.convoy_scenario.specs.Numbering.{delay_of_draft, message_of, numbers_of, scenario_of, scenario_of_draft}
-use Rattle.convoy_scenario_lines.specs.Lines.{time_lines, tick_line, tick_lines, lines_from_delay, delay_line, groups_line, link_line, multicast_line, target_line, scenario_lines}
-use Rattle.convoy_lines.specs.Labels.{greatest_number, begins_with, number_in}
+use Rattle.convoy_scenario_lines.specs.Lines.{time_lines, issue_word, tick_line, tick_lines, lines_from_delay, delay_line, groups_line, link_line, multicast_line, target_line, scenario_lines}
+use Rattle.convoy_lines.specs.Labels.{begins_with, number_in}
 use Rattle.convoy_scenario_lines.specs.LineForms.{name_of, named_sender, greatest_delay_number, groups_in, link_in, multicast_in, target_in}
 use Rattle.convoy_lines.specs.Words.{Lacks, words_of}
 use Rattle.convoy_lines.specs.Results.{◌>>=◌}
@@ -35,9 +36,10 @@ use Rattle.convoy_lines.specs.Places.{Place, upcoming}
 use Rattle.convoy_scenario_lines.specs.LineReading.{form_at, time_at, is_tick_due, tick_at, is_link_due, links_in, links_at, first_misplaced_link, is_multicast_due, messages_in, messages_at, told, is_ordered, first_unordered, where_ordered, scenario_at}
 use Rattle.convoy_scenario.specs.Naming.{draft_for, draft_link, draft_message, sender_name, sender_word}
 use Rattle.convoy_scenario_lines.proofs.DraftLaws.{DraftLaws}
+use Rattle.convoy_scenario_lines.proofs.Issues.{CanWait, known_again, issue_is_word}
 use Rattle.convoy_scenario_lines.proofs.LinkOrder.{none_misplaced}
 use Rattle.convoy_scenario_lines.proofs.TickLines.{tick_words, tick_again}
-use Rattle.convoy_scenario_lines.proofs.ScenarioTakes.{of_draft, named, count_lines, count_all, lines_before, after_time, after_tick, after_delay, after_groups, after_links, after_messages, after_target}
+use Rattle.convoy_scenario_lines.proofs.ScenarioTakes.{SaysTime, of_draft, named, count_lines, count_all, lines_before, after_time, after_tick, after_delay, after_groups, after_links, after_messages, after_target}
 use Rattle.convoy_lines.specs.Laws.{IsWord}
 use Rattle.convoy_scenario_lines.proofs.LineLaws.{LineLaws, AreWords, AreLines, tick_word, delay_word, groups_word, link_word, multicast_word, target_word, number_again, decimal_word, words_again, line_made, label_again, number_line_again}
 
@@ -122,6 +124,33 @@ long Real tick e =
     let q = and_parts (leb 1 tick) (leb tick LONGEST_DURATION) p.0 in
     record { real = refl; some = leb-true 1 tick q.0; short = leb-true tick LONGEST_DURATION q.1; few = leb-true (count_of tick) MOST_UNITS p.1 }
 
+-- a scenario of which nothing says how time goes is in whole ticks, and no message may wait
+untimed : (plan : Scenario) (time : Time) → plan.time ≡ time → is_timed plan ≡ false → (time ≡ Ticks) × (list_any may_wait plan.multicasts ≡ false)
+untimed plan Ticks is e = let none : list_any may_wait plan.multicasts ≡ false = rw is at e in (refl, none)
+untimed plan Real is e = let no : true ≡ false = rw is at e in absurd cc
+
+says_time : (version : Version) (plan : Scenario) → CanSayTime version plan → SaysTime version plan.time
+says_time One plan can = (untimed plan plan.time refl can).0
+says_time Two plan can = (untimed plan plan.time refl can).0
+says_time Three plan can = tt
+
+-- each message of a scenario is issued at its first tick, where none may wait
+each_stays : (ms : List Message) → list_any may_wait ms ≡ false → AllByRecursion (λ m. m.longest_wait ≡ 0) ms
+each_stays [] e = tt
+each_stays (m ∷ ms) e =
+    let parts = or_parts (may_wait m) (list_any may_wait ms) e in
+    let still : m.longest_wait ≡ 0 = grind (arith, nat_tests, parts.0) in
+    (still, each_stays ms parts.1)
+
+any_waits : (ms : List Message) → AllByRecursion (λ m. CanWait Three m.longest_wait) ms
+any_waits [] = tt
+any_waits (m ∷ ms) = (tt, any_waits ms)
+
+can_wait : (version : Version) (plan : Scenario) → CanSayTime version plan → AllByRecursion (λ m. CanWait version m.longest_wait) plan.multicasts
+can_wait One plan can = each_stays plan.multicasts (untimed plan plan.time refl can).1
+can_wait Two plan can = each_stays plan.multicasts (untimed plan plan.time refl can).1
+can_wait Three plan can = any_waits plan.multicasts
+
 module _ (laws : LineLaws) where
   delay_again : (plan : Scenario) → IsScenario plan → number_in (codes "delay") (delay_line plan) ≡ Some plan.delay
   delay_again plan s = number_line_again laws (codes "delay") plan.delay delay_word (omega (arith, s.delay_high))
@@ -150,13 +179,19 @@ module _ (laws : LineLaws) where
       let words = label_again laws (codes "link") (sender_word plan l.sender ∷ group_name_at plan l.to ∷ decimal l.least ∷ decimal l.most ∷ []) link_word (link_words plan l s is) in
       rw (words, number_again laws greatest_delay_number l.least (omega arith) (omega (arith, is.ordered, is.high, s.delay_high)), number_again laws greatest_delay_number l.most (omega arith) (omega (arith, is.high, s.delay_high)), sender.1, name_again (group_name_at plan l.to) to.0) refl
 
-  pub message_line_again : (plan : Scenario) (m : Message) → IsScenario plan → IsMulticast (length plan.groups) m → multicast_in (multicast_line plan m) ≡ Some (draft_message plan m)
-  message_line_again plan m s is =
+  -- the words of a line `multicast`
+  message_words : (plan : Scenario) (m : Message) → IsScenario plan → IsMulticast (length plan.groups) m → AreWords (m.name ∷ sender_word plan m.sender ∷ issue_word m.at m.longest_wait ∷ map (group_name_at plan) m.destinations)
+  message_words plan m s is =
       let sender = sender_is plan m.sender s.group_names is.sender in
       let to = names_words (map (group_name_at plan) m.destinations) (at_numbers plan.groups m.destinations s.group_names is.known) in
-      let words = label_again laws (codes "multicast") (m.name ∷ sender_word plan m.sender ∷ decimal m.at ∷ map (group_name_at plan) m.destinations) multicast_word
-      (name_word m.name is.name, (sender.0, (decimal_word laws m.at (omega (arith, is.at)), to.0))) in
-      rw (words, number_again laws greatest_number m.at (omega arith) (omega (arith, is.at)), name_again m.name is.name, sender.1, to.1) refl
+      (name_word m.name is.name, (sender.0, (issue_is_word laws m.at m.longest_wait (omega (arith, is.at, is.wait)), to.0)))
+
+  pub message_line_again : (version : Version) (plan : Scenario) (m : Message) → IsScenario plan → IsMulticast (length plan.groups) m → CanWait version m.longest_wait → multicast_in version (multicast_line plan m) ≡ Some (draft_message plan m)
+  message_line_again version plan m s is can =
+      let sender = sender_is plan m.sender s.group_names is.sender in
+      let to = names_words (map (group_name_at plan) m.destinations) (at_numbers plan.groups m.destinations s.group_names is.known) in
+      let words = label_again laws (codes "multicast") (m.name ∷ sender_word plan m.sender ∷ issue_word m.at m.longest_wait ∷ map (group_name_at plan) m.destinations) multicast_word (message_words plan m s is) in
+      rw (words, known_again laws version m.at m.longest_wait (omega (arith, is.at, is.wait)) can, name_again m.name is.name, sender.1, to.1) refl
 
   target_name_is : (plan : Scenario) → IsScenario plan → is_name (message_at plan plan.target_message).name ≡ true
   target_name_is plan s = (All-get_or (IsMulticast (length plan.groups)) plan.multicasts plan.target_message no_message s.target s.messages).name
@@ -190,10 +225,7 @@ module _ (laws : LineLaws) where
 
   begins : (plan : Scenario) (m : Message) → IsScenario plan → IsMulticast (length plan.groups) m → begins_with (codes "multicast") (words_of (multicast_line plan m)) ≡ true
   begins plan m s is =
-      let sender = sender_is plan m.sender s.group_names is.sender in
-      let to = names_words (map (group_name_at plan) m.destinations) (at_numbers plan.groups m.destinations s.group_names is.known) in
-      ap (begins_with (codes "multicast")) (words_again laws (codes "multicast") (m.name ∷ sender_word plan m.sender ∷ decimal m.at ∷ map (group_name_at plan) m.destinations) multicast_word
-      (name_word m.name is.name, (sender.0, (decimal_word laws m.at (omega (arith, is.at)), to.0))))
+      ap (begins_with (codes "multicast")) (words_again laws (codes "multicast") (m.name ∷ sender_word plan m.sender ∷ issue_word m.at m.longest_wait ∷ map (group_name_at plan) m.destinations) multicast_word (message_words plan m s is))
 
   not_due : (plan : Scenario) → IsScenario plan → plan.target_group < length plan.groups → (n : ℕ) → 0 < n → is_multicast_due n (target_line plan) ≡ false
   not_due plan s within n some =
@@ -205,10 +237,7 @@ module _ (laws : LineLaws) where
   -- a line `multicast` is no line `link`
   begins_otherwise : (plan : Scenario) (m : Message) → IsScenario plan → IsMulticast (length plan.groups) m → begins_with (codes "link") (words_of (multicast_line plan m)) ≡ false
   begins_otherwise plan m s is =
-      let sender = sender_is plan m.sender s.group_names is.sender in
-      let to = names_words (map (group_name_at plan) m.destinations) (at_numbers plan.groups m.destinations s.group_names is.known) in
-      ap (begins_with (codes "link")) (words_again laws (codes "multicast") (m.name ∷ sender_word plan m.sender ∷ decimal m.at ∷ map (group_name_at plan) m.destinations) multicast_word
-      (name_word m.name is.name, (sender.0, (decimal_word laws m.at (omega (arith, is.at)), to.0))))
+      ap (begins_with (codes "link")) (words_again laws (codes "multicast") (m.name ∷ sender_word plan m.sender ∷ issue_word m.at m.longest_wait ∷ map (group_name_at plan) m.destinations) multicast_word (message_words plan m s is))
 
   no_link : (plan : Scenario) (m : Message) → IsScenario plan → IsMulticast (length plan.groups) m → (version : Version) → is_link_due version (multicast_line plan m) ≡ false
   no_link plan m s is One = refl
@@ -264,19 +293,19 @@ module _ (laws : LineLaws) where
       let delay : delay_of_draft (draft_for plan) ≡ plan.delay = ap (λ (p : Scenario). p.delay) (numbered_again drafts plan s) in
       rw (delay, drafts.links plan s) (none_misplaced (length plan.groups) plan.delay None number plan.links s.ascending s.links)
 
-  messages_again : (plan : Scenario) (ms : List Message) (t : List ℕ) (more : List (List ℕ)) (rest : List ℕ) (count number : ℕ) → IsScenario plan → All (IsMulticast (length plan.groups)) ms
+  messages_again : (version : Version) (plan : Scenario) (ms : List Message) (t : List ℕ) (more : List (List ℕ)) (rest : List ℕ) (count number : ℕ) → IsScenario plan → All (IsMulticast (length plan.groups)) ms → AllByRecursion (λ m. CanWait version m.longest_wait) ms
       → ((n : ℕ) → 0 < n → is_multicast_due n t ≡ false) → count + length ms ≤ MOST_MULTICASTS → 0 < count + length ms
-      → messages_in count number rest (map (multicast_line plan) ms ++ t ∷ more) ≡ Ok (map (draft_message plan) ms, record { ended = t ∷ more; rest = rest; number = number + length ms })
+      → messages_in version count number rest (map (multicast_line plan) ms ++ t ∷ more) ≡ Ok (map (draft_message plan) ms, record { ended = t ∷ more; rest = rest; number = number + length ms })
   unfolding messages_in
-  messages_again plan [] t more rest count number s are other few some =
+  messages_again version plan [] t more rest count number s are can other few some =
       let e : number + 0 ≡ number = omega arith in
       rw (other count (omega arith), e) refl
-  messages_again plan (m ∷ ms) t more rest count number s are other few some =
+  messages_again version plan (m ∷ ms) t more rest count number s are can other few some =
       let is = All-head (IsMulticast (length plan.groups)) m ms are in
       let due : is_multicast_due count (multicast_line plan m) ≡ true = or_right (count == 0) _ (begins plan m s is) in
       let below : (count == MOST_MULTICASTS) ≡ false = ne_eqb count MOST_MULTICASTS (λ e. omega arith) in
       let e : number + suc (length ms) ≡ (number + 1) + length ms = omega arith in
-      rw (due, message_line_again plan m s is, below, messages_again plan ms t more rest (count + 1) (number + 1) s (All-tail (IsMulticast (length plan.groups)) m ms are) other (omega arith) (omega arith), e) refl
+      rw (due, message_line_again version plan m s is can.0, below, messages_again version plan ms t more rest (count + 1) (number + 1) s (All-tail (IsMulticast (length plan.groups)) m ms are) can.1 other (omega arith) (omega arith), e) refl
 
   then_ok : {A B : Type 0} (r : Result A LineFault) (f : A → Result B LineFault) (x : A) (y : Result B LineFault) → r ≡ Ok x → f x ≡ y → (r >>= f) ≡ y
   then_ok r f x y e g = ap (λ z. z >>= f) e ∙ g
@@ -286,11 +315,12 @@ module _ (laws : LineLaws) where
   form_again expected form number rest line lines x e = rw e refl
 
   -- the line of time, if there is one
-  time_again : (version : Version) (time : Time) (number : ℕ) (rest : List ℕ) (ls more : List (List ℕ)) → time ≡ time_of version
-      → time_at version (record { ended = (time_lines time ++ ls) ++ more; rest = rest; number = number }) ≡ Ok (time, record { ended = ls ++ more; rest = rest; number = number + length (time_lines time) })
+  time_again : (version : Version) (time : Time) (number : ℕ) (rest : List ℕ) (ls more : List (List ℕ)) → SaysTime version time
+      → time_at version (record { ended = (time_lines version time ++ ls) ++ more; rest = rest; number = number }) ≡ Ok (time, record { ended = ls ++ more; rest = rest; number = number + length (time_lines version time) })
   time_again One time number rest ls more is = let e : number + 0 ≡ number = omega arith in rw (is, e) refl
   time_again Two time number rest ls more is = let e : number + 0 ≡ number = omega arith in rw (is, e) refl
-  time_again Three time number rest ls more is = rw is refl
+  time_again Three Ticks number rest ls more is = refl
+  time_again Three Real number rest ls more is = refl
 
   -- the line `delay` is no line `tick`
   no_tick : (version : Version) (plan : Scenario) → IsScenario plan → is_tick_due version (delay_line plan) ≡ false
@@ -299,14 +329,14 @@ module _ (laws : LineLaws) where
   no_tick Three plan s =
       ap (begins_with (codes "tick")) (words_again laws (codes "delay") (decimal plan.delay ∷ []) delay_word (decimal_word laws plan.delay (omega (arith, s.delay_high)), tt))
 
-  tick_due : (version : Version) (time : Time) (tick : ℕ) → time ≡ time_of version → IsLong time tick → is_tick_due version (tick_line tick) ≡ true
+  tick_due : (version : Version) (time : Time) (tick : ℕ) → SaysTime version time → IsLong time tick → is_tick_due version (tick_line tick) ≡ true
   tick_due One time tick said is = let no : Ticks ≡ Real = sym said ∙ is.real in absurd cc
   tick_due Two time tick said is = let no : Ticks ≡ Real = sym said ∙ is.real in absurd cc
   tick_due Three time tick said is =
       ap (begins_with (codes "tick")) (words_again laws (codes "tick") (decimal (count_of tick) ∷ unit_word (unit_of tick) ∷ []) tick_word (tick_words laws tick is.few))
 
   -- the line of a tick's length, if there is one
-  length_again : (version : Version) (plan : Scenario) (tick : Option ℕ) (number : ℕ) (rest : List ℕ) (more : List (List ℕ)) → IsScenario plan → plan.time ≡ time_of version → is_tick plan.time tick ≡ true
+  length_again : (version : Version) (plan : Scenario) (tick : Option ℕ) (number : ℕ) (rest : List ℕ) (more : List (List ℕ)) → IsScenario plan → SaysTime version plan.time → is_tick plan.time tick ≡ true
       → tick_at version (record { ended = tick_lines tick ++ delay_line plan ∷ more; rest = rest; number = number }) ≡ Ok (tick, record { ended = delay_line plan ∷ more; rest = rest; number = number + length (tick_lines tick) })
   length_again version plan None number rest more s said e =
       let z : number + 0 ≡ number = omega arith in
@@ -316,9 +346,10 @@ module _ (laws : LineLaws) where
       rw (tick_due version plan.time tick said is, tick_again laws tick is.some is.short is.few) refl
 
   pub scenario_again : (drafts : DraftLaws) (version : Version) (plan : Scenario) (number : ℕ) (rest : List ℕ) (more : List (List ℕ)) → IsScenario plan → CanSay version plan → plan.target_group < length plan.groups
-      → scenario_at version (record { ended = scenario_lines plan ++ more; rest = rest; number = number }) ≡ Ok (plan, record { ended = more; rest = rest; number = number + length (scenario_lines plan) })
+      → scenario_at version (record { ended = scenario_lines version plan ++ more; rest = rest; number = number }) ≡ Ok (plan, record { ended = more; rest = rest; number = number + length (scenario_lines version plan) })
   unfolding scenario_at
   scenario_again drafts version plan number rest more s said within =
+      let time = says_time version plan said.time in
       let ms = map (draft_message plan) plan.multicasts in
       let ls = map (draft_link plan) plan.links in
       let target : List ℕ × List ℕ = ((message_at plan plan.target_message).name, group_name_at plan plan.target_group) in
@@ -326,9 +357,9 @@ module _ (laws : LineLaws) where
       let many = length plan.links in
       let lines : List (List ℕ) = map (multicast_line plan) plan.multicasts ++ target_line plan ∷ more in
       let linked : List (List ℕ) = map (link_line plan) plan.links ++ lines in
-      let second = number + length (time_lines plan.time) in
+      let second = number + length (time_lines version plan.time) in
       let first = second + length (tick_lines plan.tick) in
-      let start : Place = record { ended = scenario_lines plan ++ more; rest = rest; number = number } in
+      let start : Place = record { ended = scenario_lines version plan ++ more; rest = rest; number = number } in
       let q0 : Place = record { ended = tick_lines plan.tick ++ delay_line plan ∷ groups_line plan ∷ linked; rest = rest; number = second } in
       let p0 : Place = record { ended = delay_line plan ∷ groups_line plan ∷ linked; rest = rest; number = first } in
       let p1 : Place = record { ended = groups_line plan ∷ linked; rest = rest; number = first + 1 } in
@@ -337,29 +368,29 @@ module _ (laws : LineLaws) where
       let p4 : Place = record { ended = target_line plan ∷ more; rest = rest; number = first + 1 + 1 + many + count } in
       let p5 : Place = record { ended = more; rest = rest; number = first + 1 + 1 + many + count + 1 } in
       let timed : time_at version start ≡ Ok (plan.time, q0) =
-      time_again version plan.time number rest (tick_lines plan.tick ++ lines_from_delay plan) more said.time
+      time_again version plan.time number rest (tick_lines plan.tick ++ lines_from_delay plan) more time
       ∙ ap (λ (ls : List (List ℕ)). Ok (plan.time, record { ended = ls; rest = rest; number = second }))
       (append_assoc (tick_lines plan.tick) (lines_from_delay plan) more ∙ ap (λ ls. tick_lines plan.tick ++ ls) (lines_before plan more)) in
       let read : scenario_at version start ≡ Ok (plan, p5) =
       then_ok (time_at version start) (after_time version)
       (plan.time, q0) (Ok (plan, p5)) timed
       (then_ok (tick_at version q0) (after_tick version plan.time)
-      (plan.tick, p0) (Ok (plan, p5)) (length_again version plan plan.tick second rest (groups_line plan ∷ linked) s said.time s.tick)
+      (plan.tick, p0) (Ok (plan, p5)) (length_again version plan plan.tick second rest (groups_line plan ∷ linked) s time s.tick)
       (then_ok (form_at Delay (number_in (codes "delay")) p0) (after_delay version plan.time plan.tick)
       (plan.delay, p1) (Ok (plan, p5)) (form_again Delay (number_in (codes "delay")) first rest (delay_line plan) (groups_line plan ∷ linked) plan.delay (delay_again plan s))
       (then_ok (form_at Groups groups_in p1) (after_groups version plan.time plan.tick plan.delay)
       (plan.groups, p2) (Ok (plan, p5)) (form_again Groups groups_in (first + 1) rest (groups_line plan) linked plan.groups (groups_again plan s))
-      (then_ok (links_at version 0 p2) (after_links plan.time plan.tick plan.delay p2.number plan.groups)
+      (then_ok (links_at version 0 p2) (after_links version plan.time plan.tick plan.delay p2.number plan.groups)
       (ls, p3) (Ok (plan, p5)) (links_read drafts.few version plan (target_line plan) more rest (first + 1 + 1) s said.links)
-      (then_ok (messages_at 0 p3) (after_messages plan.time plan.tick plan.delay p2.number plan.groups ls p3.number)
-      (ms, p4) (Ok (plan, p5)) (messages_again plan plan.multicasts (target_line plan) more rest 0 p3.number s s.messages (not_due plan s within) (omega (arith, s.multicasts_high)) (omega (arith, s.multicasts_low)))
+      (then_ok (messages_at version 0 p3) (after_messages plan.time plan.tick plan.delay p2.number plan.groups ls p3.number)
+      (ms, p4) (Ok (plan, p5)) (messages_again version plan plan.multicasts (target_line plan) more rest 0 p3.number s s.messages (can_wait version plan said.time) (not_due plan s within) (omega (arith, s.multicasts_high)) (omega (arith, s.multicasts_low)))
       (then_ok (form_at Target target_in p4) (after_target plan.time plan.tick plan.delay p2.number plan.groups ls p3.number ms)
       (target, p5) (Ok (plan, p5)) (form_again Target target_in p4.number rest (target_line plan) more target (target_line_again plan s within))
       (then_ok (told (scenario_of_draft (draft_for plan))) (λ plan'. where_ordered Link (first_misplaced_link p2.number (draft_for plan)) plan' >>= λ linked. where_ordered Multicast (first_unordered plan.groups p3.number ms) linked >>= λ ordered. Ok (ordered, p5))
       plan (Ok (plan, p5)) (ap told (drafts.drafted plan s))
       (ap (λ o. where_ordered Link o plan >>= λ linked. where_ordered Multicast (first_unordered plan.groups p3.number ms) linked >>= λ ordered. Ok (ordered, p5)) (none_astray drafts plan p2.number s)
       ∙ ap (λ o. where_ordered Multicast o plan >>= λ ordered. Ok (ordered, p5)) (none_unordered plan p3.number plan.multicasts (ap (λ (p : Scenario). p.multicasts) (numbered_again drafts plan s))))))))))) in
-      let past : p5.number ≡ number + length (scenario_lines plan) = omega (arith, count_lines plan, count_all plan) in
+      let past : p5.number ≡ number + length (scenario_lines version plan) = omega (arith, count_lines plan, count_all version plan) in
       read ∙ ap (λ n. Ok (plan, record { ended = more; rest = rest; number = n })) past
 
   -- ---- no line has a byte 10 in it
@@ -371,11 +402,8 @@ module _ (laws : LineLaws) where
   message_lines : (plan : Scenario) (ms : List Message) → IsScenario plan → All (IsMulticast (length plan.groups)) ms → AreLines (map (multicast_line plan) ms)
   message_lines plan [] s are = tt
   message_lines plan (m ∷ ms) s are =
-      let is = All-head (IsMulticast (length plan.groups)) m ms are in
-      let sender = sender_is plan m.sender s.group_names is.sender in
-      let to = names_words (map (group_name_at plan) m.destinations) (at_numbers plan.groups m.destinations s.group_names is.known) in (
-        line_made laws (codes "multicast") (m.name ∷ sender_word plan m.sender ∷ decimal m.at ∷ map (group_name_at plan) m.destinations) multicast_word
-            (name_word m.name is.name, (sender.0, (decimal_word laws m.at (omega (arith, is.at)), to.0))),
+      let words = message_words plan m s (All-head (IsMulticast (length plan.groups)) m ms are) in (
+        line_made laws (codes "multicast") (m.name ∷ sender_word plan m.sender ∷ issue_word m.at m.longest_wait ∷ map (group_name_at plan) m.destinations) multicast_word words,
         message_lines plan ms s (All-tail (IsMulticast (length plan.groups)) m ms are),
       )
 
@@ -385,9 +413,11 @@ module _ (laws : LineLaws) where
       let is = All-head (IsLink (length plan.groups) plan.delay) l ls are in
       (line_made laws (codes "link") (sender_word plan l.sender ∷ group_name_at plan l.to ∷ decimal l.least ∷ decimal l.most ∷ []) link_word (link_words plan l s is), link_lines plan ls s (All-tail (IsLink (length plan.groups) plan.delay) l ls are))
 
-  time_lines_are : (time : Time) → AreLines (time_lines time)
-  time_lines_are Ticks = tt
-  time_lines_are Real = (refl, tt)
+  time_lines_are : (version : Version) (time : Time) → AreLines (time_lines version time)
+  time_lines_are One time = tt
+  time_lines_are Two time = tt
+  time_lines_are Three Ticks = (refl, tt)
+  time_lines_are Three Real = (refl, tt)
 
   tick_lines_are : (time : Time) (tick : Option ℕ) → is_tick time tick ≡ true → AreLines (tick_lines tick)
   tick_lines_are time None e = tt
@@ -406,7 +436,7 @@ module _ (laws : LineLaws) where
         ),
       )
 
-  pub scenario_lines_are : (plan : Scenario) → IsScenario plan → plan.target_group < length plan.groups → AreLines (scenario_lines plan)
-  scenario_lines_are plan s within =
-      lines_append (time_lines plan.time) (tick_lines plan.tick ++ lines_from_delay plan) (time_lines_are plan.time)
+  pub scenario_lines_are : (version : Version) (plan : Scenario) → IsScenario plan → plan.target_group < length plan.groups → AreLines (scenario_lines version plan)
+  scenario_lines_are version plan s within =
+      lines_append (time_lines version plan.time) (tick_lines plan.tick ++ lines_from_delay plan) (time_lines_are version plan.time)
       (lines_append (tick_lines plan.tick) (lines_from_delay plan) (tick_lines_are plan.time plan.tick s.tick) (lines_from_delay_are plan s within))

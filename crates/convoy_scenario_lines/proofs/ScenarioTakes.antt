@@ -1,14 +1,14 @@
 -- A scenario that is read from lines: the lines are those of the scenario.
-use Rattle.std.proofs.Common.{◌≡◌, ℕ, ℤ, pos, negsuc, int_le, ◌&&◌, ◌+◌, ◌<◌, ◌==◌, if◌then◌else◌, Bool, true, false, cond, leb, List, [], ◌∷◌, ◌++◌, length, get_or, map, filter, Option, Some, None, ok_or, Result, Ok, Err, refl, ap, sym, subst, ◌∙◌, arith, inl, inr, codes, decimal, add-zero, add-one, append_assoc}
-use Rattle.std.specs.List.{list_all, AllByRecursion, AllZip, range_with_len}
+use Rattle.std.proofs.Common.{◌≡◌, ℕ, ℤ, pos, negsuc, int_le, ◌&&◌, ◌+◌, ◌-◌, ◌<◌, ◌==◌, if◌then◌else◌, Bool, true, false, cond, leb, ltb, List, [], ◌∷◌, ◌++◌, length, get_or, map, filter, Option, Some, None, ok_or, Result, Ok, Err, refl, ap, sym, subst, ◌∙◌, arith, inl, inr, codes, decimal, add-zero, add-one, append_assoc}
+use Rattle.std.specs.List.{list_all, list_any, AllByRecursion, AllZip, range_with_len}
 use Rattle.std.specs.Result.{result_and}
 use Rattle.std.specs.Str.{bytes_eq}
 use Rattle.std.proofs.lemmas.Bool.{and_parts, and_from, cases_Bool, false≢true, le-leb, leb-true}
 use Rattle.std.proofs.lemmas.List.{length-append, length-map}
-use Rattle.std.proofs.lemmas.Option.{cond_some}
+use Rattle.std.proofs.lemmas.Option.{same_Some}
 use Rattle.std.proofs.lemmas.Slice.Eq.{slice_eq-Decides, bytes_eq-Decides}
 use Rattle.convoy_scenario.specs.declared.fault.ScenarioFault.{ScenarioFault}
-use Rattle.convoy_scenario.specs.declared.limits.TheConstants.{GREATEST_AT, GREATEST_DELAY, GREATEST_WHOLE_DELAY, MOST_LINKS, MOST_MULTICASTS}
+use Rattle.convoy_scenario.specs.declared.limits.TheConstants.{GREATEST_AT, GREATEST_DELAY, GREATEST_UNTIL, GREATEST_WHOLE_DELAY, LONGEST_WAIT, MOST_LINKS, MOST_MULTICASTS}
 use Rattle.convoy_scenario_lines.specs.declared.line_fault.Expected.{Expected}
 use Rattle.convoy_scenario_lines.specs.declared.line_fault.Expected.TheVariants as expected
 use Rattle.convoy_scenario_lines.specs.declared.line_fault.Expected.TheVariants.{Tick, Delay, Groups, Link, Multicast, Target}
@@ -23,14 +23,14 @@ use Rattle.convoy_scenario.specs.declared.fault.Limit.TheVariants as limit
 use Rattle.convoy_scenario.specs.Draft.{Draft, DraftLink, DraftMessage}
 use Rattle.convoy_scenario.specs.Laws.{NamesHavePlaces}
 use Rattle.convoy_scenario.specs.Naming.{sender_word}
-use Rattle.convoy_scenario.specs.Scenario.{Scenario, message_at}
+use Rattle.convoy_scenario.specs.Scenario.{Scenario, message_at, may_wait}
 use Rattle.convoy_scenario.specs.WellFormed.{greatest_delay, is_name, is_group_name, client_word, IsScenario}
-use Rattle.convoy_scenario_lines.specs.Laws.{time_of, CanSayLinks, CanSay, IsBetween}
-use Rattle.convoy_scenario.specs.Checks.{checks, judge, is_within, is_among, is_known_sender, knows, has_range, knows_link, is_message}
+use Rattle.convoy_scenario_lines.specs.Laws.{CanSayTime, CanSayLinks, CanSay, IsBetween}
+use Rattle.convoy_scenario.specs.Checks.{checks, judge, ticks, has_wait, is_within, is_among, is_known_sender, knows, has_range, knows_link, is_message}
 use Rattle.convoy_scenario.specs.Numbering as numbering
-use Rattle.convoy_scenario.specs.Numbering.{place, ticks, numbers_of, link_of, message_of, in_order, delay_of_draft, links_of_draft, scenario_of, scenario_of_draft}
+use Rattle.convoy_scenario.specs.Numbering.{place, numbers_of, link_of, message_of, in_order, delay_of_draft, links_of_draft, scenario_of, scenario_of_draft}
 use Rattle.convoy_lines.specs.Texts.{line_of}
-use Rattle.convoy_scenario_lines.specs.Lines.{time_line, time_lines, tick_lines, lines_from_delay, delay_line, groups_line, link_line, multicast_line, target_line, scenario_lines}
+use Rattle.convoy_scenario_lines.specs.Lines.{time_line, time_lines, tick_lines, lines_from_delay, delay_line, groups_line, link_line, issue_word, multicast_line, target_line, scenario_lines}
 use Rattle.convoy_lines.specs.Labels.{number_in}
 use Rattle.convoy_scenario_lines.specs.LineForms.{name_of, named_sender, time_in, tick_in, groups_in, link_in, multicast_in, target_in}
 use Rattle.convoy_lines.specs.Results.{◌>>=◌}
@@ -38,6 +38,7 @@ use Rattle.convoy_lines.specs.Places.{Place, upcoming}
 use Rattle.convoy_scenario_lines.specs.LineReading.{form_at, time_at, is_tick_due, tick_at, is_link_due, links_in, links_at, first_misplaced_link, messages_in, messages_at, is_multicast_due, draft_of, told, is_ordered, first_unordered, where_ordered, scenario_at}
 use Rattle.convoy_scenario_lines.proofs.FormLaws.{Says, SaysLink, link_takes, message_takes, name_takes, names_take, groups_take, target_takes}
 use Rattle.convoy_scenario_lines.proofs.DraftLaws.{DraftLaws}
+use Rattle.convoy_scenario_lines.proofs.Issues.{CanWait}
 use Rattle.convoy_scenario_lines.proofs.LineLaws.{LineLaws, delay_word, number_line_takes}
 use Rattle.convoy_scenario_lines.proofs.LinkOrder.{placed}
 use Rattle.convoy_scenario_lines.proofs.TickLines.{tick_takes}
@@ -101,6 +102,21 @@ sender_is places draft from some known =
 tick_is : (most t : ℕ) → is_within 0 most (pos t) ≡ true → decimal t ≡ decimal (ticks most (pos t))
 tick_is most t e = rw e refl
 
+tick_same : (most t : ℕ) → is_within 0 most (pos t) ≡ true → ticks most (pos t) ≡ t
+tick_same most t e = rw e refl
+
+-- the first tick, and the longest wait, of a message that may be issued then, and waits no longer than it may
+issue_same : (first wait : ℕ) → is_within 0 GREATEST_AT (pos first) ≡ true → is_within (ticks GREATEST_AT (pos first)) (ticks GREATEST_AT (pos first) + LONGEST_WAIT) (pos (first + wait)) ≡ true
+    → (ticks GREATEST_AT (pos first) ≡ first) × (ticks GREATEST_UNTIL (pos (first + wait)) - ticks GREATEST_AT (pos first) ≡ wait)
+issue_same first wait within waits =
+    let at = tick_same GREATEST_AT first within in
+    let low = leb-true first GREATEST_AT (and_parts (leb 0 first) (leb first GREATEST_AT) within).1 in
+    let near : (leb first (first + wait) && leb (first + wait) (first + LONGEST_WAIT)) ≡ true = rw at at waits in
+    let high = leb-true (first + wait) (first + LONGEST_WAIT) (and_parts (leb first (first + wait)) _ near).1 in
+    let until : ticks GREATEST_UNTIL (pos (first + wait)) ≡ first + wait =
+    tick_same GREATEST_UNTIL (first + wait) (and_from _ _ (le-leb 0 (first + wait) (omega arith)) (le-leb (first + wait) GREATEST_UNTIL (omega arith))) in
+    (at, rw (at, until) (omega arith))
+
 to_is : (groups : List (List ℕ)) (message : DraftMessage) (to : List (List ℕ)) → AllByRecursion (λ name. 0 < length name) groups → is_ordered groups message ≡ true → message.to ≡ map name_of to
     → to ≡ map (λ g. get_or groups g []) (numbers_of groups message.to)
 to_is groups message to some ordered said =
@@ -108,27 +124,34 @@ to_is groups message to some ordered said =
     let all : AllByRecursion (λ name. 0 < length name) (map name_of to) = subst (AllByRecursion (λ name. 0 < length name)) (sym listed ∙ said) (filter_some (λ group. is_among group message.to) groups some) in
     names_take to all ∙ sym said ∙ listed ∙ sym (named groups message.to)
 
+-- the first tick and the longest wait of a message are those of its line
+issue_said : (version : Version) (line : List ℕ) (m : DraftMessage) → is_within 0 GREATEST_AT m.at ≡ true → has_wait m ≡ true → (s : Says version line m)
+    → (ticks GREATEST_AT m.at ≡ s.tick) × (ticks GREATEST_UNTIL m.until - ticks GREATEST_AT m.at ≡ s.wait)
+issue_said version line m within waits s =
+    let same = issue_same s.tick s.wait (subst (λ (d : DraftMessage). is_within 0 GREATEST_AT d.at ≡ true) s.said within) (subst (λ (d : DraftMessage). has_wait d ≡ true) s.said waits) in
+    subst (λ (d : DraftMessage). (ticks GREATEST_AT d.at ≡ s.tick) × (ticks GREATEST_UNTIL d.until - ticks GREATEST_AT d.at ≡ s.wait)) (sym s.said) same
+
 abbrev four : List ℕ → List ℕ → List ℕ → List (List ℕ) → List ℕ
 four name from tick to = line_of (codes "multicast") (name ∷ from ∷ tick ∷ to)
 
-message_is : (places : NamesHavePlaces) (draft : Draft) (line : List ℕ) (m : DraftMessage) → AllByRecursion (λ name. 0 < length name) draft.groups → is_name m.name ≡ true → knows draft.groups m ≡ true
-    → is_within 0 GREATEST_AT m.at ≡ true → is_ordered draft.groups m ≡ true → Says line m → line ≡ multicast_line (scenario_of draft) (message_of draft.groups m)
-message_is places draft line m some name known within ordered s =
+message_is : (version : Version) (places : NamesHavePlaces) (draft : Draft) (line : List ℕ) (m : DraftMessage) → AllByRecursion (λ name. 0 < length name) draft.groups → is_name m.name ≡ true → knows draft.groups m ≡ true
+    → is_within 0 GREATEST_AT m.at ≡ true → has_wait m ≡ true → is_ordered draft.groups m ≡ true → Says version line m → line ≡ multicast_line (scenario_of draft) (message_of draft.groups m)
+message_is version places draft line m some name known within waits ordered s =
     let name-said : m.name ≡ name_of s.name = ap (λ (d : DraftMessage). d.name) s.said in
     let sender-said : m.sender ≡ named_sender s.from = ap (λ (d : DraftMessage). d.sender) s.said in
     let to-said : m.to ≡ map name_of s.to = ap (λ (d : DraftMessage). d.to) s.said in
-    let at-said : m.at ≡ pos s.tick = ap (λ (d : DraftMessage). d.at) s.said in
+    let issue = issue_said version line m within waits s in
     let name-is : s.name ≡ m.name = name_takes s.name (subst (λ (n : List ℕ). 0 < length n) name-said (name_some m.name name)) ∙ sym name-said in
     let known-sender : is_known_sender draft.groups (named_sender s.from) ≡ true = subst (λ (o : Option (List ℕ)). is_known_sender draft.groups o ≡ true) sender-said (and_parts (is_known_sender draft.groups m.sender) _ known).0 in
     let from-is : s.from ≡ sender_word (scenario_of draft) (numbering.sender_of draft.groups m.sender) =
     sender_is places draft s.from some known-sender ∙ ap (λ o. sender_word (scenario_of draft) (numbering.sender_of draft.groups o)) (sym sender-said) in
-    let tick-is : decimal s.tick ≡ decimal (ticks GREATEST_AT m.at) =
-    tick_is GREATEST_AT s.tick (subst (λ (z : ℤ). is_within 0 GREATEST_AT z ≡ true) at-said within) ∙ ap (λ z. decimal (ticks GREATEST_AT z)) (sym at-said) in
+    let issue-is : issue_word s.tick s.wait ≡ issue_word (message_of draft.groups m).at (message_of draft.groups m).longest_wait =
+    ap (λ n. issue_word n s.wait) (sym issue.0) ∙ ap (issue_word (ticks GREATEST_AT m.at)) (sym issue.1) in
     let to-is : s.to ≡ map (λ g. get_or draft.groups g []) (numbers_of draft.groups m.to) = to_is draft.groups m s.to some ordered to-said in
-    s.written ∙ ap (λ n. four n s.from (decimal s.tick) s.to) name-is
-    ∙ ap (λ f. four m.name f (decimal s.tick) s.to) from-is
-    ∙ ap (λ t. four m.name (sender_word (scenario_of draft) (numbering.sender_of draft.groups m.sender)) t s.to) tick-is
-    ∙ ap (λ t. four m.name (sender_word (scenario_of draft) (numbering.sender_of draft.groups m.sender)) (decimal (ticks GREATEST_AT m.at)) t) to-is
+    s.written ∙ ap (λ n. four n s.from (issue_word s.tick s.wait) s.to) name-is
+    ∙ ap (λ f. four m.name f (issue_word s.tick s.wait) s.to) from-is
+    ∙ ap (λ t. four m.name (sender_word (scenario_of draft) (numbering.sender_of draft.groups m.sender)) t s.to) issue-is
+    ∙ ap (λ t. four m.name (sender_word (scenario_of draft) (numbering.sender_of draft.groups m.sender)) (issue_word (message_of draft.groups m).at (message_of draft.groups m).longest_wait) t) to-is
 
 -- ---- a link
 
@@ -220,30 +243,35 @@ took_at {A} expected form number rest (line ∷ lines) x e =
 pub took : {A : Type 0} (expected : Expected) (form : List ℕ → Option A) (p : Place) (x : A × Place) → form_at expected form p ≡ Ok x → Took form p x
 took expected form p x e = took_at expected form p.number p.rest p.ended x e
 
+-- what a version says of how time goes
+abbrev pub SaysTime : Version → Time → Type 0
+SaysTime One time = time ≡ Ticks
+SaysTime Two time = time ≡ Ticks
+SaysTime Three time = Unit {0}
+
 -- what a version had to say of time
 record TookTime (version : Version) (p : Place) (x : Time × Place) : Type 0 where
-  ended : p.ended ≡ time_lines x.0 ++ x.1.ended
+  ended : p.ended ≡ time_lines version x.0 ++ x.1.ended
   rest : p.rest ≡ x.1.rest
-  number : p.number + length (time_lines x.0) ≡ x.1.number
-  said : x.0 ≡ time_of version
+  number : p.number + length (time_lines version x.0) ≡ x.1.number
+  said : SaysTime version x.0
 
-no_time : (version : Version) (p : Place) (x : Time × Place) → Ticks ≡ time_of version → ◌≡◌ {A = Result (Time × Place) LineFault} (Ok (Ticks, p)) (Ok x) → TookTime version p x
-no_time version p x ticks e = subst (TookTime version p) (same_ok (Ticks, p) x e) (record { ended = refl; rest = refl; number = omega arith; said = ticks })
-
-real_takes : (line : List ℕ) (time : Time) → time_in line ≡ Some time → (line ≡ time_line) × (time ≡ Real)
-real_takes line time e =
-    let taken = cond_some (bytes_eq line time_line) Real time e in
-    ((bytes_eq-Decides line time_line).0 taken.0, sym taken.1)
+time_line_is : (line : List ℕ) (time : Time) → time_in line ≡ Some time → line ≡ time_line time
+time_line_is line time e =
+    elim (cases_Bool (bytes_eq line (time_line Ticks))) [
+      | inl s ↦ let is : Some Ticks ≡ Some time = rw s at e in (bytes_eq-Decides line (time_line Ticks)).0 s ∙ ap time_line (same_Some Ticks time is)
+      | inr no-t ↦ elim (cases_Bool (bytes_eq line (time_line Real))) [
+        | inl s ↦ let is : Some Real ≡ Some time = rw (no-t, s) at e in (bytes_eq-Decides line (time_line Real)).0 s ∙ ap time_line (same_Some Real time is)
+        | inr none ↦ let is : None ≡ Some time = rw (no-t, none) at e in absurd cc
+      ]
+    ]
 
 time_takes : (version : Version) (p : Place) (x : Time × Place) → time_at version p ≡ Ok x → TookTime version p x
-time_takes One p x e = no_time One p x refl e
-time_takes Two p x e = no_time Two p x refl e
+time_takes One p x e = subst (TookTime One p) (same_ok (Ticks, p) x e) (record { ended = refl; rest = refl; number = omega arith; said = refl })
+time_takes Two p x e = subst (TookTime Two p) (same_ok (Ticks, p) x e) (record { ended = refl; rest = refl; number = omega arith; said = refl })
 time_takes Three p x e =
     let t = took expected.Time time_in p x e in
-    let says = real_takes t.line x.0 t.has in
-    let line : t.line ∷ x.1.ended ≡ time_lines x.0 ++ x.1.ended = rw (says.0, says.1) refl in
-    let one : length (time_lines x.0) ≡ 1 = rw says.1 refl in
-    record { ended = t.ended ∙ line; rest = t.rest; number = omega (arith, one, t.number); said = says.1 }
+    record { ended = t.ended ∙ ap (λ l. l ∷ x.1.ended) (time_line_is t.line x.0 t.has); rest = t.rest; number = t.number; said = tt }
 
 -- what was said of a tick's length
 record TookTick (p : Place) (x : Option ℕ × Place) : Type 0 where
@@ -313,24 +341,24 @@ can_say_links One draft count number rest ended x are e = ap (λ (ls : List Draf
 can_say_links Two draft count number rest ended x are e = tt
 can_say_links Three draft count number rest ended x are e = tt
 
-pub messages_take : (laws : LineLaws) (count number : ℕ) (rest : List ℕ) (ended : List (List ℕ)) (x : List DraftMessage × Place) → messages_in count number rest ended ≡ Ok x → TookLines Says number rest ended x
+pub messages_take : (laws : LineLaws) (version : Version) (count number : ℕ) (rest : List ℕ) (ended : List (List ℕ)) (x : List DraftMessage × Place) → messages_in version count number rest ended ≡ Ok x → TookLines (Says version) number rest ended x
 unfolding messages_in
-messages_take laws count number rest [] x e =
+messages_take laws version count number rest [] x e =
     let same = stop (is_multicast_due count rest) (faults.Line number Multicast) ([], record { ended = []; rest = rest; number = number }) x e in
-    subst (TookLines Says number rest []) same (record { lines = []; before = refl; after = refl; past = omega arith; say = tt })
-messages_take laws count number rest (line ∷ lines) x e =
+    subst (TookLines (Says version) number rest []) same (record { lines = []; before = refl; after = refl; past = omega arith; say = tt })
+messages_take laws version count number rest (line ∷ lines) x e =
     elim (cases_Bool (is_multicast_due count line)) [
       | inl due ↦
-          let read : (ok_or (multicast_in line) (faults.Line number Multicast) >>= λ message. (if count == MOST_MULTICASTS then Err (faults.Scenario (OverLimit limit.Multicasts)) else messages_in (count + 1) (number + 1) rest lines) >>= λ more. Ok (message ∷ more.0, more.1)) ≡ Ok x = rw due at e in
-          let a = bind_ok (ok_or (multicast_in line) (faults.Line number Multicast)) (λ message. (if count == MOST_MULTICASTS then Err (faults.Scenario (OverLimit limit.Multicasts)) else messages_in (count + 1) (number + 1) rest lines) >>= λ more. Ok (message ∷ more.0, more.1)) x read in
-          let b = bind_ok (if count == MOST_MULTICASTS then Err (faults.Scenario (OverLimit limit.Multicasts)) else messages_in (count + 1) (number + 1) rest lines) (λ more. Ok (a.0 ∷ more.0, more.1)) x a.2 in
+          let read : (ok_or (multicast_in version line) (faults.Line number Multicast) >>= λ message. (if count == MOST_MULTICASTS then Err (faults.Scenario (OverLimit limit.Multicasts)) else messages_in version (count + 1) (number + 1) rest lines) >>= λ more. Ok (message ∷ more.0, more.1)) ≡ Ok x = rw due at e in
+          let a = bind_ok (ok_or (multicast_in version line) (faults.Line number Multicast)) (λ message. (if count == MOST_MULTICASTS then Err (faults.Scenario (OverLimit limit.Multicasts)) else messages_in version (count + 1) (number + 1) rest lines) >>= λ more. Ok (message ∷ more.0, more.1)) x read in
+          let b = bind_ok (if count == MOST_MULTICASTS then Err (faults.Scenario (OverLimit limit.Multicasts)) else messages_in version (count + 1) (number + 1) rest lines) (λ more. Ok (a.0 ∷ more.0, more.1)) x a.2 in
           let same : (a.0 ∷ b.0.0, b.0.1) ≡ x = same_ok (a.0 ∷ b.0.0, b.0.1) x b.2 in
-          let more = messages_take laws (count + 1) (number + 1) rest lines b.0 (unless (count == MOST_MULTICASTS) (faults.Scenario (OverLimit limit.Multicasts)) _ b.0 b.1) in
-          let says = message_takes laws line a.0 (ok_or_takes (multicast_in line) (faults.Line number Multicast) a.0 a.1) in
-          subst (TookLines Says number rest (line ∷ lines)) same (record { lines = line ∷ more.lines; before = ap (λ t. line ∷ t) more.before; after = more.after; past = omega (arith, more.past); say = (says, more.say) })
+          let more = messages_take laws version (count + 1) (number + 1) rest lines b.0 (unless (count == MOST_MULTICASTS) (faults.Scenario (OverLimit limit.Multicasts)) _ b.0 b.1) in
+          let says = message_takes laws version line a.0 (ok_or_takes (multicast_in version line) (faults.Line number Multicast) a.0 a.1) in
+          subst (TookLines (Says version) number rest (line ∷ lines)) same (record { lines = line ∷ more.lines; before = ap (λ t. line ∷ t) more.before; after = more.after; past = omega (arith, more.past); say = (says, more.say) })
       | inr other ↦
           let read : Ok ([], record { ended = line ∷ lines; rest = rest; number = number }) ≡ Ok x = rw other at e in
-          subst (TookLines Says number rest (line ∷ lines)) (same_ok ([], record { ended = line ∷ lines; rest = rest; number = number }) x read) (record { lines = []; before = refl; after = refl; past = omega arith; say = tt })
+          subst (TookLines (Says version) number rest (line ∷ lines)) (same_ok ([], record { ended = line ∷ lines; rest = rest; number = number }) x read) (record { lines = []; before = refl; after = refl; past = omega arith; say = tt })
     ]
 
 -- all that is asked of each message
@@ -338,26 +366,44 @@ record Fine (draft : Draft) (m : DraftMessage) : Type 0 where
   name : is_name m.name ≡ true
   known : knows draft.groups m ≡ true
   within : is_within 0 GREATEST_AT m.at ≡ true
+  waits : has_wait m ≡ true
   ordered : is_ordered draft.groups m ≡ true
 
 each : (draft : Draft) (ms : List DraftMessage) → list_all (λ m. is_name m.name) ms ≡ true → list_all (knows draft.groups) ms ≡ true → list_all (λ m. is_within 0 GREATEST_AT m.at) ms ≡ true
-    → list_all (is_ordered draft.groups) ms ≡ true → AllByRecursion (Fine draft) ms
-each draft [] a b c d = tt
-each draft (m ∷ ms) a b c d =
+    → list_all has_wait ms ≡ true → list_all (is_ordered draft.groups) ms ≡ true → AllByRecursion (Fine draft) ms
+each draft [] a b c w d = tt
+each draft (m ∷ ms) a b c w d =
     let a' = and_parts (is_name m.name) (list_all (λ m. is_name m.name) ms) a in
     let b' = and_parts (knows draft.groups m) (list_all (knows draft.groups) ms) b in
     let c' = and_parts (is_within 0 GREATEST_AT m.at) (list_all (λ m. is_within 0 GREATEST_AT m.at) ms) c in
+    let w' = and_parts (has_wait m) (list_all has_wait ms) w in
     let d' = and_parts (is_ordered draft.groups m) (list_all (is_ordered draft.groups) ms) d in
-    (record { name = a'.0; known = b'.0; within = c'.0; ordered = d'.0 }, each draft ms a'.1 b'.1 c'.1 d'.1)
+    (record { name = a'.0; known = b'.0; within = c'.0; waits = w'.0; ordered = d'.0 }, each draft ms a'.1 b'.1 c'.1 w'.1 d'.1)
 
-lines_are : (places : NamesHavePlaces) (draft : Draft) (lines : List (List ℕ)) (ms : List DraftMessage) → AllByRecursion (λ name. 0 < length name) draft.groups → AllZip Says lines ms → AllByRecursion (Fine draft) ms
+-- where a version can say of no wait, no message waits
+none_waits : (version : Version) → ((wait : ℕ) → CanWait version wait → wait ≡ 0) → (draft : Draft) (lines : List (List ℕ)) (ms : List DraftMessage) → AllZip (Says version) lines ms → AllByRecursion (Fine draft) ms
+    → list_any may_wait (map (message_of draft.groups) ms) ≡ false
+none_waits version none draft [] [] say fine = refl
+none_waits version none draft [] (m ∷ ms) say fine = absurd say
+none_waits version none draft (l ∷ ls) [] say fine = refl
+none_waits version none draft (l ∷ ls) (m ∷ ms) say fine =
+    let still : (message_of draft.groups m).longest_wait ≡ 0 = (issue_said version l m fine.0.within fine.0.waits say.0).1 ∙ none say.0.wait say.0.can in
+    let first : may_wait (message_of draft.groups m) ≡ false = ap (λ n. ltb 0 n) still in
+    rw first (none_waits version none draft ls ms say.1 fine.1)
+
+can_say_time : (version : Version) (draft : Draft) (lines : List (List ℕ)) → SaysTime version draft.time → AllZip (Says version) lines draft.messages → AllByRecursion (Fine draft) draft.messages → CanSayTime version (scenario_of draft)
+can_say_time One draft lines whole say fine = rw whole (none_waits One (λ wait e. e) draft lines draft.messages say fine)
+can_say_time Two draft lines whole say fine = rw whole (none_waits Two (λ wait e. e) draft lines draft.messages say fine)
+can_say_time Three draft lines said say fine = tt
+
+lines_are : (version : Version) (places : NamesHavePlaces) (draft : Draft) (lines : List (List ℕ)) (ms : List DraftMessage) → AllByRecursion (λ name. 0 < length name) draft.groups → AllZip (Says version) lines ms → AllByRecursion (Fine draft) ms
     → lines ≡ map (multicast_line (scenario_of draft)) (map (message_of draft.groups) ms)
-lines_are places draft [] [] some say fine = refl
-lines_are places draft [] (m ∷ ms) some say fine = absurd say
-lines_are places draft (l ∷ ls) [] some say fine = absurd say
-lines_are places draft (l ∷ ls) (m ∷ ms) some say fine =
-    let one = message_is places draft l m some fine.0.name fine.0.known fine.0.within fine.0.ordered say.0 in
-    ap (λ x. x ∷ ls) one ∙ ap (λ t. multicast_line (scenario_of draft) (message_of draft.groups m) ∷ t) (lines_are places draft ls ms some say.1 fine.1)
+lines_are version places draft [] [] some say fine = refl
+lines_are version places draft [] (m ∷ ms) some say fine = absurd say
+lines_are version places draft (l ∷ ls) [] some say fine = absurd say
+lines_are version places draft (l ∷ ls) (m ∷ ms) some say fine =
+    let one = message_is version places draft l m some fine.0.name fine.0.known fine.0.within fine.0.waits fine.0.ordered say.0 in
+    ap (λ x. x ∷ ls) one ∙ ap (λ t. multicast_line (scenario_of draft) (message_of draft.groups m) ∷ t) (lines_are version places draft ls ms some say.1 fine.1)
 
 all_ordered : (groups : List (List ℕ)) (number : ℕ) (ms : List DraftMessage) → first_unordered groups number ms ≡ None → list_all (is_ordered groups) ms ≡ true
 all_ordered groups number [] e = refl
@@ -411,10 +457,10 @@ count_lines plan =
     omega arith
 
 -- and those of time and of a tick's length
-pub count_all : (plan : Scenario) → length (scenario_lines plan) ≡ length (time_lines plan.time) + (length (tick_lines plan.tick) + length (lines_from_delay plan))
-count_all plan =
-    length-append (time_lines plan.time) (tick_lines plan.tick ++ lines_from_delay plan)
-    ∙ ap (λ n. length (time_lines plan.time) + n) (length-append (tick_lines plan.tick) (lines_from_delay plan))
+pub count_all : (version : Version) (plan : Scenario) → length (scenario_lines version plan) ≡ length (time_lines version plan.time) + (length (tick_lines plan.tick) + length (lines_from_delay plan))
+count_all version plan =
+    length-append (time_lines version plan.time) (tick_lines plan.tick ++ lines_from_delay plan)
+    ∙ ap (λ n. length (time_lines version plan.time) + n) (length-append (tick_lines plan.tick) (lines_from_delay plan))
 
 -- the lines of a scenario before others
 pub lines_before : (plan : Scenario) (rest : List (List ℕ)) → lines_from_delay plan ++ rest ≡ delay_line plan ∷ groups_line plan ∷ (map (link_line plan) plan.links ++ (map (multicast_line plan) plan.multicasts ++ target_line plan ∷ rest))
@@ -446,11 +492,11 @@ after_target time tick delay first groups links number messages target =
 abbrev pub after_messages : Time → Option ℕ → ℕ → ℕ → List (List ℕ) → List DraftLink → ℕ → List DraftMessage × Place → Result (Scenario × Place) LineFault
 after_messages time tick delay first groups links number messages = form_at Target target_in messages.1 >>= after_target time tick delay first groups links number messages.0
 
-abbrev pub after_links : Time → Option ℕ → ℕ → ℕ → List (List ℕ) → List DraftLink × Place → Result (Scenario × Place) LineFault
-after_links time tick delay first groups links = messages_at 0 links.1 >>= after_messages time tick delay first groups links.0 links.1.number
+abbrev pub after_links : Version → Time → Option ℕ → ℕ → ℕ → List (List ℕ) → List DraftLink × Place → Result (Scenario × Place) LineFault
+after_links version time tick delay first groups links = messages_at version 0 links.1 >>= after_messages time tick delay first groups links.0 links.1.number
 
 abbrev pub after_groups : Version → Time → Option ℕ → ℕ → List (List ℕ) × Place → Result (Scenario × Place) LineFault
-after_groups version time tick delay groups = links_at version 0 groups.1 >>= after_links time tick delay groups.1.number groups.0
+after_groups version time tick delay groups = links_at version 0 groups.1 >>= after_links version time tick delay groups.1.number groups.0
 
 abbrev pub after_delay : Version → Time → Option ℕ → ℕ × Place → Result (Scenario × Place) LineFault
 after_delay version time tick delay = form_at Groups groups_in delay.1 >>= after_groups version time tick delay.0
@@ -483,8 +529,8 @@ counted first all time tick from links messages ls ms z y a b k c last e0 e1 e2 
 taken : (laws : LineLaws) (drafts : DraftLaws) (version : Version) (p : Place) (x : Scenario × Place)
     (z : Time × Place) (y : Option ℕ × Place) (a : ℕ × Place) (b : List (List ℕ) × Place) (k : List DraftLink × Place) (c : List DraftMessage × Place) (d : (List ℕ × List ℕ) × Place)
     → time_at version p ≡ Ok z → tick_at version z.1 ≡ Ok y → form_at Delay (number_in (codes "delay")) y.1 ≡ Ok a → form_at Groups groups_in a.1 ≡ Ok b
-    → links_at version 0 b.1 ≡ Ok k → messages_at 0 k.1 ≡ Ok c → form_at Target target_in c.1 ≡ Ok d
-    → after_target z.0 y.0 a.0 b.1.number b.0 k.0 k.1.number c.0 d ≡ Ok x → IsScenario x.0 × CanSay version x.0 × IsBetween x.0 p x.1
+    → links_at version 0 b.1 ≡ Ok k → messages_at version 0 k.1 ≡ Ok c → form_at Target target_in c.1 ≡ Ok d
+    → after_target z.0 y.0 a.0 b.1.number b.0 k.0 k.1.number c.0 d ≡ Ok x → IsScenario x.0 × CanSay version x.0 × IsBetween version x.0 p x.1
 taken laws drafts version p x z y a b k c d z-is y-is a-is b-is k-is c-is d-is after =
     let draft = draft_of z.0 y.0 a.0 b.0 k.0 c.0 d.0 in
     let misplaced = first_misplaced_link b.1.number draft in
@@ -493,24 +539,24 @@ taken laws drafts version p x z y a b k c d z-is y-is a-is b-is k-is c-is d-is a
     let made-is : scenario_of_draft draft ≡ Ok (scenario_of draft) = rw last.0 refl in
     let all = drafts.hold (checks draft) last.0 in
     let delay-within = within_any z.0 (pos a.0) all.0 in
-    let names = all.1.1.1.1.1.1 in
+    let names = all.1.1.1.1.1.1.1 in
     let references = names.1.1.1.1.1 in
     let some = groups_some b.0 names.0 in
-    let fine = each draft c.0 names.1.0 references.0 all.1.1.1.0 (all_ordered b.0 k.1.number c.0 last.2) in
+    let fine = each draft c.0 names.1.0 references.0 all.1.1.1.0 all.1.1.1.1.0 (all_ordered b.0 k.1.number c.0 last.2) in
     let t-time = time_takes version p z z-is in
     let t-tick = tick_takes_line laws version z.1 y y-is in
     let t-delay = took Delay (number_in (codes "delay")) y.1 a a-is in
     let t-groups = took Groups groups_in a.1 b b-is in
     let t-links = links_take laws version 0 b.1.number b.1.rest b.1.ended k k-is in
-    let t-messages = messages_take laws 0 k.1.number k.1.rest k.1.ended c c-is in
+    let t-messages = messages_take laws version 0 k.1.number k.1.rest k.1.ended c c-is in
     let t-target = took Target target_in c.1 d d-is in
     let delay = number_line_takes laws (codes "delay") t-delay.line a.0 delay_word t-delay.has in
     let groups = groups_take laws t-groups.line b.0 t-groups.has some in
     let stand = placed (delay_of_draft draft) None b.1.number (links_of_draft draft) last.1 in
     let kept : in_order (delay_of_draft draft) (links_of_draft draft) ≡ links_of_draft draft = drafts.stay (delay_of_draft draft) (links_of_draft draft) stand.0 stand.1 in
     let links : t-links.lines ≡ map (link_line (scenario_of draft)) (scenario_of draft).links =
-    link_lines_are drafts.places draft t-links.lines k.0 some delay-within all.1.1.1.1.0 references.1.1.0 t-links.say ∙ ap (map (link_line (scenario_of draft))) (sym kept) in
-    let lines = lines_are drafts.places draft t-messages.lines c.0 some t-messages.say fine in
+    link_lines_are drafts.places draft t-links.lines k.0 some delay-within all.1.1.1.1.1.0 references.1.1.0 t-links.say ∙ ap (map (link_line (scenario_of draft))) (sym kept) in
+    let lines = lines_are version drafts.places draft t-messages.lines c.0 some t-messages.say fine in
     let target = target_takes laws t-target.line d.0 t-target.has (name_among d.0.0 c.0 references.1.1.1.1.1.0 names.1.0) (among_some d.0.1 b.0 references.1.0 some) in
     let named = drafts.named draft (scenario_of draft) made-is in
     let target-is : t-target.line ≡ target_line (scenario_of draft) =
@@ -519,26 +565,26 @@ taken laws drafts version p x z y a b k c d z-is y-is a-is b-is k-is c-is d-is a
     let stood : y.1.ended ≡ t-delay.line ∷ t-groups.line ∷ (t-links.lines ++ (t-messages.lines ++ t-target.line ∷ d.1.ended)) =
     t-delay.ended ∙ ap (λ ls. t-delay.line ∷ ls) (t-groups.ended ∙ ap (λ ls. t-groups.line ∷ ls) (t-links.before ∙ ap (λ ls. t-links.lines ++ ls) (t-messages.before ∙ ap (λ ls. t-messages.lines ++ ls) t-target.ended))) in
     let whole = made draft a.0 t-delay.line t-groups.line t-target.line t-links.lines t-messages.lines d.1.ended refl delay (delay_is a.0 delay-within) groups links lines target-is in
-    let timed : p.ended ≡ scenario_lines (scenario_of draft) ++ d.1.ended =
-    t-time.ended ∙ ap (λ ls. time_lines z.0 ++ ls) (t-tick.ended ∙ ap (λ ls. tick_lines y.0 ++ ls) (stood ∙ whole) ∙ sym (append_assoc (tick_lines y.0) (lines_from_delay (scenario_of draft)) d.1.ended))
-    ∙ sym (append_assoc (time_lines z.0) (tick_lines y.0 ++ lines_from_delay (scenario_of draft)) d.1.ended) in
+    let timed : p.ended ≡ scenario_lines version (scenario_of draft) ++ d.1.ended =
+    t-time.ended ∙ ap (λ ls. time_lines version z.0 ++ ls) (t-tick.ended ∙ ap (λ ls. tick_lines y.0 ++ ls) (stood ∙ whole) ∙ sym (append_assoc (tick_lines y.0) (lines_from_delay (scenario_of draft)) d.1.ended))
+    ∙ sym (append_assoc (time_lines version z.0) (tick_lines y.0 ++ lines_from_delay (scenario_of draft)) d.1.ended) in
     let messages = length-map c.0 (message_of b.0) in
     let linked : length (scenario_of draft).links ≡ length k.0 = ap length kept ∙ length-map k.0 (link_of b.0) in
-    let past : p.number + length (scenario_lines (scenario_of draft)) ≡ d.1.number =
-    counted p.number (length (scenario_lines (scenario_of draft))) (length (time_lines z.0)) (length (tick_lines y.0)) (length (lines_from_delay (scenario_of draft)))
-    (length (scenario_of draft).links) (length (scenario_of draft).multicasts) (length k.0) (length c.0) z.1.number y.1.number a.1.number b.1.number k.1.number c.1.number d.1.number (count_all (scenario_of draft)) (count_lines (scenario_of draft)) messages linked
+    let past : p.number + length (scenario_lines version (scenario_of draft)) ≡ d.1.number =
+    counted p.number (length (scenario_lines version (scenario_of draft))) (length (time_lines version z.0)) (length (tick_lines y.0)) (length (lines_from_delay (scenario_of draft)))
+    (length (scenario_of draft).links) (length (scenario_of draft).multicasts) (length k.0) (length c.0) z.1.number y.1.number a.1.number b.1.number k.1.number c.1.number d.1.number (count_all version (scenario_of draft)) (count_lines (scenario_of draft)) messages linked
     t-time.number t-tick.number t-delay.number t-groups.number t-links.past t-messages.past t-target.number in
-    subst (λ (read : Scenario × Place). IsScenario read.0 × CanSay version read.0 × IsBetween read.0 p read.1) last.3
-    (drafts.formed draft (scenario_of draft) made-is, record { time = t-time.said; links = can_say_links version draft 0 b.1.number b.1.rest b.1.ended k refl k-is }, record { ended = timed; rest = t-time.rest ∙ t-tick.rest ∙ t-delay.rest ∙ t-groups.rest ∙ t-links.after ∙ t-messages.after ∙ t-target.rest; number = past })
+    subst (λ (read : Scenario × Place). IsScenario read.0 × CanSay version read.0 × IsBetween version read.0 p read.1) last.3
+    (drafts.formed draft (scenario_of draft) made-is, record { time = can_say_time version draft t-messages.lines t-time.said t-messages.say fine; links = can_say_links version draft 0 b.1.number b.1.rest b.1.ended k refl k-is }, record { ended = timed; rest = t-time.rest ∙ t-tick.rest ∙ t-delay.rest ∙ t-groups.rest ∙ t-links.after ∙ t-messages.after ∙ t-target.rest; number = past })
 
-pub scenario_takes : (laws : LineLaws) (drafts : DraftLaws) (version : Version) (p : Place) (x : Scenario × Place) → scenario_at version p ≡ Ok x → IsScenario x.0 × CanSay version x.0 × IsBetween x.0 p x.1
+pub scenario_takes : (laws : LineLaws) (drafts : DraftLaws) (version : Version) (p : Place) (x : Scenario × Place) → scenario_at version p ≡ Ok x → IsScenario x.0 × CanSay version x.0 × IsBetween version x.0 p x.1
 unfolding scenario_at
 scenario_takes laws drafts version p x e =
     let z = bind_ok (time_at version p) (after_time version) x e in
     let y = bind_ok (tick_at version z.0.1) (after_tick version z.0.0) x z.2 in
     let a = bind_ok (form_at Delay (number_in (codes "delay")) y.0.1) (after_delay version z.0.0 y.0.0) x y.2 in
     let b = bind_ok (form_at Groups groups_in a.0.1) (after_groups version z.0.0 y.0.0 a.0.0) x a.2 in
-    let k = bind_ok (links_at version 0 b.0.1) (after_links z.0.0 y.0.0 a.0.0 b.0.1.number b.0.0) x b.2 in
-    let c = bind_ok (messages_at 0 k.0.1) (after_messages z.0.0 y.0.0 a.0.0 b.0.1.number b.0.0 k.0.0 k.0.1.number) x k.2 in
+    let k = bind_ok (links_at version 0 b.0.1) (after_links version z.0.0 y.0.0 a.0.0 b.0.1.number b.0.0) x b.2 in
+    let c = bind_ok (messages_at version 0 k.0.1) (after_messages z.0.0 y.0.0 a.0.0 b.0.1.number b.0.0 k.0.0 k.0.1.number) x k.2 in
     let d = bind_ok (form_at Target target_in c.0.1) (after_target z.0.0 y.0.0 a.0.0 b.0.1.number b.0.0 k.0.0 k.0.1.number c.0.0) x c.2 in
     taken laws drafts version p x z.0 y.0 a.0 b.0 k.0 c.0 d.0 z.1 y.1 a.1 b.1 k.1 c.1 d.1 d.2

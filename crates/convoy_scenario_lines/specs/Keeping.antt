@@ -33,19 +33,19 @@ kept_destinations groups to = alone_or_first to (first_unknown groups to)
 
 -- of a message: all but its destinations as it is
 abbrev pub kept_message : List (List ℕ) → DraftMessage → DraftMessage
-kept_message groups message = record { name = message.name; sender = message.sender; to = kept_destinations groups message.to; at = message.at }
+kept_message groups message = record { name = message.name; sender = message.sender; to = kept_destinations groups message.to; at = message.at; until = message.until }
 
 -- the names that are kept of a line `groups`
 abbrev pub kept_groups_in : List ℕ → Option (List (List ℕ))
 kept_groups_in line = option_map kept_groups (groups_in line)
 
 -- the message that is kept of a line `multicast`
-abbrev pub kept_multicast_in : List (List ℕ) → List ℕ → Option DraftMessage
-kept_multicast_in groups line = option_map (kept_message groups) (multicast_in line)
+abbrev pub kept_multicast_in : Version → List (List ℕ) → List ℕ → Option DraftMessage
+kept_multicast_in version groups line = option_map (kept_message groups) (multicast_in version line)
 
 -- the messages that are kept of the lines `multicast` that come next, after so many
-abbrev pub kept_messages_at : List (List ℕ) → ℕ → Place → Result (List DraftMessage × Place) LineFault
-kept_messages_at groups count place = messages_at count place >>= λ messages. Ok (map (kept_message groups) messages.0, messages.1)
+abbrev pub kept_messages_at : Version → List (List ℕ) → ℕ → Place → Result (List DraftMessage × Place) LineFault
+kept_messages_at version groups count place = messages_at version count place >>= λ messages. Ok (map (kept_message groups) messages.0, messages.1)
 
 -- What the next lines give with what is kept of them: it is what they give whole.
 unfoldable pub kept_scenario_at : Version → Place → Result (Scenario × Place) LineFault
@@ -55,7 +55,7 @@ kept_scenario_at version place = do
   delay ← form_at Delay (number_in (codes "delay")) tick.1
   groups ← form_at Groups kept_groups_in delay.1
   links ← links_at version 0 groups.1
-  messages ← kept_messages_at groups.0 0 links.1
+  messages ← kept_messages_at version groups.0 0 links.1
   target ← form_at Target target_in messages.1
   scenario ← told (scenario_of_draft (draft_of time.0 tick.0 delay.0 groups.0 links.0 messages.0 target.0))
   linked ← where_ordered Link (first_misplaced_link groups.1.number (draft_of time.0 tick.0 delay.0 groups.0 links.0 messages.0 target.0)) scenario

@@ -1,14 +1,17 @@
 -- The forms of a scenario's lines: what a line says, where it has its form.
-use Rattle.std.specs.Prelude.{ℕ, pos, ◌*◌, ◌==◌, ◌&&◌, nat_le, if◌then◌else◌, List, [], map, length, codes, Option, Some, None}
+use Rattle.std.specs.Prelude.{ℕ, pos, ◌*◌, ◌==◌, ◌&&◌, nat_le, nat_lt, if◌then◌else◌, List, [], map, length, take, drop, codes, position, Option, Some, None, option_map}
+use Rattle.std.specs.Option.{option_or}
 use Rattle.std.specs.Str.{bytes_eq, is_utf8}
 use Rattle.convoy_lines.specs.Labels.{greatest_number, words_after}
 use Rattle.convoy_lines.specs.Chains.{◌>>=◌}
 use Rattle.convoy_lines.specs.Words.{next_word, number_of}
 use Rattle.convoy_scenario.specs.declared.time.Time.{Time}
-use Rattle.convoy_scenario.specs.declared.time.Time.TheVariants.{Real}
+use Rattle.convoy_scenario.specs.declared.time.Time.TheVariants.{Ticks, Real}
 use Rattle.convoy_scenario.specs.Draft.{DraftLink, DraftMessage}
 use Rattle.convoy_scenario.specs.Durations.{unit_length, unit_named, unit_of, unit_word, within_longest}
 use Rattle.convoy_scenario.specs.WellFormed.{client_word}
+use Rattle.convoy_scenario_lines.specs.declared.version.Version.{Version}
+use Rattle.convoy_scenario_lines.specs.declared.version.Version.TheVariants.{One, Two, Three}
 use Rattle.convoy_scenario_lines.specs.Lines.{time_line}
 
 -- A word as a name. One that is not UTF-8 is no name; it stands as the name of no bytes, which is none, either.
@@ -19,9 +22,12 @@ name_of word = if is_utf8 word then word else []
 abbrev pub named_sender : List ℕ → Option (List ℕ)
 named_sender word = if bytes_eq word client_word then None else Some (name_of word)
 
--- how time goes by a line `time`, which has one form
+-- how time goes by a line `time`, which has one form for each
 abbrev pub time_in : List ℕ → Option Time
-time_in line = if bytes_eq line time_line then Some Real else None
+time_in line =
+    if bytes_eq line (time_line Ticks) then Some Ticks
+    else if bytes_eq line (time_line Real) then Some Real
+    else None
 
 -- the nanoseconds of a line `tick`: a count of 1 or more, and the greatest unit that divides what it counts
 abbrev pub tick_in : List ℕ → Option ℕ
@@ -56,15 +62,39 @@ link_in line = do
   high ← number_of greatest_delay_number most.0
   if length most.1 == 0 then Some (record { sender = named_sender from.0; to = name_of to.0; least = pos low; most = pos high }) else None
 
+-- the tick that a word is, as the first and the last one
+abbrev pub tick_alone : List ℕ → Option (ℕ × ℕ)
+tick_alone word = option_map (λ tick. (tick, tick)) (number_of greatest_number word)
+
+-- what stands before the first dot of a word, and what stands after the two dots there
+abbrev pub around_dots : List ℕ → Option (List ℕ × List ℕ)
+around_dots word = do
+  dot ← position (λ byte. byte == 46) word
+  if bytes_eq (take 2 (drop dot word)) (codes "..") then Some (take dot word, drop 2 (drop dot word)) else None
+
+-- the first and the last tick of a word FIRST..LAST, where the first is before the last
+abbrev pub tick_range : List ℕ → Option (ℕ × ℕ)
+tick_range word = do
+  parts ← around_dots word
+  first ← number_of greatest_number parts.0
+  last ← number_of greatest_number parts.1
+  if nat_lt first last then Some (first, last) else None
+
+-- the first and the last tick at which a message may be issued, by the word for its issue: where it may wait, version 3 has both
+abbrev pub issue_in : Version → List ℕ → Option (ℕ × ℕ)
+issue_in One word = tick_alone word
+issue_in Two word = tick_alone word
+issue_in Three word = option_or (tick_alone word) (tick_range word)
+
 -- the message of a line `multicast`
-abbrev pub multicast_in : List ℕ → Option DraftMessage
-multicast_in line = do
+abbrev pub multicast_in : Version → List ℕ → Option DraftMessage
+multicast_in version line = do
   words ← words_after (codes "multicast") line
   name ← next_word words
   from ← next_word name.1
-  at ← next_word from.1
-  tick ← number_of greatest_number at.0
-  Some (record { name = name_of name.0; sender = named_sender from.0; to = map name_of at.1; at = pos tick })
+  word ← next_word from.1
+  issue ← issue_in version word.0
+  Some (record { name = name_of name.0; sender = named_sender from.0; to = map name_of word.1; at = pos issue.0; until = pos issue.1 })
 
 -- the message and the group of a line `target`
 abbrev pub target_in : List ℕ → Option (List ℕ × List ℕ)

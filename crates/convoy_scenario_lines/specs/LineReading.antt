@@ -78,19 +78,19 @@ abbrev pub is_multicast_due : ℕ → List ℕ → Bool
 is_multicast_due count line = count == 0 || begins_with (codes "multicast") (words_of line)
 
 -- The messages of the lines `multicast` that come next, after so many: the first line has to be one, and each that begins with that word.
-unfoldable pub messages_in : ℕ → ℕ → List ℕ → List (List ℕ) → Result (List DraftMessage × Place) LineFault
-messages_in count number rest [] =
+unfoldable pub messages_in : Version → ℕ → ℕ → List ℕ → List (List ℕ) → Result (List DraftMessage × Place) LineFault
+messages_in version count number rest [] =
     if is_multicast_due count rest then Err (faults.Line number Multicast)
     else Ok ([], record { ended = []; rest = rest; number = number })
-messages_in count number rest (line ∷ lines) =
+messages_in version count number rest (line ∷ lines) =
     if is_multicast_due count line then (do
-      message ← ok_or (multicast_in line) (faults.Line number Multicast)
-      more ← if count == MOST_MULTICASTS then Err (faults.Scenario (OverLimit limit.Multicasts)) else messages_in (count + 1) (number + 1) rest lines
+      message ← ok_or (multicast_in version line) (faults.Line number Multicast)
+      more ← if count == MOST_MULTICASTS then Err (faults.Scenario (OverLimit limit.Multicasts)) else messages_in version (count + 1) (number + 1) rest lines
       Ok (message ∷ more.0, more.1))
     else Ok ([], record { ended = line ∷ lines; rest = rest; number = number })
 
-abbrev pub messages_at : ℕ → Place → Result (List DraftMessage × Place) LineFault
-messages_at count place = messages_in count place.number place.rest place.ended
+abbrev pub messages_at : Version → ℕ → Place → Result (List DraftMessage × Place) LineFault
+messages_at version count place = messages_in version count place.number place.rest place.ended
 
 -- the draft of what the lines say
 abbrev pub draft_of : AnyTime → Option ℕ → ℕ → List (List ℕ) → List DraftLink → List DraftMessage → List ℕ × List ℕ → Draft
@@ -135,7 +135,7 @@ scenario_at version place = do
   delay ← form_at Delay (number_in (codes "delay")) tick.1
   groups ← form_at Groups groups_in delay.1
   links ← links_at version 0 groups.1
-  messages ← messages_at 0 links.1
+  messages ← messages_at version 0 links.1
   target ← form_at Target target_in messages.1
   scenario ← told (scenario_of_draft (draft_of time.0 tick.0 delay.0 groups.0 links.0 messages.0 target.0))
   linked ← where_ordered Link (first_misplaced_link groups.1.number (draft_of time.0 tick.0 delay.0 groups.0 links.0 messages.0 target.0)) scenario

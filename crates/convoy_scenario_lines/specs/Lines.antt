@@ -1,21 +1,23 @@
 -- The canonical lines of a scenario: the one text of each.
-use Rattle.std.specs.Prelude.{ℕ, List, [], ◌∷◌, ◌++◌, map, Option, Some, None, codes, decimal}
+use Rattle.std.specs.Prelude.{ℕ, ◌+◌, ◌==◌, if◌then◌else◌, List, [], ◌∷◌, ◌++◌, map, Option, Some, None, codes, decimal}
 use Rattle.convoy_lines.specs.Texts.{line_of, number_line, text_of}
 use Rattle.convoy_scenario.specs.declared.time.Time.{Time}
-use Rattle.convoy_scenario.specs.declared.time.Time.TheVariants.{Ticks, Real}
 use Rattle.convoy_scenario.specs.Durations.{count_of, unit_of, unit_word}
 use Rattle.convoy_scenario.specs.Keys.{time_word}
 use Rattle.convoy_scenario.specs.Naming.{sender_word}
 use Rattle.convoy_scenario.specs.Scenario.{Link, Message, Scenario, message_at, group_name_at}
+use Rattle.convoy_scenario_lines.specs.declared.version.Version.{Version}
+use Rattle.convoy_scenario_lines.specs.declared.version.Version.TheVariants.{One, Two, Three}
 
--- the line of real time
-abbrev pub time_line : List ℕ
-time_line = line_of (codes "time") (time_word Real ∷ [])
+-- the line that says how time goes
+abbrev pub time_line : Time → List ℕ
+time_line time = line_of (codes "time") (time_word time ∷ [])
 
--- the line that says how time goes: whole ticks have none
-abbrev pub time_lines : Time → List (List ℕ)
-time_lines Ticks = []
-time_lines Real = time_line ∷ []
+-- that line, in version 3: the others have none
+abbrev pub time_lines : Version → Time → List (List ℕ)
+time_lines One time = []
+time_lines Two time = []
+time_lines Three time = time_line time ∷ []
 
 -- the line that says how long a tick lasts, in its unit
 abbrev pub tick_line : ℕ → List ℕ
@@ -37,10 +39,15 @@ abbrev pub link_line : Scenario → Link → List ℕ
 link_line scenario link = line_of (codes "link")
     (sender_word scenario link.sender ∷ group_name_at scenario link.to ∷ decimal link.least ∷ decimal link.most ∷ [])
 
--- name, sender and tick of a message, and its destinations, ascending
+-- the tick at which a message is issued; where it may wait, the first and the last such tick, with two dots between them
+abbrev pub issue_word : ℕ → ℕ → List ℕ
+issue_word at longest_wait =
+    if longest_wait == 0 then decimal at else decimal at ++ (codes ".." ++ decimal (at + longest_wait))
+
+-- name, sender and issue of a message, and its destinations, ascending
 abbrev pub multicast_line : Scenario → Message → List ℕ
 multicast_line scenario message = line_of (codes "multicast")
-    (message.name ∷ sender_word scenario message.sender ∷ decimal message.at ∷ map (group_name_at scenario) message.destinations)
+    (message.name ∷ sender_word scenario message.sender ∷ issue_word message.at message.longest_wait ∷ map (group_name_at scenario) message.destinations)
 
 abbrev pub target_line : Scenario → List ℕ
 target_line scenario = line_of (codes "target")
@@ -52,10 +59,11 @@ lines_from_delay scenario =
     delay_line scenario ∷ groups_line scenario
     ∷ (map (link_line scenario) scenario.links ++ (map (multicast_line scenario) scenario.multicasts ++ target_line scenario ∷ []))
 
--- the lines of a scenario
-abbrev pub scenario_lines : Scenario → List (List ℕ)
-scenario_lines scenario = time_lines scenario.time ++ (tick_lines scenario.tick ++ lines_from_delay scenario)
+-- the lines of a scenario, as that version has them
+abbrev pub scenario_lines : Version → Scenario → List (List ℕ)
+scenario_lines version scenario =
+    time_lines version scenario.time ++ (tick_lines scenario.tick ++ lines_from_delay scenario)
 
 -- the text of a scenario
-abbrev pub scenario_text : Scenario → List ℕ
-scenario_text scenario = text_of (scenario_lines scenario)
+abbrev pub scenario_text : Version → Scenario → List ℕ
+scenario_text version scenario = text_of (scenario_lines version scenario)

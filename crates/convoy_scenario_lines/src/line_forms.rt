@@ -1,11 +1,12 @@
-ghost use Rattle.std.specs.Prelude.{◌≡◌, ◌==◌, Ok, [], ◌∷◌, map, codes, length, option_map, ok_or, IfOk};
+ghost use Rattle.std.specs.Prelude.{◌≡◌, ◌≤◌, ◌==◌, Ok, [], ◌∷◌, map, codes, length, position, option_map, ok_or, IfOk, IfSome};
 ghost use Rattle.std.specs.Result.{result_map_both};
 ghost use Rattle.convoy_scenario.specs.Checks.{is_among};
 ghost use Rattle.convoy_scenario_lines.specs.Keeping.{kept_groups, kept_destinations, kept_groups_in, kept_multicast_in};
 ghost use Rattle.convoy_scenario.specs.Memory.{IsUnlessMemory};
-ghost use Rattle.convoy_scenario_lines.specs.LineForms.{name_of, named_sender, time_in, tick_in, link_in, target_in};
+ghost use Rattle.convoy_scenario_lines.specs.LineForms.{name_of, named_sender, time_in, tick_in, link_in, tick_alone, around_dots, tick_range, issue_in, target_in};
 
 use super::line_fault::LineFault;
+use super::version::Version;
 use convoy_lines::{Words, number_of, words_after};
 use convoy_scenario::{DraftLink, DraftMulticast, Duration, MOST_GROUPS, Name, Time, TimeUnit};
 use std::alloc::{AllocError, Global};
@@ -90,11 +91,13 @@ fn destinations_of(alloc: Global, groups: &[Name], words: Words) -> Result<Vec<N
     Ok(names)
 }
 
-/// How time goes by a line `time`, which has one form.
+/// How time goes by a line `time`, which has one form for each.
 pub fn time_in(line: &[u8]) -> Option<Time>
     ensures { result ≡ time_in line.now }
 {
-    if line == b"time real".as_slice() {
+    if line == b"time ticks".as_slice() {
+        Some(Time::Ticks)
+    } else if line == b"time real".as_slice() {
         Some(Time::Real)
     } else {
         None
@@ -153,26 +156,76 @@ pub fn link_in(alloc: Global, line: &[u8], wrong: LineFault) -> Result<DraftLink
     })
 }
 
+/// The tick that a word is, as the first and the last one.
+fn tick_alone(word: &[u8]) -> Option<(u32, u32)>
+    ensures { result ≡ tick_alone word.now }
+{
+    let tick = number_of(word, u32::MAX)?;
+    Some((tick, tick))
+}
+
+/// What stands before the first dot of a word, and what stands after the two dots there; None where
+/// there are no two dots in a row.
+fn around_dots(word: &[u8]) -> Option<(&[u8], &[u8])>
+    ensures { option_map (λ parts. (parts.0.now, parts.1.now)) result ≡ around_dots word.now }
+{
+    let dot = first_dot(word)?;
+    let last = word[dot..].strip_prefix(b"..")?;
+    Some((&word[..dot], last))
+}
+
+/// The place of the first dot of a word.
+fn first_dot(word: &[u8]) -> Option<usize>
+    ensures place { result ≡ position (λ byte. byte == 46) word.now }
+    ensures within { IfSome result (λ dot. dot ≤ length word.now) }
+{
+    word.iter().position(|byte| *byte == b'.')
+}
+
+/// The first and the last tick of a word `FIRST..LAST`, where the first is before the last.
+fn tick_range(word: &[u8]) -> Option<(u32, u32)>
+    ensures { result ≡ tick_range word.now }
+{
+    let (first, last) = around_dots(word)?;
+    let first = number_of(first, u32::MAX)?;
+    let last = number_of(last, u32::MAX)?;
+    (first < last).then_some((first, last))
+}
+
+/// The first and the last tick at which a message may be issued, by the word for its issue: where it
+/// may wait, version 3 has both.
+fn issue_in(version: Version, word: &[u8]) -> Option<(u32, u32)>
+    ensures { result ≡ issue_in version word.now }
+{
+    match version {
+        Version::One | Version::Two => tick_alone(word),
+        Version::Three => tick_alone(word).or(tick_range(word)),
+    }
+}
+
 /// The message of a line `multicast`, with what is kept of its destinations; `wrong` where the line has
-/// not its form.
+/// not its form in that version.
 pub fn multicast_in(
     alloc: Global,
+    version: Version,
     groups: &[Name],
     line: &[u8],
     wrong: LineFault,
 ) -> Result<DraftMulticast, LineFault>
-    ensures { IsUnlessMemory LineFault.Memory (ok_or (kept_multicast_in groups.now line.now) wrong) result }
+    ensures { IsUnlessMemory LineFault.Memory
+        (ok_or (kept_multicast_in version groups.now line.now) wrong) result }
 {
     let mut words = words_after(line, b"multicast").ok_or(wrong)?;
     let name = words.next().ok_or(wrong)?;
     let from = words.next().ok_or(wrong)?;
-    let at = words.next().ok_or(wrong)?;
-    let at = number_of(at, u32::MAX).ok_or(wrong)?;
+    let issue = words.next().ok_or(wrong)?;
+    let (first, last) = issue_in(version, issue).ok_or(wrong)?;
     Ok(DraftMulticast {
         name: name_of(alloc, name)?,
         sender: named_sender(alloc, from)?,
         to: destinations_of(alloc, groups, words)?,
-        at: i64::from(at),
+        at: i64::from(first),
+        until: i64::from(last),
     })
 }
 

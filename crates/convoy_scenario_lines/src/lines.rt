@@ -5,28 +5,35 @@ ghost use Rattle.convoy_scenario.specs.Durations.{count_of};
 ghost use Rattle.convoy_lines.specs.Texts.{ended, spaced, text_of};
 ghost use Rattle.convoy_scenario.specs.Naming.{sender_word};
 ghost use Rattle.convoy_scenario.specs.WellFormed.{IsLink, IsSender};
-ghost use Rattle.convoy_scenario_lines.specs.Lines.{time_lines, tick_line, tick_lines, delay_line, groups_line, link_line, multicast_line, target_line, scenario_text};
+ghost use Rattle.convoy_scenario_lines.specs.Lines.{time_line, time_lines, tick_line, tick_lines, delay_line, groups_line, link_line, issue_word, multicast_line, target_line, scenario_text};
 
+use super::version::Version;
 use convoy_lines::{push_further_word, push_number, push_number_line};
 use convoy_scenario::laws::targets_are_groups;
-use convoy_scenario::{Duration, Link, MOST_UNITS, Scenario, Sender, Time};
+use convoy_scenario::{Duration, GREATEST_AT, Link, MOST_UNITS, Scenario, Sender, Time};
 use std::alloc::{AllocError, Global};
 
-/// Appends the canonical lines of a scenario, from the line `time`, where it is in real time, or else
-/// the line `delay`, to the line `target` (docs/FORMATS.md, "Certificate text"). Where memory runs out, `out` stays as it was.
-pub fn write_lines(alloc: Global, scenario: &Scenario, out: &mut Vec<u8>) -> Result<(), AllocError>
-    ensures ok { OnOk result (out.new.items ≡ out.old.items ++ scenario_text scenario.now) }
+/// Appends the canonical lines of a scenario, as a version has them, from the line `time`, where there
+/// is one, or else the line `delay`, to the line `target` (docs/FORMATS.md, "Certificate text"). Where
+/// memory runs out, `out` stays as it was.
+pub fn write_lines(
+    alloc: Global,
+    version: Version,
+    scenario: &Scenario,
+    out: &mut Vec<u8>,
+) -> Result<(), AllocError>
+    ensures ok { OnOk result (out.new.items ≡ out.old.items ++ scenario_text version scenario.now) }
     ensures err { OnErr result (out.new.items ≡ out.old.items) }
 {
-    let text = lines_of(alloc, scenario)?;
+    let text = lines_of(alloc, version, scenario)?;
     out.extend_from_slice(&text)
 }
 
-fn lines_of(alloc: Global, scenario: &Scenario) -> Result<Vec<u8>, AllocError>
-    ensures { IfOk result (λ text. text.items ≡ scenario_text scenario.now) }
+fn lines_of(alloc: Global, version: Version, scenario: &Scenario) -> Result<Vec<u8>, AllocError>
+    ensures { IfOk result (λ text. text.items ≡ scenario_text version scenario.now) }
 {
     let mut text = Vec::new(alloc);
-    push_time(&mut text, scenario.time())?;
+    push_time(&mut text, version, scenario.time())?;
     push_tick(&mut text, scenario.tick())?;
     push_number_line(&mut text, "delay", u32::from(scenario.delay()))?;
     push_groups(&mut text, scenario)?;
@@ -36,12 +43,22 @@ fn lines_of(alloc: Global, scenario: &Scenario) -> Result<Vec<u8>, AllocError>
     Ok(text)
 }
 
-fn push_time(text: &mut Vec<u8>, time: Time) -> Result<(), AllocError>
-    ensures { OnOk result (text.new.items ≡ text.old.items ++ text_of (time_lines time)) }
+fn push_time(text: &mut Vec<u8>, version: Version, time: Time) -> Result<(), AllocError>
+    ensures { OnOk result (text.new.items ≡ text.old.items ++ text_of (time_lines version time)) }
+{
+    match version {
+        Version::One | Version::Two => Ok(()),
+        Version::Three => text.extend_from_slice(time_line(time)),
+    }
+}
+
+/// The line `time`, ended.
+fn time_line(time: Time) -> &'static [u8]
+    ensures { result.now ≡ ended (time_line time) }
 {
     match time {
-        Time::Ticks => Ok(()),
-        Time::Real => text.extend_from_slice(b"time real\n"),
+        Time::Ticks => b"time ticks\n",
+        Time::Real => b"time real\n",
     }
 }
 
@@ -121,10 +138,29 @@ fn push_multicast(text: &mut Vec<u8>, scenario: &Scenario, message: usize) -> Re
     text.extend_from_slice(b"multicast")?;
     push_further_word(text, scenario.message_name(message))?;
     push_sender(text, scenario, scenario.sender(message))?;
-    text.push(b' ')?;
-    push_number(text, scenario.issue_tick(message))?;
+    push_issue(
+        text,
+        scenario.issue_tick(message),
+        scenario.longest_wait(message),
+    )?;
     push_destinations(text, scenario, message)?;
     Ok(text.push(b'\n')?)
+}
+
+/// Appends a space and the tick at which a message is issued; where it may wait, the first and the last
+/// such tick.
+fn push_issue(text: &mut Vec<u8>, at: u32, longest_wait: u16) -> Result<(), AllocError>
+    requires { at ≤ GREATEST_AT }
+    ensures { OnOk result
+        (text.new.items ≡ text.old.items ++ spaced (issue_word at longest_wait)) }
+{
+    text.push(b' ')?;
+    push_number(text, at)?;
+    if longest_wait == 0 {
+        return Ok(());
+    }
+    text.extend_from_slice(b"..")?;
+    push_number(text, at + u32::from(longest_wait))
 }
 
 fn push_sender(text: &mut Vec<u8>, scenario: &Scenario, sender: Sender) -> Result<(), AllocError>

@@ -75,7 +75,7 @@ fn read_kept(
     let first_link = reader.number();
     let links = read_links(alloc, version, reader)?;
     let first = reader.number();
-    let multicasts = read_multicasts(alloc, &groups, reader)?;
+    let multicasts = read_multicasts(alloc, version, &groups, reader)?;
     let (target_message, target_group) = read_target(alloc, reader)?;
     let unordered = first_unordered(&groups, first, &multicasts);
     let draft = DraftScenario {
@@ -218,29 +218,31 @@ fn is_link_due(version: Version, reader: &LineReader) -> bool
 
 fn read_multicast(
     alloc: Global,
+    version: Version,
     groups: &[Name],
     reader: &mut LineReader,
 ) -> Result<DraftMulticast, LineFault>
     ensures { IsUnlessMemory LineFault.Memory
-        (form_at Expected.Multicast (kept_multicast_in groups.now) reader.old)
+        (form_at Expected.Multicast (kept_multicast_in version groups.now) reader.old)
         (result_map_both (λ message. (message, reader.new)) (λ fault. fault) result) }
 {
     let wrong = LineFault::Line(reader.number(), Expected::Multicast);
     let line = reader.line().ok_or(wrong)?;
-    multicast_in(alloc, groups, line, wrong)
+    multicast_in(alloc, version, groups, line, wrong)
 }
 
 fn read_multicasts(
     alloc: Global,
+    version: Version,
     groups: &[Name],
     reader: &mut LineReader,
 ) -> Result<Vec<DraftMulticast>, LineFault>
-    ensures { IsUnlessMemory LineFault.Memory (kept_messages_at groups.now 0 reader.old)
+    ensures { IsUnlessMemory LineFault.Memory (kept_messages_at version groups.now 0 reader.old)
         (result_map_both (λ messages. (messages.items, reader.new)) (λ fault. fault) result) }
 {
     let mut multicasts = Vec::new(alloc);
     while is_multicast_due(reader, multicasts.len()) {
-        let multicast = read_multicast(alloc, groups, reader)?;
+        let multicast = read_multicast(alloc, version, groups, reader)?;
         if multicasts.len() == MOST_MULTICASTS {
             return Err(LineFault::Scenario(ScenarioFault::OverLimit(Limit::Multicasts)));
         }

@@ -1,11 +1,13 @@
 /// A version of the lines of a scenario (docs/FORMATS.md, "Certificate text").
 #[derive(Clone, Copy, Debug, PartialEq, Eq)]
 pub enum Version {
-    /// The lines of a scenario in whole ticks without links.
+    /// The lines of a scenario in whole ticks in which no message may wait, without links.
     One,
-    /// The lines of a scenario in whole ticks: lines `link` may stand after the line `groups`.
+    /// The lines of a scenario in whole ticks in which no message may wait: lines `link` may stand after
+    /// the line `groups`.
     Two,
-    /// The lines of a scenario in real time: the first is `time real`, a line `tick` may follow, and
-    /// then they are as those of `Two`.
+    /// The lines of any scenario: the first is a line `time`, which says how time goes, a line `tick`
+    /// may follow, and then they are as those of `Two`. The line of a message that may wait has the
+    /// first and the last tick at which it may be issued.
     Three,
 }

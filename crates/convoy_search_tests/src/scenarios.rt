@@ -19,18 +19,21 @@ pub(crate) fn base_with(
             sender: None,
             to: &["b"],
             at: 0,
+            until: 0,
         },
         MessageParts {
             name: "t",
             sender: None,
             to: &["a", "b"],
             at: 0,
+            until: 0,
         },
         MessageParts {
             name: "y",
             sender: Some("a"),
             to: &["a", "b"],
             at,
+            until: at,
         },
     ];
     let parts = ScenarioParts {
@@ -64,18 +67,21 @@ pub(crate) fn tied(alloc: Global) -> Result<Instance, Fail> {
             sender: None,
             to: &["a", "b"],
             at: 0,
+            until: 0,
         },
         MessageParts {
             name: "x",
             sender: None,
             to: &["b"],
             at: 0,
+            until: 0,
         },
         MessageParts {
             name: "y",
             sender: Some("a"),
             to: &["a", "b"],
             at: 2,
+            until: 2,
         },
     ];
     let parts = ScenarioParts {
@@ -99,6 +105,7 @@ pub(crate) fn lone(alloc: Global) -> Result<Instance, Fail> {
         sender: None,
         to: &["a", "b"],
         at: 7,
+        until: 7,
     };
     let parts = ScenarioParts {
         time: Time::Ticks,

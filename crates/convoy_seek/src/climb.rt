@@ -1,5 +1,6 @@
-ghost use Rattle.std.specs.Prelude.{◌≤◌};
+ghost use Rattle.std.specs.Prelude.{◌≤◌, ◌<◌, length};
 ghost use Rattle.convoy_packets.specs.Assignment.{IsWithin};
+ghost use Rattle.convoy_packets.specs.Table.{table_of};
 
 use crate::chance::Chance;
 use crate::meeting::meeting_delay;
@@ -7,6 +8,7 @@ use crate::pattern::Pattern;
 use crate::seeker::Seeker;
 use crate::sweep::Sweep;
 use crate::ties::{flip_ranks, is_real};
+use crate::waits::{some_may_wait, wait_by_chance};
 use convoy_packets::laws::fixed_order_is_order;
 use convoy_packets::{Instance, Order, Packet, PacketTable, Schedule};
 use std::alloc::{AllocError, Global};
@@ -14,8 +16,8 @@ use std::alloc::{AllocError, Global};
 /// How many steps without a better score end a climb in whole ticks.
 const PATIENCE: u32 = 300;
 
-/// The same in real time, where there are more ways to go on.
-const PATIENCE_IN_REAL_TIME: u32 = 1_300;
+/// The same in real time or where some message may wait: there are more ways to go on.
+const GREAT_PATIENCE: u32 = 1_300;
 
 impl Seeker {
     ghost use Rattle.std.specs.Prelude.{◌≡◌, ◌<◌, length};
@@ -95,7 +97,7 @@ impl Seeker {
         ensures { HasDelaysOf (table_of instance.now).ranges self.old self.new }
     {
         let table = instance.table();
-        let i = self.chance.below(table.len());
+        let i = place_by_chance(instance, &mut self.chance);
         let (packet, range) = (table.packet(i), table.range(i));
         let delay = other_delay(instance, &self.tried, packet, range, &mut self.chance);
         self.tried.set(i, delay);
@@ -115,15 +117,31 @@ impl Seeker {
 
 /// How many steps without a better score end a climb.
 fn patience_of(instance: &Instance) -> u32 {
-    if is_real(instance) {
-        PATIENCE_IN_REAL_TIME
+    if instance.scenario().is_timed() {
+        GREAT_PATIENCE
     } else {
         PATIENCE
     }
 }
 
-/// Another delay of a packet by chance, in ticks: in real time every second time one by which two
-/// moments meet, if there is one.
+/// The place of a packet by chance: every second time, if some message may wait, that of a wait.
+fn place_by_chance(instance: &Instance, chance: &mut Chance) -> usize
+    requires { 0 < length (table_of instance.now).packets }
+    ensures { result < length (table_of instance.now).packets }
+{
+    let count = instance.table().len();
+    if some_may_wait(instance)
+        && chance.below(2) == 0
+        && let Some(place) = wait_by_chance(instance, chance)
+        && usize::from(place) < count
+    {
+        return usize::from(place);
+    }
+    chance.below(count)
+}
+
+/// Another delay of a packet by chance, in ticks: of a wait, and in real time of any packet, every second
+/// time one by which two moments meet, if there is one.
 fn other_delay(
     instance: &Instance,
     schedule: &Schedule,
@@ -134,7 +152,7 @@ fn other_delay(
     requires { range.0 ≤ range.1 }
     ensures { IsWithin range result }
 {
-    if is_real(instance)
+    if (is_real(instance) || matches!(packet, Packet::Wait { .. }))
         && chance.below(2) == 0
         && let Some(delay) = meeting_delay(instance, schedule, packet, range, chance)
     {

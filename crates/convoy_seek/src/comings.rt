@@ -1,4 +1,4 @@
-ghost use Rattle.std.specs.Prelude.{◌+◌, ◌≤◌};
+ghost use Rattle.std.specs.Prelude.{◌+◌, ◌<◌, ◌≤◌};
 
 use convoy_packets::Instance;
 use convoy_scenario::Time;
@@ -23,15 +23,12 @@ impl Comings {
     /// it comes after 0 ticks.
     pub fn of(instance: &Instance, message: usize) -> Comings {
         let (least, most) = coming_range(instance, message);
-        let count = match instance.time() {
-            Time::Ticks => MOST_IN_TICKS,
-            Time::Real => MOST_IN_REAL_TIME,
-        };
+        let most_comings = most_comings(instance, message);
         let width = most.saturating_sub(least);
         Comings {
             least,
             width,
-            steps: width.min(count - 1),
+            steps: width.min(most_comings - 1),
         }
     }
 
@@ -54,6 +51,21 @@ impl Comings {
         ensures { result.0 ≤ result.1 }
     {
         (self.least, self.least.saturating_add(self.width))
+    }
+}
+
+/// After how many delays a message is tried to come at most. One that may wait comes after its least
+/// delay alone: its wait brings it there at any tick, and the later it is issued, the later it is
+/// committed.
+fn most_comings(instance: &Instance, message: usize) -> u16
+    ensures { 0 < result }
+{
+    if instance.table().wait(message).is_some() {
+        return 1;
+    }
+    match instance.time() {
+        Time::Ticks => MOST_IN_TICKS,
+        Time::Real => MOST_IN_REAL_TIME,
     }
 }
 

@@ -18,3 +18,4 @@ mod starts;
 mod sweep;
 mod ties;
 mod times;
+mod waits;

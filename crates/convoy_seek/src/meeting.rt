@@ -1,10 +1,10 @@
-//! In real time: delays by which two moments of a group meet, or one comes just before the other.
+//! Delays by which two moments of a group meet, or one comes just before the other.
 
 ghost use Rattle.std.specs.Prelude.{◌≤◌, IfSome};
 ghost use Rattle.convoy_packets.specs.Assignment.{IsWithin};
 
 use crate::chance::Chance;
-use crate::times::{arrival, issue, settling};
+use crate::times::{arrival, earliest_issue, issue, settling};
 use convoy_packets::{Instance, Packet, Schedule};
 
 /// How many times such a delay is looked for.
@@ -41,11 +41,23 @@ fn wish(
     chance: &mut Chance,
 ) -> Option<u16> {
     let (met, before) = match packet {
+        Packet::Wait { message } => {
+            let to = destination(instance, message, chance)?;
+            let group = met_group(instance, message, to, chance)?;
+            let met = met_tick(instance, schedule, message, group, chance)?;
+            let coming = instance.table().multicast_delay(schedule, message, to);
+            let proposing = instance.table().propose_delay(schedule, message, to, group);
+            let on_its_way = u64::from(coming) + u64::from(proposing);
+            (met, earliest_issue(instance, message)? + on_its_way)
+        }
         Packet::Multicast { message, to } => {
             let group = met_group(instance, message, to, chance)?;
             let met = met_tick(instance, schedule, message, group, chance)?;
             let proposing = instance.table().propose_delay(schedule, message, to, group);
-            (met, issue(instance, message)? + u64::from(proposing))
+            (
+                met,
+                issue(instance, schedule, message)? + u64::from(proposing),
+            )
         }
         Packet::Propose { message, from, to } => {
             let met = met_tick(instance, schedule, message, to, chance)?;
@@ -59,8 +71,14 @@ fn wish(
 /// message, where its proposal brings on a commit.
 fn met_group(instance: &Instance, message: usize, to: usize, chance: &mut Chance) -> Option<usize> {
     if chance.below(5) < 3 {
-        return Some(to);
+        Some(to)
+    } else {
+        destination(instance, message, chance)
     }
+}
+
+/// A group by chance to which a message goes; None where there is no such message.
+fn destination(instance: &Instance, message: usize, chance: &mut Chance) -> Option<usize> {
     if message >= instance.message_count() {
         return None;
     }

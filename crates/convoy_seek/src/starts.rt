@@ -6,7 +6,6 @@ use crate::pattern::Pattern;
 use crate::rival::{Rival, list_rivals};
 use crate::score::Score;
 use crate::seeker::Seeker;
-use crate::ties::is_real;
 use convoy_packets::Instance;
 use std::alloc::{AllocError, Global};
 
@@ -23,7 +22,7 @@ impl Seeker {
 
     /// Tries the schedule as it stands, that of the greatest delays, and then patterns. Then it climbs
     /// for as long as it may: in turn for each rival by which it may gain, from its best pattern, and in
-    /// real time after that from others of the rival.
+    /// real time or where some message may wait after that from others of the rival.
     pub fn run(&mut self, alloc: Global, instance: &Instance) -> Result<(), AllocError>
         requires seeking { IsSeeking instance.now self.old }
         requires left { 0 < self.old.left }
@@ -81,13 +80,13 @@ impl Seeker {
         ensures goes_on { GoesOn instance.now self.old self.new }
     {
         let comings = Comings::of(instance, rival.message);
-        let mut best = Pattern::numbered(rival.message, &comings, 0);
+        let mut best = Pattern::numbered(instance, rival.message, &comings, 0);
         let mut greatest = Score::LEAST;
-        for number in 0..Pattern::count(&comings) {
+        for number in 0..Pattern::count(instance, &comings) {
             if !self.may_go_on() || !self.may_gain_by(rival) {
                 break;
             }
-            let pattern = Pattern::numbered(rival.message, &comings, number);
+            let pattern = Pattern::numbered(instance, rival.message, &comings, number);
             pattern.lay(instance, &mut self.tried);
             let score = self.weigh(alloc, instance, rival.message)?;
             if score > greatest {
@@ -100,13 +99,13 @@ impl Seeker {
 }
 
 impl Start {
-    /// The pattern from which a climb goes: the first time the best one of the rival; in real time after
-    /// that another one of the rival by chance.
+    /// The pattern from which a climb goes: the first time the best one of the rival; after that, in real
+    /// time or where some message may wait, another one of the rival by chance.
     fn pattern(&self, instance: &Instance, is_first: bool, chance: &mut Chance) -> Pattern {
-        if is_first || !is_real(instance) {
+        if is_first || !instance.scenario().is_timed() {
             return self.pattern;
         }
         let comings = Comings::of(instance, self.rival.message);
-        self.pattern.varied(&comings, chance)
+        self.pattern.varied(instance, &comings, chance)
     }
 }

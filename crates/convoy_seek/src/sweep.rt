@@ -12,7 +12,7 @@ enum Part {
     Messages,
     /// Its stamps.
     Stamps,
-    /// All that arrives at one group.
+    /// All that goes to one group, or its wait, which goes to none.
     Arrival,
 }
 
@@ -20,7 +20,7 @@ enum Part {
 #[derive(Drop)]
 pub struct Sweep {
     message: usize,
-    to: usize,
+    to: Option<usize>,
     part: Part,
     end: End,
 }
@@ -73,9 +73,13 @@ impl Sweep {
     }
 }
 
-/// The message to which a packet belongs, and the group to which it goes.
-fn way_of(packet: Packet) -> (usize, usize) {
+/// The message to which a packet belongs, and the group to which it goes; a wait goes to none.
+fn way_of(packet: Packet) -> (usize, Option<usize>) {
     match packet {
-        Packet::Multicast { message, to } | Packet::Propose { message, to, .. } => (message, to),
+        Packet::Wait { message } => (message, None),
+        Packet::Multicast { message, to } | Packet::Propose { message, to, .. } => (
+            message,
+            Some(to),
+        ),
     }
 }

@@ -1,11 +1,11 @@
 //! The ticks of the moments of a schedule.
 
-ghost use Rattle.std.specs.Prelude.{◌+◌, ◌≤◌, IfSome};
+ghost use Rattle.std.specs.Prelude.{◌+◌, ◌*◌, ◌≤◌, IfSome};
 
 use convoy_packets::{Instance, Schedule};
 
-/// The tick at which a message is issued; None where there is no such message.
-pub fn issue(instance: &Instance, message: usize) -> Option<u64>
+/// The first tick at which a message may be issued; None where there is no such message.
+pub fn earliest_issue(instance: &Instance, message: usize) -> Option<u64>
     ensures { IfSome result (λ tick. tick ≤ u32.MAX) }
 {
     if message < instance.message_count() {
@@ -15,6 +15,14 @@ pub fn issue(instance: &Instance, message: usize) -> Option<u64>
     }
 }
 
+/// The tick at which a message is issued; None where there is no such message.
+pub fn issue(instance: &Instance, schedule: &Schedule, message: usize) -> Option<u64>
+    ensures { IfSome result (λ tick. tick ≤ u32.MAX + u16.MAX) }
+{
+    let wait = instance.table().wait_in(schedule, message);
+    Some(earliest_issue(instance, message)? + u64::from(wait))
+}
+
 /// The tick at which a message arrives at a group; None where there is no such message.
 pub fn arrival(
     instance: &Instance,
@@ -22,10 +30,10 @@ pub fn arrival(
     message: usize,
     group: usize,
 ) -> Option<u64>
-    ensures { IfSome result (λ tick. tick ≤ u32.MAX + u16.MAX) }
+    ensures { IfSome result (λ tick. tick ≤ u32.MAX + 2 * u16.MAX) }
 {
     let delay = instance.table().multicast_delay(schedule, message, group);
-    Some(issue(instance, message)? + u64::from(delay))
+    Some(issue(instance, schedule, message)? + u64::from(delay))
 }
 
 /// The tick at which a group commits a message; None where there is no such message.

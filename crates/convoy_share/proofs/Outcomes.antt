@@ -51,17 +51,17 @@ some_left (Todo branch tried ∷ pieces) some = omega arith
 some_left (Pushed number ∷ pieces) some = some_left pieces some
 
 -- the nodes may stand in a certificate
-nodes_right : (scenario : Scenario) (seen : ℕ) (put : List Box) (pieces : List Piece) → All (IsPiece scenario seen put) pieces → All (IsNode scenario.time) (nodes_in pieces)
-nodes_right scenario seen put [] each = All-nil (IsNode scenario.time)
+nodes_right : (scenario : Scenario) (seen : ℕ) (put : List Box) (pieces : List Piece) → All (IsPiece scenario seen put) pieces → All (IsNode scenario) (nodes_in pieces)
+nodes_right scenario seen put [] each = All-nil (IsNode scenario)
 nodes_right scenario seen put (Done node ∷ pieces) each =
     let P = IsPiece scenario seen put in
-    All-cons (IsNode scenario.time) node (nodes_in pieces) (All-head P (Done node) pieces each) (nodes_right scenario seen put pieces (All-tail P (Done node) pieces each))
+    All-cons (IsNode scenario) node (nodes_in pieces) (All-head P (Done node) pieces each) (nodes_right scenario seen put pieces (All-tail P (Done node) pieces each))
 nodes_right scenario seen put (Todo branch tried ∷ pieces) each =
     nodes_right scenario seen put pieces (All-tail (IsPiece scenario seen put) (Todo branch tried) pieces each)
 nodes_right scenario seen put (Pushed number ∷ pieces) each =
     nodes_right scenario seen put pieces (All-tail (IsPiece scenario seen put) (Pushed number) pieces each)
 
-pub nodes_closed : (bounds : Bounds) (scenario : Scenario) (workers limit : ℕ) (closed : Closed) → IsClosed bounds scenario workers limit closed → All (IsNode scenario.time) (nodes_in closed.pieces.items)
+pub nodes_closed : (bounds : Bounds) (scenario : Scenario) (workers limit : ℕ) (closed : Closed) → IsClosed bounds scenario workers limit closed → All (IsNode scenario) (nodes_in closed.pieces.items)
 nodes_closed bounds scenario workers limit closed is =
     nodes_right scenario closed.best.latency is.whole.put closed.pieces.items is.whole.filling.each_done
 

@@ -44,10 +44,10 @@ tree_of fronts bounds scenario known branch (Halves packet at lower upper) is =
 pieces_right : (nodes : TurnsAreNodes) (keeps : UpperKeepsGreatest) (bounds : Bounds) (scenario : Scenario) (known : ℕ) (branch : Box) (turn : Turn) → IsTable (table_of scenario) → IsBox scenario branch → IsTurn bounds scenario branch known turn → All (IsPiece scenario known []) (pieces_of turn)
 pieces_right nodes keeps bounds scenario known branch (Closed node) table inside is =
     let P = IsPiece scenario known [] in
-    All-cons P (Done node) [] (All-head (IsNode scenario.time) node [] (nodes bounds scenario known branch (Closed node) table inside is)) (All-nil P)
+    All-cons P (Done node) [] (All-head (IsNode scenario) node [] (nodes bounds scenario known branch (Closed node) table inside is)) (All-nil P)
 pieces_right nodes keeps bounds scenario known branch (Halves packet at lower upper) table inside is =
     let P = IsPiece scenario known [] in
-    let split : IsNode scenario.time (Split packet at) = All-head (IsNode scenario.time) (Split packet at) [] (nodes bounds scenario known branch (Halves packet at lower upper) table inside is) in
+    let split : IsNode scenario (Split packet at) = All-head (IsNode scenario) (Split packet at) [] (nodes bounds scenario known branch (Halves packet at lower upper) table inside is) in
     let same : greatest_of upper.delay_box ≡ greatest_of branch = ap (λ (t : Tracked). greatest_of t.delay_box) is.3 ∙ keeps branch packet at in
     let tried : latency_of scenario (greatest_of upper.delay_box) ≤ known = subst (λ (s : Schedule). latency_of scenario s ≤ known) (sym same) is.0.tried in
     All-cons P (Done (Split packet at)) (Todo lower false ∷ Todo upper true ∷ []) split (

@@ -58,7 +58,7 @@ left_boxes pieces = filter_map todo_box pieces
 
 -- what may stand in a tree of that scenario, where that latency was seen and those branches were put
 abbrev pub IsPiece : Scenario → ℕ → List Box → Piece → Type 0
-IsPiece scenario seen put (Done node) = IsNode scenario.time node
+IsPiece scenario seen put (Done node) = IsNode scenario node
 IsPiece scenario seen put (Todo branch tried) =
     (branch.scenario ≡ scenario) × IsTriedIf scenario branch.delay_box tried seen
 IsPiece scenario seen put (Pushed number) = number < length put

@@ -3,11 +3,12 @@ use Rattle.std.proofs.Common.{◌≡◌, ℕ, ◌<◌, ◌≤◌, List, length, 
 use Rattle.convoy_scenario.specs.Scenario.{Scenario, no_message, message_at}
 use Rattle.convoy_scenario.specs.WellFormed.{IsScenario}
 use Rattle.convoy_packets.specs.Assignment.{Schedule, IsAssignment}
-use Rattle.convoy_sim.specs.Times.{arrive, settle}
+use Rattle.convoy_sim.specs.Times.{issue, arrive, settle}
 use Rattle.convoy_scenario.specs.Scenario.{GoesTo}
 use Rattle.convoy_sim.proofs.Membership.{all-in}
 use Rattle.convoy_sim.proofs.Addressed.{in_of_goes, number_of_goes}
 use Rattle.convoy_sim.proofs.ScenarioMoments.{multicast_at, traffic_of}
+use Rattle.convoy_sim.proofs.Issues.{within_its_wait}
 use Rattle.convoy_sim.proofs.PacketDelays.{arrives_within, committed_within}
 use Rattle.convoy_sim.proofs.Ranges.{length-rising-le}
 
@@ -47,19 +48,26 @@ module _ (plan : Scenario) (well : IsScenario plan) where
       let most = well.groups_high in
       omega arith
 
-  -- no message comes and none is committed past the limits
+  -- no message is issued, none comes and none is committed past the limits
+  pub issued_soon : (schedule : Schedule) → IsAssignment plan schedule → (m : ℕ) → m < length plan.multicasts
+      → issue plan schedule m ≤ 1065535
+  issued_soon schedule within m l =
+      let message = well.messages m no_message l in
+      let soon = within_its_wait plan schedule within m in
+      omega (arith, message.at, message.wait)
+
   pub comes_soon : (schedule : Schedule) → IsAssignment plan schedule → (m g : ℕ) → m < length plan.multicasts
-      → arrive plan schedule m g ≤ 1065535
+      → arrive plan schedule m g ≤ 1131070
   comes_soon schedule within m g l =
-      let at = (well.messages m no_message l).at in
+      let issued = issued_soon schedule within m l in
       let soon = arrives_within plan schedule well within m g in
       let most = well.delay_high in
       omega arith
 
   pub settles_soon : (schedule : Schedule) → IsAssignment plan schedule → (m g : ℕ) → m < length plan.multicasts
-      → settle plan schedule m g ≤ 1131070
+      → settle plan schedule m g ≤ 1196605
   settles_soon schedule within m g l =
-      let at = (well.messages m no_message l).at in
+      let issued = issued_soon schedule within m l in
       let soon = committed_within plan schedule well within m g in
       let most = well.delay_high in
       omega arith

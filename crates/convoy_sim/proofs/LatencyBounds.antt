@@ -1,8 +1,8 @@
 -- The order of deliveries, and how far the latency goes.
-use Rattle.std.proofs.Common.{ℕ, ◌+◌, ◌*◌, ◌≤◌, inl, inr, List, ◌∷◌, sym, subst, arith}
-use Rattle.convoy_scenario.specs.Scenario.{Scenario, message_at}
+use Rattle.std.proofs.Common.{ℕ, ◌+◌, ◌*◌, ◌≤◌, inl, inr, ◌∷◌, sym, subst, arith}
+use Rattle.convoy_scenario.specs.Scenario.{Scenario}
 use Rattle.convoy_packets.specs.Assignment.{Schedule, IsAssignment}
-use Rattle.convoy_sim.specs.Times.{arrive, settle}
+use Rattle.convoy_sim.specs.Times.{issue, arrive, settle}
 use Rattle.convoy_sim.specs.Stamps.{final_stamp}
 use Rattle.convoy_sim.specs.Delivery.{last_commit, latency_at, latency_of}
 use Rattle.convoy_sim.specs.Laws.{ahead_of, OrderLaw, LatencyWithinFourDelays, LoneLatencyWithinTwoDelays, TargetLatencyWithinFourDelays}
@@ -35,10 +35,10 @@ pub within_four : LatencyWithinFourDelays
 unfolding latency_at
 within_four plan schedule well h m g hm =
     let mine = committed_within plan schedule well h m g in
-    let most : last_commit plan schedule g (m ∷ ahead_of plan schedule m g) ≤ (message_at plan m).at + 4 * plan.delay =
-    greatest_most (λ k. settle plan schedule k g) ((message_at plan m).at + 4 * plan.delay) (m ∷ ahead_of plan schedule m g)
+    let most : last_commit plan schedule g (m ∷ ahead_of plan schedule m g) ≤ issue plan schedule m + 4 * plan.delay =
+    greatest_most (λ k. settle plan schedule k g) (issue plan schedule m + 4 * plan.delay) (m ∷ ahead_of plan schedule m g)
     (λ k i. elim i [
-      | inl e ↦ subst (λ j. settle plan schedule j g ≤ (message_at plan m).at + 4 * plan.delay) e (omega arith)
+      | inl e ↦ subst (λ j. settle plan schedule j g ≤ issue plan schedule m + 4 * plan.delay) e (omega arith)
       | inr j ↦
           let r = in_of_ahead plan schedule k m g j in
           let come = earlier_arrives plan schedule well k m g r.0 hm r.1 in
@@ -52,12 +52,12 @@ pub lone_within_two : LoneLatencyWithinTwoDelays
 unfolding latency_at
 lone_within_two plan schedule well h m g hm lone =
     let mine = committed_within plan schedule well h m g in
-    let most : last_commit plan schedule g (m ∷ ahead_of plan schedule m g) ≤ (message_at plan m).at + 2 * plan.delay =
-    greatest_most (λ k. settle plan schedule k g) ((message_at plan m).at + 2 * plan.delay) (m ∷ ahead_of plan schedule m g)
+    let most : last_commit plan schedule g (m ∷ ahead_of plan schedule m g) ≤ issue plan schedule m + 2 * plan.delay =
+    greatest_most (λ k. settle plan schedule k g) (issue plan schedule m + 2 * plan.delay) (m ∷ ahead_of plan schedule m g)
     (λ k i. elim i [
-      | inl e ↦ subst (λ j. settle plan schedule j g ≤ (message_at plan m).at + 2 * plan.delay) e mine
+      | inl e ↦ subst (λ j. settle plan schedule j g ≤ issue plan schedule m + 2 * plan.delay) e mine
       | inr j ↦
-          subst (λ n. settle plan schedule n g ≤ (message_at plan m).at + 2 * plan.delay)
+          subst (λ n. settle plan schedule n g ≤ issue plan schedule m + 2 * plan.delay)
           (sym (lone k (in_of_ahead plan schedule k m g j).0)) mine
     ]) in
     let law = delivery_law plan schedule well m g hm in

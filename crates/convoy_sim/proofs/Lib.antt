@@ -21,6 +21,7 @@ pub mod Cuts
 pub mod Tags
 pub mod Counts
 pub mod SortedMoments
+pub mod Issues
 pub mod KeyOrder
 pub mod Ranges
 pub mod Destinations

@@ -7,7 +7,7 @@ use Rattle.convoy_scenario.specs.Scenario.{Message, Scenario}
 
 unfoldable pub message : List ℕ → Sender → List ℕ → ℕ → Message
 message name sender destinations at =
-    record { name = name; sender = sender; destinations = destinations; at = at }
+    record { name = name; sender = sender; destinations = destinations; at = at; longest_wait = 0 }
 
 -- x from a client to b, t from a client to a and b, and y from a to a and b, with the greatest delay and the tick at
 -- which y is issued

@@ -77,6 +77,36 @@ y_one_earlier : latency_of (base_with_y_at 5) (in_fixed_order (replicate 8 3)) �
 unfolding base_with message packets_of delay_of arrive settle arrival_rank commit_rank no_order moments_of clocks_of local_stamp final_stamp holds_back deliver latency_at latency_of
 y_one_earlier = refl
 
+-- the base in which y is issued at tick 5, 6 or 7: its wait is the first of its places
+abbrev waiting : Scenario
+waiting = record {
+  time = Ticks;
+  tick = None;
+  delay = 3;
+  groups = codes "a" ∷ codes "b" ∷ [];
+  links = [];
+  multicasts = message (codes "x") Client (1 ∷ []) 0 ∷ message (codes "t") Client (0 ∷ 1 ∷ []) 0
+      ∷ record { name = codes "y"; sender = Group 0; destinations = 0 ∷ 1 ∷ []; at = 5; longest_wait = 2 } ∷ [];
+  target_message = 1;
+  target_group = 0;
+}
+
+waiting_packets : length (packets_of waiting) ≡ 9
+unfolding message packets_of
+waiting_packets = refl
+
+waits_none : latency_of waiting (in_fixed_order (3 ∷ 3 ∷ 3 ∷ 3 ∷ 3 ∷ 0 ∷ 3 ∷ 3 ∷ 3 ∷ [])) ≡ 11
+unfolding message packets_of delay_of arrive settle arrival_rank commit_rank no_order moments_of clocks_of local_stamp final_stamp holds_back deliver latency_at latency_of
+waits_none = refl
+
+waits_one : latency_of waiting (in_fixed_order (3 ∷ 3 ∷ 3 ∷ 3 ∷ 3 ∷ 1 ∷ 3 ∷ 3 ∷ 3 ∷ [])) ≡ 12
+unfolding message packets_of delay_of arrive settle arrival_rank commit_rank no_order moments_of clocks_of local_stamp final_stamp holds_back deliver latency_at latency_of
+waits_one = refl
+
+waits_two : latency_of waiting (in_fixed_order (3 ∷ 3 ∷ 3 ∷ 3 ∷ 3 ∷ 2 ∷ 3 ∷ 3 ∷ 3 ∷ [])) ≡ 6
+unfolding message packets_of delay_of arrive settle arrival_rank commit_rank no_order moments_of clocks_of local_stamp final_stamp holds_back deliver latency_at latency_of
+waits_two = refl
+
 -- lesser delays, and a far lesser latency
 not_monotone : latency_of (base_with_y_at 5) (in_fixed_order (3 ∷ 3 ∷ 1 ∷ 3 ∷ 1 ∷ 3 ∷ 3 ∷ 3 ∷ [])) ≡ 3
 unfolding base_with message packets_of delay_of arrive settle arrival_rank commit_rank no_order moments_of clocks_of local_stamp final_stamp holds_back deliver latency_at latency_of

@@ -7,7 +7,7 @@ use Rattle.convoy_scenario.specs.WellFormed.{IsScenario}
 use Rattle.convoy_packets.specs.Assignment.{Schedule, IsAssignment}
 use Rattle.convoy_sim.specs.declared.run.Proposal.{Proposal}
 use Rattle.convoy_sim.specs.declared.timestamp.Timestamp.{Timestamp}
-use Rattle.convoy_sim.specs.Times.{Tick, arrive, settle}
+use Rattle.convoy_sim.specs.Times.{Tick, issue, arrive, settle}
 use Rattle.convoy_sim.specs.Stamps.{is_less, local_stamp, final_stamp}
 use Rattle.convoy_sim.specs.Delivery.{last_commit, deliver, latency_at, latency_of}
 use Rattle.convoy_sim.specs.Laws.{ahead_of}
@@ -17,6 +17,7 @@ use Rattle.convoy_sim.proofs.Membership.{IsIn, in_greatest, greatest_is_one}
 use Rattle.convoy_sim.proofs.Addressed.{number_of_goes, in_of_ahead}
 use Rattle.convoy_sim.proofs.StampLaws.{finals_differ}
 use Rattle.convoy_sim.proofs.DeliveryTick.{in-ahead, delivery_law, never_negative}
+use Rattle.convoy_sim.proofs.Issues.{target_at_its_tick}
 use Rattle.convoy_sim.proofs.LatencyBounds.{order_law, within_four, lone_within_two}
 
 module _ (plan : Scenario) (schedule : Schedule) (run : Run) (well : IsScenario plan) (is : IsRunOf plan schedule run) where
@@ -115,13 +116,13 @@ module _ (plan : Scenario) (schedule : Schedule) (run : Run) (well : IsScenario 
       subst₂ (λ s t. s ≤ t) p.1 q.1 (order_law plan schedule well m n less g p.0 q.0)
 
   module _ (assigned : IsAssignment plan schedule) where
-    four : (m g : ℕ) (tick : Tick) → delivered_of run m g ≡ Some tick → tick ≤ (message_at plan m).at + 4 * plan.delay
+    four : (m g : ℕ) (tick : Tick) → delivered_of run m g ≡ Some tick → tick ≤ issue plan schedule m + 4 * plan.delay
     unfolding latency_at
     four m g tick at =
         let d = delivered_is m g tick at in
         omega (arith, d.1, within_four plan schedule well assigned m g d.0)
 
-    two : (m g : ℕ) (tick : Tick) → IsAloneAt run m g → delivered_of run m g ≡ Some tick → tick ≤ (message_at plan m).at + 2 * plan.delay
+    two : (m g : ℕ) (tick : Tick) → IsAloneAt run m g → delivered_of run m g ≡ Some tick → tick ≤ issue plan schedule m + 2 * plan.delay
     unfolding latency_at
     two m g tick alone at =
         let d = delivered_is m g tick at in
@@ -131,7 +132,8 @@ module _ (plan : Scenario) (schedule : Schedule) (run : Run) (well : IsScenario 
   unfolding latency_of latency_at
   latency =
       let late = never_negative plan schedule well plan.target_message plan.target_group well.addressed in
-      is.delivered plan.target_message plan.target_group well.addressed ∙ ap Some (omega (arith, late, is.latency))
+      let at_once = target_at_its_tick plan schedule well in
+      is.delivered plan.target_message plan.target_group well.addressed ∙ ap Some (omega (arith, late, at_once, is.latency))
 
 pub runs_keep_the_laws : RunsKeepTheLaws
 runs_keep_the_laws plan schedule run well assigned is = record {

@@ -1,7 +1,6 @@
 -- The time of a local stamp is one more than that of another, or 1.
-use Rattle.std.proofs.Common.{◌≡◌, ℕ, ◌+◌, ◌-◌, ◌<◌, ◌≤◌, true, inl, inr, ap, subst, arith}
+use Rattle.std.proofs.Common.{◌≡◌, ℕ, ◌+◌, ◌-◌, ◌<◌, true, inl, inr, ap, subst, arith}
 use Rattle.std.proofs.lemmas.Bool.{cases_lt}
-use Rattle.convoy_sim.specs.Times.{arrive, settle}
 use Rattle.convoy_sim.specs.Stamps.{local_stamp}
 use Rattle.convoy_sim.specs.Moments.{arrival_of, commit_of, is_before}
 use Rattle.convoy_sim.specs.RaiseLaws.{StampsHaveSteps, IsLastRaise, IsRaise, IsCounted}

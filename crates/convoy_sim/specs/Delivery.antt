@@ -3,7 +3,7 @@ use Rattle.std.specs.Prelude.{ℕ, ◌+◌, ◌-◌, zero, suc, nat_lt, nat_le, 
 use Rattle.std.specs.List.{filter, list_any}
 use Rattle.convoy_scenario.specs.Scenario.{Scenario, message_at, message_numbers, is_addressed}
 use Rattle.convoy_packets.specs.Assignment.{Schedule}
-use Rattle.convoy_sim.specs.Times.{Tick, greatest, arrive, settle}
+use Rattle.convoy_sim.specs.Times.{Tick, greatest, issue, arrive, settle}
 use Rattle.convoy_sim.specs.Stamps.{is_less, local_stamp, final_stamp}
 
 -- the messages that go to group g
@@ -38,7 +38,7 @@ deliver scenario schedule m g =
 
 -- the latency of a message at a group: from its issue to its delivery there
 unfoldable pub latency_at : Scenario → Schedule → ℕ → ℕ → ℕ
-latency_at scenario schedule m g = deliver scenario schedule m g - (message_at scenario m).at
+latency_at scenario schedule m g = deliver scenario schedule m g - issue scenario schedule m
 
 -- the latency that the scenario asks for, that of its target
 unfoldable pub latency_of : Scenario → Schedule → ℕ

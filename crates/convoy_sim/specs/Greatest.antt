@@ -1,5 +1,5 @@
 -- What it is to be the greatest latency of a scenario.
-use Rattle.std.specs.Prelude.{◌≡◌, ℕ, ◌≤◌, List}
+use Rattle.std.specs.Prelude.{◌≡◌, ℕ, ◌≤◌}
 use Rattle.convoy_scenario.specs.Scenario.{Scenario}
 use Rattle.convoy_packets.specs.Assignment.{Schedule, IsAssignment}
 use Rattle.convoy_sim.specs.Delivery.{latency_of}

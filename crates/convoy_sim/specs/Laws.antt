@@ -1,10 +1,10 @@
 -- The laws of the protocol: what holds of each scenario and each schedule of delays.
 use Rattle.std.specs.Prelude.{◌≡◌, ◌≢◌, ◌⊎◌, ℕ, ◌+◌, ◌*◌, ◌<◌, ◌≤◌, nat_le, List, ◌∷◌, length, IsTrue, IsFalse}
 use Rattle.std.specs.List.{filter}
-use Rattle.convoy_scenario.specs.Scenario.{Scenario, GoesTo, message_at, is_addressed, is_sent_by}
+use Rattle.convoy_scenario.specs.Scenario.{Scenario, GoesTo, message_at, is_sent_by}
 use Rattle.convoy_scenario.specs.WellFormed.{IsScenario}
 use Rattle.convoy_packets.specs.Assignment.{Schedule, IsAssignment, in_fixed_order}
-use Rattle.convoy_sim.specs.Times.{Tick, arrive, settle}
+use Rattle.convoy_sim.specs.Times.{Tick, issue, arrive, settle}
 use Rattle.convoy_sim.specs.Moments.{is_before, arrival_of, arrival_rank, commit_of, commit_rank}
 use Rattle.convoy_sim.specs.Stamps.{is_less, local_stamp, final_stamp}
 use Rattle.convoy_sim.specs.Delivery.{addressed_to, is_free, last_commit, deliver, latency_at, latency_of}
@@ -55,10 +55,32 @@ DeliveredByLastCommit =
     (scenario : Scenario) (schedule : Schedule) → IsScenario scenario → (m g : ℕ) → GoesTo scenario m g
     → deliver scenario schedule m g ≤ last_commit scenario schedule g (addressed_to scenario g)
 
+-- A message is issued from the first tick on at which it may be.
+abbrev pub IssuedFromItsTick : Type 0
+IssuedFromItsTick = (scenario : Scenario) (schedule : Schedule) → (m : ℕ) → (message_at scenario m).at ≤ issue scenario schedule m
+
+-- A message is issued within its longest wait from that tick.
+abbrev pub IssuedWithinItsWait : Type 0
+IssuedWithinItsWait =
+    (scenario : Scenario) (schedule : Schedule) → IsAssignment scenario schedule → (m : ℕ)
+    → issue scenario schedule m ≤ (message_at scenario m).at + (message_at scenario m).longest_wait
+
+-- A message that does not wait is issued at its tick, in every schedule.
+abbrev pub IssuedAtItsTick : Type 0
+IssuedAtItsTick =
+    (scenario : Scenario) (schedule : Schedule) → (m : ℕ) → (message_at scenario m).longest_wait ≡ 0
+    → issue scenario schedule m ≡ (message_at scenario m).at
+
+-- The target is issued at its tick, in every schedule.
+abbrev pub TargetIsIssuedAtItsTick : Type 0
+TargetIsIssuedAtItsTick =
+    (scenario : Scenario) (schedule : Schedule) → IsScenario scenario
+    → issue scenario schedule scenario.target_message ≡ (message_at scenario scenario.target_message).at
+
 -- A message arrives at a group no sooner than it is issued.
 abbrev pub ArrivesAfterIssue : Type 0
 ArrivesAfterIssue =
-    (scenario : Scenario) (schedule : Schedule) → (m g : ℕ) → (message_at scenario m).at ≤ arrive scenario schedule m g
+    (scenario : Scenario) (schedule : Schedule) → (m g : ℕ) → issue scenario schedule m ≤ arrive scenario schedule m g
 
 -- A message is delivered at a group no sooner than it is committed there.
 abbrev pub DeliveredAfterCommit : Type 0
@@ -70,7 +92,7 @@ DeliveredAfterCommit =
 abbrev pub LatencyIsNeverNegative : Type 0
 LatencyIsNeverNegative =
     (scenario : Scenario) (schedule : Schedule) → IsScenario scenario → (m g : ℕ) → GoesTo scenario m g
-    → (message_at scenario m).at ≤ deliver scenario schedule m g
+    → issue scenario schedule m ≤ deliver scenario schedule m g
 
 -- A message arrives at each of its destinations no later than it is committed at any of them.
 abbrev pub ArrivesBeforeCommit : Type 0
@@ -89,19 +111,19 @@ OrderLaw =
 abbrev pub SenderHasItAtOnce : Type 0
 SenderHasItAtOnce =
     (scenario : Scenario) (schedule : Schedule) (m g : ℕ) → IsTrue (is_sent_by (message_at scenario m) g)
-    → arrive scenario schedule m g ≡ (message_at scenario m).at
+    → arrive scenario schedule m g ≡ issue scenario schedule m
 
 -- A message arrives at a group within D ticks of its issue.
 abbrev pub ArrivesWithinOneDelay : Type 0
 ArrivesWithinOneDelay =
     (scenario : Scenario) (schedule : Schedule) → IsScenario scenario → IsAssignment scenario schedule → (m g : ℕ)
-    → arrive scenario schedule m g ≤ (message_at scenario m).at + scenario.delay
+    → arrive scenario schedule m g ≤ issue scenario schedule m + scenario.delay
 
 -- A message is committed at a group within 2 D ticks of its issue.
 abbrev pub CommittedWithinTwoDelays : Type 0
 CommittedWithinTwoDelays =
     (scenario : Scenario) (schedule : Schedule) → IsScenario scenario → IsAssignment scenario schedule → (m g : ℕ)
-    → settle scenario schedule m g ≤ (message_at scenario m).at + 2 * scenario.delay
+    → settle scenario schedule m g ≤ issue scenario schedule m + 2 * scenario.delay
 
 -- The latency of a message at a group is at most 4 D.
 abbrev pub LatencyWithinFourDelays : Type 0

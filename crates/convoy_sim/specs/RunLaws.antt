@@ -7,7 +7,7 @@ use Rattle.convoy_sim.specs.declared.run.Proposal.{Proposal}
 use Rattle.convoy_sim.specs.declared.timestamp.Timestamp.{Timestamp}
 use Rattle.convoy_sim.specs.Stamps.{is_less}
 use Rattle.convoy_sim.specs.Run.{Run, IsRunOf, proposed_of, committed_of, delivered_of, final_stamp_of}
-use Rattle.convoy_sim.specs.Times.{Tick}
+use Rattle.convoy_sim.specs.Times.{Tick, issue}
 
 -- the final stamp of message m is less than that of message n
 abbrev pub IsStampedBefore : Run → ℕ → ℕ → Type 0
@@ -32,18 +32,18 @@ pub record IsLastAwaited (run : Run) (m g : ℕ) (tick : Tick) : Type 0 where
 abbrev pub IsAloneAt : Run → ℕ → ℕ → Type 0
 IsAloneAt run m g = (n : ℕ) (tick : Tick) → delivered_of run n g ≡ Some tick → n ≡ m
 
--- The run keeps the laws of the protocol: a message is delivered at its destinations and nowhere else (everywhere), as it and all that are ahead of it are committed there (delivery); no two messages have one final stamp (stamps), and in the order of these all groups deliver (order); no delivery is later than 4 D after the issue (four_delays), or 2 D where the group delivers nothing else (two_delays); and the latency is the time from the target's issue to its delivery (latency).
-pub record KeepsLaws (scenario : Scenario) (run : Run) : Type 0 where
+-- The run of a schedule keeps the laws of the protocol: a message is delivered at its destinations and nowhere else (everywhere), as it and all that are ahead of it are committed there (delivery); no two messages have one final stamp (stamps), and in the order of these all groups deliver (order); no delivery is later than 4 D after the issue (four_delays), or 2 D where the group delivers nothing else (two_delays); and the latency is the time from the target's issue to its delivery (latency).
+pub record KeepsLaws (scenario : Scenario) (schedule : Schedule) (run : Run) : Type 0 where
   pub everywhere : (m g : ℕ) → is_some (delivered_of run m g) ≡ is_addressed (message_at scenario m) g
   pub delivery : (m g : ℕ) (tick : Tick) → delivered_of run m g ≡ Some tick → IsLastAwaited run m g tick
   pub stamps : (m n : ℕ) (stamp : Timestamp) → final_stamp_of run m ≡ Some stamp → final_stamp_of run n ≡ Some stamp → m ≡ n
   pub order : (m n g : ℕ) (mine other : Tick) → IsStampedBefore run m n → delivered_of run m g ≡ Some mine → delivered_of run n g ≡ Some other → mine ≤ other
-  pub four_delays : (m g : ℕ) (tick : Tick) → delivered_of run m g ≡ Some tick → tick ≤ (message_at scenario m).at + 4 * scenario.delay
-  pub two_delays : (m g : ℕ) (tick : Tick) → IsAloneAt run m g → delivered_of run m g ≡ Some tick → tick ≤ (message_at scenario m).at + 2 * scenario.delay
+  pub four_delays : (m g : ℕ) (tick : Tick) → delivered_of run m g ≡ Some tick → tick ≤ issue scenario schedule m + 4 * scenario.delay
+  pub two_delays : (m g : ℕ) (tick : Tick) → IsAloneAt run m g → delivered_of run m g ≡ Some tick → tick ≤ issue scenario schedule m + 2 * scenario.delay
   pub latency : delivered_of run scenario.target_message scenario.target_group ≡ Some ((message_at scenario scenario.target_message).at + run.latency)
 
 -- Every run of a scenario under an assignment keeps the laws.
 abbrev pub RunsKeepTheLaws : Type 0
 RunsKeepTheLaws =
     (scenario : Scenario) (schedule : Schedule) (run : Run) → IsScenario scenario → IsAssignment scenario schedule → IsRunOf scenario schedule run
-    → KeepsLaws scenario run
+    → KeepsLaws scenario schedule run

@@ -1,7 +1,7 @@
 -- When a message arrives at a group, and when it is committed there. No clock stands in either.
 use Rattle.std.specs.Prelude.{ℕ, ◌+◌, max, List, map}
 use Rattle.std.specs.List.{fold}
-use Rattle.convoy_packets.specs.declared.packet.Packet.TheVariants.{Multicast, Propose}
+use Rattle.convoy_packets.specs.declared.packet.Packet.TheVariants.{Wait, Multicast, Propose}
 use Rattle.convoy_scenario.specs.Scenario.{Scenario, message_at}
 use Rattle.convoy_packets.specs.Assignment.{Schedule, delay_of}
 
@@ -13,9 +13,13 @@ Tick = ℕ
 abbrev pub greatest : List ℕ → ℕ
 greatest xs = fold max 0 xs
 
+-- the tick at which message m is issued: the first at which it may be, and its wait
+abbrev pub issue : Scenario → Schedule → ℕ → Tick
+issue scenario schedule m = (message_at scenario m).at + delay_of scenario schedule (Wait m)
+
 -- Arrival, the tick at which message m arrives at group g: its issue and the delay of its packet to g. To the group that sends it there is no packet, so it arrives there as it is issued.
 unfoldable pub arrive : Scenario → Schedule → ℕ → ℕ → Tick
-arrive scenario schedule m g = (message_at scenario m).at + delay_of scenario schedule (Multicast m g)
+arrive scenario schedule m g = issue scenario schedule m + delay_of scenario schedule (Multicast m g)
 
 -- the tick at which group g has the stamp that group h proposes for message m
 abbrev pub propose_arrive : Scenario → Schedule → ℕ → ℕ → ℕ → Tick

@@ -3,6 +3,10 @@
 //! function.
 
 ghost use Rattle.convoy_sim.specs.Laws.{
+  IssuedFromItsTick,
+  IssuedWithinItsWait,
+  IssuedAtItsTick,
+  TargetIsIssuedAtItsTick,
   ArrivesAfterIssue,
   ArrivesBeforeCommit,
   ArrivesWithinOneDelay,
@@ -80,6 +84,30 @@ pub fn delivered_by_last_commit()
 #[tactic(auto, using(crate::proofs::LatencyBounds::order_law))]
 pub fn order_law()
     ensures { OrderLaw }
+{}
+
+/// A message is issued from the first tick on at which it may be.
+#[tactic(auto, using(crate::proofs::Issues::from_its_tick))]
+pub fn issued_from_its_tick()
+    ensures { IssuedFromItsTick }
+{}
+
+/// A message is issued within its longest wait from that tick.
+#[tactic(auto, using(crate::proofs::Issues::within_its_wait))]
+pub fn issued_within_its_wait()
+    ensures { IssuedWithinItsWait }
+{}
+
+/// A message that does not wait is issued at its tick, in every schedule.
+#[tactic(auto, using(crate::proofs::Issues::at_its_tick))]
+pub fn issued_at_its_tick()
+    ensures { IssuedAtItsTick }
+{}
+
+/// The target is issued at its tick, in every schedule.
+#[tactic(auto, using(crate::proofs::Issues::target_at_its_tick))]
+pub fn target_is_issued_at_its_tick()
+    ensures { TargetIsIssuedAtItsTick }
 {}
 
 /// A message arrives at a group no sooner than it is issued.

@@ -31,7 +31,7 @@ const END: Moment = Moment {
 pub fn simulate(alloc: Global, instance: &Instance, schedule: &Schedule) -> Result<Run, AllocError>
     requires assignment { IsAssignment instance.now schedule.now }
     ensures run { IfOk result (λ run. IsRunOf instance.now schedule.now run) }
-    ensures laws { IfOk result (λ run. KeepsLaws instance.now run) }
+    ensures laws { IfOk result (λ run. KeepsLaws instance.now schedule.now run) }
     ensures latency { IfOk result (λ run. run.latency ≡ latency_of instance.now schedule.now) }
     ensures four_delays { IfOk result (λ run. run.latency ≤ 4 * instance.now.delay) }
     ensures two_delays { ((n : ℕ) → GoesTo instance.now n instance.now.target_group → n ≡ instance.now.target_message)

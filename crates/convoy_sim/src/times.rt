@@ -1,5 +1,5 @@
 use convoy_packets::{Instance, Schedule};
-use convoy_scenario::{GREATEST_AT, MOST_GROUPS, MOST_MULTICASTS, Scenario, Time};
+use convoy_scenario::{GREATEST_UNTIL, MOST_GROUPS, MOST_MULTICASTS, Scenario, Time};
 use std::marker::Model;
 
 /// A scenario with a schedule, as packets see it: how long each is on its way.
@@ -19,10 +19,10 @@ impl<'a> Model for Times<'a> {
 
 impl<'a> Times<'a> {
     ghost use Rattle.std.specs.Prelude.{◌≡◌, ◌+◌, ◌<◌, ◌≤◌, length};
-    ghost use Rattle.convoy_packets.specs.Assignment.{delay_of};
+    ghost use Rattle.convoy_packets.specs.Assignment.{IsAssignment, delay_of};
     ghost use Rattle.convoy_packets.specs.declared.packet.Packet.TheVariants.{Propose};
     ghost use Rattle.convoy_packets.specs.Order.{rank_at};
-    ghost use Rattle.convoy_sim.specs.Times.{arrive};
+    ghost use Rattle.convoy_sim.specs.Times.{issue, arrive};
     ghost use Rattle.convoy_sim.specs.Moments.{arrival_rank, rank_in};
 
     /// The times of an instance under a schedule.
@@ -39,19 +39,32 @@ impl<'a> Times<'a> {
         self.instance.scenario()
     }
 
+    /// The tick at which the message is issued: the first at which it may be, and its wait.
+    #[tactic(auto, unfolding(convoy_packets::specs::Assignment::delay_of), using(crate::proofs::Destinations::issued_soon))]
+    pub(crate) fn issue(&self, message: usize) -> u32
+        requires message { message < length self.now.scenario.multicasts }
+        requires assignment { IsAssignment self.now.scenario self.now.schedule }
+        ensures tick { result ≡ issue self.now.scenario self.now.schedule message }
+        ensures soon { result ≤ GREATEST_UNTIL }
+    {
+        let wait = self.instance.table().wait_in(self.schedule, message);
+        self.instance.issue_tick(message) + u32::from(wait)
+    }
+
     /// The tick at which the message arrives at the group: its issue and the delay of its packet to
     /// the group. To the group that sends it there is no packet, so it comes there as it is issued.
     #[tactic(auto, unfolding(crate::specs::Times::arrive, convoy_packets::specs::Assignment::delay_of))]
     pub(crate) fn arrival(&self, message: usize, group: usize) -> u32
-        requires { message < length self.now.scenario.multicasts }
+        requires message { message < length self.now.scenario.multicasts }
+        requires assignment { IsAssignment self.now.scenario self.now.schedule }
         ensures tick { result ≡ arrive self.now.scenario self.now.schedule message group }
-        ensures soon { result ≤ GREATEST_AT + u16.MAX }
+        ensures soon { result ≤ GREATEST_UNTIL + u16.MAX }
     {
         let delay = self
             .instance
             .table()
             .multicast_delay(self.schedule, message, group);
-        self.instance.issue_tick(message) + u32::from(delay)
+        self.issue(message) + u32::from(delay)
     }
 
     /// The rank of the arrival of the message at the group: in whole ticks each counts as 0.

@@ -100,7 +100,8 @@ impl<'a> Ticks for Timetable<'a> {
 
 /// Writes the ticks at which the message arrives at the groups.
 fn write_arrivals(arrivals: &mut [u32; PLACES], times: &Times, message: usize)
-    requires { message < length times.now.scenario.multicasts }
+    requires message { message < length times.now.scenario.multicasts }
+    requires assignment { IsAssignment times.now.scenario times.now.schedule }
     ensures row { IsRow (arrive times.now.scenario times.now.schedule message)
         (length times.now.scenario.groups) message arrivals.new }
     ensures others { AreOthersKept message arrivals.old arrivals.new }

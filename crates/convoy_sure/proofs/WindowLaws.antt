@@ -5,24 +5,25 @@ use Rattle.std.proofs.lemmas.List.FromFn.{get_or-map-range_with_len}
 use Rattle.convoy_scenario.specs.declared.limits.TheConstants.{MOST_GROUPS}
 use Rattle.convoy_scenario.specs.Scenario.{Scenario, message_at, is_addressed, GoesTo}
 use Rattle.convoy_scenario.specs.WellFormed.{IsScenario}
-use Rattle.convoy_packets.specs.declared.packet.Packet.TheVariants.{Propose}
+use Rattle.convoy_packets.specs.declared.packet.Packet.{Packet}
+use Rattle.convoy_packets.specs.declared.packet.Packet.TheVariants.{Multicast, Propose}
 use Rattle.convoy_packets.specs.Assignment.{Schedule, delay_of}
 use Rattle.convoy_packets.specs.Table.{least_of}
-use Rattle.convoy_sim.specs.Times.{arrive, settle, propose_arrive}
+use Rattle.convoy_sim.specs.Times.{issue, arrive, settle, propose_arrive}
 use Rattle.convoy_packets.specs.Order.{place}
 use Rattle.convoy_sim.proofs.Membership.{IsIn, in_greatest}
 use Rattle.convoy_sim.proofs.Addressed.{in_of_goes, goes_from_in, number_of_goes}
 use Rattle.convoy_intervals.specs.Boxes.{Box, greatest_of}
 use Rattle.convoy_intervals.specs.Bounds.{Encloses, tables_of}
 use Rattle.convoy_intervals.specs.Laws.{MembersAreEnclosed}
-use Rattle.convoy_sure.specs.Windows.{EnclosesAll, Windows, entry_at, tables_by, entries_of, proposal_delay, proposals_of, windows_of, with_settling, with_arrival}
+use Rattle.convoy_sure.specs.Windows.{EnclosesAll, Windows, entry_at, tables_by, entries_of, issued_since, proposal_delay, proposals_of, windows_of, with_issue, with_settling, with_arrival}
 use Rattle.convoy_sure.specs.Laws.{WindowsAreTables, WindowsEncloseMembers, CutsEnclose}
 use Rattle.convoy_sure.proofs.SureLaws.{set_cases, same_place, group_is_low}
 use Rattle.convoy_sure.proofs.MemberDelays.{least_delay, greatest_delay}
 
 -- ---- the windows of a box
 -- at a destination the entry is the number
-entry_is : (scenario : Scenario) (what : ℕ → ℕ → ℕ) → IsScenario scenario → (m g : ℕ) → GoesTo scenario m g → entry_at (entries_of scenario what) m g ≡ what m g
+pub entry_is : (scenario : Scenario) (what : ℕ → ℕ → ℕ) → IsScenario scenario → (m g : ℕ) → GoesTo scenario m g → entry_at (entries_of scenario what) m g ≡ what m g
 entry_is scenario what well m g goes =
     let low = group_is_low scenario well m g goes in
     let known = number_of_goes scenario m g goes in
@@ -53,8 +54,8 @@ proposal_is scenario schedule well m h g from to =
 
 -- tables that say the same at destinations enclose the same
 windows_enclose : (scenario : Scenario) (ranges : Box) (schedule : Schedule) → IsScenario scenario → Encloses scenario schedule (tables_of scenario ranges)
-    → ((m h g : ℕ) → delay_of scenario (least_of ranges) (Propose m h g) ≤ delay_of scenario schedule (Propose m h g))
-    → ((m h g : ℕ) → delay_of scenario schedule (Propose m h g) ≤ delay_of scenario (greatest_of ranges) (Propose m h g))
+    → ((packet : Packet) → delay_of scenario (least_of ranges) packet ≤ delay_of scenario schedule packet)
+    → ((packet : Packet) → delay_of scenario schedule packet ≤ delay_of scenario (greatest_of ranges) packet)
     → EnclosesAll scenario schedule (tables_by (windows_of scenario ranges))
 windows_enclose scenario ranges schedule well enclosed low high = record {
   times = record {
@@ -63,8 +64,10 @@ windows_enclose scenario ranges schedule well enclosed low high = record {
     settling_low = λ m g goes. subst (λ e. e ≤ settle scenario schedule m g) (sym (entry_is scenario (tables_of scenario ranges).least_settling well m g goes)) (enclosed.settling_low m g goes);
     settling_high = λ m g goes. subst (λ e. settle scenario schedule m g ≤ e) (sym (entry_is scenario (tables_of scenario ranges).greatest_settling well m g goes)) (enclosed.settling_high m g goes);
   };
-  proposals_low = λ m h g from to. subst (λ e. e ≤ delay_of scenario schedule (Propose m h g)) (sym (proposal_is scenario (least_of ranges) well m h g from to)) (low m h g);
-  proposals_high = λ m h g from to. subst (λ e. delay_of scenario schedule (Propose m h g) ≤ e) (sym (proposal_is scenario (greatest_of ranges) well m h g from to)) (high m h g);
+  multicasts_low = λ m g goes. subst (λ e. e ≤ delay_of scenario schedule (Multicast m g)) (sym (entry_is scenario (λ n h. delay_of scenario (least_of ranges) (Multicast n h)) well m g goes)) (low (Multicast m g));
+  multicasts_high = λ m g goes. subst (λ e. delay_of scenario schedule (Multicast m g) ≤ e) (sym (entry_is scenario (λ n h. delay_of scenario (greatest_of ranges) (Multicast n h)) well m g goes)) (high (Multicast m g));
+  proposals_low = λ m h g from to. subst (λ e. e ≤ delay_of scenario schedule (Propose m h g)) (sym (proposal_is scenario (least_of ranges) well m h g from to)) (low (Propose m h g));
+  proposals_high = λ m h g from to. subst (λ e. delay_of scenario schedule (Propose m h g) ≤ e) (sym (proposal_is scenario (greatest_of ranges) well m h g from to)) (high (Propose m h g));
 }
 
 pub windows_are_tables : WindowsAreTables
@@ -78,8 +81,8 @@ windows_are_tables scenario ranges well m g goes = record {
 pub windows_enclose_members : MembersAreEnclosed → WindowsEncloseMembers
 windows_enclose_members enclosed scenario ranges schedule well member =
     windows_enclose scenario ranges schedule well (enclosed scenario ranges schedule member)
-    (λ m h g. least_delay scenario ranges schedule member (Propose m h g))
-    (λ m h g. greatest_delay scenario ranges schedule member (Propose m h g))
+    (least_delay scenario ranges schedule member)
+    (greatest_delay scenario ranges schedule member)
 
 -- ---- cut windows
 module _ (scenario : Scenario) (schedule : Schedule) (windows : Windows) (m k tick : ℕ) (well : IsScenario scenario) (enclosed : EnclosesAll scenario schedule (tables_by windows))
@@ -116,17 +119,46 @@ module _ (scenario : Scenario) (schedule : Schedule) (windows : Windows) (m k ti
       settlings_below (with_settling windows m k tick entries g) gs (λ h i. to h (inr i))
       (set_below (settle scenario schedule) entries m g (max (tick + (tables_by windows).least_proposal m k g) (entry_at entries m g)) there (omega arith) below)
 
+  -- the message is issued no earlier than the cut says, ..
+  issued_by : issued_since windows m k tick ≤ issue scenario schedule m
+  unfolding arrive
+  issued_by =
+      let high = enclosed.multicasts_high m k goes in
+      omega (arith, late)
+
+  -- .. and so it arrives nowhere earlier than that and the least delay to there
+  comes_by : (g : ℕ) → GoesTo scenario m g → issued_since windows m k tick + (tables_by windows).least_multicast m g ≤ arrive scenario schedule m g
+  unfolding arrive
+  comes_by g to =
+      let low = enclosed.multicasts_low m g to in
+      omega (arith, issued_by)
+
+  arrivals_below : (entries : List ℕ) (gs : List ℕ) → ((g : ℕ) → IsIn g gs → GoesTo scenario m g) → AreBelow (arrive scenario schedule) entries
+      → AreBelow (arrive scenario schedule) (fold (with_issue windows m k tick) entries gs)
+  unfolding AreBelow
+  arrivals_below entries [] to below = below
+  arrivals_below entries (g ∷ gs) to below =
+      let there = to g (inl refl) in
+      let come = comes_by g there in
+      let old = below m g there in
+      arrivals_below (with_issue windows m k tick entries g) gs (λ h i. to h (inr i))
+      (set_below (arrive scenario schedule) entries m g (max (issued_since windows m k tick + (tables_by windows).least_multicast m g) (entry_at entries m g)) there (omega arith) below)
+
   arrival_cut : EnclosesAll scenario schedule (tables_by (with_arrival scenario windows m k tick))
   unfolding AreBelow
   arrival_cut =
-      let old = enclosed.times.arrival_low m k goes in
+      let issued : List ℕ = fold (with_issue windows m k tick) windows.least_arrivals (message_at scenario m).destinations in
+      let below = arrivals_below windows.least_arrivals (message_at scenario m).destinations (λ g i. goes_from_in scenario m g i) enclosed.times.arrival_low in
+      let old = below m k goes in
       record {
         times = record {
-          arrival_low = set_below (arrive scenario schedule) windows.least_arrivals m k (max tick (entry_at windows.least_arrivals m k)) goes (omega arith) enclosed.times.arrival_low;
+          arrival_low = set_below (arrive scenario schedule) issued m k (max tick (entry_at issued m k)) goes (omega arith) below;
           arrival_high = enclosed.times.arrival_high;
           settling_low = settlings_below windows.least_settlings (message_at scenario m).destinations (λ g i. goes_from_in scenario m g i) enclosed.times.settling_low;
           settling_high = enclosed.times.settling_high;
         };
+        multicasts_low = enclosed.multicasts_low;
+        multicasts_high = enclosed.multicasts_high;
         proposals_low = enclosed.proposals_low;
         proposals_high = enclosed.proposals_high;
       }

@@ -2,11 +2,11 @@ ghost use Rattle.std.specs.Prelude.{◌≡◌, ℕ, ◌+◌, ◌<◌, ◌≤◌,
 ghost use Rattle.std.specs.List.{fold};
 ghost use Rattle.convoy_scenario.specs.Scenario.{message_at};
 ghost use Rattle.convoy_packets.specs.Order.{place};
-ghost use Rattle.convoy_sure.specs.Windows.{entry_at, with_arrival, with_settling};
+ghost use Rattle.convoy_sure.specs.Windows.{entry_at, issued_since, raised, with_arrival, with_issue, with_settling};
 
 use super::messages::destinations;
 use super::windows::{LAST_ARRIVAL, LAST_SETTLING, Windows, entry_at};
-use convoy_scenario::{MOST_GROUPS, MOST_MULTICASTS, Scenario};
+use convoy_scenario::{GREATEST_UNTIL, MOST_GROUPS, MOST_MULTICASTS, Scenario};
 use std::alloc::{AllocError, Global};
 
 /// Raises the entry for a message at a group to a number, if it is less.
@@ -14,8 +14,7 @@ use std::alloc::{AllocError, Global};
 fn raise_entry(entries: &mut [u32], message: usize, group: usize, least: u32)
     requires message { message < MOST_MULTICASTS }
     requires group { group < MOST_GROUPS }
-    ensures value { entries.new ≡ slice_set entries.old (place message group)
-        (max least (entry_at entries.old message group)) }
+    ensures value { entries.new ≡ raised entries.old message group least }
     ensures limit { (most : ℕ) → least ≤ most → All (λ entry. entry ≤ most) entries.old
         → All (λ entry. entry ≤ most) entries.new }
 {
@@ -27,25 +26,67 @@ fn raise_entry(entries: &mut [u32], message: usize, group: usize, least: u32)
 }
 
 impl Windows {
+    /// The first tick at which a message can be issued where it arrives at a group at that tick or
+    /// later: the greatest delay to there before that.
+    fn issued_since(&self, message: usize, group: usize, tick: u32) -> u32
+        requires message { message < MOST_MULTICASTS }
+        requires group { group < MOST_GROUPS }
+        ensures value { result ≡ issued_since self.now message group tick }
+        ensures limit { result ≤ GREATEST_UNTIL }
+    {
+        tick.saturating_sub(self.greatest_multicast(message, group))
+            .min(GREATEST_UNTIL)
+    }
+
+    /// Raises least arrivals to what they are where a message arrives at a group at that tick or later:
+    /// it arrives at each group no earlier than after the least delay from its issue, and at that group
+    /// no earlier than then.
+    fn raise_arrivals(
+        &self,
+        arrivals: &mut [u32],
+        scenario: &Scenario,
+        message: usize,
+        group: usize,
+        tick: u32,
+    )
+        requires message { message < length scenario.now.multicasts }
+        requires known { message < MOST_MULTICASTS }
+        requires group { group < MOST_GROUPS }
+        requires tick { tick ≤ LAST_ARRIVAL }
+        requires limit { All (λ entry. entry ≤ LAST_ARRIVAL) arrivals.old }
+        ensures value { arrivals.new ≡ raised (fold (with_issue self.now message group tick)
+            arrivals.old (message_at scenario.now message).destinations) message group tick }
+        ensures limit { All (λ entry. entry ≤ LAST_ARRIVAL) arrivals.new }
+    {
+        let issued = self.issued_since(message, group, tick);
+        for to in destinations(scenario, message) {
+            let least = issued + self.least_multicast(message, *to);
+            raise_entry(arrivals, message, *to, least);
+        }
+        raise_entry(arrivals, message, group, tick);
+    }
+
     /// The least arrivals where a message arrives at a group at that tick or later.
     fn arrivals_after(
         &self,
         alloc: Global,
+        scenario: &Scenario,
         message: usize,
         group: usize,
         tick: u32,
     ) -> Result<Vec<u32>, AllocError>
-        requires message { message < MOST_MULTICASTS }
+        requires message { message < length scenario.now.multicasts }
+        requires known { message < MOST_MULTICASTS }
         requires group { group < MOST_GROUPS }
         requires tick { tick ≤ LAST_ARRIVAL }
         ensures value { IfOk result (λ arrivals. arrivals.items
-            ≡ slice_set self.now.least_arrivals (place message group)
-            (max tick (entry_at self.now.least_arrivals message group))) }
+            ≡ raised (fold (with_issue self.now message group tick) self.now.least_arrivals
+            (message_at scenario.now message).destinations) message group tick) }
         ensures limit { IfOk result
             (λ arrivals. All (λ entry. entry ≤ LAST_ARRIVAL) arrivals.items) }
     {
         let mut arrivals = Vec::from_slice(alloc, &self.least_arrivals)?;
-        raise_entry(arrivals.as_mut_slice(), message, group, tick);
+        self.raise_arrivals(arrivals.as_mut_slice(), scenario, message, group, tick);
         Ok(arrivals)
     }
 
@@ -114,10 +155,12 @@ impl Windows {
         ensures { IfOk result
             (λ windows. windows ≡ with_arrival scenario.now self.now message group tick) }
     {
-        let least_arrivals = self.arrivals_after(alloc, message, group, tick)?;
+        let least_arrivals = self.arrivals_after(alloc, scenario, message, group, tick)?;
         let least_settlings = self.settlings_after(alloc, scenario, message, group, tick)?;
         let greatest_arrivals = Vec::from_slice(alloc, &self.greatest_arrivals)?;
         let greatest_settlings = Vec::from_slice(alloc, &self.greatest_settlings)?;
+        let least_multicasts = Vec::from_slice(alloc, &self.least_multicasts)?;
+        let greatest_multicasts = Vec::from_slice(alloc, &self.greatest_multicasts)?;
         let least_proposals = Vec::from_slice(alloc, &self.least_proposals)?;
         let greatest_proposals = Vec::from_slice(alloc, &self.greatest_proposals)?;
         Ok(Windows {
@@ -125,6 +168,8 @@ impl Windows {
             greatest_arrivals,
             least_settlings,
             greatest_settlings,
+            least_multicasts,
+            greatest_multicasts,
             least_proposals,
             greatest_proposals,
         })

@@ -1,19 +1,21 @@
 ghost use Rattle.std.specs.Prelude.{◌≡◌, ℕ, ◌*◌, ◌+◌, ◌≤◌, ◌<◌, length, All, IfOk};
+ghost use Rattle.convoy_packets.specs.Assignment.{delay_of};
 ghost use Rattle.convoy_packets.specs.Table.{least_of};
+ghost use Rattle.convoy_packets.specs.declared.packet.Packet.TheVariants.{Multicast};
 ghost use Rattle.convoy_sim.specs.Times.{settle};
 ghost use Rattle.convoy_intervals.specs.Boxes.{IsBox, greatest_of};
 ghost use Rattle.convoy_intervals.specs.Bounds.{tables_of};
-ghost use Rattle.convoy_sure.specs.Windows.{entry_of, entries_of, proposal_entry, proposals_of};
+ghost use Rattle.convoy_sure.specs.Windows.{entry_of, entries_of, multicasts_of, proposal_entry, proposals_of};
 ghost use Rattle.convoy_sure.specs.Windows.{windows_of};
 
 use super::messages::is_addressed;
 use super::windows::{LAST_ARRIVAL, LAST_SETTLING, Windows};
 use convoy_intervals::laws::{greatest_is_member, least_is_member, members_are_assignments};
-use convoy_intervals::{DelayBox, arrivals, proposal_delays, settlings};
+use convoy_intervals::{DelayBox, arrivals, multicast_delays, proposal_delays, settlings};
 use convoy_packets::Instance;
 use convoy_packets::laws::fixed_order_is_order;
 use convoy_scenario::MOST_GROUPS;
-use convoy_sim::laws::committed_within_two_delays;
+use convoy_sim::laws::{committed_within_two_delays, issued_within_its_wait};
 use std::alloc::{AllocError, Global};
 
 impl Windows {
@@ -28,12 +30,15 @@ impl Windows {
     {
         let (least_arrivals, greatest_arrivals) = all_arrivals(alloc, instance, delay_box)?;
         let (least_settlings, greatest_settlings) = all_settlings(alloc, instance, delay_box)?;
+        let (least_multicasts, greatest_multicasts) = all_multicasts(alloc, instance, delay_box)?;
         let (least_proposals, greatest_proposals) = all_proposals(alloc, instance, delay_box)?;
         Ok(Windows {
             least_arrivals,
             greatest_arrivals,
             least_settlings,
             greatest_settlings,
+            least_multicasts,
+            greatest_multicasts,
             least_proposals,
             greatest_proposals,
         })
@@ -145,8 +150,53 @@ fn settlings_within(
     greatest_is_member();
     members_are_assignments();
     committed_within_two_delays();
+    issued_within_its_wait();
     let _delay = instance.delay();
     settlings(instance, delay_box, message, group)
+}
+
+/// The least and the greatest delays of all messages on their way to all groups, message by message.
+fn all_multicasts(
+    alloc: Global,
+    instance: &Instance,
+    delay_box: &DelayBox,
+) -> Result<(Vec<u32>, Vec<u32>), AllocError>
+    requires inside { IsBox instance.now delay_box.now }
+    ensures least { IfOk result
+        (λ lists. lists.0.items ≡ multicasts_of instance.now (least_of delay_box.now)) }
+    ensures greatest { IfOk result
+        (λ lists. lists.1.items ≡ multicasts_of instance.now (greatest_of delay_box.now)) }
+    ensures least_fit { IfOk result (λ lists. All (λ delay. delay ≤ u16.MAX) lists.0.items) }
+    ensures greatest_fit { IfOk result (λ lists. All (λ delay. delay ≤ u16.MAX) lists.1.items) }
+{
+    let places = instance.message_count() * MOST_GROUPS;
+    let mut least = Vec::with_capacity(alloc, places)?;
+    let mut greatest = Vec::with_capacity(alloc, places)?;
+    for place in 0..places {
+        let (shortest, longest) = multicasts_at(instance, delay_box, place);
+        least.push(shortest)?;
+        greatest.push(longest)?;
+    }
+    Ok((least, greatest))
+}
+
+/// The least and the greatest delay of a message to a group, at a place of their tables.
+fn multicasts_at(instance: &Instance, delay_box: &DelayBox, place: usize) -> (u32, u32)
+    requires known { place < length instance.now.multicasts * MOST_GROUPS }
+    requires inside { IsBox instance.now delay_box.now }
+    ensures least { result.0
+        ≡ entry_of instance.now (λ m g. delay_of instance.now (least_of delay_box.now) (Multicast m g)) place }
+    ensures greatest { result.1
+        ≡ entry_of instance.now (λ m g. delay_of instance.now (greatest_of delay_box.now) (Multicast m g)) place }
+    ensures fits { (result.0 ≤ u16.MAX) × (result.1 ≤ u16.MAX) }
+{
+    let (message, group) = (place / MOST_GROUPS, place % MOST_GROUPS);
+    if is_addressed(instance.scenario(), message, group) {
+        let (least, greatest) = multicast_delays(instance, delay_box, message, group);
+        (u32::from(least), u32::from(greatest))
+    } else {
+        (0, 0)
+    }
 }
 
 /// The least and the greatest delays of all proposals, message by message, from group to group.

@@ -1,23 +1,25 @@
 ghost use Rattle.std.specs.Prelude.{◌≡◌, ℕ, ◌*◌, ◌+◌, ◌≤◌, ◌<◌, All};
 ghost use Rattle.convoy_sure.specs.Windows.{entry_at, tables_by};
 
-use convoy_scenario::{GREATEST_AT, MOST_GROUPS, MOST_MULTICASTS};
+use convoy_scenario::{GREATEST_UNTIL, MOST_GROUPS, MOST_MULTICASTS};
 use std::marker::Model;
 
 /// No message arrives anywhere at a later tick.
-pub const LAST_ARRIVAL: u32 = GREATEST_AT + 65_535;
+pub const LAST_ARRIVAL: u32 = GREATEST_UNTIL + 65_535;
 
 /// No message is committed anywhere at a later tick.
-pub const LAST_SETTLING: u32 = GREATEST_AT + 131_070;
+pub const LAST_SETTLING: u32 = GREATEST_UNTIL + 131_070;
 
 /// From when to when each message may arrive at each of its destinations and be committed there, and
-/// the least and the greatest delay of each of its proposals, in ticks (docs/LEADS.md).
+/// the least and the greatest delay of each of its packets, in ticks (docs/LEADS.md).
 #[derive(Drop)]
 pub struct Windows {
     pub(crate) least_arrivals: Vec<u32>,
     pub(crate) greatest_arrivals: Vec<u32>,
     pub(crate) least_settlings: Vec<u32>,
     pub(crate) greatest_settlings: Vec<u32>,
+    pub(crate) least_multicasts: Vec<u32>,
+    pub(crate) greatest_multicasts: Vec<u32>,
     pub(crate) least_proposals: Vec<u32>,
     pub(crate) greatest_proposals: Vec<u32>,
 }
@@ -32,6 +34,8 @@ impl Model for Windows {
       greatest_arrivals = w.greatest_arrivals.items;
       least_settlings = w.least_settlings.items;
       greatest_settlings = w.greatest_settlings.items;
+      least_multicasts = w.least_multicasts.items;
+      greatest_multicasts = w.greatest_multicasts.items;
       least_proposals = w.least_proposals.items;
       greatest_proposals = w.greatest_proposals.items;
     } };
@@ -41,6 +45,8 @@ impl Model for Windows {
       greatest_arrivals = w.greatest_arrivals.items;
       least_settlings = w.least_settlings.items;
       greatest_settlings = w.greatest_settlings.items;
+      least_multicasts = w.least_multicasts.items;
+      greatest_multicasts = w.greatest_multicasts.items;
       least_proposals = w.least_proposals.items;
       greatest_proposals = w.greatest_proposals.items;
     }) };
@@ -98,6 +104,26 @@ impl Windows {
         ensures fits { result ≤ LAST_SETTLING }
     {
         entry_at(&self.greatest_settlings, message, group)
+    }
+
+    /// The least delay, in ticks, of a message on its way to a group, 0 where it does not go there.
+    pub fn least_multicast(&self, message: usize, group: usize) -> u32
+        requires message { message < MOST_MULTICASTS }
+        requires group { group < MOST_GROUPS }
+        ensures value { result ≡ (tables_by self.now).least_multicast message group }
+        ensures fits { result ≤ 65535 }
+    {
+        entry_at(&self.least_multicasts, message, group)
+    }
+
+    /// The greatest delay, in ticks, of a message on its way to a group, 0 where it does not go there.
+    pub fn greatest_multicast(&self, message: usize, group: usize) -> u32
+        requires message { message < MOST_MULTICASTS }
+        requires group { group < MOST_GROUPS }
+        ensures value { result ≡ (tables_by self.now).greatest_multicast message group }
+        ensures fits { result ≤ 65535 }
+    {
+        entry_at(&self.greatest_multicasts, message, group)
     }
 
     /// The least delay, in ticks, of the proposal of a message from a group to another, 0 where one of

@@ -1,11 +1,11 @@
 -- The messages of a survey's rows are those of its scenario.
-use Rattle.std.proofs.Common.{All, ◌≡◌, ℕ, ◌+◌, ◌<◌, List, length, map, sym, subst, ◌∙◌, arith}
+use Rattle.std.proofs.Common.{All, ◌≡◌, ℕ, ◌+◌, ◌<◌, Bool, true, false, cond, List, [], length, map, sym, subst, ◌∙◌, arith}
 use Rattle.std.proofs.Math.ListN.{get_or-map}
 use Rattle.std.proofs.lemmas.List.{length-map}
-use Rattle.std.proofs.lemmas.List.Elements.{All-map}
+use Rattle.std.proofs.lemmas.List.Elements.{All-map, All-nil}
 use Rattle.std.proofs.lemmas.List.FromFn.{get_or-range_with_len, length-range_with_len}
 use Rattle.convoy_packets.proofs.Lists.{All-flat_map}
-use Rattle.convoy_scenario.specs.Scenario.{Scenario, message_at, message_numbers}
+use Rattle.convoy_scenario.specs.Scenario.{Scenario, may_wait, message_at, message_numbers}
 use Rattle.convoy_scenario.specs.Targets.{targets_at, targets_of}
 use Rattle.convoy_survey.specs.declared.finding.Surveyed.{Surveyed}
 use Rattle.convoy_survey.specs.Findings.{target_of}
@@ -22,7 +22,10 @@ targets_known scenario =
     let start : 0 + k ≡ k = omega arith in
     let is = get_or-range_with_len 0 (length scenario.multicasts) k d less ∙ start in
     subst (λ (m : ℕ). All (IsKnown scenario) (targets_at scenario m)) (sym is)
-    (All-map (IsKnown scenario) (λ (g : ℕ). (k, g)) (message_at scenario k).destinations (λ i e inside. less)))
+    (unless_waits k (may_wait (message_at scenario k)) less)) where
+      unless_waits : (k : ℕ) (waits : Bool) → k < length scenario.multicasts → All (IsKnown scenario) (cond waits [] (map (λ (g : ℕ). (k, g)) (message_at scenario k).destinations))
+      unless_waits k true less = All-nil (IsKnown scenario)
+      unless_waits k false less = All-map (IsKnown scenario) (λ (g : ℕ). (k, g)) (message_at scenario k).destinations (λ i e inside. less)
 
 -- what holds of what f gives for each element
 All-from_map : {X Y : Type 0} (P : Y → Type 0) (f : X → Y) (xs : List X) → All P (map f xs) → All (λ (x : X). P (f x)) xs

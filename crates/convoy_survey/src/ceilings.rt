@@ -1,6 +1,6 @@
 ghost use Rattle.std.specs.Prelude.{◌≡◌, ◌<◌, ◌≤◌, ◌++◌, filter, length, map, option_map, IfOk, IfSome, OnOk};
 ghost use Rattle.std.specs.List.{All};
-ghost use Rattle.convoy_scenario.specs.Scenario.{GoesTo};
+ghost use Rattle.convoy_scenario.specs.Scenario.{GoesTo, message_at};
 ghost use Rattle.convoy_scenario.specs.Targets.{targets_at, with_target};
 ghost use Rattle.convoy_ceiling.specs.Ceiling.{ceiling_at};
 ghost use Rattle.convoy_survey.specs.Ceilings.{AreCeiled, IsAttainedInTraffic, IsCeilingFound, ceiled_target, is_asked};
@@ -12,8 +12,8 @@ use convoy_scenario::Scenario;
 use convoy_traffic::seek_traffic;
 use std::alloc::{AllocError, Global};
 
-/// The ceiling of each message of a scenario at each group that it goes to, in the order of their numbers;
-/// where a group is named, at that group alone. For each of them traffic that attains the ceiling is sought
+/// The ceiling of each message of a scenario that does not wait, at each group that it goes to, in the
+/// order of their numbers; where a group is named, at that group alone. For each of them traffic that attains the ceiling is sought
 /// by at most so many simulations. Where memory runs out for one of them, nothing is told of its traffic,
 /// and the others are sought all the same. Where no group has the name there are no rows. Fails where there
 /// is no memory for the rows, and else never.
@@ -33,7 +33,7 @@ pub fn ceilings_of(
     Ok(rows)
 }
 
-/// Appends the rows of a message at the groups that are asked for.
+/// Appends the rows of a message at the groups that are asked for, unless it may wait.
 fn push_message(
     alloc: Global,
     scenario: &Scenario,
@@ -49,6 +49,9 @@ fn push_message(
         (targets_at scenario.now message)) }
     ensures found { OnOk result (All (IsCeilingFound scenario.now) rows.new.items) }
 {
+    if 0 < scenario.longest_wait(message) {
+        return Ok(());
+    }
     for group in scenario.destinations(message) {
         if is_asked(scenario, asked, *group) {
             rows.push(row_at(alloc, scenario, message, *group, simulations))?;
@@ -77,6 +80,7 @@ fn row_at(
 ) -> Ceiled
     requires known { message < length scenario.now.multicasts }
     requires addressed { GoesTo scenario.now message group }
+    requires fixed { (message_at scenario.now message).longest_wait ≡ 0 }
     ensures target { ceiled_target result ≡ (message, group) }
     ensures found { IsCeilingFound scenario.now result }
 {
@@ -98,6 +102,7 @@ fn attained_at(
 ) -> Option<u32>
     requires known { message < length scenario.now.multicasts }
     requires addressed { GoesTo scenario.now message group }
+    requires fixed { (message_at scenario.now message).longest_wait ≡ 0 }
     ensures attained { IfSome result
         (IsAttainedInTraffic (with_target scenario.now message group)) }
     ensures within { IfSome result (λ latency. latency ≤ ceiling_at scenario.now message group) }
@@ -118,6 +123,7 @@ fn seek_at(
 ) -> Result<u32, AllocError>
     requires known { message < length scenario.now.multicasts }
     requires addressed { GoesTo scenario.now message group }
+    requires fixed { (message_at scenario.now message).longest_wait ≡ 0 }
     ensures attained { IfOk result
         (IsAttainedInTraffic (with_target scenario.now message group)) }
     ensures within { IfOk result (λ latency. latency ≤ ceiling_at scenario.now message group) }

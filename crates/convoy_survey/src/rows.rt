@@ -14,7 +14,8 @@ use std::sync::Wait;
 use std::thread::Threads;
 
 /// Searches for the greatest latency of each message of a scenario at each group that it goes to, in the
-/// order of their numbers, each as [`latency`](convoy_commands::run_latency) does with these options: by
+/// order of their numbers, but for messages that may wait: a latency counts from an issue that is known.
+/// Each search goes as [`latency`](convoy_commands::run_latency) does with these options: by
 /// their limit of tickets, by their bounds or both ways, and with their number of workers. Where memory
 /// runs out for one of them, that is what is found of it, and the others are searched all the same. Each
 /// search is watched. Fails where there is no memory for the rows, and else never.
@@ -34,7 +35,7 @@ pub fn survey<R: Threads + Wait + Sync, W: Watch + Sync>(
     Ok(rows)
 }
 
-/// Appends what is found of a message at each group that it goes to.
+/// Appends what is found of a message at each group that it goes to, unless it may wait.
 fn survey_message<R: Threads + Wait + Sync, W: Watch + Sync>(
     rt: &R,
     alloc: Global,
@@ -50,6 +51,9 @@ fn survey_message<R: Threads + Wait + Sync, W: Watch + Sync>(
         ≡ map target_of rows.old.items ++ targets_at scenario.now message) }
     ensures found { OnOk result (All (IsSurveyed options.now scenario.now) rows.new.items) }
 {
+    if 0 < scenario.longest_wait(message) {
+        return Ok(());
+    }
     for group in scenario.destinations(message) {
         let finding = find_target(rt, alloc, scenario, message, *group, options, watch);
         rows.push(Surveyed {

@@ -1,5 +1,5 @@
 ghost use Rattle.std.specs.Prelude.{◌≡◌, ◌<◌, length, IfOk};
-ghost use Rattle.convoy_scenario.specs.Scenario.{GoesTo};
+ghost use Rattle.convoy_scenario.specs.Scenario.{GoesTo, message_at};
 ghost use Rattle.convoy_scenario.specs.Targets.{with_target};
 ghost use Rattle.convoy_commands.specs.Searches.{IsEnd};
 ghost use Rattle.convoy_survey.specs.Findings.{IsFinding};
@@ -44,6 +44,7 @@ pub(crate) fn find_target<R: Threads + Wait + Sync, W: Watch + Sync>(
 ) -> Finding
     requires known { message < length scenario.now.multicasts }
     requires addressed { GoesTo scenario.now message group }
+    requires fixed { (message_at scenario.now message).longest_wait ≡ 0 }
     ensures { IsFinding options.now (with_target scenario.now message group) result }
 {
     match target_instance(alloc, scenario, message, group) {
@@ -61,6 +62,7 @@ fn target_instance(
 ) -> Result<Instance, AllocError>
     requires known { message < length scenario.now.multicasts }
     requires addressed { GoesTo scenario.now message group }
+    requires fixed { (message_at scenario.now message).longest_wait ≡ 0 }
     ensures { IfOk result (λ instance. instance ≡ with_target scenario.now message group) }
 {
     Instance::of(alloc, scenario.with_target(message, group)?)
@@ -76,9 +78,8 @@ fn search<R: Threads + Wait + Sync, W: Watch + Sync>(
 ) -> Result<Finding, AllocError>
     ensures { IfOk result (IsFinding options.now instance.now) }
 {
-    let outcome = search_instance(rt, alloc, instance, options, watch);
-    watch.ends();
-    finding_of(alloc, instance, options, outcome?)
+    let outcome = search_instance(rt, alloc, instance, options, watch)?;
+    finding_of(alloc, instance, options, outcome)
 }
 
 /// What was found of an instance by a search that ended so.

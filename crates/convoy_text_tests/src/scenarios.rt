@@ -12,6 +12,7 @@ pub(crate) fn of_client<'a>(name: &'a str, to: &'a [&'a str], at: u32) -> Messag
         sender: None,
         to,
         at,
+        until: at,
     }
 }
 
@@ -27,6 +28,7 @@ pub(crate) fn of_group<'a>(
         sender: Some(sender),
         to,
         at,
+        until: at,
     }
 }
 

@@ -15,7 +15,7 @@ use Rattle.convoy_sim.specs.Times.{arrive, settle}
 use Rattle.convoy_sim.specs.Delivery.{deliver}
 use Rattle.convoy_scenario.specs.Scenario.{GoesTo}
 use Rattle.convoy_timeline.specs.declared.entry.EntryKind.TheVariants.{Propose, Commit, Deliver}
-use Rattle.convoy_timeline.specs.Timeline.{entry_of, insert_entry, line_of, tick_line, entries_at, entries_of, timeline_of, timeline_text}
+use Rattle.convoy_timeline.specs.Timeline.{entry_of, insert_entry, line_text, tick_line, entries_at, entries_of, timeline_of, timeline_text, with_issues}
 use Rattle.convoy_timeline.specs.Told.{proposal_told, entries_told_at, entries_told, told_in_order, lines_told, text_told}
 
 -- two functions that agree on a list's elements make the same of it
@@ -74,6 +74,7 @@ unfolding told_in_order
 told_in_order-true plan schedule run told = ap (λ entries. fold insert_entry [] entries) (entries_told-true plan schedule run told)
 
 pub text_told-true : (plan : Scenario) (schedule : Schedule) (run : Run) → IsRunOf plan schedule run
-    → text_told plan run ≡ timeline_text plan schedule
+    → text_told plan schedule run ≡ timeline_text plan schedule
 unfolding lines_told text_told timeline_text
-text_told-true plan schedule run told = ap (λ entries. tick_line plan.tick ++ flat_map (line_of plan) entries) (told_in_order-true plan schedule run told)
+text_told-true plan schedule run told =
+    ap (λ entries. tick_line plan.tick ++ flat_map (line_text plan) (with_issues plan schedule entries)) (told_in_order-true plan schedule run told)

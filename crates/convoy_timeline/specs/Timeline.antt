@@ -1,16 +1,19 @@
--- The timeline of a run: what happens at each group, tick by tick, as lines of text.
-use Rattle.std.specs.Prelude.{ℕ, ◌==◌, nat_lt, Bool, ◌&&◌, ◌||◌, List, [], ◌∷◌, ◌++◌, Option, Some, None, if◌then◌else◌, codes, decimal}
+-- The timeline of a run: what happens at each group, and when messages are issued that may wait, tick by tick, as lines of text.
+use Rattle.std.specs.Prelude.{ℕ, ◌==◌, nat_lt, nat_le, Bool, ◌&&◌, ◌||◌, List, [], ◌∷◌, ◌++◌, map, Option, Some, None, if◌then◌else◌, codes, decimal}
 use Rattle.std.specs.List.{fold, flat_map}
-use Rattle.convoy_scenario.specs.Scenario.{Scenario, message_at, message_numbers, group_name_at}
+use Rattle.convoy_scenario.specs.Scenario.{Scenario, message_at, message_numbers, may_wait, group_name_at}
+use Rattle.convoy_scenario.specs.Naming.{sender_word}
 use Rattle.convoy_scenario.specs.Durations.{count_of, unit_of, unit_word}
 use Rattle.convoy_packets.specs.Assignment.{Schedule}
 use Rattle.convoy_sim.specs.declared.timestamp.Timestamp.{Timestamp}
-use Rattle.convoy_sim.specs.Times.{arrive, settle}
+use Rattle.convoy_sim.specs.Times.{issue, arrive, settle}
 use Rattle.convoy_sim.specs.Stamps.{is_less, local_stamp, final_stamp}
 use Rattle.convoy_sim.specs.Delivery.{deliver}
 use Rattle.convoy_timeline.specs.declared.entry.Entry.{Entry}
 use Rattle.convoy_timeline.specs.declared.entry.EntryKind.{EntryKind}
 use Rattle.convoy_timeline.specs.declared.entry.EntryKind.TheVariants.{Propose, Commit, Deliver}
+use Rattle.convoy_timeline.specs.declared.line.Line.{Line}
+use Rattle.convoy_timeline.specs.declared.line.Line.TheVariants.{Issue, Happening}
 
 -- inside a tick proposals come first, and deliveries last
 abbrev pub rank : EntryKind → ℕ
@@ -45,10 +48,14 @@ is_before_in_tick a b =
 abbrev pub is_before : Entry → Entry → Bool
 is_before a b = nat_lt a.tick b.tick || ((a.tick == b.tick) && is_before_in_tick a b)
 
+-- a list with one more element, before the first that passes a test
+abbrev pub insert_before : {X : Type 0} → (X → Bool) → List X → X → List X
+insert_before p [] x = x ∷ []
+insert_before p (y ∷ ys) x = if p y then x ∷ y ∷ ys else y ∷ insert_before p ys x
+
 -- the entries with one more, before the first that it is before
 abbrev pub insert_entry : List Entry → Entry → List Entry
-insert_entry [] x = x ∷ []
-insert_entry (y ∷ ys) x = if is_before x y then x ∷ y ∷ ys else y ∷ insert_entry ys x
+insert_entry entries x = insert_before (is_before x) entries x
 
 -- what happens to message m at group g, with that stamp, at that tick
 abbrev pub entry_of : EntryKind → ℕ → ℕ → Timestamp → ℕ → Entry
@@ -82,11 +89,42 @@ line_of scenario entry =
 abbrev pub timeline_of : Scenario → Schedule → List Entry
 timeline_of scenario schedule = fold insert_entry [] (entries_of scenario schedule)
 
+-- an issue at that tick stands before a line: before what happens at groups in its tick, and before issues of later ticks
+abbrev pub is_issue_before : ℕ → Line → Bool
+is_issue_before tick (Issue later m) = nat_lt tick later
+is_issue_before tick (Happening entry) = nat_le tick entry.tick
+
+-- the lines with the issue of message m at that tick, before the first that it stands before
+abbrev pub insert_issue : List Line → ℕ → ℕ → List Line
+insert_issue lines tick m = insert_before (is_issue_before tick) lines (Issue tick m)
+
+-- the same where message m may wait; else the scenario says when it is issued, and no line does
+abbrev pub with_issue : Scenario → Schedule → List Line → ℕ → List Line
+with_issue scenario schedule lines m =
+    if may_wait (message_at scenario m) then insert_issue lines (issue scenario schedule m) m else lines
+
+-- the lines of these entries, and those of the issues of messages that may wait
+abbrev pub with_issues : Scenario → Schedule → List Entry → List Line
+with_issues scenario schedule entries = fold (with_issue scenario schedule) (map Happening entries) (message_numbers scenario)
+
+-- the line of an issue: tick, the group or the clients that issue, and message, and byte 10
+unfoldable pub issue_line : Scenario → ℕ → ℕ → List ℕ
+issue_line scenario tick m =
+    decimal tick
+    ++ 32 ∷ (sender_word scenario (message_at scenario m).sender
+    ++ (codes " issue " ++ ((message_at scenario m).name ++ 10 ∷ [])))
+
+-- a line as text
+abbrev pub line_text : Scenario → Line → List ℕ
+line_text scenario (Issue tick m) = issue_line scenario tick m
+line_text scenario (Happening entry) = line_of scenario entry
+
 -- the line that tells the length of a tick, where it is known
 abbrev pub tick_line : Option ℕ → List ℕ
 tick_line None = []
 tick_line (Some length) = codes "tick " ++ (decimal (count_of length) ++ 32 ∷ (unit_word (unit_of length) ++ 10 ∷ []))
 
--- the timeline of that run: the length of a tick, and the lines of its entries
+-- the timeline of that run: the length of a tick, and the lines of its entries and issues
 unfoldable pub timeline_text : Scenario → Schedule → List ℕ
-timeline_text scenario schedule = tick_line scenario.tick ++ flat_map (line_of scenario) (timeline_of scenario schedule)
+timeline_text scenario schedule =
+    tick_line scenario.tick ++ flat_map (line_text scenario) (with_issues scenario schedule (timeline_of scenario schedule))

@@ -1,13 +1,19 @@
 ghost use Rattle.std.specs.Prelude.{◌≡◌, ◌++◌, string_bytes, OnOk, OnErr, IfOk};
+ghost use Rattle.std.specs.List.{flat_map};
 ghost use Rattle.convoy_packets.specs.Assignment.{Schedule};
+ghost use Rattle.convoy_scenario.specs.Naming.{sender_word};
 ghost use Rattle.convoy_scenario.specs.Scenario.{group_name_at, message_at};
 ghost use Rattle.convoy_sim.specs.Run.{IsRunOf};
-ghost use Rattle.convoy_timeline.specs.Timeline.{line_of, tick_line, timeline_of, timeline_text};
-ghost use Rattle.convoy_timeline.specs.Told.{lines_told, text_told};
+ghost use Rattle.convoy_timeline.specs.Timeline.{issue_line, line_of, line_text, tick_line};
+ghost use Rattle.convoy_timeline.specs.Timeline.{timeline_of, timeline_text};
+ghost use Rattle.convoy_timeline.specs.Told.{text_told};
 
 use super::entry::Entry;
+use super::line::Line;
+use super::lines::list_lines;
 use super::listing::list_entries;
-use convoy_scenario::Scenario;
+use convoy_packets::{Instance, Schedule};
+use convoy_scenario::{Scenario, Sender};
 use convoy_sim::Run;
 use std::alloc::{AllocError, Global};
 
@@ -20,8 +26,8 @@ pub fn entries_of(alloc: Global, scenario: &Scenario, run: &Run) -> Result<Vec<E
     list_entries(alloc, scenario, run)
 }
 
-/// Appends the timeline of a run of the scenario, for a reader who follows what happens at each
-/// group: for each message at each of its destinations the three lines
+/// Appends the timeline of the run of an instance under a schedule, for a reader who follows what happens
+/// at each group: for each message at each of its destinations the three lines
 ///
 /// ```text
 /// TICK GROUP propose MESSAGE TIME.GROUP
@@ -29,42 +35,61 @@ pub fn entries_of(alloc: Global, scenario: &Scenario, run: &Run) -> Result<Vec<E
 /// TICK GROUP deliver MESSAGE TIME.GROUP
 /// ```
 ///
-/// Where the length of a tick is known, a line `tick COUNT UNIT` comes before these.
+/// and for each message that may wait before its issue the line
+///
+/// ```text
+/// TICK SENDER issue MESSAGE
+/// ```
+///
+/// where SENDER is the group that sends it, or `client`. Where the length of a tick is known, a line `tick
+/// COUNT UNIT` comes before these.
 ///
 /// TICK is in ticks from the start of the run, GROUP and MESSAGE are names, and TIME.GROUP is a stamp
 /// with the name of the group that gave it: the local stamp of the proposal, else the final one
 /// (docs/PROTOCOL.md; docs/FORMATS.md, "Numbers and lines"). The lines go by tick. Inside a tick
-/// proposals come first, by the number of the message and of the group, then commits in the same
-/// order, and then deliveries, by the number of the group and the final stamp.
+/// issues come first, by the number of the message, then proposals, by the number of the message and of
+/// the group, then commits in the same order, and then deliveries, by the number of the group and the
+/// final stamp.
 ///
 /// Where memory runs out the vector is as it was.
-pub fn write_timeline(scenario: &Scenario, run: &Run, out: &mut Vec<u8>) -> Result<(), AllocError>
-    ensures ok { (schedule : Schedule) → IsRunOf scenario.now schedule run.now
-        → OnOk result (out.new.items ≡ out.old.items ++ timeline_text scenario.now schedule) }
+pub fn write_timeline(
+    instance: &Instance,
+    schedule: &Schedule,
+    run: &Run,
+    out: &mut Vec<u8>,
+) -> Result<(), AllocError>
+    ensures ok { IsRunOf instance.now schedule.now run.now
+        → OnOk result (out.new.items ≡ out.old.items ++ timeline_text instance.now schedule.now) }
     ensures err { OnErr result (out.new.items ≡ out.old.items) }
 {
-    let text = text_of(*out.allocator(), scenario, run)?;
+    let text = text_of(*out.allocator(), instance, schedule, run)?;
     out.extend_from_slice(&text)
 }
 
-/// The length of a tick, where it is known, and the lines of all entries.
+/// The length of a tick, where it is known, and all lines.
 #[tactic(auto, unfolding(crate::specs::Told::text_told))]
-fn text_of(alloc: Global, scenario: &Scenario, run: &Run) -> Result<Vec<u8>, AllocError>
-    ensures { IfOk result (λ text. text.items ≡ text_told scenario.now run.now) }
+fn text_of(
+    alloc: Global,
+    instance: &Instance,
+    schedule: &Schedule,
+    run: &Run,
+) -> Result<Vec<u8>, AllocError>
+    ensures { IfOk result (λ text. text.items ≡ text_told instance.now schedule.now run.now) }
 {
+    let lines = list_lines(alloc, instance, schedule, run)?;
     let mut text = Vec::new(alloc);
-    text.extend_from_slice(tick_line(alloc, scenario)?.as_bytes())?;
-    text.extend_from_slice(&lines_of(alloc, scenario, run)?)?;
+    text.extend_from_slice(tick_line(alloc, instance.scenario())?.as_bytes())?;
+    text.extend_from_slice(&lines_text(alloc, instance.scenario(), &lines)?)?;
     Ok(text)
 }
 
-/// The lines of all entries.
-fn lines_of(alloc: Global, scenario: &Scenario, run: &Run) -> Result<Vec<u8>, AllocError>
-    ensures { IfOk result (λ text. text.items ≡ lines_told scenario.now run.now) }
+/// The texts of some lines.
+fn lines_text(alloc: Global, scenario: &Scenario, lines: &[Line]) -> Result<Vec<u8>, AllocError>
+    ensures { IfOk result (λ text. text.items ≡ flat_map (line_text scenario.now) lines.now) }
 {
     let mut text = Vec::new(alloc);
-    for entry in &list_entries(alloc, scenario, run)? {
-        push_line(scenario, entry, &mut text)?;
+    for line in lines {
+        push_line(scenario, *line, &mut text)?;
     }
     Ok(text)
 }
@@ -82,12 +107,36 @@ fn tick_line(alloc: Global, scenario: &Scenario) -> Result<String, AllocError>
     }
 }
 
-/// Appends the line of an entry.
-fn push_line(scenario: &Scenario, entry: &Entry, text: &mut Vec<u8>) -> Result<(), AllocError>
-    ensures { OnOk result (text.new.items ≡ text.old.items ++ line_of scenario.now entry.now) }
+/// Appends the text of a line.
+fn push_line(scenario: &Scenario, line: Line, text: &mut Vec<u8>) -> Result<(), AllocError>
+    ensures { OnOk result (text.new.items ≡ text.old.items ++ line_text scenario.now line) }
 {
-    let line = line_of(*text.allocator(), scenario, entry)?;
+    let line = line_text(*text.allocator(), scenario, line)?;
     text.extend_from_slice(line.as_bytes())
+}
+
+/// The text of a line.
+fn line_text(alloc: Global, scenario: &Scenario, line: Line) -> Result<String, AllocError>
+    ensures { IfOk result (λ text. string_bytes text ≡ line_text scenario.now line) }
+{
+    match line {
+        Line::Issue { tick, message } => issue_line(alloc, scenario, tick, message),
+        Line::Happening(entry) => line_of(alloc, scenario, &entry),
+    }
+}
+
+/// The line of an issue: tick, sender and message, and byte 10.
+fn issue_line(
+    alloc: Global,
+    scenario: &Scenario,
+    tick: u32,
+    message: usize,
+) -> Result<String, AllocError>
+    ensures { IfOk result (λ line. string_bytes line ≡ issue_line scenario.now tick message) }
+{
+    let sender = sender_word(scenario, message);
+    let name = message_name(scenario, message);
+    format!(in alloc; "{tick} {sender} issue {name}\n")
 }
 
 /// The line of an entry: tick, group, kind, message and stamp, and byte 10.
@@ -123,5 +172,18 @@ fn message_name(scenario: &Scenario, message: usize) -> &str
         scenario.message_name(message)
     } else {
         ""
+    }
+}
+
+/// The word for who sends a message; a client where the scenario has no such message.
+fn sender_word(scenario: &Scenario, message: usize) -> &str
+    ensures { result.now ≡ sender_word scenario.now (message_at scenario.now message).sender }
+{
+    if message >= scenario.message_count() {
+        return "client";
+    }
+    match scenario.sender(message) {
+        Sender::Client => "client",
+        Sender::Group(group) => group_name(scenario, group),
     }
 }

@@ -2,7 +2,7 @@
 use Rattle.std.proofs.Common.{◌≡◌, refl, true, false, pos, negsuc, [], ◌∷◌, Option, Some, None, ℕ, ℤ, List, Result, Ok, Err, codes}
 use Rattle.toml.specs.Data.{Data, Items, no_items, item, Members, no_members, member, string, integer, boolean, array, table}
 use Rattle.convoy_scenario.specs.declared.fault.ScenarioFault.{ScenarioFault}
-use Rattle.convoy_scenario.specs.declared.fault.ScenarioFault.TheVariants.{Shape, NotWhole, OverLimit, NoDestination, LinkToItself}
+use Rattle.convoy_scenario.specs.declared.fault.ScenarioFault.TheVariants.{Shape, NotWhole, OverLimit, NoDestination, LinkToItself, TargetWaits}
 use Rattle.convoy_scenario.specs.declared.fault.Key.TheVariants as key
 use Rattle.convoy_scenario.specs.declared.fault.Limit.TheVariants as limit
 use Rattle.convoy_scenario.specs.declared.sender.Sender.TheVariants.{Client}
@@ -43,7 +43,7 @@ table_read : scenario_of_table (top (one (message_table no_members)) (target_tab
   delay = 3;
   groups = codes "a" ∷ [];
   links = [];
-  multicasts = record { name = codes "t"; sender = Client; destinations = 0 ∷ []; at = 0 } ∷ [];
+  multicasts = record { name = codes "t"; sender = Client; destinations = 0 ∷ []; at = 0; longest_wait = 0 } ∷ [];
   target_message = 0;
   target_group = 0;
 })
@@ -81,7 +81,7 @@ schedule_given : input_of_table Required (top (one (message_table no_members)) (
     delay = 3;
     groups = codes "a" ∷ [];
     links = [];
-    multicasts = record { name = codes "t"; sender = Client; destinations = 0 ∷ []; at = 0 } ∷ [];
+    multicasts = record { name = codes "t"; sender = Client; destinations = 0 ∷ []; at = 0; longest_wait = 0 } ∷ [];
     target_message = 0;
     target_group = 0;
   };
@@ -173,7 +173,7 @@ target_left_out : scenario_of_input (input_of_table Optional (untargeted no_memb
   delay = 3;
   groups = codes "b" ∷ codes "a" ∷ [];
   links = [];
-  multicasts = record { name = codes "t"; sender = Client; destinations = 1 ∷ []; at = 0 } ∷ [];
+  multicasts = record { name = codes "t"; sender = Client; destinations = 1 ∷ []; at = 0; longest_wait = 0 } ∷ [];
   target_message = 0;
   target_group = 1;
 })
@@ -302,3 +302,85 @@ tick_in_whole_ticks = refl
 
 duration_in_whole_ticks : scenario_of_table (member (codes "delay") (string (codes "1 ms")) no_members) ≡ Err (Shape key.Delay)
 duration_in_whole_ticks = refl
+
+-- ---- windows
+
+-- a message that may be issued from the one time until the other, with further members
+abbrev window_table : Data → Data → Members → Members
+window_table at until more = member (codes "at") at (member (codes "name") (string (codes "y")) (member (codes "to") (array (item (string (codes "a")) no_items)) (member (codes "until") until more)))
+
+-- the target's message, and this one
+abbrev with_rival : Members → Items
+with_rival rival = item (table (message_table no_members)) (one rival)
+
+-- in whole ticks, the first tick at which the second message may be issued, and how long it waits at most
+abbrev window_read : Members → Result (ℕ × ℕ) ScenarioFault
+window_read rival = scenario_of_table (top (with_rival rival) (target_table no_members) no_members) >>= λ scenario. Ok ((message_at scenario 1).at, (message_at scenario 1).longest_wait)
+
+window : window_read (window_table (integer (pos 2)) (integer (pos 10)) no_members) ≡ Ok (2, 8)
+window = refl
+
+window_of_one_tick : window_read (window_table (integer (pos 2)) (integer (pos 2)) no_members) ≡ Ok (2, 0)
+window_of_one_tick = refl
+
+widest_window : window_read (window_table (integer (pos 1_000_000)) (integer (pos 1_065_535)) no_members) ≡ Ok (1_000_000, 65_535)
+widest_window = refl
+
+too_wide : window_read (window_table (integer (pos 0)) (integer (pos 65_536)) no_members) ≡ Err (OverLimit limit.Until)
+too_wide = refl
+
+until_before_at : window_read (window_table (integer (pos 2)) (integer (pos 1)) no_members) ≡ Err (OverLimit limit.Until)
+until_before_at = refl
+
+at_over_limit_first : window_read (window_table (integer (pos 1_000_001)) (integer (pos 1)) no_members) ≡ Err (OverLimit limit.At)
+at_over_limit_first = refl
+
+until_no_time : window_read (window_table (integer (pos 2)) (string (codes "x")) odd) ≡ Err (Shape key.Until)
+until_no_time = refl
+
+until_after_at : window_read (window_table (boolean true) (string (codes "x")) odd) ≡ Err (Shape key.At)
+until_after_at = refl
+
+until_before_unknown : window_read (window_table (integer (pos 2)) (integer (pos 10)) odd) ≡ Err (Shape key.Unknown)
+until_before_unknown = refl
+
+until_in_whole_ticks : window_read (window_table (integer (pos 2)) (string (codes "10 ms")) no_members) ≡ Err (Shape key.Until)
+until_in_whole_ticks = refl
+
+until_at_top : scenario_of_table (top (one (message_table no_members)) (target_table no_members) (member (codes "until") (integer (pos 10)) no_members)) ≡ Err (Shape key.Unknown)
+until_at_top = refl
+
+target_with_until : scenario_of_table (top (one (message_table (member (codes "until") (integer (pos 1)) no_members))) (target_table no_members) no_members) ≡ Err TargetWaits
+target_with_until = refl
+
+target_until_its_tick : scenario_of_table (top (one (message_table (member (codes "until") (integer (pos 0)) no_members))) (target_table no_members) no_members) ≡ scenario_of_table (top (one (message_table no_members)) (target_table no_members) no_members)
+target_until_its_tick = refl
+
+-- in real time, the nanoseconds of a tick, the first tick at which the second message may be issued, and how long it waits at most
+abbrev lasting_window : Data → Data → Members → Result (Option ℕ × ℕ × ℕ) ScenarioFault
+lasting_window at until more =
+    scenario_of_table (member (codes "time") (string (codes "real")) (member (codes "delay") (string (codes "80 ns")) (member (codes "groups") (array (item (string (codes "a")) no_items))
+    (member (codes "multicast")
+    (array (item (table (member (codes "at") (string (codes "0 s")) (member (codes "name") (string (codes "t")) (member (codes "to") (array (item (string (codes "a")) no_items)) no_members)))) (one (window_table at until no_members))))
+    (member (codes "target") (table (target_table no_members)) more)))))
+    >>= λ scenario. Ok (scenario.tick, (message_at scenario 1).at, (message_at scenario 1).longest_wait)
+
+divisor_of_window : lasting_window (string (codes "20 ns")) (string (codes "35 ns")) no_members ≡ Ok (Some 5, 4, 3)
+unfolding duration_of divisor_within
+divisor_of_window = refl
+
+until_in_ticks : lasting_window (string (codes "20 ns")) (integer (pos 30)) (tick_of (codes "10 ns")) ≡ Ok (Some 10, 2, 28)
+unfolding duration_of divisor_within
+until_in_ticks = refl
+
+until_mixed : lasting_window (string (codes "20 ns")) (integer (pos 30)) no_members ≡ Err (Shape key.Tick)
+unfolding duration_of divisor_within
+until_mixed = refl
+
+no_whole_until : lasting_window (string (codes "20 ns")) (string (codes "35 ns")) (tick_of (codes "10 ns")) ≡ Err (NotWhole key.Until)
+unfolding duration_of divisor_within
+no_whole_until = refl
+
+at_whole_first : lasting_window (string (codes "25 ns")) (string (codes "35 ns")) (tick_of (codes "10 ns")) ≡ Err (NotWhole key.At)
+unfolding duration_of divisor_within
+at_whole_first = refl

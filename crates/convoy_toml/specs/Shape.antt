@@ -4,14 +4,14 @@ use Rattle.std.specs.BTreeMap.{BTreeMap}
 use Rattle.std.specs.declared.alloc.Global.{Global}
 use Rattle.toml.specs.View.{table_view}
 use Rattle.toml.specs.declared.value.Value.{Value}
-use Rattle.std.specs.Prelude.{Vec, String, map, ℕ, nat_le, Bool, true, false, not, ◌&&◌, if◌then◌else◌, ℤ, List, [], ◌∷◌, length, slice_index_or, Option, Some, None, is_some, option_map, option_and_then, ok_or, unwrap_or, Result, Ok, Err}
-use Rattle.std.specs.List.{list_any}
+use Rattle.std.specs.Prelude.{Vec, String, map, ℕ, nat_le, Bool, true, false, not, ◌&&◌, if◌then◌else◌, ℤ, List, [], ◌∷◌, length, slice_index_or, find, Option, Some, None, is_some, is_none, option_map, option_and_then, ok_or, unwrap_or, Result, Ok, Err}
+use Rattle.std.specs.List.{list_any, slice_get}
 use Rattle.std.specs.Option.{option_or}
 use Rattle.std.specs.Str.{bytes_eq}
 use Rattle.toml.specs.Data.{Data, Items, no_items, item, Members, no_members, member, get_member, as_str, as_integer, as_bool, as_array, as_table}
 use Rattle.convoy_lines.specs.Results.{◌>>=◌}
 use Rattle.convoy_scenario.specs.declared.fault.Key.{Key}
-use Rattle.convoy_scenario.specs.declared.fault.Key.TheVariants.{Time, Tick, Delay, Groups, Multicast, Name, From, To, At, Target, Message, Group, Link, Least, Most, Both, Schedule, Order, Unknown}
+use Rattle.convoy_scenario.specs.declared.fault.Key.TheVariants.{Time, Tick, Delay, Groups, Multicast, Name, From, To, At, Until, Target, Message, Group, Link, Least, Most, Both, Schedule, Order, Unknown}
 use Rattle.convoy_scenario.specs.declared.fault.ScenarioFault.{ScenarioFault}
 use Rattle.convoy_scenario.specs.declared.fault.ScenarioFault.TheVariants.{Shape}
 use Rattle.convoy_scenario.specs.declared.time.Time.{Time as AnyTime}
@@ -23,12 +23,13 @@ use Rattle.convoy_toml.specs.declared.target.TargetKey.TheVariants.{Required, Op
 use Rattle.convoy_toml.specs.declared.written.WrittenTime.{WrittenTime}
 use Rattle.convoy_toml.specs.declared.written.WrittenTime.TheVariants.{Count, Lasting}
 
--- a message as it is written: its name, the group that sends it (none for a client), the groups that it goes to, and when it is issued
+-- a message as it is written: its name, the group that sends it (none for a client), the groups that it goes to, and the first time at which it may be issued, and the last where that is written
 pub record WrittenMessage : Type 0 where
   pub name : List ℕ
   pub sender : Option (List ℕ)
   pub to : List (List ℕ)
   pub at : WrittenTime
+  pub until : Option WrittenTime
 
 -- where the links of a table lead: from the groups that send (none where the clients do) to these groups, and perhaps back as well
 pub record LinkEnds : Type 0 where
@@ -119,8 +120,9 @@ message_of_table time table = do
   sender ← wish From as_str table
   to ← need_all To as_str table
   at ← need At (as_when time) table
-  _ ← need_only (Name ∷ From ∷ To ∷ At ∷ []) table
-  Ok (record { name = name; sender = sender; to = to; at = at })
+  until ← wish Until (as_when time) table
+  _ ← need_only (Name ∷ From ∷ To ∷ At ∷ Until ∷ []) table
+  Ok (record { name = name; sender = sender; to = to; at = at; until = until })
 
 -- the messages, unless one is at fault
 abbrev pub messages_of : AnyTime → List Members → Result (List WrittenMessage) ScenarioFault
@@ -188,10 +190,16 @@ written_target table = do
   _ ← need_only (Message ∷ Group ∷ []) target
   Ok (record { message = message; group = group })
 
--- the first message, at the first group that it goes to; where it goes nowhere, at the first group of all
+-- the first message that is issued at a time that is written, or the first of all where there is none such
+abbrev pub first_known : List WrittenMessage → Option WrittenMessage
+first_known messages = option_or (find (λ message. is_none message.until) messages) (slice_get messages 0)
+
+-- that message, at the first group that it goes to; where it goes nowhere, at the first group of all
 abbrev pub first_target : List (List ℕ) → List WrittenMessage → WrittenTarget
-first_target groups [] = record { message = []; group = [] }
-first_target groups (message ∷ messages) = record { message = message.name; group = slice_index_or message.to 0 (slice_index_or groups 0 []) }
+first_target groups messages = of_message (first_known messages) where
+  of_message : Option WrittenMessage → WrittenTarget
+  of_message None = record { message = []; group = [] }
+  of_message (Some message) = record { message = message.name; group = slice_index_or message.to 0 (slice_index_or groups 0 []) }
 
 -- the target of a scenario's table: what is written, or the first target where that may be left out and is
 abbrev pub target_of_table : TargetKey → Members → List (List ℕ) → List WrittenMessage → Result WrittenTarget ScenarioFault

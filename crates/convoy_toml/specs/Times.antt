@@ -1,9 +1,9 @@
 -- What the times of a scenario are in ticks, where they are written as durations. Nothing is rounded.
-use Rattle.std.specs.Prelude.{ℕ, suc, zero, ◌+◌, ℤ, pos, ◌%◌, ◌/◌, ◌==◌, max, Bool, true, false, if◌then◌else◌, List, [], ◌∷◌, ◌++◌, map, Option, Some, None, option_and_then, ok_or, Result, Ok, Err}
+use Rattle.std.specs.Prelude.{ℕ, suc, zero, ◌+◌, ℤ, pos, ◌%◌, ◌/◌, ◌==◌, max, Bool, true, false, if◌then◌else◌, List, [], ◌∷◌, ◌++◌, map, flat_map, Option, Some, None, option_and_then, ok_or, Result, Ok, Err}
 use Rattle.std.specs.List.{list_all}
 use Rattle.convoy_lines.specs.Results.{◌>>=◌}
 use Rattle.convoy_scenario.specs.declared.fault.Key.{Key}
-use Rattle.convoy_scenario.specs.declared.fault.Key.TheVariants.{Tick, Delay, At, Least, Most}
+use Rattle.convoy_scenario.specs.declared.fault.Key.TheVariants.{Tick, Delay, At, Until, Least, Most}
 use Rattle.convoy_scenario.specs.declared.fault.ScenarioFault.{ScenarioFault}
 use Rattle.convoy_scenario.specs.declared.fault.ScenarioFault.TheVariants.{Shape, NotWhole}
 use Rattle.convoy_scenario.specs.Draft.{Draft, DraftMessage}
@@ -27,6 +27,13 @@ abbrev pub length_of : WrittenTime → ℕ
 length_of (Count ticks) = 0
 length_of (Lasting length) = length
 
+-- the first time at which a message may be issued, and the last where that is written
+abbrev pub times_of_message : WrittenMessage → List WrittenTime
+times_of_message message = message.at ∷ last_time message.until where
+  last_time : Option WrittenTime → List WrittenTime
+  last_time None = []
+  last_time (Some until) = until ∷ []
+
 -- the least and the greatest delay of each table of links
 abbrev pub times_of_links : List WrittenLink → List WrittenTime
 times_of_links [] = []
@@ -34,7 +41,7 @@ times_of_links (link ∷ links) = link.least ∷ link.most ∷ times_of_links li
 
 -- all times of a scenario
 abbrev pub times_of : WrittenScenario → List WrittenTime
-times_of scenario = scenario.delay ∷ map (λ message. message.at) scenario.messages ++ times_of_links scenario.links
+times_of scenario = scenario.delay ∷ flat_map times_of_message scenario.messages ++ times_of_links scenario.links
 
 -- the greatest common divisor, in at most so many steps of Euclid's rule
 unfoldable pub divisor_within : ℕ → ℕ → ℕ → ℕ
@@ -77,11 +84,17 @@ ticks_of tick (Lasting length) = option_and_then (λ t. ticks_in t length) tick
 abbrev pub whole : Option ℕ → Key → WrittenTime → Result ℤ ScenarioFault
 whole tick key time = ok_or (ticks_of tick time) (NotWhole key)
 
+-- the last tick at which a message may be issued: where none is written, the first one
+abbrev pub last_tick : Option ℕ → ℤ → Option WrittenTime → Result ℤ ScenarioFault
+last_tick tick at None = Ok at
+last_tick tick at (Some until) = whole tick Until until
+
 -- a message in ticks
 abbrev pub draft_message_of : Option ℕ → WrittenMessage → Result DraftMessage ScenarioFault
 draft_message_of tick message = do
   at ← whole tick At message.at
-  Ok (record { name = message.name; sender = message.sender; to = message.to; at = at })
+  until ← last_tick tick at message.until
+  Ok (record { name = message.name; sender = message.sender; to = message.to; at = at; until = until })
 
 -- the messages in ticks
 abbrev pub draft_messages_of : Option ℕ → List WrittenMessage → Result (List DraftMessage) ScenarioFault

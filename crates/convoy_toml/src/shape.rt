@@ -174,6 +174,17 @@ fn when(table: &Table, key: Key, time: Time) -> Result<WrittenTime, ScenarioFaul
     time_written(value, time).ok_or(ScenarioFault::Shape(key))
 }
 
+/// The time at a key that may be absent.
+fn when_written(table: &Table, key: Key, time: Time) -> Result<Option<WrittenTime>, ScenarioFault>
+    ensures { result ≡ wish key (as_when time) (table_view table.now) }
+{
+    let Some(value) = value_at(table, key) else {
+        return Ok(None);
+    };
+    let when = time_written(value, time).ok_or(ScenarioFault::Shape(key))?;
+    Ok(Some(when))
+}
+
 /// The length of a tick: a duration above 0, where time is real.
 fn tick_written(value: &Value, time: Time) -> Option<Duration>
     ensures { result ≡ as_tick time (view value.now) }
@@ -232,12 +243,14 @@ fn multicast_of_table(
     let sender = sender(alloc, table)?;
     let to = names(alloc, table, Key::To)?;
     let at = when(table, Key::At, time)?;
-    need_only(table, &[Key::Name, Key::From, Key::To, Key::At])?;
+    let until = when_written(table, Key::Until, time)?;
+    need_only(table, &[Key::Name, Key::From, Key::To, Key::At, Key::Until])?;
     Ok(WrittenMulticast {
         name,
         sender,
         to,
         at,
+        until,
     })
 }
 

@@ -1,9 +1,9 @@
-ghost use Rattle.std.specs.Prelude.{◌≡◌, ◌≤◌, ◌++◌, map, option_map, IfOk, OnOk};
+ghost use Rattle.std.specs.Prelude.{◌≡◌, ◌≤◌, ◌++◌, map, flat_map, option_map, IfOk, OnOk};
 ghost use Rattle.convoy_scenario.specs.declared.duration.TheConstants.{LONGEST_DURATION};
 ghost use Rattle.std.specs.List.{list_all};
 ghost use Rattle.convoy_scenario.specs.Memory.{IsUnlessMemory};
 ghost use Rattle.convoy_toml.specs.Shape.{listed};
-ghost use Rattle.convoy_toml.specs.Times.{times_of_links, is_count, is_lasting, length_of, divisor_of_all, times_of, tick_between, tick_of, ticks_in, ticks_of, whole, draft_message_of, draft_messages_of, bundle_of, bundles_of, draft_of_written};
+ghost use Rattle.convoy_toml.specs.Times.{times_of_message, times_of_links, is_count, is_lasting, length_of, divisor_of_all, times_of, tick_between, tick_of, ticks_in, ticks_of, whole, last_tick, draft_message_of, draft_messages_of, bundle_of, bundles_of, draft_of_written};
 
 use super::bundle::Bundle;
 use super::divisor::common_divisor;
@@ -48,15 +48,26 @@ fn times_of(alloc: Global, scenario: &WrittenScenario) -> Result<Vec<WrittenTime
     Ok(times)
 }
 
-/// Appends when each message is issued.
+/// Appends the times between which each message may be issued.
 fn push_issues(
     times: &mut Vec<WrittenTime>,
     multicasts: &[WrittenMulticast],
 ) -> Result<(), AllocError>
-    ensures { OnOk result (times.new.items ≡ times.old.items ++ map (λ m. m.at) multicasts.now) }
+    ensures { OnOk result (times.new.items ≡ times.old.items ++ flat_map times_of_message multicasts.now) }
 {
     for multicast in multicasts {
-        times.push(multicast.at)?;
+        push_issue(times, multicast)?;
+    }
+    Ok(())
+}
+
+/// Appends the first time at which a message may be issued, and the last where that is written.
+fn push_issue(times: &mut Vec<WrittenTime>, multicast: &WrittenMulticast) -> Result<(), AllocError>
+    ensures { OnOk result (times.new.items ≡ times.old.items ++ times_of_message multicast.now) }
+{
+    times.push(multicast.at)?;
+    if let Some(until) = multicast.until {
+        times.push(until)?;
     }
     Ok(())
 }
@@ -161,6 +172,16 @@ fn whole(tick: Option<u64>, key: Key, time: WrittenTime) -> Result<i64, Scenario
     ticks_of(tick, time).ok_or(ScenarioFault::NotWhole(key))
 }
 
+/// The last tick at which a message may be issued: where none is written, the first one.
+fn last_tick(tick: Option<u64>, at: i64, until: Option<WrittenTime>) -> Result<i64, ScenarioFault>
+    ensures { result ≡ last_tick tick at until }
+{
+    match until {
+        Some(until) => whole(tick, Key::Until, until),
+        None => Ok(at),
+    }
+}
+
 /// A message in ticks, in memory of its own.
 fn draft_multicast_of(
     alloc: Global,
@@ -170,11 +191,13 @@ fn draft_multicast_of(
     ensures { IsUnlessMemory ScenarioFault.Memory (draft_message_of tick multicast.now) result }
 {
     let at = whole(tick, Key::At, multicast.at)?;
+    let until = last_tick(tick, at, multicast.until)?;
     Ok(DraftMulticast {
         name: multicast.name.copy()?,
         sender: copy_sender(&multicast.sender)?,
         to: copy_names(alloc, &multicast.to)?,
         at,
+        until,
     })
 }
 

@@ -16,8 +16,10 @@ pub struct WrittenMulticast {
     pub sender: Option<Name>,
     /// The groups that it goes to, in the order in which they are written.
     pub to: Vec<Name>,
-    /// When it is issued.
+    /// The first time at which it may be issued.
     pub at: WrittenTime,
+    /// The last time at which it may be issued, where that is written: else its issue is known.
+    pub until: Option<WrittenTime>,
 }
 
 impl Model for WrittenMulticast {
@@ -30,6 +32,7 @@ impl Model for WrittenMulticast {
       sender = m.sender;
       to = m.to.items;
       at = m.at;
+      until = m.until;
     } };
 }
 

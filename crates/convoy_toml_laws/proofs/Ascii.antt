@@ -1,5 +1,5 @@
 -- The text of a scenario with a schedule is ASCII.
-use Rattle.std.proofs.Common.{◌≡◌, ℕ, ◌<◌, ◌^◌, true, List, [], ◌∷◌, ◌++◌, map, codes, decimal, Option, Some, None, refl, arith, IfSome, inl, inr}
+use Rattle.std.proofs.Common.{◌≡◌, ℕ, ◌+◌, ◌<◌, ◌^◌, true, List, [], ◌∷◌, ◌++◌, map, codes, decimal, Option, Some, None, refl, arith, IfSome, inl, inr}
 use Rattle.std.specs.List.{flat_map, AllByRecursion}
 use Rattle.std.specs.Str.{IsAscii}
 use Rattle.std.proofs.lemmas.Bool.{cases_Bool}
@@ -13,11 +13,11 @@ use Rattle.convoy_scenario.specs.declared.time.Time.TheVariants.{Ticks, Real}
 use Rattle.convoy_scenario.specs.declared.duration.TimeUnit.{TimeUnit}
 use Rattle.convoy_scenario.specs.declared.duration.TimeUnit.TheVariants.{Seconds, Milliseconds, Microseconds, Nanoseconds}
 use Rattle.convoy_scenario.specs.Durations.{count_of, unit_of, unit_word}
-use Rattle.convoy_scenario.specs.Scenario.{Link, Message, Scenario, group_name_at, message_at}
+use Rattle.convoy_scenario.specs.Scenario.{Link, Message, Scenario, group_name_at, may_wait, message_at}
 use Rattle.convoy_packets.specs.Assignment.{Schedule}
 use Rattle.convoy_packets.specs.Order.{Order}
 use Rattle.convoy_packets.specs.OrderLists.{is_no_order, ranks_of}
-use Rattle.convoy_toml_writer.specs.Text.{further, listed, quoted, time_text, tick_text, order_text, head_text, sender_text, link_text, message_text, target_text, toml_text}
+use Rattle.convoy_toml_writer.specs.Text.{further, listed, quoted, time_text, tick_text, order_text, head_text, sender_text, link_text, until_text, message_text, target_text, toml_text}
 use Rattle.convoy_toml_laws.proofs.Plain.{are_plain, plain_ascii, ascii}
 use Rattle.convoy_toml_laws.proofs.Lists.{always, each}
 use Rattle.convoy_toml_laws.proofs.Written.{AreSmall, IsWritable, IsWritableLink, IsWritableMessage}
@@ -83,6 +83,15 @@ sender_ascii scenario Client plain = IsAscii-nil
 sender_ascii scenario (Group g) plain =
     after (codes "from = \"") _ (ascii (codes "from = \"") refl) (after (group_name_at scenario g) (codes "\"\n") (plain_ascii (group_name_at scenario g) (plain g)) (ascii (codes "\"\n") refl))
 
+until_ascii : (message : Message) → message.at + message.longest_wait < 2 ^ 32 → IsAscii (until_text message)
+unfolding until_text
+until_ascii message small =
+    let until = message.at + message.longest_wait in
+    elim (cases_Bool (may_wait message)) [
+      | inl waits ↦ rw waits (after (codes "until = ") _ (ascii (codes "until = ") refl) (after (decimal until) (codes "\n") (number_ascii until small) (ascii (codes "\n") refl)))
+      | inr known ↦ rw known IsAscii-nil
+    ]
+
 -- what is written out, then a text and what follows
 between : (front text rest : List ℕ) → IsAscii front → IsAscii text → IsAscii rest → IsAscii (front ++ (text ++ rest))
 between front text rest a b c = after front (text ++ rest) a (after text rest b c)
@@ -111,7 +120,8 @@ module _ (scenario : Scenario) (schedule : Schedule) (is : IsWritable scenario s
   message_ascii : (message : Message) → IsWritableMessage message → IsAscii (message_text scenario message)
   unfolding message_text
   message_ascii message writable =
-      let at_on = between (codes "]\nat = ") (decimal message.at) (codes "\n") (ascii (codes "]\nat = ") refl) (number_ascii message.at writable.at) (ascii (codes "\n") refl) in
+      let until_on = after (codes "\n") _ (ascii (codes "\n") refl) (until_ascii message writable.until) in
+      let at_on = between (codes "]\nat = ") (decimal message.at) _ (ascii (codes "]\nat = ") refl) (number_ascii message.at writable.at) until_on in
       let names = listed_ascii (λ (g : ℕ). quoted (group_name_at scenario g)) message.destinations (always message.destinations (λ g. quoted_ascii (group_name_at scenario g) (is.group_names g))) in
       let to_on = between (codes "to = [") (listed (map (λ g. quoted (group_name_at scenario g)) message.destinations)) _ (ascii (codes "to = [") refl) names at_on in
       let from_on = between (codes "\"\n") (sender_text scenario message.sender) _ (ascii (codes "\"\n") refl) (sender_ascii scenario message.sender is.group_names) to_on in

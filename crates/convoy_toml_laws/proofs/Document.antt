@@ -1,5 +1,5 @@
 -- The document of a scenario with a schedule: its lines as they are written, and the table that they are.
-use Rattle.std.proofs.Common.{ℕ, if◌then◌else◌, List, [], ◌∷◌, ◌++◌, map, codes, pos, Option, Some, None}
+use Rattle.std.proofs.Common.{ℕ, ◌+◌, if◌then◌else◌, List, [], ◌∷◌, ◌++◌, map, codes, pos, Option, Some, None}
 use Rattle.std.specs.List.{flat_map}
 use Rattle.toml.specs.Data.{Data, string, integer, array, table, Members, no_members, member}
 use Rattle.toml.specs.Tables.{Expression, key_value, std_table, array_table}
@@ -8,7 +8,7 @@ use Rattle.convoy_scenario.specs.declared.sender.Sender.{Sender}
 use Rattle.convoy_scenario.specs.declared.sender.Sender.TheVariants.{Client, Group}
 use Rattle.convoy_scenario.specs.declared.time.Time.{Time}
 use Rattle.convoy_scenario.specs.declared.time.Time.TheVariants.{Ticks, Real}
-use Rattle.convoy_scenario.specs.Scenario.{Link, Message, Scenario, group_name_at, message_at}
+use Rattle.convoy_scenario.specs.Scenario.{Link, Message, Scenario, group_name_at, may_wait, message_at}
 use Rattle.convoy_packets.specs.Assignment.{Schedule}
 use Rattle.convoy_packets.specs.Order.{Order}
 use Rattle.convoy_packets.specs.OrderLists.{is_no_order, ranks_of}
@@ -78,6 +78,9 @@ abbrev pub sender_data : Scenario → Sender → Option Data
 sender_data scenario Client = None
 sender_data scenario (Group g) = Some (string (group_name_at scenario g))
 
+abbrev pub until_data : Message → Option Data
+until_data message = if may_wait message then Some (number (message.at + message.longest_wait)) else None
+
 abbrev pub names_data : Scenario → List ℕ → Data
 names_data scenario groups = array (items_of (map (λ g. string (group_name_at scenario g)) groups))
 
@@ -115,7 +118,8 @@ link_pairs scenario link =
 abbrev pub message_pairs : Scenario → Message → Pairs
 message_pairs scenario message =
     (codes "name", Some (string message.name)) ∷ (codes "from", sender_data scenario message.sender)
-    ∷ (codes "to", Some (names_data scenario message.destinations)) ∷ (codes "at", Some (number message.at)) ∷ []
+    ∷ (codes "to", Some (names_data scenario message.destinations)) ∷ (codes "at", Some (number message.at))
+    ∷ (codes "until", until_data message) ∷ []
 
 abbrev pub target_pairs : Scenario → Pairs
 target_pairs scenario =
@@ -141,7 +145,7 @@ abbrev pub message_table : Scenario → Message → Members
 message_table scenario message =
     member (codes "at") (number message.at)
     (with_member (codes "from") (sender_data scenario message.sender)
-    (member (codes "name") (string message.name) (member (codes "to") (names_data scenario message.destinations) no_members)))
+    (member (codes "name") (string message.name) (member (codes "to") (names_data scenario message.destinations) (with_member (codes "until") (until_data message) no_members))))
 
 abbrev pub target_table : Scenario → Members
 target_table scenario =

@@ -1,7 +1,7 @@
 -- The draft of what is written of a scenario is the scenario by names.
-use Rattle.std.proofs.Common.{◌≡◌, ℕ, ◌≤◌, leb, true, List, [], ◌∷◌, ◌++◌, map, flat_map, length, pos, Option, Some, None, Ok, refl, ap, ◌∙◌, arith, inl, inr}
+use Rattle.std.proofs.Common.{◌≡◌, ℕ, ◌+◌, ◌≤◌, leb, true, List, [], ◌∷◌, ◌++◌, map, flat_map, length, pos, Option, Some, None, Ok, refl, ap, ◌∙◌, arith, inl, inr}
 use Rattle.std.specs.List.{list_all, sum_by}
-use Rattle.std.proofs.lemmas.Bool.{cases_Bool, le-leb, false≢true}
+use Rattle.std.proofs.lemmas.Bool.{cases_Bool, le-leb, ltb-false, false≢true}
 use Rattle.std.proofs.lemmas.List.Sums.{sum_by-cons}
 use Rattle.convoy_scenario.specs.declared.limits.TheConstants.{MOST_LINKS}
 use Rattle.convoy_scenario.specs.declared.sender.Sender.{Sender}
@@ -9,14 +9,14 @@ use Rattle.convoy_scenario.specs.declared.sender.Sender.TheVariants.{Client, Gro
 use Rattle.convoy_scenario.specs.Checks.{leads_elsewhere}
 use Rattle.convoy_scenario.specs.Draft.{DraftLink, DraftMessage}
 use Rattle.convoy_scenario.specs.Naming.{draft_for, draft_link, draft_message}
-use Rattle.convoy_scenario.specs.Scenario.{Link, Message, Scenario}
+use Rattle.convoy_scenario.specs.Scenario.{Link, Message, Scenario, may_wait}
 use Rattle.convoy_toml.specs.declared.links.TheConstants.{MOST_WRITTEN_LINKS}
 use Rattle.convoy_toml.specs.declared.written.WrittenTime.{WrittenTime}
 use Rattle.convoy_toml.specs.declared.written.WrittenTime.TheVariants.{Count}
 use Rattle.convoy_toml.specs.Links.{Bundle, apart, ways_of, count_of, links_of_bundle, links_of_bundles}
 use Rattle.convoy_toml.specs.Shape.{WrittenScenario}
-use Rattle.convoy_toml.specs.Times.{is_count, times_of_links, times_of, tick_of, draft_messages_of, bundles_of, draft_of_written}
-use Rattle.convoy_toml_laws.proofs.Shaped.{written_link, written_message, written_scenario}
+use Rattle.convoy_toml.specs.Times.{is_count, times_of_message, times_of_links, times_of, tick_of, last_tick, draft_messages_of, bundles_of, draft_of_written}
+use Rattle.convoy_toml_laws.proofs.Shaped.{written_link, written_until, written_message, written_scenario}
 
 -- ---- times
 
@@ -25,9 +25,14 @@ counts_append [] ys a b = b
 counts_append (Count z ∷ xs) ys a b = counts_append xs ys a b
 counts_append (t ∷ xs) ys a b = absurd (false≢true a)
 
-message_counts : (scenario : Scenario) (messages : List Message) → list_all is_count (map (λ m. m.at) (map (written_message scenario) messages)) ≡ true
+message_counts : (scenario : Scenario) (messages : List Message) → list_all is_count (flat_map times_of_message (map (written_message scenario) messages)) ≡ true
 message_counts scenario [] = refl
-message_counts scenario (m ∷ ms) = message_counts scenario ms
+message_counts scenario (m ∷ ms) =
+    let others = message_counts scenario ms in
+    elim (cases_Bool (may_wait m)) [
+      | inl waits ↦ rw waits others
+      | inr known ↦ rw known others
+    ]
 
 link_counts : (scenario : Scenario) (links : List Link) → list_all is_count (times_of_links (map (written_link scenario) links)) ≡ true
 link_counts scenario [] = refl
@@ -40,15 +45,26 @@ tick_same scenario = by_tick scenario.tick where
   times = times_of (written_scenario scenario)
 
   all : list_all is_count (times_of (written_scenario scenario)) ≡ true
-  all = counts_append (map (λ m. m.at) (map (written_message scenario) scenario.multicasts)) (times_of_links (map (written_link scenario) scenario.links)) (message_counts scenario scenario.multicasts) (link_counts scenario scenario.links)
+  all = counts_append (flat_map times_of_message (map (written_message scenario) scenario.multicasts)) (times_of_links (map (written_link scenario) scenario.links)) (message_counts scenario scenario.multicasts) (link_counts scenario scenario.links)
 
   by_tick : (tick : Option ℕ) → tick_of (record (written_scenario scenario) { tick = tick }) ≡ Ok tick
   by_tick (Some tick) = refl
   by_tick None = rw all refl
 
+-- where no last tick is written, it is the first
+last_same : (tick : Option ℕ) (message : Message) → last_tick tick (pos message.at) (written_until message) ≡ Ok (pos (message.at + message.longest_wait))
+last_same tick message =
+    elim (cases_Bool (may_wait message)) [
+      | inl waits ↦ rw waits refl
+      | inr known ↦
+          let none : message.longest_wait ≡ 0 = omega (arith, ltb-false 0 message.longest_wait known) in
+          let same : message.at ≡ message.at + message.longest_wait = omega (arith, none) in
+          rw known (ap (λ n. Ok (pos n)) same)
+    ]
+
 messages_same : (tick : Option ℕ) (scenario : Scenario) (messages : List Message) → draft_messages_of tick (map (written_message scenario) messages) ≡ Ok (map (draft_message scenario) messages)
 messages_same tick scenario [] = refl
-messages_same tick scenario (m ∷ ms) = rw (messages_same tick scenario ms) refl
+messages_same tick scenario (m ∷ ms) = rw (last_same tick m, messages_same tick scenario ms) refl
 
 -- ---- links
 

@@ -3,7 +3,7 @@ use Rattle.std.proofs.Common.{◌≡◌, ℕ, List, [], ◌∷◌, ◌++◌, map
 use Rattle.std.specs.List.{flat_map}
 use Rattle.std.proofs.lemmas.List.{append-nil}
 use Rattle.std.proofs.lemmas.Option.{none-some, same_Some}
-use Rattle.toml.specs.Data.{Data, string, array, table, Items, no_items, item, push_item, Members}
+use Rattle.toml.specs.Data.{Data, string, array, table, Items, no_items, item, push_item, Members, no_members, member}
 use Rattle.toml.specs.Tables.{header, Node, Nodes, no_nodes, node, value, open_table, open_array, get_node, insert, replace, Edit, header_node, along_header, along_dots, at_key, put, define, close, close_node, Document, Expression, std_table}
 use Rattle.toml.specs.View.{items_of}
 use Rattle.toml.proofs.NodeLaws.{seq, keep, get_node-replace, replace-replace, replace-self, get_node-insert, replace-insert, along_found}
@@ -14,7 +14,7 @@ use Rattle.convoy_scenario.specs.declared.sender.Sender.TheVariants.{Client, Gro
 use Rattle.convoy_scenario.specs.Scenario.{Link, Message, Scenario, group_name_at, message_at}
 use Rattle.convoy_packets.specs.Assignment.{Schedule}
 use Rattle.convoy_toml_laws.proofs.Lists.{map_same}
-use Rattle.convoy_toml_laws.proofs.Document.{number, with_member, some_tables, pair, Pairs, pair_lines, array_lines, Head, head_of, head_pairs, sender_data, names_data, link_pairs, message_pairs, target_pairs, document_lines, link_table, message_table, whole_table, document_table}
+use Rattle.convoy_toml_laws.proofs.Document.{number, with_member, some_tables, pair, Pairs, pair_lines, array_lines, Head, head_of, head_pairs, sender_data, until_data, names_data, link_pairs, message_pairs, target_pairs, document_lines, link_table, message_table, whole_table, document_table}
 
 -- ---- pairs
 
@@ -177,24 +177,39 @@ link_closed scenario link = by_sender link.sender where
   by_sender Client = refl
   by_sender (Group g) = refl
 
+-- what the table of a message holds: the values of its keys
+abbrev message_values : Data → Option Data → Data → Data → Option Data → Nodes
+message_values at sender name to until =
+    node (codes "at") (value at)
+    (with_node (codes "from") (option_map value sender)
+    (node (codes "name") (value name) (node (codes "to") (value to) (with_node (codes "until") (option_map value until) no_nodes))))
+
+values_made : (at : Data) (sender : Option Data) (name to : Data) (until : Option Data)
+    → puts ((codes "name", Some name) ∷ (codes "from", sender) ∷ (codes "to", Some to) ∷ (codes "at", Some at) ∷ (codes "until", until) ∷ []) no_nodes ≡ Some (message_values at sender name to until)
+unfolding along_dots at_key
+values_made at None name to None = refl
+values_made at None name to (Some u) = refl
+values_made at (Some s) name to None = refl
+values_made at (Some s) name to (Some u) = refl
+
+values_closed : (at : Data) (sender : Option Data) (name to : Data) (until : Option Data) → close (message_values at sender name to until)
+    ≡ member (codes "at") at (with_member (codes "from") sender (member (codes "name") name (member (codes "to") to (with_member (codes "until") until no_members))))
+values_closed at None name to None = refl
+values_closed at None name to (Some u) = refl
+values_closed at (Some s) name to None = refl
+values_closed at (Some s) name to (Some u) = refl
+
 abbrev message_nodes : Scenario → Message → Nodes
 message_nodes scenario message =
-    node (codes "at") (value (number message.at))
-    (with_node (codes "from") (option_map value (sender_data scenario message.sender))
-    (node (codes "name") (value (string message.name)) (node (codes "to") (value (names_data scenario message.destinations)) no_nodes)))
+    message_values (number message.at) (sender_data scenario message.sender) (string message.name) (names_data scenario message.destinations) (until_data message)
 
 message_made : (scenario : Scenario) (message : Message) → puts (message_pairs scenario message) no_nodes ≡ Some (message_nodes scenario message)
-unfolding along_dots at_key
-message_made scenario message = by_sender message.sender where
-  by_sender : (sender : Sender) → puts (message_pairs scenario (record message { sender = sender })) no_nodes ≡ Some (message_nodes scenario (record message { sender = sender }))
-  by_sender Client = refl
-  by_sender (Group g) = refl
+message_made scenario message =
+    values_made (number message.at) (sender_data scenario message.sender) (string message.name) (names_data scenario message.destinations) (until_data message)
 
 message_closed : (scenario : Scenario) (message : Message) → close (message_nodes scenario message) ≡ message_table scenario message
-message_closed scenario message = by_sender message.sender where
-  by_sender : (sender : Sender) → close (message_nodes scenario (record message { sender = sender })) ≡ message_table scenario (record message { sender = sender })
-  by_sender Client = refl
-  by_sender (Group g) = refl
+message_closed scenario message =
+    values_closed (number message.at) (sender_data scenario message.sender) (string message.name) (names_data scenario message.destinations) (until_data message)
 
 abbrev target_nodes : Scenario → Nodes
 target_nodes scenario =

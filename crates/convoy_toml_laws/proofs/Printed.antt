@@ -10,11 +10,11 @@ use Rattle.convoy_scenario.specs.declared.sender.Sender.{Sender}
 use Rattle.convoy_scenario.specs.declared.sender.Sender.TheVariants.{Client, Group}
 use Rattle.convoy_scenario.specs.declared.time.Time.{Time}
 use Rattle.convoy_scenario.specs.declared.time.Time.TheVariants.{Ticks, Real}
-use Rattle.convoy_scenario.specs.Scenario.{Scenario}
+use Rattle.convoy_scenario.specs.Scenario.{Message, Scenario, may_wait}
 use Rattle.convoy_packets.specs.Assignment.{Schedule}
 use Rattle.convoy_packets.specs.Order.{Order}
 use Rattle.convoy_packets.specs.OrderLists.{is_no_order}
-use Rattle.convoy_toml_laws.proofs.Document.{Pairs, pair_lines, array_lines, time_data, tick_data, order_data, sender_data, head_of, head_pairs, link_pairs, message_pairs, target_pairs, document_lines}
+use Rattle.convoy_toml_laws.proofs.Document.{Pairs, pair_lines, array_lines, time_data, tick_data, order_data, sender_data, until_data, head_of, head_pairs, link_pairs, message_pairs, target_pairs, document_lines}
 
 -- a value that is a text, a number or an array of such
 abbrev IsShallow : Data → Type 0
@@ -60,6 +60,13 @@ sender_shallow : (scenario : Scenario) (sender : Sender) → IfSome (sender_data
 sender_shallow scenario Client = tt
 sender_shallow scenario (Group g) = (omega arith, refl)
 
+until_shallow : (message : Message) → IfSome (until_data message) IsShallow
+until_shallow message =
+    elim (cases_Bool (may_wait message)) [
+      | inl waits ↦ rw waits (omega arith, refl)
+      | inr known ↦ rw known tt
+    ]
+
 order_shallow : (scenario : Scenario) (order : Order) → IfSome (order_data scenario order) IsShallow
 order_shallow scenario order =
     elim (cases_Bool (is_no_order order)) [
@@ -76,5 +83,5 @@ document_printed scenario schedule =
     (AllPrinted-append _ _
     (tables_printed (codes "link") (link_pairs scenario) scenario.links (λ link. (sender_shallow scenario link.sender, ((omega arith, refl), ((omega arith, refl), ((omega arith, refl), tt))))))
     (AllPrinted-append _ _
-    (tables_printed (codes "multicast") (message_pairs scenario) scenario.multicasts (λ m. ((omega arith, refl), (sender_shallow scenario m.sender, (array_shallow _ m.destinations (λ g. refl) (λ g. refl), ((omega arith, refl), tt))))))
+    (tables_printed (codes "multicast") (message_pairs scenario) scenario.multicasts (λ m. ((omega arith, refl), (sender_shallow scenario m.sender, (array_shallow _ m.destinations (λ g. refl) (λ g. refl), ((omega arith, refl), (until_shallow m, tt)))))))
     (omega arith, pairs_printed (target_pairs scenario) ((omega arith, refl), ((omega arith, refl), tt)))))

@@ -1,5 +1,5 @@
 -- What is written in the document's table.
-use Rattle.std.proofs.Common.{◌≡◌, ℕ, ◌≤◌, true, false, List, [], ◌∷◌, map, codes, pos, ℤ, Option, Some, None, option_map, Ok, refl, sym, ap, ◌∙◌, IfSome, inl, inr}
+use Rattle.std.proofs.Common.{◌≡◌, ℕ, ◌+◌, ◌≤◌, true, false, if◌then◌else◌, List, [], ◌∷◌, map, codes, pos, ℤ, Option, Some, None, option_map, Ok, refl, sym, ap, ◌∙◌, IfSome, inl, inr}
 use Rattle.std.specs.Option.{unwrap_or}
 use Rattle.std.proofs.lemmas.Bool.{cases_Bool, le-leb}
 use Rattle.std.proofs.lemmas.List.{map-id}
@@ -14,11 +14,12 @@ use Rattle.convoy_scenario.specs.declared.time.Time.TheVariants.{Ticks, Real}
 use Rattle.convoy_scenario.specs.Durations.{duration_of}
 use Rattle.convoy_scenario.specs.Keys.{key_word}
 use Rattle.convoy_scenario.specs.Naming.{sender_name}
-use Rattle.convoy_scenario.specs.Scenario.{Link as ScenarioLink, Message, Scenario, group_name_at, message_at}
+use Rattle.convoy_scenario.specs.Scenario.{Link as ScenarioLink, Message, Scenario, group_name_at, may_wait, message_at}
 use Rattle.convoy_packets.specs.Assignment.{Schedule as ScenarioSchedule}
 use Rattle.convoy_packets.specs.Order.{Order as ScenarioOrder}
 use Rattle.convoy_packets.specs.OrderLists.{is_no_order, ranks_of}
 use Rattle.convoy_toml.specs.declared.target.TargetKey.TheVariants.{Required}
+use Rattle.convoy_toml.specs.declared.written.WrittenTime.{WrittenTime}
 use Rattle.convoy_toml.specs.declared.written.WrittenTime.TheVariants.{Count}
 use Rattle.convoy_toml.specs.Shape.{all_of, need, need_all, wish, wish_all, has_only, time_of_table, as_time, as_tick, as_when, WrittenMessage, WrittenLink, WrittenScenario, WrittenTarget, message_of_table, messages_of, link_of_table, links_of, written_target, written_of_table}
 use Rattle.convoy_toml_laws.specs.Laws.{ranks_for}
@@ -54,12 +55,17 @@ all_given kind data_of given (x ∷ xs) each = rw (each x, all_given kind data_o
 
 -- ---- messages and links
 
+-- the last time at which a message may be issued, where that is written
+abbrev pub written_until : Message → Option WrittenTime
+written_until message = if may_wait message then Some (Count (pos (message.at + message.longest_wait))) else None
+
 abbrev pub written_message : Scenario → Message → WrittenMessage
 written_message scenario message = record {
   name = message.name;
   sender = sender_name scenario message.sender;
   to = map (group_name_at scenario) message.destinations;
   at = Count (pos message.at);
+  until = written_until message;
 }
 
 abbrev pub written_link : Scenario → ScenarioLink → WrittenLink
@@ -71,9 +77,12 @@ written_link scenario link = record {
 
 message_shaped : (time : AnyTime) (scenario : Scenario) (message : Message) → message_of_table time (message_table scenario message) ≡ Ok (written_message scenario message)
 message_shaped time scenario message = by_sender message.sender where
+  to_given : all_of as_str (items_of (map (λ g. string (group_name_at scenario g)) message.destinations)) ≡ Some (map (group_name_at scenario) message.destinations)
+  to_given = all_given as_str (λ (g : ℕ). string (group_name_at scenario g)) (group_name_at scenario) message.destinations (λ g. refl)
+
   by_sender : (sender : Sender) → message_of_table time (message_table scenario (record message { sender = sender })) ≡ Ok (written_message scenario (record message { sender = sender }))
-  by_sender Client = rw (all_given as_str (λ (g : ℕ). string (group_name_at scenario g)) (group_name_at scenario) message.destinations (λ g. refl)) refl
-  by_sender (Group g) = rw (all_given as_str (λ (h : ℕ). string (group_name_at scenario h)) (group_name_at scenario) message.destinations (λ h. refl)) refl
+  by_sender Client = elim (cases_Bool (may_wait message)) [ inl waits ↦ rw (waits, to_given) refl | inr known ↦ rw (known, to_given) refl ]
+  by_sender (Group g) = elim (cases_Bool (may_wait message)) [ inl waits ↦ rw (waits, to_given) refl | inr known ↦ rw (known, to_given) refl ]
 
 messages_shaped : (time : AnyTime) (scenario : Scenario) (messages : List Message) → messages_of time (map (message_table scenario) messages) ≡ Ok (map (written_message scenario) messages)
 messages_shaped time scenario [] = refl

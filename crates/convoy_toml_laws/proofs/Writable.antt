@@ -17,7 +17,7 @@ use Rattle.convoy_packets.specs.declared.packet.Packet.{Packet}
 use Rattle.convoy_packets.specs.Assignment.{IsAssignment, IsWithin, Schedule, range_of, ranges_of}
 use Rattle.convoy_packets.specs.OrderLists.{AreSmall as AreRanks, ranks_of}
 use Rattle.convoy_packets.specs.Packets.{packets_of}
-use Rattle.convoy_packets.proofs.Ranges.{range_within}
+use Rattle.convoy_packets.proofs.Ranges.{range_lawful}
 use Rattle.convoy_toml_laws.proofs.Durations.{decimal_plain, duration_read, duration_text, unit_plain}
 use Rattle.convoy_toml_laws.proofs.Lists.{each}
 use Rattle.convoy_toml_laws.proofs.Plain.{are_plain, is_plain}
@@ -100,8 +100,8 @@ delays_small scenario [] [] is h = tt
 delays_small scenario [] (d ∷ ds) is h = absurd h
 delays_small scenario (p ∷ ps) [] is h = absurd h
 delays_small scenario (p ∷ ps) (d ∷ ds) is h =
-    let within = range_within scenario p is in
-    (omega (arith, h.0.1, within.high, is.delay_high), delays_small scenario ps ds is h.1)
+    let within = range_lawful scenario p is in
+    (omega (arith, h.0.1, within.high), delays_small scenario ps ds is h.1)
 
 assigned_small : (scenario : Scenario) (schedule : Schedule) → IsScenario scenario → IsAssignment scenario schedule → AreSmall schedule.delays
 unfolding ranges_of
@@ -111,7 +111,7 @@ link_writable : (scenario : Scenario) (link : Link) → IsScenario scenario → 
 link_writable scenario link is h = record { least = omega (arith, h.ordered, h.high, is.delay_high); most = omega (arith, h.high, is.delay_high) }
 
 message_writable : (groups : ℕ) (message : Message) → IsMulticast groups message → IsWritableMessage message
-message_writable groups message h = record { name = name_plain message.name h.name; at = omega (arith, h.at) }
+message_writable groups message h = record { name = name_plain message.name h.name; at = omega (arith, h.at); until = omega (arith, h.at, h.wait) }
 
 -- all that the text asks
 pub writable : (scenario : Scenario) (schedule : Schedule) → IsScenario scenario → IsAssignment scenario schedule → AreRanks (ranks_of scenario schedule.order) → IsWritable scenario schedule

@@ -1,5 +1,5 @@
 -- The text of a scenario with a schedule has the lines of its document.
-use Rattle.std.proofs.Common.{◌≡◌, ℕ, ◌<◌, ◌^◌, true, false, List, [], ◌∷◌, ◌++◌, codes, decimal, Option, Some, None, refl, append_assoc, IfSome, inl, inr}
+use Rattle.std.proofs.Common.{◌≡◌, ℕ, ◌+◌, ◌<◌, ◌^◌, true, false, List, [], ◌∷◌, ◌++◌, codes, decimal, Option, Some, None, refl, append_assoc, IfSome, inl, inr}
 use Rattle.std.specs.List.{AllByRecursion}
 use Rattle.std.proofs.lemmas.Bool.{cases_Bool}
 use Rattle.toml.specs.Data.{Data, string}
@@ -9,15 +9,15 @@ use Rattle.convoy_scenario.specs.declared.sender.Sender.TheVariants.{Client, Gro
 use Rattle.convoy_scenario.specs.declared.time.Time.{Time}
 use Rattle.convoy_scenario.specs.declared.time.Time.TheVariants.{Ticks, Real}
 use Rattle.convoy_scenario.specs.Durations.{count_of, unit_of, unit_word}
-use Rattle.convoy_scenario.specs.Scenario.{Link, Message, Scenario, group_name_at, message_at}
+use Rattle.convoy_scenario.specs.Scenario.{Link, Message, Scenario, group_name_at, may_wait, message_at}
 use Rattle.convoy_packets.specs.Assignment.{Schedule}
 use Rattle.convoy_packets.specs.Order.{Order}
 use Rattle.convoy_packets.specs.OrderLists.{is_no_order, ranks_of}
-use Rattle.convoy_toml_writer.specs.Text.{quoted, time_text, tick_text, order_text, head_text, sender_text, link_text, message_text, target_text, toml_text}
+use Rattle.convoy_toml_writer.specs.Text.{quoted, time_text, tick_text, order_text, head_text, sender_text, link_text, until_text, message_text, target_text, toml_text}
 use Rattle.convoy_toml_laws.proofs.Plain.{are_plain}
 use Rattle.convoy_toml_laws.proofs.Durations.{duration_text}
 use Rattle.convoy_toml_laws.proofs.Lists.{each}
-use Rattle.convoy_toml_laws.proofs.Document.{number, pair, with_pair, pair_lines, array_lines, time_data, tick_data, order_data, sender_data, head_of, head_pairs, link_pairs, message_pairs, target_pairs, document_lines}
+use Rattle.convoy_toml_laws.proofs.Document.{number, pair, with_pair, pair_lines, array_lines, time_data, tick_data, order_data, sender_data, until_data, head_of, head_pairs, link_pairs, message_pairs, target_pairs, document_lines}
 use Rattle.convoy_toml_laws.proofs.Lines.{AreLines, no_lines, number_text, name_text, numbers_are, names_are, AreWords, pair_line, text_line, array_line, array_header, table_header, more_lines, all_lines}
 
 -- numbers of 32 bits
@@ -31,6 +31,7 @@ pub record IsWritableLink (link : Link) : Type 0 where
 pub record IsWritableMessage (message : Message) : Type 0 where
   pub name : are_plain message.name ≡ true
   pub at : message.at < 2 ^ 32
+  pub until : message.at + message.longest_wait < 2 ^ 32
 
 -- what the text asks of a scenario with a schedule: names with no byte that would have to be escaped, and numbers of 32 bits
 pub record IsWritable (scenario : Scenario) (schedule : Schedule) : Type 0 where
@@ -97,11 +98,20 @@ link_lines scenario link plain is =
     let after_from = text_line true (codes "to") (group_name_at scenario link.to) _ _ refl (plain link.to) after_to in
     array_header (codes "link") _ _ refl (sender_line scenario link.sender _ _ plain after_from)
 
+until_line : (message : Message) → IsWritableMessage message → AreLines true (with_pair (codes "until") (until_data message) []) (until_text message)
+unfolding until_text
+until_line message is =
+    let until = message.at + message.longest_wait in
+    elim (cases_Bool (may_wait message)) [
+      | inl waits ↦ rw waits (pair_line true (codes "until") (decimal until) [] (number until) [] refl (number_text until is.until) no_lines)
+      | inr known ↦ rw known no_lines
+    ]
+
 message_lines : (scenario : Scenario) (message : Message) → ((g : ℕ) → are_plain (group_name_at scenario g) ≡ true) → IsWritableMessage message
     → AreLines true (array_lines (codes "multicast") (message_pairs scenario message)) (message_text scenario message)
 unfolding message_text
 message_lines scenario message plain is =
-    let after_to = pair_line true (codes "at") (decimal message.at) [] (number message.at) [] refl (number_text message.at is.at) no_lines in
+    let after_to = pair_line true (codes "at") (decimal message.at) _ (number message.at) _ refl (number_text message.at is.at) (until_line message is) in
     let after_from = array_line (λ (g : ℕ). string (group_name_at scenario g)) (λ (g : ℕ). quoted (group_name_at scenario g)) true (codes "to") _ message.destinations _ refl (words message.destinations) after_to in
     let after_name = sender_line scenario message.sender _ _ plain after_from in
     array_header (codes "multicast") _ _ refl (text_line true (codes "name") message.name _ _ refl is.name after_name)

@@ -1,12 +1,12 @@
 -- The text of a scenario with a schedule: a document in TOML, the one that is written of them.
-use Rattle.std.specs.Prelude.{ℕ, List, [], ◌∷◌, ◌++◌, map, if◌then◌else◌, Option, Some, None, codes, decimal}
+use Rattle.std.specs.Prelude.{ℕ, ◌+◌, List, [], ◌∷◌, ◌++◌, map, if◌then◌else◌, Option, Some, None, codes, decimal}
 use Rattle.std.specs.List.{flat_map}
 use Rattle.convoy_scenario.specs.declared.sender.Sender.{Sender}
 use Rattle.convoy_scenario.specs.declared.sender.Sender.TheVariants.{Client, Group}
 use Rattle.convoy_scenario.specs.declared.time.Time.{Time}
 use Rattle.convoy_scenario.specs.declared.time.Time.TheVariants.{Ticks, Real}
 use Rattle.convoy_scenario.specs.Durations.{count_of, unit_of, unit_word}
-use Rattle.convoy_scenario.specs.Scenario.{Link, Message, Scenario, group_name_at, message_at}
+use Rattle.convoy_scenario.specs.Scenario.{Link, Message, Scenario, group_name_at, may_wait, message_at}
 use Rattle.convoy_packets.specs.Assignment.{Schedule}
 use Rattle.convoy_packets.specs.Order.{Order}
 use Rattle.convoy_packets.specs.OrderLists.{is_no_order, ranks_of}
@@ -69,13 +69,18 @@ link_text scenario link =
     ++ (codes "\"\nleast = " ++ (decimal link.least
     ++ (codes "\nmost = " ++ (decimal link.most ++ codes "\n")))))))
 
+-- the line of the last tick at which a message may be issued; one whose issue is known has none
+unfoldable pub until_text : Message → List ℕ
+until_text message = if may_wait message then codes "until = " ++ (decimal (message.at + message.longest_wait) ++ codes "\n") else []
+
 -- the table of a message, after an empty line
 unfoldable pub message_text : Scenario → Message → List ℕ
 message_text scenario message =
     codes "\n[[multicast]]\nname = \"" ++ (message.name
     ++ (codes "\"\n" ++ (sender_text scenario message.sender
     ++ (codes "to = [" ++ (names_text scenario message.destinations
-    ++ (codes "]\nat = " ++ (decimal message.at ++ codes "\n")))))))
+    ++ (codes "]\nat = " ++ (decimal message.at
+    ++ (codes "\n" ++ until_text message))))))))
 
 -- the table of the target, after an empty line
 unfoldable pub target_text : Scenario → List ℕ

@@ -11,6 +11,7 @@ ghost use Rattle.convoy_toml_writer.specs.Text.{
   tick_text,
   time_text,
   toml_text,
+  until_text,
 };
 
 use super::lists::{all_names_text, group_name, names_text, numbers_text};
@@ -161,7 +162,23 @@ fn message_text(alloc: Global, scenario: &Scenario, message: usize) -> Result<St
     let from = sender_text(alloc, scenario, scenario.sender(message))?;
     let to = names_text(alloc, scenario, scenario.destinations(message))?;
     let at = scenario.issue_tick(message);
-    format!(in alloc; "\n[[multicast]]\nname = \"{name}\"\n{from}to = [{to}]\nat = {at}\n")
+    let until = until_text(alloc, scenario, message)?;
+    format!(in alloc; "\n[[multicast]]\nname = \"{name}\"\n{from}to = [{to}]\nat = {at}\n{until}")
+}
+
+/// The line of the last tick at which a message may be issued; one whose issue is known has none.
+#[tactic(auto, unfolding(crate::specs::Text::until_text))]
+fn until_text(alloc: Global, scenario: &Scenario, message: usize) -> Result<String, AllocError>
+    requires { message < length scenario.now.multicasts }
+    ensures { IfOk result (λ text. string_bytes text
+        ≡ until_text (message_at scenario.now message)) }
+{
+    let longest_wait = scenario.longest_wait(message);
+    if longest_wait == 0 {
+        return Ok(String::new(alloc));
+    }
+    let until = u64::from(scenario.issue_tick(message)) + u64::from(longest_wait);
+    format!(in alloc; "until = {until}\n")
 }
 
 /// The table of the target.

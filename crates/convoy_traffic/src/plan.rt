@@ -110,6 +110,7 @@ impl Plan {
         let (target, group) = (traffic.target_message(), traffic.target_group());
         let is_early = self.push == Push::Early;
         match packet {
+            Packet::Wait { .. } => false,
             Packet::Multicast { message: 0, to } => to == group,
             Packet::Multicast { message, to } if message == target => is_early && to == group,
             Packet::Multicast { to, .. } => is_early || to == self.via,
@@ -170,7 +171,7 @@ fn push_message(
     Ok(())
 }
 
-/// A message of a kind, with names.
+/// A message of a kind, with names: traffic is made with known issues, whether the kind may wait or not.
 fn message_of(
     alloc: Global,
     scenario: &Scenario,
@@ -189,6 +190,7 @@ fn message_of(
         sender: sender_name(alloc, scenario, scenario.sender(kind))?,
         to,
         at: i64::from(at),
+        until: i64::from(at),
     })
 }
 

@@ -62,7 +62,7 @@ exchange delay = record {
   delay = pos delay;
   groups = codes "a" ∷ codes "b" ∷ [];
   links = [];
-  messages = record { name = codes "m"; sender = None; to = codes "a" ∷ codes "b" ∷ []; at = pos 0 } ∷ [];
+  messages = record { name = codes "m"; sender = None; to = codes "a" ∷ codes "b" ∷ []; at = pos 0; until = pos 0 } ∷ [];
   target_message = codes "m";
   target_group = codes "a";
 }

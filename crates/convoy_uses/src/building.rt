@@ -30,6 +30,7 @@ pub fn exchange(alloc: Global, delay: u32) -> Result<Scenario, Fault>
             sender: None,
             to: &["a", "b"],
             at: 0,
+            until: 0,
         }],
         target_message: "m",
         target_group: "a",

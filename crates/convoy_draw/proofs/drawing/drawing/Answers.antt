@@ -8,11 +8,12 @@ pub returns : goal.returns
 returns c =
     let head = string_bytes c.in_ok-head.head in
     let ground = string_bytes c.in_ok-ground.ground in
+    let windows = string_bytes c.in_ok-windows.windows in
     let packets = string_bytes c.in_ok-packets.packets in
     let signs = string_bytes c.in_ok-signs.signs in
     let labels = string_bytes c.in_ok-labels.labels in
     let foot = string_bytes c.in_ok-foot.foot in
-    let whole : IfOk c.format.result (λ text. string_bytes text ≡ head ++ (ground ++ (packets ++ (signs ++ (labels ++ foot))))) = search rules in
+    let whole : IfOk c.format.result (λ text. string_bytes text ≡ head ++ (ground ++ (windows ++ (packets ++ (signs ++ (labels ++ foot)))))) = search rules in
     IfOk-weaker c.format.result _ (λ text. IsDrawing c.args.scenario.now c.args.picture.now (string_bytes text))
-    (λ text is. drawing_tells c.args.scenario.now c.args.picture.now head ground packets signs labels foot (string_bytes text) is
-    c.in_ok-head.ensures c.in_ok-packets.ensures c.in_ok-signs.ensures) whole
+    (λ text is. drawing_tells c.args.scenario.now c.args.picture.now head ground windows packets signs labels foot (string_bytes text) is
+    c.in_ok-head.ensures c.in_ok-windows.ensures c.in_ok-packets.ensures c.in_ok-signs.ensures) whole

@@ -10,7 +10,7 @@ loop-message-preserved c =
     let plan = c.args.scenario.now in
     let m = c.loop-message.message in
     let more = flat_map_numbered_more (λ p. message_packets p.0 p.1) plan.multicasts m no_message (omega arith) in
-    rw (more, c.in_ok-list_proposals.ensures, c.in_ok-list_multicasts.ensures, c.loop-message.invariant)
+    rw (more, c.in_ok-list_proposals.ensures, c.in_ok-list_multicasts.ensures, c.in_ok-list_wait.ensures, c.loop-message.invariant)
     (simp append_assoc)
 
 pub returns : goal.returns

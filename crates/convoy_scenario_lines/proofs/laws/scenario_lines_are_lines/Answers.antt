@@ -6,7 +6,7 @@ use Rattle.convoy_scenario_lines.proofs.ScenarioAgain.{scenario_lines_are}
 use Rattle.convoy_scenario_lines.proofs.laws.scenario_lines_are_lines.Goals as goal
 
 pub returns : goal.returns
-returns c plan is =
+returns c version plan is =
     let laws : LineLaws = record {
       numbers = c.numbers_are_decimals.ensures;
       decimals = c.decimals_are_words.ensures;
@@ -15,4 +15,4 @@ returns c plan is =
       labelled = c.labelled_lines.ensures;
       number_lines = c.number_lines.ensures;
     } in
-    All-from_recursion IsLine (scenario_lines plan) (scenario_lines_are laws plan is (c.targets_are_groups.ensures plan is))
+    All-from_recursion IsLine (scenario_lines version plan) (scenario_lines_are laws version plan is (c.targets_are_groups.ensures plan is))

@@ -13,6 +13,6 @@ loop-place-preserved c =
     record {
       least = pushed (entry_of c.args.instance.now box.least_arrival) _ _ place _ c.in_ok-push.ensures.items was.least found.least;
       greatest = pushed (entry_of c.args.instance.now box.greatest_arrival) _ _ place _ c.in_ok-push-2.ensures.items was.greatest found.greatest;
-      least_fit = pushed_within 1065535 _ _ _ c.in_ok-push.ensures.items was.least_fit found.fits.0;
-      greatest_fit = pushed_within 1065535 _ _ _ c.in_ok-push-2.ensures.items was.greatest_fit found.fits.1;
+      least_fit = pushed_within 1131070 _ _ _ c.in_ok-push.ensures.items was.least_fit found.fits.0;
+      greatest_fit = pushed_within 1131070 _ _ _ c.in_ok-push-2.ensures.items was.greatest_fit found.fits.1;
     }

@@ -15,7 +15,9 @@ returns-clause-fits c =
     let greatest = assigned (greatest_of box) c.requires.inside (c.greatest_is_member.ensures scenario box c.requires.inside) order in
     let low = c.committed_within_two_delays.ensures scenario (least_of box) well least c.args.message c.args.group in
     let high = c.committed_within_two_delays.ensures scenario (greatest_of box) well greatest c.args.message c.args.group in
-    let issued = (well.messages c.args.message no_message c.requires.known).at in (
-      omega (arith, low, issued, well.delay_high, c.settlings.ensures.least),
-      omega (arith, high, issued, well.delay_high, c.settlings.ensures.greatest),
+    let message = well.messages c.args.message no_message c.requires.known in
+    let first = c.issued_within_its_wait.ensures scenario (least_of box) least c.args.message in
+    let last = c.issued_within_its_wait.ensures scenario (greatest_of box) greatest c.args.message in (
+      omega (arith, low, first, message.at, message.wait, well.delay_high, c.settlings.ensures.least),
+      omega (arith, high, last, message.at, message.wait, well.delay_high, c.settlings.ensures.greatest),
     )

@@ -3,5 +3,5 @@ use Rattle.convoy_timeline.proofs.Truth.{text_told-true}
 use Rattle.convoy_timeline.proofs.timeline.write_timeline.Goals as goal
 
 pub returns-clause-ok : goal.returns-clause-ok
-returns-clause-ok c = λ schedule story.
-    rw (← text_told-true c.args.scenario.now schedule c.args.run.now story) (search rules)
+returns-clause-ok c = λ story.
+    rw (← text_told-true c.args.instance.now c.args.schedule.now c.args.run.now story) (search rules)

@@ -1,10 +1,21 @@
-use Rattle.std.proofs.Common.{◌+◌, ◌∙◌, ap, subst}
+use Rattle.std.proofs.Common.{ℕ, ◌+◌, ◌∙◌, ap, subst, sym}
 use Rattle.convoy_branch.specs.Searching.{work_after, nodes_after}
-use Rattle.convoy_branch.specs.Steps.{IsFate, known_after}
+use Rattle.convoy_branch.specs.Steps.{IsFate, IsTriedIf, known_after}
 use Rattle.convoy_branch.specs.declared.search.Search.{Search}
 use Rattle.convoy_branch.specs.declared.step.Fate.{Fate}
-use Rattle.convoy_branch.proofs.SearchSteps.{HasStayed-taken, HasTurned-taken}
+use Rattle.convoy_branch.proofs.SearchSteps.{HasStayed-taken, HasTurned-taken, next_is}
 use Rattle.convoy_branch.proofs.search.Search.take_up.Goals as goal
+
+pub step_branch-requires-clause-of_scenario : goal.step_branch-requires-clause-of_scenario
+step_branch-requires-clause-of_scenario c =
+    let old = c.args.self.now in
+    (next_is c.args.bounds c.args.instance.now old.best old.work.items old.nodes.items old.tickets c.args.branch c.args.tried c.requires.searching).2
+
+pub step_branch-requires-clause-known : goal.step_branch-requires-clause-known
+step_branch-requires-clause-known c =
+    let old = c.args.self.now in
+    subst (λ (n : ℕ). IsTriedIf c.args.instance.now c.args.branch.delay_box c.args.tried n) (sym c.latency-seen.ensures.value)
+    (next_is c.args.bounds c.args.instance.now old.best old.work.items old.nodes.items old.tickets c.args.branch c.args.tried c.requires.searching).1
 
 pub returns-in_ok-follow-in-Turned-clause-turned : goal.returns-in_ok-follow-in-Turned-clause-turned
 returns-in_ok-follow-in-Turned-clause-turned c =

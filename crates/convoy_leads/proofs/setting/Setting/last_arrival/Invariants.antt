@@ -7,5 +7,5 @@ abbrev pub invariant-loop-group : goal.invariant-loop-group
 invariant-loop-group l =
     record {
       so_far : l.last ≡ greatest (map ((tables_by l.self.windows.now).times.greatest_arrival l.target) (take l.group-index l.group-items));
-      fits : l.last ≤ 1065535;
+      fits : l.last ≤ 1131070;
     }

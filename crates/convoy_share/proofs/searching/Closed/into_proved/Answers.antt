@@ -12,8 +12,8 @@ pub new-requires-clause-nodes : goal.new-requires-clause-nodes
 new-requires-clause-nodes c =
     let nodes = c.in_ok-nodes.ensures ∙ ap (λ (ps : List Piece). nodes_in ps) c.deref.ensures.value in
     let of_plan = nodes_closed c.args.bounds c.args.instance.now c.requires.closed.0 c.requires.closed.1 c.args.self c.requires.closed.2 in
-    let of_copy = subst (λ (s : Scenario). All (IsNode s.time) (nodes_in c.args.self.pieces.items)) (sym c.in_ok-copy.ensures) of_plan in
-    subst (λ (ns : List Node). All (IsNode c.in_ok-copy.field-0.time) ns) (sym nodes) of_copy
+    let of_copy = subst (λ (s : Scenario). All (IsNode s) (nodes_in c.args.self.pieces.items)) (sym c.in_ok-copy.ensures) of_plan in
+    subst (λ (ns : List Node). All (IsNode c.in_ok-copy.field-0) ns) (sym nodes) of_copy
 
 pub returns-clause-value : goal.returns-clause-value
 returns-clause-value c workers limit is =

@@ -1,10 +1,9 @@
-use Rattle.std.proofs.Common.{◌≡◌, ◌∷◌, ℕ, List, map, max, ap, ◌∙◌, arith}
+use Rattle.std.proofs.Common.{◌≡◌, ℕ, List, map, max, ap, ◌∙◌, arith}
 use Rattle.std.specs.List.{fold}
 use Rattle.convoy_scenario.specs.Scenario.{Scenario, message_at}
-use Rattle.convoy_packets.specs.Assignment.{Schedule}
 use Rattle.convoy_packets.specs.Order.{rank_at}
 use Rattle.convoy_sim.specs.Scheduled.{Scheduled}
-use Rattle.convoy_sim.specs.Times.{greatest, settle}
+use Rattle.convoy_sim.specs.Times.{settle}
 use Rattle.convoy_sim.specs.Moments.{commit_rank, rank_in, rank_then}
 use Rattle.convoy_sim.proofs.timetable.TimetableTicks.commit_rank.Goals as goal
 

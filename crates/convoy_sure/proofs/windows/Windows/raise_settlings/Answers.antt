@@ -19,5 +19,5 @@ loop-to-preserved c =
           ∙ ap (λ (delay : ℕ). set c.loop-to.settlings (c.args.tick + delay)) c.least_proposal.ensures.value
           ∙ ap (λ (entries : List ℕ). step entries to) c.loop-to.invariant.so_far
           ∙ sym (fold_more step c.args.settlings.now groups i 0 c.loop-to-test.true);
-      limit = c.raise_entry.ensures.limit 1131070 (omega (arith, c.least_proposal.ensures.fits, c.requires.tick)) c.loop-to.invariant.limit;
+      limit = c.raise_entry.ensures.limit 1196605 (omega (arith, c.least_proposal.ensures.fits, c.requires.tick)) c.loop-to.invariant.limit;
     }

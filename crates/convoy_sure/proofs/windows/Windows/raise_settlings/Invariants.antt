@@ -6,5 +6,5 @@ abbrev pub invariant-loop-to : goal.invariant-loop-to
 invariant-loop-to l =
     record {
       so_far : l.settlings ≡ fold (with_settling l.self l.message l.group l.tick) l.initial.settlings (take l.to-index l.to-items);
-      limit : All (λ entry. entry ≤ 1131070) l.settlings;
+      limit : All (λ entry. entry ≤ 1196605) l.settlings;
     }

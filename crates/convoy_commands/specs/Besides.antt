@@ -1,0 +1,61 @@
+-- An answer with the ceiling beside it: what more traffic could cost, besides what the messages at hand cost at worst.
+use Rattle.std.specs.Prelude.{◌≡◌, ℕ, List, ◌++◌, Ok, Err}
+use Rattle.convoy_scenario.specs.Scenario.{Scenario}
+use Rattle.convoy_toml.specs.Reading.{scenario_of_text}
+use Rattle.convoy_ceiling.specs.Ceiling.{IsUpperInTraffic, ceiling_of}
+use Rattle.convoy_certificate.specs.Certificate.{Certificate}
+use Rattle.convoy_certificate.specs.Reading.{certificate_of}
+use Rattle.convoy_branch.specs.Options.{Settings}
+use Rattle.convoy_commands.specs.declared.asking.Asking.TheVariants.{Explain}
+use Rattle.convoy_commands.specs.declared.done.Done.{Done}
+use Rattle.convoy_commands.specs.declared.done.Done.TheVariants.{Fine, Open, Refused}
+use Rattle.convoy_commands.specs.declared.limits.TheConstants.{LONGEST_CERTIFICATE, LONGEST_JOB}
+use Rattle.convoy_commands.specs.Asks.{AskSays}
+use Rattle.convoy_commands.specs.Ceilings.{ceiling_line}
+use Rattle.convoy_commands.specs.Replies.{Rule}
+use Rattle.convoy_commands.specs.Searches.{LatencySays}
+use Rattle.convoy_commands.specs.declared.beside.Question.{Question}
+use Rattle.convoy_commands.specs.declared.beside.Question.TheVariants as questions
+
+-- below an answer stands the ceiling of the scenario that it is about, above which no latency is in any traffic of the scenario's kinds
+pub record HasCeilingBelow (scenario : Scenario) (answer out : List ℕ) : Type 0 where
+  pub safe : IsUpperInTraffic scenario scenario.target_message scenario.target_group (ceiling_of scenario)
+  pub written : out ≡ answer ++ ceiling_line scenario.tick (ceiling_of scenario)
+
+-- what `latency` answers for the text of a scenario, and below it the scenario's ceiling
+pub record IsLatencyWithCeiling (settings : Settings) (text out : List ℕ) (done : Done) : Type 0 where
+  pub scenario : Scenario
+  pub answer : List ℕ
+  pub read : scenario_of_text text ≡ Ok scenario
+  pub answered : LatencySays settings text (Ok (done, answer))
+  pub ceiling : HasCeilingBelow scenario answer out
+
+-- what `explain` answers for the text of a certificate that is valid, and below it the ceiling of the certificate's scenario
+pub record IsExplanationWithCeiling (text out : List ℕ) : Type 0 where
+  pub certificate : Certificate
+  pub answer : List ℕ
+  pub read : certificate_of text ≡ Ok certificate
+  pub answered : AskSays Explain text (Ok (Fine, answer))
+  pub ceiling : HasCeilingBelow certificate.scenario answer out
+
+-- what may be answered for the text of a scenario: below a fault stands no ceiling
+abbrev pub LatencyBesideSays : Settings → Rule
+LatencyBesideSays settings text (Ok (done, out)) = IsLatencyWithCeiling settings text out done
+LatencyBesideSays settings text (Err fault) = LatencySays settings text (Err fault)
+
+-- what may be answered for the text of a certificate: below a refusal and a fault stands no ceiling
+abbrev pub ExplainBesideSays : Rule
+ExplainBesideSays text (Ok (Fine, out)) = IsExplanationWithCeiling text out
+ExplainBesideSays text (Ok (Open, out)) = AskSays Explain text (Ok (Open, out))
+ExplainBesideSays text (Ok (Refused refusal, out)) = AskSays Explain text (Ok (Refused refusal, out))
+ExplainBesideSays text (Err fault) = AskSays Explain text (Err fault)
+
+-- the rule of a question
+abbrev pub BesideSays : Question → Rule
+BesideSays (questions.Latency options) = LatencyBesideSays options
+BesideSays questions.Explain = ExplainBesideSays
+
+-- how many bytes the text has at most
+abbrev pub longest_of : Question → ℕ
+longest_of (questions.Latency options) = LONGEST_JOB
+longest_of questions.Explain = LONGEST_CERTIFICATE

@@ -1,0 +1,10 @@
+use Rattle.std.proofs.Common.{ℕ, ◌<◌, IsTrue, string_bytes}
+use Rattle.convoy_scenario.specs.Scenario.{may_wait, message_at}
+use Rattle.convoy_explain.specs.Explanations.{window_text}
+use Rattle.convoy_draw.specs.Drawings.{Tells}
+use Rattle.convoy_draw.proofs.windows.windows.Given as goal
+
+-- the text tells of the messages so far
+abbrev pub invariant-loop-message : goal.invariant-loop-message
+invariant-loop-message l =
+    (m : ℕ) → m < l.message → IsTrue (may_wait (message_at l.scenario m)) → Tells (window_text l.scenario m) (string_bytes l.text)
