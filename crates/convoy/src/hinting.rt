@@ -147,7 +147,7 @@ fn hint_for_fault<R, W>(
     ended: &Ended<'_, R, W>,
     fault: &Fault,
 ) -> Result<Option<String>, AllocError> {
-    let reader = if is_of_scenario(ended.verdict, fault) {
+    let reader = if is_of_scenario(ended) {
         ended.scenario_reader
     } else {
         ended.reader
@@ -206,11 +206,11 @@ fn hint_for_group(
     }
 }
 
-/// Whether a fault is one of the scenario that a certificate is to be of: it has faults of its own, and fewer
-/// bytes than a certificate may have.
-fn is_of_scenario(verdict: &Verdict, fault: &Fault) -> bool {
+/// Whether a fault is one of the scenario that a certificate is to be of. That is read first, and the certificate
+/// only where it has none.
+fn is_of_scenario<R, W>(ended: &Ended<'_, R, W>) -> bool {
     let is_named = matches!(
-        verdict,
+        ended.verdict,
         Verdict::Ask {
             task: Task::CheckAbout {
                 scenario: Some(_),
@@ -219,11 +219,7 @@ fn is_of_scenario(verdict: &Verdict, fault: &Fault) -> bool {
             ..
         }
     );
-    match fault {
-        Fault::Scenario(_) => is_named,
-        Fault::Reading(ReadFault::TooLong(most)) => is_named && *most == LONGEST_JOB,
-        _ => false,
-    }
+    is_named && !ended.reader.is_read()
 }
 
 /// The hint for a batch that is too long for a table.

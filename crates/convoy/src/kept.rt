@@ -13,6 +13,7 @@ const MOST_KEPT: usize = 131_072;
 pub struct KeptReader<R> {
     reader: R,
     text: Vec<u8>,
+    is_read: bool,
     is_whole: bool,
     failure: Option<Error>,
 }
@@ -23,6 +24,7 @@ impl<R> KeptReader<R> {
         KeptReader {
             reader,
             text: Vec::new(alloc),
+            is_read: false,
             is_whole: true,
             failure: None,
         }
@@ -31,6 +33,11 @@ impl<R> KeptReader<R> {
     /// The first bytes that were read: as many as are kept, and fewer where memory ran out.
     pub fn text(&self) -> &[u8] {
         self.text.as_slice()
+    }
+
+    /// Whether a read was tried.
+    pub fn is_read(&self) -> bool {
+        self.is_read
     }
 
     /// Whether that is all that was read.
@@ -48,6 +55,7 @@ impl<R: Read> Read for KeptReader<R> {
     ghost remaining = { λ kept. R.remaining kept.reader };
 
     fn read(&mut self, buffer: &mut [u8]) -> io::Result<usize> {
+        self.is_read = true;
         let result = self.reader.read(buffer);
         match &result {
             Ok(count) => {

@@ -1,5 +1,19 @@
 //! What help tells of the program, of its commands and of their options.
 
+use convoy_branch::PLAIN_TICKETS;
+use convoy_commands::{DEFAULT_LIMIT, MOST_SIMULATIONS, MOST_TICKETS, MOST_WORKERS};
+
+// The numbers in these texts are the limits that hold.
+const _: () = prove!(MOST_TICKETS == 4_000_000);
+
+const _: () = prove!(DEFAULT_LIMIT == 1_000_000);
+
+const _: () = prove!(PLAIN_TICKETS == 10_000);
+
+const _: () = prove!(MOST_SIMULATIONS == 1_000_000);
+
+const _: () = prove!(MOST_WORKERS == 16);
+
 pub(crate) const ABOUT: &str =
     "The greatest latency of Skeen's genuine atomic multicast, exact and proved";
 
@@ -7,8 +21,9 @@ pub(crate) const LONG_ABOUT: &str = "\
 Convoy says how late, at worst, one message is delivered at one of its groups,
 over all delays of packets. A scenario names overlapping groups, the multicasts
 to them with the ticks at or between which they are issued, and the message and
-the group of which the latency is asked. With `time = \"real\"` in it time is real; without that
-key time goes in whole ticks, and what happens at once has a fixed order.
+the group of which the latency is asked. With `time = \"real\"` in it time is real;
+without that key time goes in whole ticks, and what happens at once has a fixed
+order.
   convoy analyse scenario.toml | convoy explain
 finds the greatest latency and tells why it is so late, and
   convoy analyse scenario.toml | convoy draw > run.svg
@@ -305,7 +320,8 @@ plain bounds with at most 10000 tickets, and where that does not end, leads.
 That is also the way without this option and `--limit`. By leads at most 100000
 tickets are spent, and only by them may the certificate be of the form
 `convoy 3`; by plain bounds it is of the form `convoy 2` only where there are
-links. In real time it is of the form `convoy 4`, and stamp bounds are plain ones";
+links. In real time, and where a message has an `until`, it is of the form
+`convoy 4`. In real time stamp bounds are plain ones";
 
 pub(crate) const ABOUT_WORKERS: &str = "\
 How many workers share the search, each in a thread of its own: from 1 to 16. The

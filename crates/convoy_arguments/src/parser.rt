@@ -11,7 +11,7 @@ use super::help::{
     LONG_ABOUT_SCENARIO, LONG_ABOUT_SIMULATE, LONG_ABOUT_SURVEY, LONG_ABOUT_TIMELINE,
 };
 use clap::{Arg, ArgAction, value_parser};
-use convoy_commands::{MOST_SIMULATIONS, MOST_TICKETS, MOST_WORKERS};
+use convoy_commands::{DEFAULT_SIMULATIONS, MOST_SIMULATIONS, MOST_TICKETS, MOST_WORKERS};
 use std::alloc::{AllocError, Global};
 
 /// The version of the program.
@@ -163,6 +163,9 @@ fn limit_argument<'a>(alloc: Global) -> Arg<'a> {
         .value_parser(value_parser!(u64).range(1..=MOST_TICKETS as i64))
         .help(ABOUT_LIMIT)
 }
+
+// The option's default is told as a text.
+const _: () = prove!(DEFAULT_SIMULATIONS == 20_000);
 
 /// How many schedules are simulated, before a search or to find traffic.
 fn seek_argument<'a>(alloc: Global, about: &'a str) -> Arg<'a> {

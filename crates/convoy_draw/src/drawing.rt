@@ -5,11 +5,11 @@ ghost use Rattle.convoy_picture.specs.Words.{answer_text};
 use super::ground::ground;
 use super::legend::legend;
 use super::packets::packets;
-use super::sheet::{MARGIN, Sheet, WIDTH};
 use super::signs::{labels, signs};
 use super::windows::windows;
 use convoy_picture::{Picture, answer_words, message_name, sender_name};
 use convoy_scenario::{Scenario, Sender};
+use convoy_sheet::{MARGIN, Sheet, WIDTH};
 use std::alloc::{AllocError, Global};
 
 /// Appends the picture of a run of the scenario as an image, the text of which is SVG and ASCII

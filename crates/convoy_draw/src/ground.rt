@@ -1,10 +1,7 @@
-use super::mark::wait_mark;
-use super::scale::{Scale, Stretch};
-use super::sheet::{AXIS, LEFT, Sheet, lane_of};
 use super::signs::WAIT_COLOR;
-use super::widths::width_of;
 use convoy_picture::{Picture, group_name};
 use convoy_scenario::{Scenario, Sender};
+use convoy_sheet::{AXIS, LEFT, Scale, Sheet, Stretch, lane_of, wait_mark, width_of};
 use std::alloc::{AllocError, Global};
 
 /// How wide a digit is.

@@ -1,11 +1,9 @@
-use super::mark::MarkKind;
-use super::sheet::{MARGIN, Sheet};
 use super::signs::sign;
 use super::style::{BAR, color_of};
-use super::widths::width_of;
 use convoy_explain::may_wait;
 use convoy_picture::{Picture, Role, message_name};
 use convoy_scenario::Scenario;
+use convoy_sheet::{MARGIN, MarkKind, Sheet, width_of};
 use std::alloc::{AllocError, Global};
 
 /// How wide a sample is, with the gap after it.

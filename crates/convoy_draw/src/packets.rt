@@ -5,12 +5,12 @@ ghost use Rattle.convoy_draw.specs.Layers.{IsToldIn};
 ghost use Rattle.convoy_picture.specs.Words.{flight_text};
 
 use super::layers::Layers;
-use super::sheet::{Sheet, lane_of};
 use super::style::{color_of, stroke_of};
 use convoy_explain::LastProposal;
 use convoy_packets::Packet;
 use convoy_picture::{Flight, Picture, Role, flight_words, receiver_of};
 use convoy_scenario::{Scenario, Sender};
+use convoy_sheet::{Sheet, lane_of};
 use std::alloc::{AllocError, Global};
 
 /// How a packet is drawn for which the delivery of the target waits.

@@ -5,12 +5,12 @@ ghost use Rattle.convoy_draw.specs.Layers.{IsToldIn};
 ghost use Rattle.convoy_picture.specs.Words.{entry_text};
 
 use super::layers::Layers;
-use super::mark::{
-    Mark, MarkKind, entry_label, entry_mark, issue_label, issue_mark, wait_label, wait_mark,
-};
-use super::sheet::{GAP, Sheet, is_turned};
 use convoy_picture::{Picture, Role, entry_words};
 use convoy_scenario::Scenario;
+use convoy_sheet::{
+    GAP, Mark, MarkKind, Sheet, entry_label, entry_mark, is_turned, issue_label, issue_mark,
+    wait_label, wait_mark,
+};
 use convoy_timeline::Entry;
 use std::alloc::{AllocError, Global};
 

@@ -4,12 +4,11 @@ ghost use Rattle.convoy_explain.specs.Explanations.{window_text};
 ghost use Rattle.convoy_draw.specs.Drawings.{Tells, TellsWindows};
 
 use super::layers::element;
-use super::mark::issue_mark;
-use super::sheet::Sheet;
 use super::style::{BAR, color_of};
 use convoy_explain::{may_wait, window, window_text};
 use convoy_picture::{Picture, Role};
 use convoy_scenario::Scenario;
+use convoy_sheet::{Sheet, issue_mark};
 use std::alloc::{AllocError, Global};
 
 /// The bars of messages that may wait, from the first to the last tick at which each may be issued.

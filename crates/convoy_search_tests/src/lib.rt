@@ -1,13 +1,11 @@
-//! Tests of searches and what they stand on: the checker, worked rows of one step, of one worker, of the
-//! machine of many, of boards, deques and threads, and of the callers in `convoy_uses`.
+//! Tests of searches and what they stand on: worked rows of one step, of one worker, of the machine of many,
+//! of boards, deques and threads, and of the callers in `convoy_uses`.
 #![tactic(auto)]
 
 #[cfg(test)]
 mod alone;
 #[cfg(test)]
 mod boards;
-#[cfg(test)]
-mod checks;
 #[cfg(test)]
 mod deques;
 #[cfg(test)]

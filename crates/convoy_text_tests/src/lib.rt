@@ -1,9 +1,11 @@
-//! Tests of the texts that are read and written: scenarios, certificates, images
-//! and hints.
+//! Tests of the texts that are read and written, scenarios, certificates, images and hints, and of the checker, which
+//! is given certificates as texts.
 #![tactic(auto)]
 
 #[cfg(test)]
 mod certificates;
+#[cfg(test)]
+mod checks;
 #[cfg(test)]
 mod drawings;
 #[cfg(test)]

@@ -11,13 +11,13 @@ use std::alloc::{AllocError, Global};
 // All lengths on the sheet are in tenths of a pixel.
 
 /// How wide the sheet is.
-pub(crate) const WIDTH: u32 = 11_200;
+pub const WIDTH: u32 = 11_200;
 
 /// How wide its margin is.
-pub(crate) const MARGIN: u32 = 300;
+pub const MARGIN: u32 = 300;
 
 /// Where the first tick of all stands.
-pub(crate) const LEFT: u32 = 1_700;
+pub const LEFT: u32 = 1_700;
 
 /// Where the last tick stands at most.
 pub(crate) const RIGHT: u32 = 10_000;
@@ -26,13 +26,13 @@ pub(crate) const RIGHT: u32 = 10_000;
 const WORDS_RIGHT: u32 = 11_050;
 
 /// How far words stand from their mark.
-pub(crate) const GAP: u32 = 70;
+pub const GAP: u32 = 70;
 
 /// How high a row of words is.
 const ROW: u32 = 140;
 
 /// Where the numbers of ticks stand, from above.
-pub(crate) const AXIS: u32 = 950;
+pub const AXIS: u32 = 950;
 
 /// How many rows all lanes together have on each side, about, for messages that are not in focus.
 const MOST_ROWS: usize = 24;
@@ -48,11 +48,11 @@ struct Lane {
 
 /// Where all that is drawn of a picture stands.
 #[derive(Debug, Drop)]
-pub(crate) struct Sheet {
-    pub(crate) scale: Scale,
+pub struct Sheet {
+    pub scale: Scale,
     lanes: Vec<Lane>,
     /// Where the lanes end, from above.
-    pub(crate) bottom: u32,
+    pub bottom: u32,
     issue_rows: Vec<Option<usize>>,
     entry_rows: Vec<Option<usize>>,
     wait_row: Option<usize>,
@@ -60,11 +60,7 @@ pub(crate) struct Sheet {
 
 impl Sheet {
     /// The sheet of a picture of a run of the scenario.
-    pub(crate) fn of(
-        alloc: Global,
-        scenario: &Scenario,
-        picture: &Picture,
-    ) -> Result<Sheet, AllocError> {
+    pub fn of(alloc: Global, scenario: &Scenario, picture: &Picture) -> Result<Sheet, AllocError> {
         let mut sheet = Sheet {
             scale: Scale::of(alloc, scenario, picture)?,
             lanes: list_lanes(alloc, scenario)?,
@@ -159,17 +155,17 @@ impl Sheet {
     }
 
     /// How high the sheet is.
-    pub(crate) fn height(&self) -> u32 {
+    pub fn height(&self) -> u32 {
         self.bottom.saturating_add(1_220)
     }
 
     /// How many lanes there are.
-    pub(crate) fn lane_count(&self) -> usize {
+    pub fn lane_count(&self) -> usize {
         self.lanes.len()
     }
 
     /// Where the line of a lane is, from above; at the top where there is no such lane.
-    pub(crate) fn y_of(&self, lane: usize) -> u32 {
+    pub fn y_of(&self, lane: usize) -> u32 {
         match self.lanes.get(lane) {
             Some(lane) => lane.y,
             None => 0,
@@ -177,12 +173,12 @@ impl Sheet {
     }
 
     /// Where a mark stands across the sheet.
-    pub(crate) fn x_of(&self, mark: &Mark) -> u32 {
+    pub fn x_of(&self, mark: &Mark) -> u32 {
         self.scale.place(mark.tick, mark.message)
     }
 
     /// Where the words of a mark stand in a row beside its lane.
-    pub(crate) fn row_of(&self, mark: &Mark, row: usize) -> u32 {
+    pub fn row_of(&self, mark: &Mark, row: usize) -> u32 {
         let lane = self.y_of(mark.lane);
         let rows = u32::try_from(row).unwrap_or(u32::MAX).saturating_mul(ROW);
         if mark.kind.is_above() {
@@ -193,22 +189,22 @@ impl Sheet {
     }
 
     /// The row of the words on the issue of a message; none where they have no room.
-    pub(crate) fn issue_row(&self, message: usize) -> Option<usize> {
+    pub fn issue_row(&self, message: usize) -> Option<usize> {
         self.issue_rows.get(message).copied().flatten()
     }
 
     /// The row of the words on the entry of that number in the picture; none where they have no room.
-    pub(crate) fn entry_row(&self, number: usize) -> Option<usize> {
+    pub fn entry_row(&self, number: usize) -> Option<usize> {
         self.entry_rows.get(number).copied().flatten()
     }
 
     /// The row of the words on the target's waiting.
-    pub(crate) fn wait_row(&self) -> Option<usize> {
+    pub fn wait_row(&self) -> Option<usize> {
         self.wait_row
     }
 
     /// How many marks have no words beside them.
-    pub(crate) fn wordless(&self) -> usize {
+    pub fn wordless(&self) -> usize {
         missing(&self.issue_rows).saturating_add(missing(&self.entry_rows))
     }
 }
@@ -225,7 +221,7 @@ fn missing(rows: &[Option<usize>]) -> usize {
 }
 
 /// The lane of a place: that of the clients comes first, and then the groups by number.
-pub(crate) fn lane_of(place: Sender) -> usize {
+pub fn lane_of(place: Sender) -> usize {
     match place {
         Sender::Client => 0,
         Sender::Group(group) => group.saturating_add(1),
@@ -233,7 +229,7 @@ pub(crate) fn lane_of(place: Sender) -> usize {
 }
 
 /// Whether words end at the mark there, since there is no room to the right of it.
-pub(crate) fn is_turned(across: u32, words: &str) -> bool {
+pub fn is_turned(across: u32, words: &str) -> bool {
     across.saturating_add(GAP).saturating_add(width_of(words)) > WORDS_RIGHT
 }
 

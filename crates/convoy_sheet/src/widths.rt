@@ -1,5 +1,5 @@
 /// How wide a text is at most, in the wider ones of the usual fonts.
-pub(crate) fn width_of(words: &str) -> u32 {
+pub fn width_of(words: &str) -> u32 {
     let mut width: u32 = 0;
     for letter in words.as_bytes() {
         width = width.saturating_add(letter_width(*letter));

@@ -6,7 +6,7 @@ use std::alloc::{AllocError, Global};
 
 /// What a mark on a lane stands for.
 #[derive(Clone, Copy, Debug, PartialEq, Eq)]
-pub(crate) enum MarkKind {
+pub enum MarkKind {
     /// The message is issued.
     Issue,
     /// The message arrives at the group.
@@ -21,7 +21,7 @@ pub(crate) enum MarkKind {
 
 impl MarkKind {
     /// Whether its words stand above the lane.
-    pub(crate) fn is_above(self) -> bool {
+    pub fn is_above(self) -> bool {
         match self {
             MarkKind::Issue | MarkKind::Arrival => true,
             MarkKind::Commit | MarkKind::Wait | MarkKind::Delivery => false,
@@ -31,16 +31,16 @@ impl MarkKind {
 
 /// A mark on a lane.
 #[derive(Clone, Copy, Debug, PartialEq, Eq)]
-pub(crate) struct Mark {
-    pub(crate) kind: MarkKind,
-    pub(crate) message: usize,
-    pub(crate) tick: u32,
+pub struct Mark {
+    pub kind: MarkKind,
+    pub message: usize,
+    pub tick: u32,
     /// The number of the lane that it is on.
-    pub(crate) lane: usize,
+    pub lane: usize,
 }
 
 /// The mark of a message where it is issued.
-pub(crate) fn issue_mark(scenario: &Scenario, picture: &Picture, message: usize) -> Mark {
+pub fn issue_mark(scenario: &Scenario, picture: &Picture, message: usize) -> Mark {
     Mark {
         kind: MarkKind::Issue,
         message,
@@ -64,7 +64,7 @@ fn sender_of(scenario: &Scenario, message: usize) -> Sender {
 }
 
 /// The mark of what happens at a group.
-pub(crate) fn entry_mark(entry: &Entry) -> Mark {
+pub fn entry_mark(entry: &Entry) -> Mark {
     let kind = match entry.kind {
         EntryKind::Propose => MarkKind::Arrival,
         EntryKind::Commit => MarkKind::Commit,
@@ -79,7 +79,7 @@ pub(crate) fn entry_mark(entry: &Entry) -> Mark {
 }
 
 /// The mark from which on the target waits at its group; none where it is delivered as it is committed.
-pub(crate) fn wait_mark(scenario: &Scenario, picture: &Picture) -> Option<Mark> {
+pub fn wait_mark(scenario: &Scenario, picture: &Picture) -> Option<Mark> {
     let why = picture.why();
     if why.committed >= why.delivered {
         return None;
@@ -93,7 +93,7 @@ pub(crate) fn wait_mark(scenario: &Scenario, picture: &Picture) -> Option<Mark> 
 }
 
 /// The words beside the mark of a message where it is issued.
-pub(crate) fn issue_label(
+pub fn issue_label(
     alloc: Global,
     scenario: &Scenario,
     message: usize,
@@ -103,7 +103,7 @@ pub(crate) fn issue_label(
 }
 
 /// The words beside the mark of what happens at a group.
-pub(crate) fn entry_label(
+pub fn entry_label(
     alloc: Global,
     scenario: &Scenario,
     entry: &Entry,
@@ -118,7 +118,7 @@ pub(crate) fn entry_label(
 }
 
 /// The words beside the mark from which on the target waits.
-pub(crate) fn wait_label(
+pub fn wait_label(
     alloc: Global,
     scenario: &Scenario,
     picture: &Picture,

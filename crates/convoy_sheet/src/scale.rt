@@ -27,16 +27,16 @@ const WIDEST_SHIFT: u32 = 60;
 
 /// Ticks in which something is under way, with no idle time to be cut between them.
 #[derive(Clone, Copy, Debug, PartialEq, Eq)]
-pub(crate) struct Stretch {
-    pub(crate) first: u32,
-    pub(crate) last: u32,
+pub struct Stretch {
+    pub first: u32,
+    pub last: u32,
     /// Where its first tick stands.
-    pub(crate) left: u32,
+    pub left: u32,
 }
 
 /// Where ticks stand across the sheet: those of idle time are cut out.
 #[derive(Debug, Drop)]
-pub(crate) struct Scale {
+pub struct Scale {
     stretches: Vec<Stretch>,
     /// How many ticks the stretches have together.
     ticks: u32,
@@ -88,22 +88,22 @@ impl Scale {
     }
 
     /// The stretches, from left to right.
-    pub(crate) fn stretches(&self) -> &[Stretch] {
+    pub fn stretches(&self) -> &[Stretch] {
         self.stretches.as_slice()
     }
 
     /// How wide so many ticks are.
-    pub(crate) fn width_of(&self, ticks: u32) -> u32 {
+    pub fn width_of(&self, ticks: u32) -> u32 {
         part_of(self.width, ticks, self.ticks)
     }
 
     /// Where a stretch ends.
-    pub(crate) fn right_of(&self, stretch: &Stretch) -> u32 {
+    pub fn right_of(&self, stretch: &Stretch) -> u32 {
         self.after(stretch, stretch.last)
     }
 
     /// Where a tick stands; the end of the sheet's lanes for one that is in no stretch.
-    pub(crate) fn x_of(&self, tick: u32) -> u32 {
+    pub fn x_of(&self, tick: u32) -> u32 {
         for stretch in &self.stretches {
             if stretch.first <= tick && tick <= stretch.last {
                 return self.after(stretch, tick);
@@ -119,7 +119,7 @@ impl Scale {
     }
 
     /// Where a message stands in a tick: what happens in one tick goes by the numbers of the messages.
-    pub(crate) fn place(&self, tick: u32, message: usize) -> u32 {
+    pub fn place(&self, tick: u32, message: usize) -> u32 {
         let number = u32::try_from(message).unwrap_or(0);
         let shift = (self.room_at(tick) / 2 / self.messages.max(1)).min(WIDEST_SHIFT);
         self.x_of(tick).saturating_add(number.saturating_mul(shift))
