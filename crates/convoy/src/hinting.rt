@@ -4,7 +4,7 @@
 
 use super::ending::End;
 use super::kept::{KeptReader, KeptWriter};
-use convoy_arguments::{Input, REJECTED, Task, Verdict};
+use convoy_arguments::{Input, REJECTED, Task, Verdict, hint_for_words};
 use convoy_batch::MOST_JOBS;
 use convoy_commands::{
     Asking, Bounds, Command, Direct, Done, Fault, LONGEST_JOB, MOST_SIMULATIONS, Options, Question,
@@ -14,7 +14,7 @@ use convoy_hints::{
     hint_for_batch, hint_for_both, hint_for_ceiling, hint_for_certificate, hint_for_explained,
     hint_for_first, hint_for_greatest, hint_for_jobs, hint_for_leads, hint_for_length,
     hint_for_limit, hint_for_reading, hint_for_real_time, hint_for_run, hint_for_scenario,
-    hint_for_tickets, hint_for_words, hint_for_writing, is_in_real_time, line_for_file,
+    hint_for_tickets, hint_for_writing, is_in_real_time, line_for_file,
 };
 use std::alloc::{AllocError, Global};
 use std::convert::AsStr;

@@ -1,4 +1,5 @@
-//! The command line: what its words ask for, told before any input is read.
+//! The command line: what its words ask for, told before any input is read; and what to write in place of
+//! words that are rejected, for the person who wrote them (docs/HINTS.md).
 #![tactic(auto)]
 
 pub use input::Input;
@@ -6,6 +7,7 @@ pub use judging::{judge, judge_bytes};
 pub use limits::{MOST_READS, REJECTED};
 pub use task::Task;
 pub use verdict::Verdict;
+pub use word_hints::hint_for_words;
 
 mod help;
 mod input;
@@ -15,3 +17,4 @@ mod options;
 mod parser;
 mod task;
 mod verdict;
+mod word_hints;

@@ -1,4 +1,6 @@
-use convoy_scenario_hints::Quoted;
+use convoy_certificate::{Form, Version, form_of};
+use convoy_lines::LineReader;
+use convoy_sketch::Quoted;
 use std::fmt;
 
 /// What stands in a certificate from its latency on, where its text has its form.
@@ -87,12 +89,14 @@ impl<'a> Body<'a> {
 
 /// Whether a certificate with that text has a line `order` after its schedule: it is in real time.
 pub(crate) fn has_order(text: &[u8]) -> bool {
-    text.starts_with(b"convoy 4\ntime real\n")
+    let mut reader = LineReader::over(text);
+    let _ = reader.line();
+    says_time(text) && matches!(reader.line(), Some(b"time real"))
 }
 
 /// Whether the lines of a certificate with that text say how time goes: it is of version 4.
 pub(crate) fn says_time(text: &[u8]) -> bool {
-    text.starts_with(b"convoy 4\n")
+    matches!(form_of(text), Form::Certificate(Some(Version::Four)))
 }
 
 /// The packet that a line splits, and after how many ticks; None where it is no split.

@@ -6,10 +6,11 @@ use convoy_checker::{Refusal, Refused};
 use convoy_packets::Instance;
 use convoy_scenario::{Scenario, ScenarioFault};
 use convoy_scenario_hints::{
-    Quoted, hint_for_bytes, hint_for_damage, hint_for_order, hint_for_schedule, hint_for_sketch,
+    hint_for_bytes, hint_for_damage, hint_for_order, hint_for_schedule, hint_for_sketch,
     is_meant_as_certificate, is_meant_as_scenario, with_label,
 };
 use convoy_scenario_lines::Expected;
+use convoy_sketch::Quoted;
 use std::alloc::{AllocError, Global};
 
 /// Why a certificate is refused, in one line `hint: ..`: by its text, which may have been cut where it

@@ -1,5 +1,5 @@
 use convoy_certificate::{Form, form_of};
-use convoy_scenario_hints::Quoted;
+use convoy_sketch::Quoted;
 use std::alloc::{AllocError, Global};
 use std::io::Error;
 

@@ -13,7 +13,6 @@ pub use search_hints::{
     hint_for_both, hint_for_ceiling, hint_for_explained, hint_for_first, hint_for_greatest,
     hint_for_leads, hint_for_limit, hint_for_real_time, hint_for_tickets, is_in_real_time,
 };
-pub use word_hints::hint_for_words;
 
 mod body;
 mod certificate_hints;
@@ -24,4 +23,3 @@ mod lines;
 mod paths;
 mod search_hints;
 mod tree_hints;
-mod word_hints;

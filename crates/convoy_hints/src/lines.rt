@@ -1,8 +1,8 @@
 use convoy_certificate::{Form, form_of};
 use convoy_lines::LineReader;
 use convoy_scenario::{Duration, Scenario, Time, TimeUnit};
-use convoy_scenario_hints::{Link, Multicast, Part, PartKind, Sketch};
 use convoy_scenario_lines::read_lines;
+use convoy_sketch::{Link, Multicast, Part, PartKind, Sketch};
 use std::alloc::{AllocError, Global};
 
 /// The scenario that stands in the lines of a certificate; what is not of its form is left out.

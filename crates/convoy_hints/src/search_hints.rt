@@ -1,7 +1,8 @@
 use convoy_ceiling::ceiling;
 use convoy_certificate::read;
 use convoy_scenario::{Scenario, Time};
-use convoy_scenario_hints::{has_waits, noun};
+use convoy_scenario_hints::has_waits;
+use convoy_sketch::noun;
 use convoy_toml::read_toml_any_target;
 use std::alloc::{AllocError, Global};
 

@@ -3,7 +3,7 @@ use super::lines::scenario_in;
 use super::paths::{Half, path_to, range_along};
 use convoy_checker::Refused;
 use convoy_packets::PacketTable;
-use convoy_scenario_hints::noun;
+use convoy_sketch::noun;
 use std::alloc::{AllocError, Global};
 
 /// Why the latency or the tree of a certificate is refused, whose text has its form. The text may

@@ -1,5 +1,5 @@
 use super::inputs::is_meant_as_certificate;
-use super::spot::spot_at;
+use convoy_sketch::spot_at;
 use std::alloc::{AllocError, Global};
 
 /// What has happened to a text on its way, a scenario or a certificate: a byte order mark, the marks of a

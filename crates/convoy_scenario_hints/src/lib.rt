@@ -4,32 +4,17 @@
 //! of a command rests on it.
 #![tactic(auto)]
 
-pub use counting::noun;
 pub use damage::{hint_for_bytes, hint_for_damage};
 pub use inputs::{is_meant_as_certificate, is_meant_as_scenario};
-pub use part::{Part, PartKind};
-pub use quoting::Quoted;
 pub use scenario_hints::{
     hint_for_fault, hint_for_run, hint_for_scenario, hint_for_sketch, with_label,
 };
 pub use schedules::{has_waits, hint_for_order, hint_for_schedule};
-pub use sketch::{Link, Multicast, Sketch};
 
-mod counting;
 mod damage;
-mod durations;
-mod fields;
-mod headers;
 mod inputs;
 mod names;
-mod near;
 mod numbers;
-mod part;
-mod quoting;
 mod references;
 mod scenario_hints;
 mod schedules;
-mod shape;
-mod sketch;
-mod spot;
-mod times;

@@ -1,6 +1,5 @@
-use super::quoting::{Ordinal, Quoted};
-use super::sketch::{Link, Multicast, Sketch};
 use convoy_scenario::LONGEST_NAME;
+use convoy_sketch::{Link, Multicast, Ordinal, Quoted, Sketch};
 use std::alloc::{AllocError, Global};
 
 /// Which name is none, and why.

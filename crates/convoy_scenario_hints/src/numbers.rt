@@ -1,8 +1,7 @@
-use super::durations::{Length, shown_time};
-use super::sketch::{Link, Multicast, Sketch};
 use convoy_scenario::{
     Duration, GREATEST_AT, GREATEST_DELAY, LONGEST_WAIT, Limit, MOST_GROUPS, MOST_MULTICASTS, Time,
 };
+use convoy_sketch::{Length, Link, Multicast, Sketch, shown_time};
 use convoy_toml::MOST_WRITTEN_LINKS;
 use std::alloc::{AllocError, Global};
 

@@ -1,8 +1,5 @@
 use super::names::{first_double, names_of};
-use super::near::nearest;
-use super::part::{Part, PartKind};
-use super::quoting::{Names, Quoted};
-use super::sketch::{Link, Multicast, Sketch};
+use convoy_sketch::{Link, Multicast, Names, Part, PartKind, Quoted, Sketch, nearest};
 use std::alloc::{AllocError, Global};
 
 /// A name that is that of no group, and where it stands.

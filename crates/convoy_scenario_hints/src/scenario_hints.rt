@@ -2,20 +2,18 @@ use super::damage::{hint_for_bytes, hint_for_damage};
 use super::inputs::is_meant_as_certificate;
 use super::names::{hint_for_bad_name, hint_for_double_name};
 use super::numbers::hint_for_limit;
-use super::quoting::Quoted;
 use super::references::{
     hint_for_double_destination, hint_for_link_to_itself, hint_for_no_destination,
     hint_for_target_not_addressed, hint_for_unknown_group, hint_for_unknown_target,
     hint_for_waiting_target,
 };
 use super::schedules::{hint_for_order, hint_for_schedule};
-use super::shape::hint_for_shape;
-use super::sketch::{Sketch, sketch_of_table};
-use super::spot::spot_at;
-use super::times::hint_for_part_of_tick;
 use convoy_certificate::{Form, form_of};
 use convoy_packets::Instance;
 use convoy_scenario::ScenarioFault;
+use convoy_sketch::{
+    Quoted, Sketch, hint_for_part_of_tick, hint_for_shape, sketch_of_table, spot_at,
+};
 use convoy_toml::{Input, read_toml};
 use std::alloc::{AllocError, Global};
 use toml::de::Error;

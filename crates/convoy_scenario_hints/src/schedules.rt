@@ -1,8 +1,7 @@
-use super::counting::noun;
-use super::quoting::Quoted;
 use convoy_explain::write_packets;
 use convoy_packets::{GREATEST_RANK, Instance};
 use convoy_scenario::{Scenario, Time};
+use convoy_sketch::{Quoted, noun};
 use std::alloc::{AllocError, Global};
 
 /// What is wrong with a schedule of the scenario: how many delays it has, or the first that its packet

@@ -4,8 +4,8 @@
 use convoy_certificate::TextFault;
 use convoy_checker::{Refusal, Refused};
 use convoy_hints::{hint_for_batch, hint_for_certificate};
-use convoy_scenario_hints::Quoted;
 use convoy_scenario_lines::Expected;
+use convoy_sketch::Quoted;
 use std::alloc::{AllocError, Global};
 
 /// The front of a certificate, with two nodes and a piece of the third.

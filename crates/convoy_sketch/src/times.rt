@@ -144,7 +144,7 @@ fn shown(alloc: Global, nanoseconds: u64) -> Result<String, AllocError> {
 }
 
 /// Which duration is no whole number of ticks, and which tick would do.
-pub(crate) fn hint_for_part_of_tick(
+pub fn hint_for_part_of_tick(
     alloc: Global,
     text: &str,
     table: &Table,

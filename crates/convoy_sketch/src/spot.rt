@@ -1,12 +1,14 @@
 /// A place in a text: its line and its column, both from 1. A column counts characters.
 #[derive(Clone, Copy, Debug, PartialEq, Eq)]
-pub(crate) struct Spot {
-    pub(crate) line: usize,
-    pub(crate) column: usize,
+pub struct Spot {
+    /// Its line.
+    pub line: usize,
+    /// Its column.
+    pub column: usize,
 }
 
 /// The place after that many bytes of a text, or at its end.
-pub(crate) fn spot_at(text: &[u8], offset: usize) -> Spot {
+pub fn spot_at(text: &[u8], offset: usize) -> Spot {
     let mut spot = Spot { line: 1, column: 1 };
     for byte in text.iter().take(offset) {
         if *byte == b'\n' {

@@ -5,7 +5,7 @@ use std::fmt;
 
 /// A duration as a hint shows it: `1500 us`.
 #[derive(Clone, Copy, Drop)]
-pub(crate) struct Length(pub(crate) Duration);
+pub struct Length(pub Duration);
 
 impl fmt::Display for Length {
     fn fmt<W: fmt::Write>(&self, f: &mut fmt::Formatter<W>) -> fmt::Result {
@@ -15,11 +15,7 @@ impl fmt::Display for Length {
 }
 
 /// A time of a scenario as a hint shows it: `6` ticks, or where the length of a tick is known `6 ms`.
-pub(crate) fn shown_time(
-    alloc: Global,
-    ticks: i64,
-    tick: Option<Duration>,
-) -> Result<String, AllocError> {
+pub fn shown_time(alloc: Global, ticks: i64, tick: Option<Duration>) -> Result<String, AllocError> {
     let Some(tick) = tick else {
         return format!(in alloc; "{ticks}");
     };

@@ -62,7 +62,7 @@ pub struct Link<'a> {
 }
 
 /// The scenario that is written in a table; what is not of its kind is left out.
-pub(crate) fn sketch_of_table<'a>(
+pub fn sketch_of_table<'a>(
     alloc: Global,
     text: &str,
     table: &'a Table,

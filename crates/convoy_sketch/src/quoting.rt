@@ -42,7 +42,7 @@ fn show<W: fmt::Write>(formatter: &mut fmt::Formatter<W>, character: char) -> fm
 
 /// Names in double quotes, with commas between them.
 #[derive(Clone, Copy, Drop)]
-pub(crate) struct Names<'a>(pub(crate) &'a [&'a str]);
+pub struct Names<'a>(pub &'a [&'a str]);
 
 impl fmt::Display for Names<'_> {
     fn fmt<W: fmt::Write>(&self, f: &mut fmt::Formatter<W>) -> fmt::Result {
@@ -69,7 +69,7 @@ fn write_comma<W: fmt::Write>(formatter: &mut fmt::Formatter<W>, place: usize) -
 
 /// A number that tells a place from 1 on, as 1st, 2nd, 3rd.
 #[derive(Clone, Copy, Drop)]
-pub(crate) struct Ordinal(pub(crate) usize);
+pub struct Ordinal(pub usize);
 
 impl fmt::Display for Ordinal {
     fn fmt<W: fmt::Write>(&self, f: &mut fmt::Formatter<W>) -> fmt::Result {

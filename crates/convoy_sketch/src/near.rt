@@ -9,7 +9,7 @@ const LONGEST_WORD: usize = 64;
 
 /// The word that was most likely meant: the first of those to which the fewest edits lead from the one
 /// that is written, at most two, and one for three letters.
-pub(crate) fn nearest<'a>(
+pub fn nearest<'a>(
     alloc: Global,
     written: &str,
     words: &[&'a str],

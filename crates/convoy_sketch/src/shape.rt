@@ -49,7 +49,7 @@ const STEPS: [Step; 12] = [
 /// What is wrong with the keys of a scenario of which that key has a fault: the first key that is absent, of
 /// another kind or unknown, in the order in which keys are asked for. Where the fault is not the target's, it
 /// need not be there.
-pub(crate) fn hint_for_shape(
+pub fn hint_for_shape(
     alloc: Global,
     text: &str,
     table: &Table,

@@ -1,4 +1,4 @@
-use convoy_scenario_hints::Quoted;
+use convoy_sketch::Quoted;
 use std::alloc::{AllocError, Global};
 use std::convert::AsStr;
 
