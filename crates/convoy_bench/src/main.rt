@@ -6,14 +6,12 @@
 //! `convoy_bench mixed [TURNS]` takes a scenario, and runs that many times each of 32 mixed schedules.
 //! `convoy_bench search [LIMIT]` takes a scenario and searches it, with at most that many tickets.
 //! `convoy_bench workers [LIMIT]` takes a scenario and searches it, alone and by 1, 2 and 4 workers.
-//! `convoy_bench crews [TURNS]` takes a scenario, and compares that many searches by 4 and by 16 workers.
 //! `convoy_bench sharing [TURNS]` takes a scenario and lets 1, 2 and 4 threads share a board and a ledger.
 //! `convoy_bench leads [TURNS]` takes a scenario and makes that many tests by leads for each of some latencies.
 //! `convoy_bench seek [BUDGET]` takes a scenario and seeks in it, with at most that many simulations.
 //! `convoy_bench certificate` takes the text of a certificate, reads it, checks it and writes it again.
 #![tactic(auto)]
 
-mod crews;
 mod leads;
 mod schedules;
 mod sharing;
@@ -24,7 +22,6 @@ use anyhow::{Context, Result};
 use convoy_intervals::DelayBox;
 use convoy_packets::Instance;
 use convoy_toml::read_toml;
-use crews::compare_crews;
 use leads::time_leads;
 use sharing::time_sharing;
 use std::alloc::Global;
@@ -42,10 +39,10 @@ use workers::time_workers;
 const ONE_TURN: u32 = 1;
 
 /// How many tickets a search has where no number is given.
-const MOST_TICKETS: u32 = 4_000_000;
+const TICKETS: u32 = 4_000_000;
 
 /// How many simulations seeking has where no number is given.
-const MOST_SIMULATIONS: u32 = 20_000;
+const SIMULATIONS: u32 = 20_000;
 
 /// How many calls a thread makes on what it shares where no number is given.
 const SHARED_CALLS: u32 = 200_000;
@@ -63,8 +60,6 @@ enum Task {
     Search,
     /// Searches by several workers, with at most so many tickets each.
     Workers,
-    /// Searches by 4 and by 16 workers, so many times, to compare.
-    Crews,
     /// What threads share, with so many calls by each.
     Sharing,
     /// Tests by leads, so many times for each of some latencies.
@@ -84,7 +79,6 @@ impl Task {
             "mixed" => Some(Task::Mixed),
             "search" => Some(Task::Search),
             "workers" => Some(Task::Workers),
-            "crews" => Some(Task::Crews),
             "sharing" => Some(Task::Sharing),
             "leads" => Some(Task::Leads),
             "seek" => Some(Task::Seek),
@@ -95,8 +89,8 @@ impl Task {
     /// How many times, or with how many tickets or simulations, where no number is given.
     fn number(self) -> u32 {
         match self {
-            Task::Search | Task::Workers => MOST_TICKETS,
-            Task::Seek => MOST_SIMULATIONS,
+            Task::Search | Task::Workers => TICKETS,
+            Task::Seek => SIMULATIONS,
             Task::Sharing => SHARED_CALLS,
             _ => ONE_TURN,
         }
@@ -156,7 +150,6 @@ fn time_text<R: Runtime + Threads + Wait + Sync>(
     let instance = Instance::of(alloc, input.scenario)?;
     match task {
         Task::Workers => time_workers(rt, alloc, &instance, number),
-        Task::Crews => compare_crews(rt, alloc, &instance, number),
         Task::Sharing => time_sharing(rt, alloc, &instance, number),
         _ => time_alone(rt, alloc, &instance, task, number),
     }
