@@ -69,8 +69,9 @@ pub(crate) const ABOUT_FIRST: &str = "Writes the latency under the least delays,
 
 pub(crate) const LONG_ABOUT_FIRST: &str = "\
 Reads a scenario and writes two lines: 'attained N', the latency of the target in
-ticks where each packet takes its least delay, and 'schedule' with the delay of
-each packet, in packet order. In real time a line 'order' follows, without ranks.
+ticks where each packet takes its least delay and no message waits, and 'schedule'
+with the delay of each packet, in packet order, and with a wait of 0 for each
+message that may wait. In real time a line 'order' follows, without ranks.
 
 That is one schedule, and not the worst: `latency` finds the greatest latency.";
 
@@ -78,19 +79,19 @@ pub(crate) const ABOUT_SIMULATE: &str = "Writes the latency under a schedule, an
 
 pub(crate) const LONG_ABOUT_SIMULATE: &str = "\
 Reads a scenario and writes two lines: 'latency N', the latency of the target in
-ticks under a schedule, and 'schedule' with the delay of each packet, in packet
-order. In real time a line 'order' follows.
+ticks under a schedule, and 'schedule' with the delay of each packet and the wait
+of each message that may wait, in packet order. In real time a line 'order' follows.
 
-The schedule is the scenario's key `schedule`, an array with the delay of each
-packet in packet order, above the first table header:
+The schedule is the scenario's key `schedule`, an array of these numbers in packet
+order, above the first table header:
   schedule = [1, 3, 1, 2]
-Without that key each packet takes its least delay. In real time the key `order`
-tells in which order things happen at one group in one tick. It is an array with
-two ranks for each message at each group that it goes to, that of its arrival and
-that of its commit, from 0 to 255: the lesser rank is first, and of one rank what
-is first in whole ticks. Without that key all ranks are 0, for which the line
-'order' has none. In place of a scenario a certificate may be read: then schedule
-and order are the certificate's.";
+Without that key each packet takes its least delay, and no message waits. In real
+time the key `order` tells in which order things happen at one group in one tick. It
+is an array with two ranks for each message at each group that it goes to, that of
+its arrival and that of its commit, from 0 to 255: the lesser rank is first, and of
+one rank what is first in whole ticks. Without that key all ranks are 0, for which
+the line 'order' has none. In place of a scenario a certificate may be read: then
+schedule and order are the certificate's.";
 
 pub(crate) const ABOUT_TIMELINE: &str = "Writes what happens at each group under a schedule";
 
@@ -99,8 +100,9 @@ Reads a scenario and writes one line for each time that a group proposes a stamp
 for a message, commits the message or delivers it:
   TICK GROUP KIND MESSAGE TIME.GROUP
 KIND is 'propose', 'commit' or 'deliver'. The stamp at the end is the local one
-of a proposal, else the message's final one. TICK counts ticks; where a tick has
-a length, a line that tells it comes first, as 'tick 50 us'.
+of a proposal, else the message's final one. For each message that may wait a line
+tells when it is issued, as 'TICK SENDER issue MESSAGE'. TICK counts ticks; where a
+tick has a length, a line that tells it comes first, as 'tick 50 us'.
 
 The schedule is that of the command `simulate`, and so is the order.";
 
@@ -111,6 +113,8 @@ Reads a scenario and writes one line for each of its packets, in the order in
 which schedules list their delays:
   packet 0: x from client to b, 1 to 3 ticks
   packet 4: proposal of t from b to a, 1 to 3 ticks
+A message with an issue window (`until`) has a line for its wait before its packets:
+  packet 5: y waits, 0 to 8 ticks
 In place of a scenario a certificate may be read: then each line ends with the
 delay of the packet in the certificate's schedule, as ', takes 3'.";
 
@@ -264,7 +268,7 @@ that it goes to, as `latency` does for that target, and writes a table with a ro
 for each, in the order of the text, but for messages with an issue window (`until`),
 which are no targets:
   message  group  answer    least  most  rival  tied  nodes
-  t        a      greatest     12    12  y      -         1
+  t        a      greatest     12    12  y      x         1
 LEAST and MOST are in ticks, and once more in a unit of time where a tick has a
 length. Where the search did not end, the answer is 'open', and the greatest
 latency lies between the two; where memory ran out it is that fault. RIVAL is the

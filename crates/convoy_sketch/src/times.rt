@@ -221,7 +221,8 @@ fn way_out(alloc: Global, spells: &[Spell<'_>], tick: u64) -> Result<String, All
 }
 
 /// What to write where no tick would do.
-const ROUNDED: &str = "write a duration that is one, 'least' no longer and 'most' no shorter";
+const ROUNDED: &str =
+    "write a duration that is one: 'least' and 'at' of a window no longer, 'most' and 'until' no shorter";
 
 /// What to do besides where some times are numbers of ticks of the present length.
 const MATCHING: &str = ", with the numbers of ticks to match";
