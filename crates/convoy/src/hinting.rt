@@ -7,8 +7,8 @@ use super::kept::{KeptReader, KeptWriter};
 use convoy_arguments::{Input, REJECTED, Task, Verdict, hint_for_words};
 use convoy_batch::MOST_JOBS;
 use convoy_commands::{
-    Asking, Bounds, Command, Direct, Done, Fault, LONGEST_JOB, MOST_SIMULATIONS, Options, Question,
-    ReadFault, ScenarioFault, SearchEnd, Ways, lead_share, plain_share,
+    Asking, Bounds, Command, Direct, Done, Fault, LONGEST_JOB, MOST_SIMULATIONS, MOST_TICKETS,
+    Options, Question, ReadFault, ScenarioFault, SearchEnd, Ways, lead_share, plain_share,
 };
 use convoy_hints::{
     hint_for_batch, hint_for_both, hint_for_ceiling, hint_for_certificate, hint_for_explained,
@@ -19,6 +19,11 @@ use convoy_hints::{
 use std::alloc::{AllocError, Global};
 use std::convert::AsStr;
 use std::io::{Error, Write};
+
+// Hints tell these limits in words.
+const _: () = prove!(MOST_TICKETS == 4_000_000);
+
+const _: () = prove!(MOST_SIMULATIONS == 1_000_000);
 
 /// How a run ended, and what is known of its streams.
 #[derive(Drop)]

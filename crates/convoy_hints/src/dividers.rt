@@ -63,6 +63,8 @@ fn flaw_of(line: &[u8]) -> Option<&'static str> {
     }
 }
 
+const _: () = prove!(LONGEST_LABEL == 64);
+
 /// What is wrong with what stands after `--- `; None where it is a label.
 fn flaw_of_name(name: &[u8]) -> Option<&'static str> {
     if name.first().is_some_and(|byte| is_space(*byte)) {

@@ -2,7 +2,7 @@ use super::body::{Body, Line, split_of};
 use super::lines::scenario_in;
 use super::paths::{Half, path_to, range_along};
 use convoy_checker::Refused;
-use convoy_packets::PacketTable;
+use convoy_packets::Instance;
 use convoy_sketch::noun;
 use std::alloc::{AllocError, Global};
 
@@ -55,11 +55,12 @@ fn hint_for_split(
             "{line} splits a packet that the scenario does not have, or after a delay at which its range there can't be split"
         ).map(Some);
     };
-    let Some(table) = packets_of(alloc, body)? else {
+    let Some(instance) = instance_of(alloc, body)? else {
         return Ok(None);
     };
-    let Some(range) = table.ranges().get(packet).copied() else {
-        return hint_for_packet(alloc, &line, packet, table.len()).map(Some);
+    let ranges = instance.table().ranges();
+    let Some(range) = ranges.get(packet).copied() else {
+        return hint_for_packet(alloc, &line, packet, ranges.len()).map(Some);
     };
     let path = path_to(alloc, body, node)?;
     let taken = range_along(&path, packet, range);
@@ -88,10 +89,10 @@ fn hint_for_delay(
     )
 }
 
-/// The packets of the scenario; None where its lines have a fault.
-fn packets_of(alloc: Global, body: &Body<'_>) -> Result<Option<PacketTable>, AllocError> {
+/// The scenario with its packets; None where its lines have a fault.
+fn instance_of(alloc: Global, body: &Body<'_>) -> Result<Option<Instance>, AllocError> {
     match scenario_in(alloc, body.text.as_bytes()) {
-        Some((scenario, _)) => Ok(Some(PacketTable::of(alloc, &scenario)?)),
+        Some((scenario, _)) => Ok(Some(Instance::of(alloc, scenario)?)),
         None => Ok(None),
     }
 }
@@ -177,11 +178,11 @@ fn hint_for_point(
     if line.text.is_none() {
         return hint_for_box(alloc, body, &line, "several schedules, or of one").map(Some);
     }
-    let Some(table) = packets_of(alloc, body)? else {
+    let Some(instance) = instance_of(alloc, body)? else {
         return Ok(None);
     };
     let path = path_to(alloc, body, node)?;
-    match first_open(table.ranges(), &path) {
+    match first_open(instance.table().ranges(), &path) {
         Some((packet, taken)) => hint_for_range(alloc, &line, packet, taken).map(Some),
         None => hint_for_box(alloc, body, &line, "one schedule,").map(Some),
     }
