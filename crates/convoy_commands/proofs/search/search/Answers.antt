@@ -3,7 +3,7 @@ use Rattle.convoy_packets.specs.Assignment.{AreWithin, Schedule}
 use Rattle.convoy_packets.specs.Order.{IsOrder}
 use Rattle.convoy_packets.specs.Table.{PacketTable}
 use Rattle.convoy_commands.proofs.Starts.{one_ticket}
-use Rattle.convoy_commands.proofs.search.search_instance.Goals as goal
+use Rattle.convoy_commands.proofs.search.search.Goals as goal
 
 pub of-opening-requires : goal.of-opening-requires
 of-opening-requires g c = record {
