@@ -89,19 +89,31 @@ fn greatest_point(alloc: Global, instance: &Instance) -> Result<DelayBox, AllocE
 
 #[test]
 fn bound_of_a_point(rt: HostRuntime) -> Result<(), Fail> {
-    let alloc = rt.alloc();
-    let instance = swapped(alloc)?;
-    let point = greatest_point(alloc, &instance)?;
+    let instance = swapped(rt.alloc())?;
+    let point = greatest_point(rt.alloc(), &instance)?;
     assert!(rt; point.is_point());
-    assert!(rt; !DelayBox::root(alloc, &instance)?.is_point());
     assert_eq!(rt; bound(&instance, &point), 12);
-    let copy = point.copy()?;
-    assert!(rt; copy.is_point());
-    let schedule = copy.greatest(alloc)?;
-    assert_eq!(rt; schedule.len(), 8);
-    for packet in 0..8 {
-        assert_eq!(rt; schedule.delay(packet), 3, "packet {packet}");
-    }
+    Ok(())
+}
+
+#[test]
+fn root_is_no_point(rt: HostRuntime) -> Result<(), Fail> {
+    let root = DelayBox::root(rt.alloc(), &swapped(rt.alloc())?)?;
+    assert!(rt; !root.is_point());
+    Ok(())
+}
+
+/// A copy of the point with only the greatest delay of each packet.
+fn copied_point(alloc: Global) -> Result<DelayBox, Fail> {
+    Ok(greatest_point(alloc, &swapped(alloc)?)?.copy()?)
+}
+
+#[test]
+fn schedule_of_a_point(rt: HostRuntime) -> Result<(), Fail> {
+    let point = copied_point(rt.alloc())?;
+    assert!(rt; point.is_point());
+    let schedule = point.greatest(rt.alloc())?;
+    assert_eq!(rt; schedule.delays(), [3, 3, 3, 3, 3, 3, 3, 3].as_slice());
     Ok(())
 }
 

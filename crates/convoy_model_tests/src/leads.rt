@@ -13,22 +13,25 @@ fn closes_root(alloc: Global, instance: &Instance, latency: u32) -> Result<bool,
     closes_by_leads(alloc, instance, &root, latency)
 }
 
+/// Whether leads close the whole box for a latency, and not for the one below.
+fn closes_just_from(alloc: Global, instance: &Instance, latency: u32) -> Result<bool, AllocError> {
+    let closes = closes_root(alloc, instance, latency)?;
+    Ok(closes && !closes_root(alloc, instance, latency.saturating_sub(1))?)
+}
+
 #[test]
 fn roots_are_closed(rt: HostRuntime) -> Result<(), Fail> {
     let alloc = rt.alloc();
-    let in_order = base(alloc)?;
-    assert!(rt; closes_root(alloc, &in_order, 12)?, "base, 12");
-    assert!(rt; !closes_root(alloc, &in_order, 11)?, "base, 11");
-    let swapped = swapped(alloc)?;
-    assert!(rt; closes_root(alloc, &swapped, 6)?, "swapped groups, 6");
-    assert!(rt; !closes_root(alloc, &swapped, 5)?, "swapped groups, 5");
-    assert!(rt;
-        closes_root(alloc, &swapped, 4_294_967_295)?,
-        "swapped groups, most"
-    );
-    let raised = raised_twice(alloc)?;
-    assert!(rt; closes_root(alloc, &raised, 11)?, "raised twice, 11");
-    assert!(rt; !closes_root(alloc, &raised, 10)?, "raised twice, 10");
+    assert!(rt; closes_just_from(alloc, &base(alloc)?, 12)?);
+    assert!(rt; closes_just_from(alloc, &swapped(alloc)?, 6)?);
+    assert!(rt; closes_just_from(alloc, &raised_twice(alloc)?, 11)?);
+    Ok(())
+}
+
+#[test]
+fn roots_are_closed_for_the_most(rt: HostRuntime) -> Result<(), Fail> {
+    let alloc = rt.alloc();
+    assert!(rt; closes_root(alloc, &swapped(alloc)?, u32::MAX)?);
     Ok(())
 }
 
@@ -36,9 +39,7 @@ fn roots_are_closed(rt: HostRuntime) -> Result<(), Fail> {
 #[test]
 fn root_in_real_time(rt: HostRuntime) -> Result<(), Fail> {
     let alloc = rt.alloc();
-    let tied = tied(alloc)?;
-    assert!(rt; closes_root(alloc, &tied, 4)?, "ties, 4");
-    assert!(rt; !closes_root(alloc, &tied, 3)?, "ties, 3");
+    assert!(rt; closes_just_from(alloc, &tied(alloc)?, 4)?);
     Ok(())
 }
 

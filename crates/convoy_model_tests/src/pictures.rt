@@ -4,7 +4,7 @@ use super::scenarios::base;
 use super::schedules::greatest;
 use convoy_packets::{Instance, Packet};
 use convoy_picture::{Picture, Role, answer_words, entry_words, flight_words};
-use convoy_scenario::Sender;
+use convoy_scenario::{Scenario, Sender};
 use convoy_sim::simulate;
 use std::alloc::{AllocError, Global};
 use std::test::Fail;
@@ -54,27 +54,63 @@ fn why_of_base(rt: HostRuntime) -> Result<(), Fail> {
     Ok(())
 }
 
+/// Whether the answer of a picture is told so.
+fn tells_answer(
+    alloc: Global,
+    scenario: &Scenario,
+    picture: &Picture,
+    want: &str,
+) -> Result<bool, AllocError> {
+    Ok(answer_words(alloc, scenario, picture.why())?.as_str() == want)
+}
+
+/// Whether the packet of that number in a picture is told so.
+fn tells_flight(
+    alloc: Global,
+    scenario: &Scenario,
+    picture: &Picture,
+    number: usize,
+    want: &str,
+) -> Result<bool, AllocError> {
+    match picture.flights().get(number) {
+        Some(flight) => Ok(flight_words(alloc, scenario, flight)?.as_str() == want),
+        None => Ok(false),
+    }
+}
+
+/// Whether the first of all that happens in a picture is told so.
+fn tells_first_entry(
+    alloc: Global,
+    scenario: &Scenario,
+    picture: &Picture,
+    want: &str,
+) -> Result<bool, AllocError> {
+    match picture.entries().first() {
+        Some(entry) => Ok(entry_words(alloc, scenario, entry)?.as_str() == want),
+        None => Ok(false),
+    }
+}
+
 #[test]
 fn words_of_base(rt: HostRuntime) -> Result<(), Fail> {
-    let instance = base(rt.alloc())?;
-    let picture = picture_of(rt.alloc(), &instance)?;
-    let answer = answer_words(rt.alloc(), instance.scenario(), picture.why())?;
-    assert_eq!(rt; answer.as_str(), "t at a: at worst 12 ticks");
-    let flights = picture.flights();
-    assert_eq!(rt; flights.len(), 8);
-    let packet = flight_words(rt.alloc(), instance.scenario(), &flights[5])?;
-    assert_eq!(rt;
-        packet.as_str(),
-        "packet 5: y from a to b, sent at tick 6, there at tick 9"
-    );
-    let proposal = flight_words(rt.alloc(), instance.scenario(), &flights[7])?;
-    assert_eq!(rt;
-        proposal.as_str(),
-        "packet 7: proposal of y from b to a, sent at tick 9, there at tick 12"
-    );
-    let entries = picture.entries();
-    assert_eq!(rt; entries.len(), 15);
-    let first = entry_words(rt.alloc(), instance.scenario(), &entries[0])?;
-    assert_eq!(rt; first.as_str(), "x arrives at b at tick 3 with stamp 1.b");
+    let alloc = rt.alloc();
+    let instance = base(alloc)?;
+    let scenario = instance.scenario();
+    let picture = picture_of(alloc, &instance)?;
+    assert!(rt; tells_answer(alloc, scenario, &picture, "t at a: at worst 12 ticks")?);
+    for (number, want) in [
+        (
+            5,
+            "packet 5: y from a to b, sent at tick 6, there at tick 9",
+        ),
+        (
+            7,
+            "packet 7: proposal of y from b to a, sent at tick 9, there at tick 12",
+        ),
+    ] {
+        assert!(rt; tells_flight(alloc, scenario, &picture, number, want)?);
+    }
+    let first = "x arrives at b at tick 3 with stamp 1.b";
+    assert!(rt; tells_first_entry(alloc, scenario, &picture, first)?);
     Ok(())
 }

@@ -1,6 +1,6 @@
 //! Scenarios of which the greatest latency is known by other programs, or from docs/PROTOCOL.md.
 
-use super::scenarios::{base, base_at, instance_of, of_client, of_group, tied};
+use super::scenarios::{base_at, instance_of, of_client, of_group, tied};
 use super::schedules::least;
 use convoy_packets::Instance;
 use convoy_scenario::ScenarioFault;
@@ -62,65 +62,74 @@ fn found(alloc: Global, instance: &Instance, until: u32, budget: u64) -> Result<
     }
 }
 
+/// The latency that is found from the schedule of the least delays.
+fn latency_found(alloc: Global, instance: &Instance, until: u32, budget: u64) -> Result<u32, Fail> {
+    Ok(found(alloc, instance, until, budget)?.latency())
+}
+
 #[test]
 fn reaches_the_base(rt: HostRuntime) -> Result<(), Fail> {
     let alloc = rt.alloc();
-    let later = found(alloc, &base(alloc)?, u32::MAX, 200)?;
-    assert_eq!(rt; later.latency(), 12);
-    let earlier = found(alloc, &base_at(alloc, 5)?, u32::MAX, 200)?;
-    assert_eq!(rt; earlier.latency(), 11);
+    for (at, want) in [(6, 12), (5, 11)] {
+        assert_eq!(rt;
+            latency_found(alloc, &base_at(alloc, at)?, u32::MAX, 200)?,
+            want
+        );
+    }
     Ok(())
 }
 
 /// All schedules have the same delays, and one order of ties makes t late.
 #[test]
 fn reaches_an_order(rt: HostRuntime) -> Result<(), Fail> {
-    let instance = tied(rt.alloc())?;
-    let record = found(rt.alloc(), &instance, u32::MAX, 400)?;
-    assert_eq!(rt; record.latency(), 4);
+    assert_eq!(rt;
+        latency_found(rt.alloc(), &tied(rt.alloc())?, u32::MAX, 400)?,
+        4
+    );
     Ok(())
 }
 
 #[test]
 fn reaches_two_senders(rt: HostRuntime) -> Result<(), Fail> {
-    let record = found(rt.alloc(), &two_senders(rt.alloc())?, u32::MAX, 4_000)?;
-    assert_eq!(rt; record.latency(), 11);
+    let instance = two_senders(rt.alloc())?;
+    assert_eq!(rt; latency_found(rt.alloc(), &instance, u32::MAX, 4_000)?, 11);
     Ok(())
 }
 
 #[test]
 fn reaches_nine_messages(rt: HostRuntime) -> Result<(), Fail> {
-    let record = found(rt.alloc(), &nine_messages(rt.alloc())?, u32::MAX, 4_000)?;
-    assert_eq!(rt; record.latency(), 28);
+    let instance = nine_messages(rt.alloc())?;
+    for (until, budget, want) in [
+        (u32::MAX, 4_000, 28),
+        (u32::MAX, 0, 2),
+        (2, 4_000, 2),
+        (3, 4_000, 18),
+    ] {
+        assert_eq!(rt; latency_found(rt.alloc(), &instance, until, budget)?, want);
+    }
     Ok(())
 }
 
 #[test]
 fn reaches_three_groups(rt: HostRuntime) -> Result<(), Fail> {
-    let record = found(rt.alloc(), &three_groups(rt.alloc())?, u32::MAX, 4_000)?;
-    assert_eq!(rt; record.latency(), 30);
+    let instance = three_groups(rt.alloc())?;
+    assert_eq!(rt; latency_found(rt.alloc(), &instance, u32::MAX, 4_000)?, 30);
     Ok(())
 }
 
-#[test]
-fn ends_when_it_is_enough(rt: HostRuntime) -> Result<(), Fail> {
-    let alloc = rt.alloc();
-    let instance = nine_messages(alloc)?;
-    let none = found(alloc, &instance, u32::MAX, 0)?;
-    assert_eq!(rt; none.latency(), 2);
-    let enough = found(alloc, &instance, 2, 4_000)?;
-    assert_eq!(rt; enough.latency(), 2);
-    let one = found(alloc, &instance, 3, 4_000)?;
-    assert_eq!(rt; one.latency(), 18);
-    Ok(())
+/// Whether the same schedule is found a second time.
+fn finds_it_again(alloc: Global, instance: &Instance, first: &Record) -> Result<bool, Fail> {
+    let second = found(alloc, instance, u32::MAX, 3_000)?;
+    Ok(
+        first.latency() == second.latency()
+            && first.schedule().delays() == second.schedule().delays(),
+    )
 }
 
 #[test]
 fn finds_the_same_again(rt: HostRuntime) -> Result<(), Fail> {
     let instance = three_groups(rt.alloc())?;
     let first = found(rt.alloc(), &instance, u32::MAX, 3_000)?;
-    let second = found(rt.alloc(), &instance, u32::MAX, 3_000)?;
-    assert_eq!(rt; first.latency(), second.latency());
-    assert_eq!(rt; first.schedule().delays(), second.schedule().delays());
+    assert!(rt; finds_it_again(rt.alloc(), &instance, &first)?);
     Ok(())
 }

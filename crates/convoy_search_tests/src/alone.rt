@@ -36,6 +36,16 @@ fn outcome_from_greatest(
     Ok(search_alone_from(alloc, instance, opening, limit, Bounds::Plain, &NoGate)?)
 }
 
+/// How a search ends.
+fn ending_alone(
+    alloc: Global,
+    instance: &Instance,
+    limit: u64,
+    bounds: Bounds,
+) -> Result<Ending, Fail> {
+    Ok(ending_of(&search_alone(alloc, instance, limit, bounds)?))
+}
+
 fn ending_of(outcome: &Outcome) -> Ending {
     match outcome {
         Outcome::Proved {
@@ -87,8 +97,10 @@ fn base_is_one_leaf(rt: HostRuntime) -> Result<(), Fail> {
 fn no_ticket_at_all(rt: HostRuntime) -> Result<(), Fail> {
     let alloc = rt.alloc();
     let instance = base(alloc)?;
-    let outcome = search_alone(alloc, &instance, 0, Bounds::Plain)?;
-    assert_eq!(rt; ending_of(&outcome), Ending::Open(2, 12, 0));
+    assert_eq!(rt;
+        ending_alone(alloc, &instance, 0, Bounds::Plain)?,
+        Ending::Open(2, 12, 0)
+    );
     Ok(())
 }
 
@@ -97,12 +109,8 @@ fn swapped_groups(rt: HostRuntime) -> Result<(), Fail> {
     let alloc = rt.alloc();
     let instance = swapped(alloc)?;
     for limit in [1_469, 1_000_000] {
-        let outcome = search_alone(alloc, &instance, limit, Bounds::Plain)?;
-        assert_eq!(rt;
-            ending_of(&outcome),
-            Ending::Proved(6, 1_469, 1_469),
-            "limit {limit}"
-        );
+        let ending = ending_alone(alloc, &instance, limit, Bounds::Plain)?;
+        assert_eq!(rt; ending, Ending::Proved(6, 1_469, 1_469), "limit {limit}");
     }
     Ok(())
 }
@@ -116,8 +124,6 @@ fn swapped_groups_by_stamps(rt: HostRuntime) -> Result<(), Fail> {
     if let Outcome::Proved { certificate, .. } = &outcome {
         assert_eq!(rt; certificate.nodes(), [Node::Stamp].as_slice());
     }
-    let outcome = search_alone(alloc, &instance, 0, Bounds::Stamp)?;
-    assert_eq!(rt; ending_of(&outcome), Ending::Open(2, 6, 0));
     Ok(())
 }
 
@@ -126,19 +132,25 @@ fn swapped_groups_limited(rt: HostRuntime) -> Result<(), Fail> {
     let alloc = rt.alloc();
     let instance = swapped(alloc)?;
     for limit in [1, 10] {
-        let outcome = search_alone(alloc, &instance, limit, Bounds::Plain)?;
-        assert_eq!(rt;
-            ending_of(&outcome),
-            Ending::Open(6, 12, limit),
-            "limit {limit}"
-        );
+        let ending = ending_alone(alloc, &instance, limit, Bounds::Plain)?;
+        assert_eq!(rt; ending, Ending::Open(6, 12, limit), "limit {limit}");
     }
-    match search_alone(alloc, &instance, 1_468, Bounds::Plain)? {
-        Outcome::Open { best, tickets, .. } => {
-            assert_eq!(rt; (best.latency(), tickets), (6, 1_468));
-        }
-        Outcome::Proved { .. } => assert!(rt; false, "one ticket is missing"),
-    }
+    Ok(())
+}
+
+#[test]
+fn no_ticket_by_stamps(rt: HostRuntime) -> Result<(), Fail> {
+    let instance = swapped(rt.alloc())?;
+    let ending = ending_alone(rt.alloc(), &instance, 0, Bounds::Stamp)?;
+    assert_eq!(rt; ending, Ending::Open(2, 6, 0));
+    Ok(())
+}
+
+#[test]
+fn one_ticket_is_missing(rt: HostRuntime) -> Result<(), Fail> {
+    let instance = swapped(rt.alloc())?;
+    let ending = ending_alone(rt.alloc(), &instance, 1_468, Bounds::Plain)?;
+    assert!(rt; matches!(ending, Ending::Open(6, _, 1_468)));
     Ok(())
 }
 
@@ -148,12 +160,11 @@ fn neighbours_of_the_base(rt: HostRuntime) -> Result<(), Fail> {
     for (delay, at, want) in [(3, 5, 11), (3, 7, 6), (1, 2, 4)] {
         let instance = base_with(alloc, delay, &["a", "b"], at)?;
         for bounds in [Bounds::Plain, Bounds::Stamp] {
-            match search_alone(alloc, &instance, 1_000_000, bounds)? {
-                Outcome::Proved { certificate, .. } => {
-                    assert_eq!(rt; certificate.latency(), want, "y at {at}, delay {delay}");
-                }
-                Outcome::Open { .. } => assert!(rt; false, "y at {at}, delay {delay}"),
-            }
+            let latency = match ending_alone(alloc, &instance, 1_000_000, bounds)? {
+                Ending::Proved(latency, _, _) => Some(latency),
+                Ending::Open(..) | Ending::WrongTickets => None,
+            };
+            assert_eq!(rt; latency, Some(want), "y at {at}, delay {delay}");
         }
     }
     Ok(())
@@ -162,11 +173,15 @@ fn neighbours_of_the_base(rt: HostRuntime) -> Result<(), Fail> {
 #[test]
 fn opens_with_a_record(rt: HostRuntime) -> Result<(), Fail> {
     let alloc = rt.alloc();
-    let instance = base(alloc)?;
-    let outcome = outcome_from_greatest(&rt, alloc, &instance, 0)?;
+    let outcome = outcome_from_greatest(&rt, alloc, &base(alloc)?, 0)?;
     assert_eq!(rt; ending_of(&outcome), Ending::Open(12, 12, 0));
-    let other = swapped(alloc)?;
-    let outcome = outcome_from_greatest(&rt, alloc, &other, 1_469)?;
+    Ok(())
+}
+
+#[test]
+fn ends_from_a_record(rt: HostRuntime) -> Result<(), Fail> {
+    let alloc = rt.alloc();
+    let outcome = outcome_from_greatest(&rt, alloc, &swapped(alloc)?, 1_469)?;
     assert_eq!(rt; ending_of(&outcome), Ending::Proved(6, 1_469, 1_469));
     Ok(())
 }

@@ -1,6 +1,6 @@
 //! Worked rows on boards, by one thread and by two.
 
-ghost use Rattle.std.specs.Prelude.{◌≡◌, IfOk};
+ghost use Rattle.std.specs.Prelude.{◌≡◌};
 
 use super::scenarios::lone;
 use super::schedules;
@@ -21,12 +21,19 @@ pub(crate) const LATENCY_9: [i64; 4] = [1, 4, 1, 5];
 
 const ALSO_LATENCY_9: [i64; 4] = [1, 5, 1, 4];
 
-/// The record of a schedule.
-pub(crate) fn record_of(alloc: Global, instance: &Instance, list: &[i64]) -> Result<Record, Fail>
-    ensures { IfOk result (λ found. found.scenario ≡ instance.now) }
+/// The record of a schedule. Where memory runs out, the test ends.
+pub(crate) fn record_of<R: Abort>(
+    rt: &R,
+    alloc: Global,
+    instance: &Instance,
+    list: &[i64],
+) -> Record
+    ensures { result.scenario ≡ instance.now }
 {
-    let schedule = schedules::given(alloc, instance, list)?;
-    Ok(Record::of(instance, schedule))
+    match schedules::given(alloc, instance, list) {
+        Ok(schedule) => Record::of(instance, schedule),
+        Err(_) => panic!(rt; "there is no such schedule"),
+    }
 }
 
 /// A board that is opened with a record, and its hand.
@@ -78,15 +85,15 @@ fn closed<R: Abort>(rt: &R, board: Board, hand: Hand) -> u32
 fn board_of_three_hands(rt: HostRuntime) -> Result<(), Fail> {
     let alloc = rt.alloc();
     let instance = lone(alloc)?;
-    let least = record_of(alloc, &instance, &LATENCY_2)?;
+    let least = record_of(&rt, alloc, &instance, &LATENCY_2);
     let (board, mut first) = opened(&rt, alloc, least);
     let mut second = half_of(&rt, &board, &mut first);
     let mut third = half_of(&rt, &board, &mut second);
-    let found = record_of(alloc, &instance, &LATENCY_5)?;
+    let found = record_of(&rt, alloc, &instance, &LATENCY_5);
     assert_eq!(rt; published(&rt, &board, &mut first, found), 5);
-    let found = record_of(alloc, &instance, &LATENCY_9)?;
+    let found = record_of(&rt, alloc, &instance, &LATENCY_9);
     assert_eq!(rt; published(&rt, &board, &mut second, found), 9);
-    let found = record_of(alloc, &instance, &ALSO_LATENCY_9)?;
+    let found = record_of(&rt, alloc, &instance, &ALSO_LATENCY_9);
     assert_eq!(rt; published(&rt, &board, &mut third, found), 9);
     board.join(&mut first, third);
     let Err(CloseFault::HandsOut(board, mut first)) = board.close(first) else {
@@ -101,15 +108,15 @@ fn board_of_three_hands(rt: HostRuntime) -> Result<(), Fail> {
 fn look_sees_others(rt: HostRuntime) -> Result<(), Fail> {
     let alloc = rt.alloc();
     let instance = lone(alloc)?;
-    let least = record_of(alloc, &instance, &LATENCY_2)?;
+    let least = record_of(&rt, alloc, &instance, &LATENCY_2);
     let (board, mut first) = opened(&rt, alloc, least);
     let mut second = half_of(&rt, &board, &mut first);
     assert_eq!(rt; board.look(&mut second), 2);
-    let found = record_of(alloc, &instance, &LATENCY_9)?;
+    let found = record_of(&rt, alloc, &instance, &LATENCY_9);
     assert_eq!(rt; published(&rt, &board, &mut first, found), 9);
     assert_eq!(rt; board.look(&mut second), 9);
     // A lesser latency leaves the greater one.
-    let found = record_of(alloc, &instance, &LATENCY_5)?;
+    let found = record_of(&rt, alloc, &instance, &LATENCY_5);
     assert_eq!(rt; published(&rt, &board, &mut first, found), 9);
     assert_eq!(rt; board.look(&mut second), 9);
     Ok(())
@@ -135,7 +142,7 @@ fn share_after_splits<R: Abort>(rt: &R, board: &Board, hand: &mut Hand, times: u
 fn hand_shares(rt: HostRuntime) -> Result<(), Fail> {
     let alloc = rt.alloc();
     let instance = lone(alloc)?;
-    let least = record_of(alloc, &instance, &LATENCY_2)?;
+    let least = record_of(&rt, alloc, &instance, &LATENCY_2);
     let (board, mut hand) = opened(&rt, alloc, least);
     assert_eq!(rt; share_after_splits(&rt, &board, &mut hand, 32), 1);
     assert_eq!(rt; hand.share(), 4_294_967_296);
@@ -147,7 +154,7 @@ fn hand_shares(rt: HostRuntime) -> Result<(), Fail> {
 fn dropped_hand(rt: HostRuntime) -> Result<(), Fail> {
     let alloc = rt.alloc();
     let instance = lone(alloc)?;
-    let least = record_of(alloc, &instance, &LATENCY_2)?;
+    let least = record_of(&rt, alloc, &instance, &LATENCY_2);
     let (board, mut first) = opened(&rt, alloc, least);
     drop(half_of(&rt, &board, &mut first));
     let Err(CloseFault::HandsOut(board, mut first)) = board.close(first) else {
@@ -180,11 +187,11 @@ fn publish_and_look<R: Abort + Wait>(
 fn two_threads_publish(rt: HostRuntime) -> Result<(), Fail> {
     let alloc = rt.alloc();
     let instance = lone(alloc)?;
-    let least = record_of(alloc, &instance, &LATENCY_2)?;
+    let least = record_of(&rt, alloc, &instance, &LATENCY_2);
     let (board, mut first) = opened(&rt, alloc, least);
     let second = half_of(&rt, &board, &mut first);
-    let lesser = record_of(alloc, &instance, &LATENCY_5)?;
-    let greater = record_of(alloc, &instance, &LATENCY_9)?;
+    let lesser = record_of(&rt, alloc, &instance, &LATENCY_5);
+    let greater = record_of(&rt, alloc, &instance, &LATENCY_9);
     let shared = &board;
     let rt_shared = &rt;
     let (mut first, second) = join(

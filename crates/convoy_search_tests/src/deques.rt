@@ -25,11 +25,11 @@ fn first_and_last_branch(rt: HostRuntime) -> Result<(), Fail> {
     let alloc = rt.alloc();
     let instance = lone(alloc)?;
     let root = Tracked::root(alloc, &instance)?;
-    let branch = root.copy()?;
-    let mut owner = Owner::open(alloc, root)?;
+    let branch = root.copy().expect(&rt, "there is memory for a branch");
+    let mut owner = Owner::open(alloc, root).expect(&rt, "there is memory for a deque");
     assert!(rt; matches!(owner.put(branch), Ok(1)));
     assert_eq!(rt; owner.len(), 2);
-    let thief = owner.thief()?;
+    let thief = owner.thief().expect(&rt, "there is memory for a thief");
     let rt_shared = &rt;
     let (thief, _) = join(
         &rt,

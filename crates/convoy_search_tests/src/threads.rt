@@ -25,9 +25,9 @@ fn all_tickets_are_drawn(rt: HostRuntime) -> Result<(), Fail> {
 fn best_of_records(rt: HostRuntime) -> Result<(), Fail> {
     let alloc = rt.alloc();
     let instance = lone(alloc)?;
-    let opening = record_of(alloc, &instance, &LATENCY_2)?;
-    let first = record_of(alloc, &instance, &LATENCY_9)?;
-    let second = record_of(alloc, &instance, &LATENCY_5)?;
+    let opening = record_of(&rt, alloc, &instance, &LATENCY_2);
+    let first = record_of(&rt, alloc, &instance, &LATENCY_9);
+    let second = record_of(&rt, alloc, &instance, &LATENCY_5);
     let Ok(best) = best_of_three(&rt, alloc, opening, first, second) else {
         panic!(rt; "no best record");
     };
@@ -105,10 +105,10 @@ fn both_take_part<R: Abort + Wait + Threads + Sync>(
 fn one_board_and_one_ledger(rt: HostRuntime) -> Result<(), Fail> {
     let alloc = rt.alloc();
     let instance = lone(alloc)?;
-    let (board, hand) = opened(&rt, alloc, record_of(alloc, &instance, &LATENCY_2)?);
     let (ledger, clerk) = Ledger::open(alloc, 1000)?;
-    let first = record_of(alloc, &instance, &LATENCY_5)?;
-    let second = record_of(alloc, &instance, &LATENCY_9)?;
+    let (board, hand) = opened(&rt, alloc, record_of(&rt, alloc, &instance, &LATENCY_2));
+    let first = record_of(&rt, alloc, &instance, &LATENCY_5);
+    let second = record_of(&rt, alloc, &instance, &LATENCY_9);
     let (hand, clerk) = both_take_part(&rt, &board, &ledger, hand, clerk, first, second);
     let (Ok(best), Ok(drawn)) = (board.close(hand), ledger.close(clerk)) else {
         panic!(rt; "not closed with the whole share");

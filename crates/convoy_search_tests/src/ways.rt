@@ -23,6 +23,15 @@ fn outcome_of<G: Gate>(
     Ok(search_both_ways(alloc, instance, opening, limit, gate)?)
 }
 
+/// What is told of that answer.
+fn told_of(
+    alloc: Global,
+    instance: &Instance,
+    limit: u64,
+) -> Result<(u32, Option<u32>, u64), Fail> {
+    Ok(told(&outcome_of(alloc, instance, limit, &NoGate)?))
+}
+
 /// The latency of the certificate, or the best one and the upper bound; and the tickets.
 fn told(outcome: &Outcome) -> (u32, Option<u32>, u64) {
     match outcome {
@@ -67,11 +76,9 @@ fn swapped_groups(rt: HostRuntime) -> Result<(), Fail> {
         (1_469, (6, None, 1_469)),
         (10_001, (6, None, 1_469)),
     ] {
-        let outcome = outcome_of(alloc, &instance, limit, &NoGate)?;
-        assert_eq!(rt; told(&outcome), want, "limit {limit}");
+        assert_eq!(rt; told_of(alloc, &instance, limit)?, want, "limit {limit}");
     }
-    let outcome = outcome_of(alloc, &instance, 1_000, &NoGate)?;
-    let (latency, upper, tickets) = told(&outcome);
+    let (latency, upper, tickets) = told_of(alloc, &instance, 1_000)?;
     assert_eq!(rt; (latency, upper.is_some(), tickets), (6, true, 1_000));
     Ok(())
 }
@@ -112,8 +119,7 @@ impl Gate for Seen {
 fn leads_end_what_plain_bounds_do_not(rt: HostRuntime) -> Result<(), Fail> {
     let alloc = rt.alloc();
     let instance = base_with(alloc, 6, &["b", "a"], 12)?;
-    let by_plain = outcome_of(alloc, &instance, 10_000, &NoGate)?;
-    assert_eq!(rt; told(&by_plain), (12, Some(24), 10_000));
+    assert_eq!(rt; told_of(alloc, &instance, 10_000)?, (12, Some(24), 10_000));
     let seen = Seen::nothing();
     let outcome = outcome_of(alloc, &instance, 10_001, &seen)?;
     assert_eq!(rt; told(&outcome), (12, None, 1));
@@ -145,12 +151,23 @@ fn outcome_from(alloc: Global, instance: &Instance, ranks: &[i64]) -> Result<Out
 fn points_in_real_time(rt: HostRuntime) -> Result<(), Fail> {
     let alloc = rt.alloc();
     let instance = tied(alloc)?;
-    let fixed = outcome_from(alloc, &instance, &[0; 10])?;
-    let (least, upper, _) = told(&fixed);
+    let (least, upper, _) = told(&outcome_from(alloc, &instance, &[0; 10])?);
     assert_eq!(rt; (least, upper), (2, Some(4)));
-    let other = outcome_from(alloc, &instance, &[0, 0, 1, 0, 0, 0, 0, 0, 0, 0])?;
-    assert_eq!(rt; told(&other), (4, None, 1));
+    let other = told(&outcome_from(alloc, &instance, &[0, 0, 1, 0, 0, 0, 0, 0, 0, 0])?);
+    assert_eq!(rt; other, (4, None, 1));
     Ok(())
+}
+
+/// What is told of a search with that limit, of which another way told an upper bound.
+fn told_with_upper(
+    alloc: Global,
+    instance: &Instance,
+    limit: u64,
+    bounds: Bounds,
+    upper: u32,
+) -> Result<(u32, Option<u32>, u64), Fail> {
+    let outcome = search_alone(alloc, instance, limit, bounds)?;
+    Ok(told(&outcome.with_upper(upper)))
 }
 
 /// Of two upper bounds the lesser one is told, and a proved outcome stays as it is.
@@ -159,10 +176,10 @@ fn lesser_upper_bounds(rt: HostRuntime) -> Result<(), Fail> {
     let alloc = rt.alloc();
     let instance = base_with(alloc, 3, &["b", "a"], 6)?;
     for (upper, want) in [(9, 9), (12, 12), (15, 12)] {
-        let outcome = search_alone(alloc, &instance, 10, Bounds::Plain)?;
-        assert_eq!(rt; told(&outcome.with_upper(upper)), (6, Some(want), 10));
+        let told = told_with_upper(alloc, &instance, 10, Bounds::Plain, upper)?;
+        assert_eq!(rt; told, (6, Some(want), 10));
     }
-    let outcome = search_alone(alloc, &instance, 1, Bounds::Stamp)?;
-    assert_eq!(rt; told(&outcome.with_upper(9)), (6, None, 1));
+    let proved = told_with_upper(alloc, &instance, 1, Bounds::Stamp, 9)?;
+    assert_eq!(rt; proved, (6, None, 1));
     Ok(())
 }

@@ -77,6 +77,27 @@ fn is_refused(alloc: Global, text: &[u8], fault: TextFault) -> bool {
     }
 }
 
+/// Whether a text with the first such part replaced has that fault.
+fn has_fault(
+    alloc: Global,
+    text: &[u8],
+    old: &[u8],
+    new: &[u8],
+    fault: TextFault,
+) -> Result<bool, Fail> {
+    Ok(is_refused(alloc, &with(alloc, text, old, new)?, fault))
+}
+
+/// Whether what is read of a text with the first such part replaced is written as it stands.
+fn keeps(alloc: Global, text: &[u8], old: &[u8], new: &[u8]) -> Result<bool, Fail> {
+    is_kept(alloc, &with(alloc, text, old, new)?)
+}
+
+/// The text of the base, in version 3.
+fn third(alloc: Global) -> Result<Vec<u8>, Fail> {
+    with(alloc, BASE, b"convoy 1", b"convoy 3")
+}
+
 #[test]
 fn certificate_of_base(rt: HostRuntime) -> Result<(), Fail> {
     assert_eq!(rt; BASE.len(), 149);
@@ -101,10 +122,9 @@ fn certificate_of_lone_message(rt: HostRuntime) -> Result<(), Fail> {
 
 #[test]
 fn tree_of_splits(rt: HostRuntime) -> Result<(), Fail> {
-    let text = with(rt.alloc(), BASE, b"b\nend", b"s 1023 16\np\nb\nend")?;
-    assert!(rt; is_kept(rt.alloc(), &text)?);
-    let none = with(rt.alloc(), BASE, b"b\nend", b"end")?;
-    assert!(rt; is_kept(rt.alloc(), &none)?);
+    for nodes in [b"s 1023 16\np\nb\nend".as_slice(), b"end"] {
+        assert!(rt; keeps(rt.alloc(), BASE, b"b\nend", nodes)?);
+    }
     Ok(())
 }
 
@@ -112,36 +132,50 @@ fn tree_of_splits(rt: HostRuntime) -> Result<(), Fail> {
 fn stamp_leaf(rt: HostRuntime) -> Result<(), Fail> {
     let alloc = rt.alloc();
     let leaf = with(alloc, BASE, b"b\nend", b"t\nend")?;
-    let text = with(alloc, &leaf, b"convoy 1", b"convoy 2")?;
-    assert!(rt; is_kept(alloc, &text)?);
     assert!(rt; is_refused(alloc, &leaf, TextFault::Line(10, Expected::Node)));
-    let none = with(alloc, &text, b"t\nend\n", b"p\nend\n\n")?;
-    assert!(rt; is_refused(alloc, &none, TextFault::Line(1, Expected::Convoy)));
+    assert!(rt; keeps(alloc, &leaf, b"convoy 1", b"convoy 2")?);
+    Ok(())
+}
+
+#[test]
+fn second_version_without_stamp_leaf(rt: HostRuntime) -> Result<(), Fail> {
+    let second = with(rt.alloc(), BASE, b"convoy 1", b"convoy 2")?;
+    let fault = TextFault::Line(1, Expected::Convoy);
+    assert!(rt; has_fault(rt.alloc(), &second, b"b\nend\n", b"p\nend\n\n", fault)?);
     Ok(())
 }
 
 #[test]
 fn lead_leaves(rt: HostRuntime) -> Result<(), Fail> {
-    let alloc = rt.alloc();
-    let third = with(alloc, BASE, b"convoy 1", b"convoy 3")?;
+    let third = third(rt.alloc())?;
     for nodes in [
         b"c 12\nend".as_slice(),
         b"c 0\nend",
         b"c 4294967295\nend",
         b"s 4 2\nt\nc 7\nend",
     ] {
-        let text = with(alloc, &third, b"b\nend", nodes)?;
-        assert!(rt; is_kept(alloc, &text)?);
+        assert!(rt; keeps(rt.alloc(), &third, b"b\nend", nodes)?);
     }
-    let text = with(
-        alloc,
-        &third,
-        b"groups a b\n",
-        b"groups a b\nlink b a 2 3\n",
-    )?;
-    let linked = with(alloc, &text, b"b\nend", b"c 12\nend")?;
-    assert!(rt; is_kept(alloc, &linked)?);
-    let certificate = read(alloc, &linked)?;
+    Ok(())
+}
+
+/// The text of the base in version 3, with a link.
+fn third_with_link(alloc: Global) -> Result<Vec<u8>, Fail> {
+    let linked = b"groups a b\nlink b a 2 3\n";
+    with(alloc, &third(alloc)?, b"groups a b\n", linked)
+}
+
+#[test]
+fn lead_leaf_beside_link(rt: HostRuntime) -> Result<(), Fail> {
+    let text = third_with_link(rt.alloc())?;
+    assert!(rt; keeps(rt.alloc(), &text, b"b\nend", b"c 12\nend")?);
+    Ok(())
+}
+
+#[test]
+fn node_of_lead_leaf(rt: HostRuntime) -> Result<(), Fail> {
+    let text = with(rt.alloc(), &third(rt.alloc())?, b"b\nend", b"c 12\nend")?;
+    let certificate = read(rt.alloc(), &text)?;
     assert_eq!(rt;
         certificate.nodes(),
         [Node::Lead { latency: 12 }].as_slice()
@@ -151,11 +185,8 @@ fn lead_leaves(rt: HostRuntime) -> Result<(), Fail> {
 
 #[test]
 fn faults_of_lead_leaves(rt: HostRuntime) -> Result<(), Fail> {
-    let alloc = rt.alloc();
-    let third = with(alloc, BASE, b"convoy 1", b"convoy 3")?;
-    assert!(rt; is_refused(alloc, &third, TextFault::Line(1, Expected::Convoy)));
-    let more = with(alloc, &third, b"b\nend\n", b"t\nend\n\n")?;
-    assert!(rt; is_refused(alloc, &more, TextFault::Line(1, Expected::Convoy)));
+    let third = third(rt.alloc())?;
+    let fault = TextFault::Line(10, Expected::Node);
     for nodes in [
         b"c\nend".as_slice(),
         b"c \nend",
@@ -165,34 +196,51 @@ fn faults_of_lead_leaves(rt: HostRuntime) -> Result<(), Fail> {
         b"c 12 12\nend",
         b"c 12 \nend",
     ] {
-        let text = with(alloc, &third, b"b\nend", nodes)?;
-        assert!(rt; is_refused(alloc, &text, TextFault::Line(10, Expected::Node)));
+        assert!(rt; has_fault(rt.alloc(), &third, b"b\nend", nodes, fault)?);
     }
+    Ok(())
+}
+
+#[test]
+fn third_version_without_lead_leaf(rt: HostRuntime) -> Result<(), Fail> {
+    let third = third(rt.alloc())?;
+    let fault = TextFault::Line(1, Expected::Convoy);
+    assert!(rt; is_refused(rt.alloc(), &third, fault));
+    assert!(rt; has_fault(rt.alloc(), &third, b"b\nend\n", b"t\nend\n\n", fault)?);
+    Ok(())
+}
+
+#[test]
+fn lead_leaves_of_older_versions(rt: HostRuntime) -> Result<(), Fail> {
+    let fault = TextFault::Line(12, Expected::Node);
     for version in [b"convoy 1".as_slice(), b"convoy 2"] {
-        let older = with(alloc, BASE, b"convoy 1", version)?;
-        let text = with(alloc, &older, b"b\nend", b"s 4 2\nb\nc 12\nend")?;
-        assert!(rt; is_refused(alloc, &text, TextFault::Line(12, Expected::Node)));
+        let older = with(rt.alloc(), BASE, b"convoy 1", version)?;
+        let nodes = b"s 4 2\nb\nc 12\nend";
+        assert!(rt; has_fault(rt.alloc(), &older, b"b\nend", nodes, fault)?);
     }
-    let fifth = with(alloc, BASE, b"convoy 1", b"convoy 5")?;
-    assert!(rt; is_refused(alloc, &fifth, TextFault::Line(1, Expected::Convoy)));
     Ok(())
 }
 
 #[test]
 fn certificate_in_real_time(rt: HostRuntime) -> Result<(), Fail> {
-    let alloc = rt.alloc();
-    assert!(rt; is_kept(alloc, REAL)?);
-    let certificate = read(alloc, REAL)?;
+    let certificate = read(rt.alloc(), REAL)?;
     assert_eq!(rt; certificate.scenario().time(), Time::Real);
     let order = certificate.schedule().order();
     assert_eq!(rt; order.arrival(2, 0), 1);
     assert_eq!(rt; order.commit(2, 0), 0);
-    let none = with(alloc, REAL, b" 0 0 0 0 0 0 1 0 0 0", b"")?;
-    assert!(rt; is_kept(alloc, &none)?);
-    let most = with(alloc, REAL, b" 1 0 0 0\n", b" 255 0 0 0\n")?;
-    assert!(rt; is_kept(alloc, &most)?);
-    let split = with(alloc, REAL, b"c 6\nend", b"s 4 2\nb\nc 6\nend")?;
-    assert!(rt; is_kept(alloc, &split)?);
+    Ok(())
+}
+
+#[test]
+fn texts_in_real_time(rt: HostRuntime) -> Result<(), Fail> {
+    assert!(rt; is_kept(rt.alloc(), REAL)?);
+    for (old, new) in [
+        (b" 0 0 0 0 0 0 1 0 0 0".as_slice(), b"".as_slice()),
+        (b" 1 0 0 0\n", b" 255 0 0 0\n"),
+        (b"c 6\nend", b"s 4 2\nb\nc 6\nend"),
+    ] {
+        assert!(rt; keeps(rt.alloc(), REAL, old, new)?);
+    }
     Ok(())
 }
 
@@ -214,8 +262,7 @@ fn faults_in_real_time(rt: HostRuntime) -> Result<(), Fail> {
         (b"c 6", b"p", 12, Expected::Node),
         (b"c 6", b"t", 12, Expected::Node),
     ] {
-        let text = with(alloc, REAL, old, new)?;
-        assert!(rt; is_refused(alloc, &text, TextFault::Line(line, expected)));
+        assert!(rt; has_fault(alloc, REAL, old, new, TextFault::Line(line, expected))?);
     }
     for (old, new) in [
         (b"order 0".as_slice(), b"order".as_slice()),
@@ -223,137 +270,73 @@ fn faults_in_real_time(rt: HostRuntime) -> Result<(), Fail> {
         (b"order 0", b"order 256"),
         (b" 1 0 0 0\n", b" 0 0 0 0\n"),
     ] {
-        let text = with(alloc, REAL, old, new)?;
-        assert!(rt; is_refused(alloc, &text, TextFault::Schedule));
+        assert!(rt; has_fault(alloc, REAL, old, new, TextFault::Schedule)?);
     }
+    Ok(())
+}
+
+/// The text of the base in version 3, with as many lead leaves as there may be, and then that.
+fn with_most_leads(alloc: Global, rest: &[u8]) -> Result<Vec<u8>, Fail> {
+    let mut text = with(alloc, &third(alloc)?, b"end\n", b"")?;
+    for _ in 0..100_000 {
+        text.extend_from_slice(b"c 9\n")?;
+    }
+    text.extend_from_slice(rest)?;
+    Ok(text)
+}
+
+#[test]
+fn most_lead_leaves(rt: HostRuntime) -> Result<(), Fail> {
+    assert!(rt; is_kept(rt.alloc(), &with_most_leads(rt.alloc(), b"end\n")?)?);
     Ok(())
 }
 
 /// What follows one lead leaf too many is not looked at.
 #[test]
 fn one_lead_leaf_too_many(rt: HostRuntime) -> Result<(), Fail> {
-    let alloc = rt.alloc();
-    let third = with(alloc, BASE, b"convoy 1", b"convoy 3")?;
-    let mut text = with(alloc, &third, b"end\n", b"")?;
-    for _ in 0..100_000 {
-        text.extend_from_slice(b"c 9\n")?;
-    }
-    let mut last = text.clone()?;
-    last.extend_from_slice(b"end\n")?;
-    assert!(rt; is_kept(alloc, &last)?);
-    text.extend_from_slice(b"t\nc 9\nno node\n")?;
-    assert!(rt; is_refused(alloc, &text, TextFault::TreeCount));
+    let text = with_most_leads(rt.alloc(), b"t\nc 9\nno node\n")?;
+    assert!(rt; is_refused(rt.alloc(), &text, TextFault::TreeCount));
     Ok(())
 }
 
 #[test]
 fn faults_of_form(rt: HostRuntime) -> Result<(), Fail> {
-    let without_end = with(rt.alloc(), BASE, b"end\n", b"")?;
-    assert!(rt;
-        is_refused(
-            rt.alloc(),
-            &without_end,
-            TextFault::Line(11, Expected::Node)
-        )
-    );
-    let second_space = with(rt.alloc(), BASE, b"x client", b"x  client")?;
-    assert!(rt;
-        is_refused(
-            rt.alloc(),
-            &second_space,
-            TextFault::Line(4, Expected::Multicast)
-        )
-    );
-    let leading_zero = with(rt.alloc(), BASE, b"latency 12", b"latency 012")?;
-    assert!(rt;
-        is_refused(
-            rt.alloc(),
-            &leading_zero,
-            TextFault::Line(8, Expected::Latency)
-        )
-    );
-    let carriage_return = with(rt.alloc(), BASE, b"delay 3", b"delay 3\r")?;
-    assert!(rt;
-        is_refused(
-            rt.alloc(),
-            &carriage_return,
-            TextFault::Line(2, Expected::Delay)
-        )
-    );
-    let no_last_line_end = with(rt.alloc(), BASE, b"\nend\n", b"\nend")?;
-    assert!(rt;
-        is_refused(
-            rt.alloc(),
-            &no_last_line_end,
-            TextFault::Line(11, Expected::Node)
-        )
-    );
+    for (old, new, line, expected) in [
+        (b"end\n".as_slice(), b"".as_slice(), 11, Expected::Node),
+        (b"x client", b"x  client", 4, Expected::Multicast),
+        (b"latency 12", b"latency 012", 8, Expected::Latency),
+        (b"delay 3", b"delay 3\r", 2, Expected::Delay),
+        (b"\nend\n", b"\nend", 11, Expected::Node),
+        (b"target t a", b"multicast", 7, Expected::Multicast),
+        (b"t client 0 a b", b"t client 0 b a", 5, Expected::Multicast),
+        (b"b\nend", b"s 0 0\nend", 10, Expected::Node),
+        (b"b\nend", b"s 1024 1\nend", 10, Expected::Node),
+        (b"convoy 1\n", b"convoy 2\n", 1, Expected::Convoy),
+    ] {
+        assert!(rt; has_fault(rt.alloc(), BASE, old, new, TextFault::Line(line, expected))?);
+    }
     Ok(())
 }
 
 #[test]
 fn faults_of_content(rt: HostRuntime) -> Result<(), Fail> {
-    let bare_multicast = with(rt.alloc(), BASE, b"target t a", b"multicast")?;
-    assert!(rt;
-        is_refused(
-            rt.alloc(),
-            &bare_multicast,
-            TextFault::Line(7, Expected::Multicast)
-        )
-    );
-    let no_destination = with(rt.alloc(), BASE, b"x client 0 b", b"x client 0")?;
-    assert!(rt;
-        is_refused(
-            rt.alloc(),
-            &no_destination,
-            TextFault::Scenario(ScenarioFault::NoDestination)
-        )
-    );
-    let unordered = with(rt.alloc(), BASE, b"t client 0 a b", b"t client 0 b a")?;
-    assert!(rt;
-        is_refused(
-            rt.alloc(),
-            &unordered,
-            TextFault::Line(5, Expected::Multicast)
-        )
-    );
-    let seven_delays = with(rt.alloc(), BASE, b"3 3 3 3\n", b"3 3 3\n")?;
-    assert!(rt; is_refused(rt.alloc(), &seven_delays, TextFault::Schedule));
-    let delay_of_four = with(rt.alloc(), BASE, b"3 3\n", b"3 4\n")?;
-    assert!(rt; is_refused(rt.alloc(), &delay_of_four, TextFault::Schedule));
-    Ok(())
-}
-
-#[test]
-fn faults_of_nodes_and_words(rt: HostRuntime) -> Result<(), Fail> {
-    let after_end = with(rt.alloc(), BASE, b"end\n", b"end\n\n")?;
-    assert!(rt; is_refused(rt.alloc(), &after_end, TextFault::AfterEnd));
-    let place_of_zero = with(rt.alloc(), BASE, b"b\nend", b"s 0 0\nend")?;
-    assert!(rt;
-        is_refused(
-            rt.alloc(),
-            &place_of_zero,
-            TextFault::Line(10, Expected::Node)
-        )
-    );
-    let packet_too_large = with(rt.alloc(), BASE, b"b\nend", b"s 1024 1\nend")?;
-    assert!(rt;
-        is_refused(
-            rt.alloc(),
-            &packet_too_large,
-            TextFault::Line(10, Expected::Node)
-        )
-    );
-    let not_utf8 = with(rt.alloc(), BASE, b"target t", b"target \xff")?;
-    assert!(rt;
-        is_refused(
-            rt.alloc(),
-            &not_utf8,
-            TextFault::Scenario(ScenarioFault::UnknownTarget)
-        )
-    );
-    let no_text = with(rt.alloc(), BASE, b"convoy 1\n", b"convoy 2\n")?;
-    assert!(rt; is_refused(rt.alloc(), &no_text, TextFault::Line(1, Expected::Convoy)));
+    for (old, new, fault) in [
+        (
+            b"x client 0 b".as_slice(),
+            b"x client 0".as_slice(),
+            TextFault::Scenario(ScenarioFault::NoDestination),
+        ),
+        (
+            b"target t",
+            b"target \xff",
+            TextFault::Scenario(ScenarioFault::UnknownTarget),
+        ),
+        (b"3 3 3 3\n", b"3 3 3\n", TextFault::Schedule),
+        (b"3 3\n", b"3 4\n", TextFault::Schedule),
+        (b"end\n", b"end\n\n", TextFault::AfterEnd),
+    ] {
+        assert!(rt; has_fault(rt.alloc(), BASE, old, new, fault)?);
+    }
     Ok(())
 }
 
