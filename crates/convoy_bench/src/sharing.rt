@@ -14,7 +14,7 @@ use std::alloc::Global;
 use std::rt::Runtime;
 use std::sync::{Mutex, Wait};
 use std::thread::{Threads, for_each_mut};
-use std::time::Instant;
+use std::time::{Duration, Instant};
 
 /// As many tickets as a ledger may have, so that no thread runs out of them.
 const TICKETS: u64 = 281_474_976_710_656;
@@ -89,10 +89,24 @@ fn time_call<R: Runtime + Threads + Wait + Sync>(
     threads: u32,
     turns: u32,
 ) -> Result<()> {
+    let (made, elapsed) = made_together(rt, alloc, first, call, threads, turns)?;
+    println!(rt; "{threads} threads: {made} {}", call.name())?;
+    tell_rate(rt, call.name(), made, elapsed)
+}
+
+/// How many calls so many threads made, of so many each, and how long that took.
+fn made_together<R: Runtime + Threads + Wait + Sync>(
+    rt: &R,
+    alloc: Global,
+    first: &Record,
+    call: Call,
+    threads: u32,
+    turns: u32,
+) -> Result<(u64, Duration)> {
+    let (ledger, clerk) = Ledger::open(alloc, TICKETS)?;
     let Ok((board, hand)) = Board::open(rt, alloc, first.copy()?) else {
         bail!("memory ran out");
     };
-    let (ledger, clerk) = Ledger::open(alloc, TICKETS)?;
     let lock = Mutex::new(0);
     let own = Seat {
         board: &board,
@@ -109,17 +123,20 @@ fn time_call<R: Runtime + Threads + Wait + Sync>(
         _ => 0,
     };
     let mut seats = seats_of(rt, alloc, own, threads, noted)?;
+    let elapsed = take_all_turns(rt, &mut seats, call, turns)?;
+    Ok((made_by(&seats), elapsed))
+}
+
+/// Lets the threads of all seats make a call so many times each, and answers how long that took.
+fn take_all_turns<R: Runtime + Threads + Wait + Sync>(
+    rt: &R,
+    seats: &mut [Seat],
+    call: Call,
+    turns: u32,
+) -> Result<Duration> {
     let start = Instant::now(rt)?;
-    for_each_mut(
-        rt,
-        &mut seats,
-        4,
-        &|_, seat| seat.take_turns(rt, call, turns),
-    );
-    let elapsed = start.elapsed(rt)?;
-    let made = made_by(&seats);
-    println!(rt; "{threads} threads: {made} {}", call.name())?;
-    tell_rate(rt, call.name(), made, elapsed)
+    for_each_mut(rt, seats, 4, &|_, seat| seat.take_turns(rt, call, turns));
+    Ok(start.elapsed(rt)?)
 }
 
 /// Seats for so many threads, each with so many records to publish.
