@@ -36,8 +36,8 @@ fn batch_of_three(rt: HostRuntime) -> Result<(), Fail> {
     let want = b"job 1\ngreatest 12\njob 2\nfault 1 not TOML\njob 3\ngreatest 0\n";
     for piece in [1, 7, 4_096] {
         let (end, told) = told_in_pieces(&rt, alloc, batch.as_str(), piece)?;
-        assert_eq!(rt; end, Some(SearchEnd::Faulty), "at {piece}");
-        assert_eq!(rt; told.as_slice(), want.as_slice(), "at {piece}");
+        assert!(rt; end == Some(SearchEnd::Faulty), "at {piece}");
+        assert!(rt; told.as_slice() == want.as_slice(), "at {piece}");
     }
     Ok(())
 }
@@ -50,8 +50,8 @@ fn batch_with_labels(rt: HostRuntime) -> Result<(), Fail> {
     let want = b"job 1 lone\ngreatest 0\njob 2 base\ngreatest 12\n";
     for piece in [1, 4_096] {
         let (end, told) = told_in_pieces(&rt, alloc, batch.as_str(), piece)?;
-        assert_eq!(rt; end, Some(SearchEnd::Exact), "at {piece}");
-        assert_eq!(rt; told.as_slice(), want.as_slice(), "at {piece}");
+        assert!(rt; end == Some(SearchEnd::Exact), "at {piece}");
+        assert!(rt; told.as_slice() == want.as_slice(), "at {piece}");
     }
     Ok(())
 }
@@ -78,7 +78,7 @@ fn batch_reads_fail(rt: HostRuntime) -> Result<(), Fail> {
         let mut sink = VecSink::new(alloc, 4_096);
         let ended = run_batch(&rt, alloc, &mut source, &mut sink, &options(1, READS));
         assert!(rt; matches!(ended, Err(Fault::Reading(ReadFault::Read))));
-        assert_eq!(rt; sink.bytes(), blocks_after(good).as_bytes(), "at {good}");
+        assert!(rt; sink.bytes() == blocks_after(good).as_bytes(), "at {good}");
     }
     Ok(())
 }
@@ -93,7 +93,10 @@ fn batch_reads_are_used_up(rt: HostRuntime) -> Result<(), Fail> {
         let mut sink = VecSink::new(alloc, 4_096);
         let ended = run_batch(&rt, alloc, &mut source, &mut sink, &options(1, reads));
         assert!(rt; matches!(ended, Err(Fault::Reading(ReadFault::TooManyReads))));
-        assert_eq!(rt; sink.bytes(), blocks_after(reads).as_bytes(), "at {reads}");
+        assert!(rt;
+            sink.bytes() == blocks_after(reads).as_bytes(),
+            "at {reads}"
+        );
     }
     Ok(())
 }
@@ -111,7 +114,7 @@ fn batch_writes_fail(rt: HostRuntime) -> Result<(), Fail> {
         let mut sink = FailingSink { inner, good };
         let ended = run_batch(&rt, alloc, &mut source, &mut sink, &options);
         assert!(rt; matches!(ended, Err(Fault::Write)));
-        assert_eq!(rt; Some(sink.inner.bytes()), want.get(..good), "at {good}");
+        assert!(rt; Some(sink.inner.bytes()) == want.get(..good), "at {good}");
     }
     Ok(())
 }

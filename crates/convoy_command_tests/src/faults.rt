@@ -26,7 +26,7 @@ fn faults_tell_themselves(rt: HostRuntime) -> Result<(), Fail> {
         (Fault::TooManyJobs, "there are too many jobs"),
     ] {
         let text = format!(in rt.alloc(); "{fault}")?;
-        assert_eq!(rt; text.as_str(), told);
+        assert!(rt; text.as_str() == told);
     }
     Ok(())
 }
@@ -43,7 +43,7 @@ fn memory_has_one_line(rt: HostRuntime) -> Result<(), Fail> {
     ] {
         let mut line = Vec::new(rt.alloc());
         fault_line(&fault, &mut line)?;
-        assert_eq!(rt; line.as_slice(), b"fault 11 out of memory\n".as_slice());
+        assert!(rt; line.as_slice() == b"fault 11 out of memory\n".as_slice());
     }
     Ok(())
 }

@@ -96,14 +96,14 @@ fn a_search_is_watched(rt: HostRuntime) -> Result<(), Fail> {
         };
         let seen = Seen::nothing();
         let done = watched(&rt, alloc, SWAPPED.as_bytes(), options.seeking(100), &seen);
-        assert_eq!(rt; done, Some(Done::Open));
-        assert_eq!(rt; seen.begun.load(Ordering::Relaxed), 1);
-        assert_eq!(rt; seen.limit.load(Ordering::Relaxed), 10);
-        assert_eq!(rt; seen.least.load(Ordering::Relaxed), 6);
-        assert_eq!(rt; seen.most.load(Ordering::Relaxed), 12);
+        assert!(rt; done == Some(Done::Open));
+        assert!(rt; seen.begun.load(Ordering::Relaxed) == 1);
+        assert!(rt; seen.limit.load(Ordering::Relaxed) == 10);
+        assert!(rt; seen.least.load(Ordering::Relaxed) == 6);
+        assert!(rt; seen.most.load(Ordering::Relaxed) == 12);
         assert!(rt; seen.branches.load(Ordering::Relaxed) >= 10);
-        assert_eq!(rt; seen.ended.load(Ordering::Relaxed), 1);
-        assert_eq!(rt; seen.greatest.load(Ordering::Relaxed), 0);
+        assert!(rt; seen.ended.load(Ordering::Relaxed) == 1);
+        assert!(rt; seen.greatest.load(Ordering::Relaxed) == 0);
     }
     Ok(())
 }
@@ -117,10 +117,10 @@ fn one_ticket_is_not_watched(rt: HostRuntime) -> Result<(), Fail> {
     };
     let seen = Seen::nothing();
     let done = watched(&rt, alloc, BASE.as_bytes(), options.seeking(100), &seen);
-    assert_eq!(rt; done, Some(Done::Fine));
-    assert_eq!(rt; seen.begun.load(Ordering::Relaxed), 0);
-    assert_eq!(rt; seen.branches.load(Ordering::Relaxed), 0);
-    assert_eq!(rt; seen.ended.load(Ordering::Relaxed), 1);
-    assert_eq!(rt; seen.greatest.load(Ordering::Relaxed), 6);
+    assert!(rt; done == Some(Done::Fine));
+    assert!(rt; seen.begun.load(Ordering::Relaxed) == 0);
+    assert!(rt; seen.branches.load(Ordering::Relaxed) == 0);
+    assert!(rt; seen.ended.load(Ordering::Relaxed) == 1);
+    assert!(rt; seen.greatest.load(Ordering::Relaxed) == 6);
     Ok(())
 }

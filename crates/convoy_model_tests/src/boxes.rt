@@ -31,8 +31,8 @@ fn half_bounds(
     assert!(rt; least <= at && at < most);
     match root.halves(instance, packet, at) {
         Ok((lower, upper)) => {
-            assert_eq!(rt; bound(instance, lower.delay_box()), lower.bound());
-            assert_eq!(rt; bound(instance, upper.delay_box()), upper.bound());
+            assert!(rt; bound(instance, lower.delay_box()) == lower.bound());
+            assert!(rt; bound(instance, upper.delay_box()) == upper.bound());
             Ok((lower.bound(), upper.bound()))
         }
         Err((_, error)) => Err(error.into()),
@@ -44,7 +44,7 @@ fn bounds_of_the_base(rt: HostRuntime) -> Result<(), Fail> {
     let alloc = rt.alloc();
     for (at, want) in [(5, 11), (6, 12), (7, 6)] {
         let instance = base_at(alloc, at)?;
-        assert_eq!(rt; root_bound(alloc, &instance)?, want, "y at {at}");
+        assert!(rt; root_bound(alloc, &instance)? == want, "y at {at}");
     }
     Ok(())
 }
@@ -55,7 +55,7 @@ fn bounds_of_halves(rt: HostRuntime) -> Result<(), Fail> {
     let instance = base(alloc)?;
     for (packet, at, lower, upper) in [(4, 1, 4, 12), (4, 2, 5, 12), (7, 1, 10, 12)] {
         let bounds = half_bounds(&rt, alloc, &instance, packet, at)?;
-        assert_eq!(rt; bounds, (lower, upper), "packet {packet} at {at}");
+        assert!(rt; bounds == (lower, upper), "packet {packet} at {at}");
     }
     Ok(())
 }
@@ -92,7 +92,7 @@ fn bound_of_a_point(rt: HostRuntime) -> Result<(), Fail> {
     let instance = swapped(rt.alloc())?;
     let point = greatest_point(rt.alloc(), &instance)?;
     assert!(rt; point.is_point());
-    assert_eq!(rt; bound(&instance, &point), 12);
+    assert!(rt; bound(&instance, &point) == 12);
     Ok(())
 }
 
@@ -113,7 +113,7 @@ fn schedule_of_a_point(rt: HostRuntime) -> Result<(), Fail> {
     let point = copied_point(rt.alloc())?;
     assert!(rt; point.is_point());
     let schedule = point.greatest(rt.alloc())?;
-    assert_eq!(rt; schedule.delays(), [3, 3, 3, 3, 3, 3, 3, 3].as_slice());
+    assert!(rt; schedule.delays() == [3, 3, 3, 3, 3, 3, 3, 3].as_slice());
     Ok(())
 }
 
@@ -127,8 +127,8 @@ fn spans_of_the_base(rt: HostRuntime) -> Result<(), Fail> {
         arrival: (1, 3),
         settling: (2, 6),
     };
-    assert_eq!(rt; root.span(&instance, 1, 0), target);
+    assert!(rt; root.span(&instance, 1, 0) == target);
     assert!(rt; !root.is_point());
-    assert_eq!(rt; root.copy()?.bound(), 12);
+    assert!(rt; root.copy()?.bound() == 12);
     Ok(())
 }

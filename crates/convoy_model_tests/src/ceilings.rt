@@ -49,10 +49,10 @@ fn base_scenario(rt: HostRuntime) -> Result<(), Fail> {
     let base = scenario_of(rt.alloc(), &[], &base_messages())?;
     if base.message_count() == 3 {
         // 6 ticks to the commit of t at a, and 6 to that of y, which a issues.
-        assert_eq!(rt; ceiling(&base, 0, 0), 12);
+        assert!(rt; ceiling(&base, 0, 0) == 12);
         // At b another message of the kind of t comes after a tick at least.
-        assert_eq!(rt; ceiling(&base, 0, 1), 11);
-        assert_eq!(rt; ceiling(&base, 1, 1), 8);
+        assert!(rt; ceiling(&base, 0, 1) == 11);
+        assert!(rt; ceiling(&base, 1, 1) == 8);
     }
     Ok(())
 }
@@ -70,10 +70,7 @@ fn waiting_scenario(rt: HostRuntime) -> Result<(), Fail> {
     ];
     let waiting = scenario_of(rt.alloc(), &[], &messages)?;
     // The ceiling does not look at waits.
-    assert_eq!(rt;
-        ceiling(&waiting, waiting.target_message(), waiting.target_group()),
-        12
-    );
+    assert!(rt; ceiling(&waiting, waiting.target_message(), waiting.target_group()) == 12);
     Ok(())
 }
 
@@ -96,7 +93,7 @@ fn linked_scenario(rt: HostRuntime) -> Result<(), Fail> {
     let linked = scenario_of(rt.alloc(), &links, &base_messages())?;
     let target = linked.target_message();
     // 2 ticks to b and 2 from there, and then 3 and 2 for y.
-    assert_eq!(rt; ceiling(&linked, target, linked.target_group()), 9);
+    assert!(rt; ceiling(&linked, target, linked.target_group()) == 9);
     Ok(())
 }
 
@@ -104,8 +101,8 @@ fn linked_scenario(rt: HostRuntime) -> Result<(), Fail> {
 fn lone_message(rt: HostRuntime) -> Result<(), Fail> {
     let lone = scenario_of(rt.alloc(), &[], &[sent_by("t", None, &["a"])])?;
     // D, and D less a tick for another message of the kind.
-    assert_eq!(rt; ceiling(&lone, lone.target_message(), 0), 5);
+    assert!(rt; ceiling(&lone, lone.target_message(), 0) == 5);
     let own = scenario_of(rt.alloc(), &[], &[sent_by("t", Some("a"), &["a"])])?;
-    assert_eq!(rt; ceiling(&own, own.target_message(), 0), 0);
+    assert!(rt; ceiling(&own, own.target_message(), 0) == 0);
     Ok(())
 }

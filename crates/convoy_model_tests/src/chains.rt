@@ -13,14 +13,14 @@ fn packet_of_the_chain(rt: HostRuntime) -> Result<(), Fail> {
     let alloc = rt.alloc();
     let instance = base(alloc)?;
     let root = DelayBox::root(alloc, &instance)?;
-    assert_eq!(rt; place_by_leads(alloc, &instance, &root, 11)?, Some((0, 2)));
-    assert_eq!(rt; place_by_leads(alloc, &instance, &root, 12)?, None);
+    assert!(rt; place_by_leads(alloc, &instance, &root, 11)? == Some((0, 2)));
+    assert!(rt; place_by_leads(alloc, &instance, &root, 12)? == None);
     if !root.can_split(0, 1) {
         return Err("x takes one delay".into());
     }
     let Ok((lower, _)) = root.halves(0, 1) else {
         return Err("no memory".into());
     };
-    assert_eq!(rt; place_by_leads(alloc, &instance, &lower, 11)?, Some((2, 2)));
+    assert!(rt; place_by_leads(alloc, &instance, &lower, 11)? == Some((2, 2)));
     Ok(())
 }

@@ -39,13 +39,13 @@ fn lists_the_base(rt: HostRuntime) -> Result<(), Fail> {
     let instance = base(rt.alloc())?;
     let table = instance.table();
     let schedule = Schedule::least(rt.alloc(), table)?;
-    assert_eq!(rt; table.len(), 8);
-    assert_eq!(rt; schedule.len(), 8);
+    assert!(rt; table.len() == 8);
+    assert!(rt; schedule.len() == 8);
     for (i, packet) in BASE_PACKETS.iter().enumerate() {
-        assert_eq!(rt; table.packet(i), *packet, "at {i}");
-        assert_eq!(rt; table.place(*packet), Some(i as u16), "at {i}");
-        assert_eq!(rt; table.range(i), (1, 3), "at {i}");
-        assert_eq!(rt; schedule.delay(i), 1, "at {i}");
+        assert!(rt; table.packet(i) == *packet, "at {i}");
+        assert!(rt; table.place(*packet) == Some(i as u16), "at {i}");
+        assert!(rt; table.range(i) == (1, 3), "at {i}");
+        assert!(rt; schedule.delay(i) == 1, "at {i}");
     }
     Ok(())
 }
@@ -68,7 +68,7 @@ fn takes_ranges_of_links(rt: HostRuntime) -> Result<(), Fail> {
     ];
     let instance = linked(rt.alloc(), &links)?;
     let table = instance.table();
-    assert_eq!(rt; table.len(), 8);
+    assert!(rt; table.len() == 8);
     let by_client = (2, 3);
     let back = (1, 1);
     let other = (1, 3);
@@ -76,7 +76,7 @@ fn takes_ranges_of_links(rt: HostRuntime) -> Result<(), Fail> {
         .iter()
         .enumerate()
     {
-        assert_eq!(rt; table.range(i), *range, "at {i}");
+        assert!(rt; table.range(i) == *range, "at {i}");
     }
     Ok(())
 }
@@ -96,10 +96,12 @@ fn looks_up_the_base(rt: HostRuntime) -> Result<(), Fail> {
         (0, 73, None, 0),
         (usize::MAX, usize::MAX, None, 0),
     ] {
-        assert_eq!(rt; table.multicast_to(message, to), place, "{message} to {to}");
-        assert_eq!(rt;
-            table.multicast_delay(&schedule, message, to),
-            delay,
+        assert!(rt;
+            table.multicast_to(message, to) == place,
+            "{message} to {to}"
+        );
+        assert!(rt;
+            table.multicast_delay(&schedule, message, to) == delay,
             "{message} to {to}"
         );
     }
@@ -111,13 +113,12 @@ fn looks_up_the_base(rt: HostRuntime) -> Result<(), Fail> {
         (1, 0, 9, None, 0),
         (2, usize::MAX, 0, None, 0),
     ] {
-        assert_eq!(rt;
-            table.propose(message, from, to),
-            place,
+        assert!(rt;
+            table.propose(message, from, to) == place,
             "{message}: {from} to {to}"
         );
         let found = table.propose_delay(&schedule, message, from, to);
-        assert_eq!(rt; found, delay, "{message}: {from} to {to}");
+        assert!(rt; found == delay, "{message}: {from} to {to}");
     }
     Ok(())
 }
@@ -134,18 +135,18 @@ fn lists_the_largest(rt: HostRuntime) -> Result<(), Fail> {
     let groups = ["a", "b", "c", "d", "e", "f", "g", "h"];
     let instance = instance_of(rt.alloc(), 16, &groups, &messages, ("m0", "a"))?;
     let table = instance.table();
-    assert_eq!(rt; table.len(), 1_024);
-    assert_eq!(rt; table.multicast_to(15, 7), Some(967));
-    assert_eq!(rt; table.propose(15, 7, 6), Some(1023));
-    assert_eq!(rt;
-        table.packet(1023),
-        Packet::Propose {
-            message: 15,
-            from: 7,
-            to: 6
-        }
+    assert!(rt; table.len() == 1_024);
+    assert!(rt; table.multicast_to(15, 7) == Some(967));
+    assert!(rt; table.propose(15, 7, 6) == Some(1023));
+    assert!(rt;
+        table.packet(1023)
+            == Packet::Propose {
+                message: 15,
+                from: 7,
+                to: 6
+            }
     );
-    assert_eq!(rt; table.range(1023), (1, 16));
+    assert!(rt; table.range(1023) == (1, 16));
     Ok(())
 }
 
@@ -159,9 +160,9 @@ fn base_given(alloc: Global, numbers: &[i64]) -> Result<Result<Schedule, ListFau
 fn lists_with_faults(rt: HostRuntime) -> Result<(), Fail> {
     let alloc = rt.alloc();
     let seven = base_given(alloc, &[3, 3, 3, 3, 3, 4, 3])?;
-    assert_eq!(rt; seven.err(), Some(ListFault::Length));
+    assert!(rt; seven.err() == Some(ListFault::Length));
     let nine = base_given(alloc, &[3, 3, 3, 3, 3, 3, 3, 3, 3])?;
-    assert_eq!(rt; nine.err(), Some(ListFault::Length));
+    assert!(rt; nine.err() == Some(ListFault::Length));
     for (numbers, place) in [
         ([3, 3, 3, 3, 3, 4, 3, 3], 5),
         ([3, 3, 3, 3, 3, 3, 3, 0], 7),
@@ -169,7 +170,7 @@ fn lists_with_faults(rt: HostRuntime) -> Result<(), Fail> {
         ([3, 65_537, 3, 3, 3, 3, 3, 3], 1),
     ] {
         let given = base_given(alloc, &numbers)?;
-        assert_eq!(rt; given.err(), Some(ListFault::Range(place)));
+        assert!(rt; given.err() == Some(ListFault::Range(place)));
     }
     Ok(())
 }
@@ -179,11 +180,11 @@ fn lists_as_given(rt: HostRuntime) -> Result<(), Fail> {
     let numbers = [1, 2, 3, 3, 1, 2, 3, 1];
     let schedule = base_given(rt.alloc(), &numbers)??;
     let copy = schedule.copy()?;
-    assert_eq!(rt; schedule.len(), 8);
-    assert_eq!(rt; copy.len(), 8);
+    assert!(rt; schedule.len() == 8);
+    assert!(rt; copy.len() == 8);
     for (i, number) in numbers.iter().enumerate() {
-        assert_eq!(rt; i64::from(schedule.delay(i)), *number, "at {i}");
-        assert_eq!(rt; i64::from(copy.delay(i)), *number, "at {i}");
+        assert!(rt; i64::from(schedule.delay(i)) == *number, "at {i}");
+        assert!(rt; i64::from(copy.delay(i)) == *number, "at {i}");
     }
     Ok(())
 }
@@ -192,12 +193,12 @@ fn lists_as_given(rt: HostRuntime) -> Result<(), Fail> {
 fn takes_the_greatest(rt: HostRuntime) -> Result<(), Fail> {
     let greatest = Schedule::greatest(rt.alloc(), base(rt.alloc())?.table())?;
     let given = base_given(rt.alloc(), &[3, 3, 3, 3, 3, 3, 3, 3])??;
-    assert_eq!(rt; greatest.len(), 8);
-    assert_eq!(rt; greatest.delay(0), 3);
-    assert_eq!(rt; greatest.delay(7), 3);
-    assert_eq!(rt; given.len(), 8);
-    assert_eq!(rt; given.delay(0), 3);
-    assert_eq!(rt; given.delay(7), 3);
+    assert!(rt; greatest.len() == 8);
+    assert!(rt; greatest.delay(0) == 3);
+    assert!(rt; greatest.delay(7) == 3);
+    assert!(rt; given.len() == 8);
+    assert!(rt; given.delay(0) == 3);
+    assert!(rt; given.delay(7) == 3);
     Ok(())
 }
 
@@ -205,14 +206,8 @@ fn takes_the_greatest(rt: HostRuntime) -> Result<(), Fail> {
 fn faults_tell_themselves(rt: HostRuntime) -> Result<(), Fail> {
     let alloc = rt.alloc();
     let length = format!(in alloc; "{}", ListFault::Length)?;
-    assert_eq!(rt;
-        length.as_str(),
-        "the schedule has not one delay for each packet"
-    );
+    assert!(rt; length.as_str() == "the schedule has not one delay for each packet");
     let range = format!(in alloc; "{}", ListFault::Range(7))?;
-    assert_eq!(rt;
-        range.as_str(),
-        "the schedule gives packet 7 a delay that it may not take"
-    );
+    assert!(rt; range.as_str() == "the schedule gives packet 7 a delay that it may not take");
     Ok(())
 }

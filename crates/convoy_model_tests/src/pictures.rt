@@ -20,23 +20,23 @@ fn picture_of(alloc: Global, instance: &Instance) -> Result<Picture, AllocError>
 fn flights_of_base(rt: HostRuntime) -> Result<(), Fail> {
     let picture = picture_of(rt.alloc(), &base(rt.alloc())?)?;
     let flights = picture.flights();
-    assert_eq!(rt; flights.len(), 8);
+    assert!(rt; flights.len() == 8);
     let message = flights[5];
-    assert_eq!(rt; message.number, 5);
-    assert_eq!(rt; message.packet, Packet::Multicast { message: 2, to: 1 });
-    assert_eq!(rt; message.from, Sender::Group(0));
-    assert_eq!(rt; (message.sent, message.arrival), (6, 9));
+    assert!(rt; message.number == 5);
+    assert!(rt; message.packet == Packet::Multicast { message: 2, to: 1 });
+    assert!(rt; message.from == Sender::Group(0));
+    assert!(rt; (message.sent, message.arrival) == (6, 9));
     let proposal = flights[7];
-    assert_eq!(rt;
-        proposal.packet,
-        Packet::Propose {
-            message: 2,
-            from: 1,
-            to: 0
-        }
+    assert!(rt;
+        proposal.packet
+            == Packet::Propose {
+                message: 2,
+                from: 1,
+                to: 0
+            }
     );
-    assert_eq!(rt; proposal.from, Sender::Group(1));
-    assert_eq!(rt; (proposal.sent, proposal.arrival), (9, 12));
+    assert!(rt; proposal.from == Sender::Group(1));
+    assert!(rt; (proposal.sent, proposal.arrival) == (9, 12));
     Ok(())
 }
 
@@ -45,11 +45,11 @@ fn why_of_base(rt: HostRuntime) -> Result<(), Fail> {
     let instance = base(rt.alloc())?;
     let picture = picture_of(rt.alloc(), &instance)?;
     let why = picture.why();
-    assert_eq!(rt; (why.latency, why.committed, why.delivered), (12, 6, 12));
-    assert_eq!(rt; why.holder.map(|holder| holder.message), Some(2));
-    assert_eq!(rt; picture.entries().len(), 15);
+    assert!(rt; (why.latency, why.committed, why.delivered) == (12, 6, 12));
+    assert!(rt; why.holder.map(|holder| holder.message) == Some(2));
+    assert!(rt; picture.entries().len() == 15);
     for (message, role) in [(0, Role::Other), (1, Role::Target), (2, Role::Holder)] {
-        assert_eq!(rt; Role::of(instance.scenario(), &picture, message), role);
+        assert!(rt; Role::of(instance.scenario(), &picture, message) == role);
     }
     Ok(())
 }

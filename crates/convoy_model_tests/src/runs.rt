@@ -21,7 +21,7 @@ fn run(
     requires assignment { IsAssignment instance.now schedule.now }
 {
     let run = simulate(alloc, instance, schedule)?;
-    assert_eq!(rt; run.latency(), latency(instance, schedule));
+    assert!(rt; run.latency() == latency(instance, schedule));
     Ok(run)
 }
 
@@ -53,13 +53,13 @@ fn overtaken(alloc: Global) -> Result<Instance, ScenarioFault> {
 #[test]
 fn least_delays(rt: HostRuntime) -> Result<(), Fail> {
     let alloc = rt.alloc();
-    assert_eq!(rt; least_run(&rt, alloc, &base(alloc)?)?.latency(), 2);
+    assert!(rt; least_run(&rt, alloc, &base(alloc)?)?.latency() == 2);
     // y arrives at the group a as t is committed there, and is committed there two ticks later.
     let held_back = base_with(alloc, 1, &["a", "b"], 2)?;
-    assert_eq!(rt; least_run(&rt, alloc, &held_back)?.latency(), 4);
+    assert!(rt; least_run(&rt, alloc, &held_back)?.latency() == 4);
     // The stamp that b gives t is the less one now at equal times, so y is not before t.
     let swapped = base_with(alloc, 1, &["b", "a"], 2)?;
-    assert_eq!(rt; least_run(&rt, alloc, &swapped)?.latency(), 2);
+    assert!(rt; least_run(&rt, alloc, &swapped)?.latency() == 2);
     Ok(())
 }
 
@@ -79,7 +79,7 @@ fn lone_message(rt: HostRuntime) -> Result<(), Fail> {
             until: 7,
         };
         let instance = instance_of(alloc, 5, &["a", "b"], &[message], ("m", "a"))?;
-        assert_eq!(rt; least_run(&rt, alloc, &instance)?.latency(), want);
+        assert!(rt; least_run(&rt, alloc, &instance)?.latency() == want);
     }
     Ok(())
 }
@@ -94,9 +94,8 @@ fn base_under_schedules(rt: HostRuntime) -> Result<(), Fail> {
         (5, [3, 3, 1, 3, 1, 3, 3, 3], 3),
     ] {
         let instance = base_at(alloc, at)?;
-        assert_eq!(rt;
-            run_under(&rt, alloc, &instance, &schedule)?.latency(),
-            want,
+        assert!(rt;
+            run_under(&rt, alloc, &instance, &schedule)?.latency() == want,
             "y at {at}"
         );
     }
@@ -109,7 +108,7 @@ fn overtaken_under_schedules(rt: HostRuntime) -> Result<(), Fail> {
     for (delay, want) in [(1, 11), (2, 6), (3, 6)] {
         let schedule = [3, 3, 3, 3, delay, 3, 3, 3];
         let run = run_under(&rt, rt.alloc(), &instance, &schedule)?;
-        assert_eq!(rt; run.latency(), want, "x takes {delay}");
+        assert!(rt; run.latency() == want, "x takes {delay}");
     }
     Ok(())
 }
@@ -119,12 +118,12 @@ fn base_as_told(rt: HostRuntime) -> Result<(), Fail> {
     let alloc = rt.alloc();
     let run = run_under(&rt, alloc, &base(alloc)?, &[3, 3, 3, 3, 3, 3, 3, 3])?;
     let stamp = Timestamp { time: 2, group: 0 };
-    assert_eq!(rt; run.proposed(2, 0), Some(Proposal { tick: 6, stamp }));
-    assert_eq!(rt; run.final_stamp(1), Some(Timestamp { time: 2, group: 1 }));
-    assert_eq!(rt; run.committed(1, 0), Some(6));
-    assert_eq!(rt; run.delivered(1, 0), Some(12));
-    assert_eq!(rt; run.delivered(0, 0), None);
-    assert_eq!(rt; run.final_stamp(3), None);
+    assert!(rt; run.proposed(2, 0) == Some(Proposal { tick: 6, stamp }));
+    assert!(rt; run.final_stamp(1) == Some(Timestamp { time: 2, group: 1 }));
+    assert!(rt; run.committed(1, 0) == Some(6));
+    assert!(rt; run.delivered(1, 0) == Some(12));
+    assert!(rt; run.delivered(0, 0) == None);
+    assert!(rt; run.final_stamp(3) == None);
     Ok(())
 }
 
@@ -133,8 +132,8 @@ fn record_of_the_base(rt: HostRuntime) -> Result<(), Fail> {
     let alloc = rt.alloc();
     let instance = base(alloc)?;
     let copy = Record::of(&instance, least(alloc, &instance)?).copy()?;
-    assert_eq!(rt; copy.latency(), 2);
-    assert_eq!(rt; copy.schedule().len(), 8);
+    assert!(rt; copy.latency() == 2);
+    assert!(rt; copy.schedule().len() == 8);
     Ok(())
 }
 
@@ -169,7 +168,7 @@ fn ties_in_real_time(rt: HostRuntime) -> Result<(), Fail> {
         ([0, 1, 1, 0, 0, 0, 1, 0, 0, 0], 4),
     ] {
         let run = run_in_order(&rt, rt.alloc(), &instance, &ranks)?;
-        assert_eq!(rt; run.latency(), want);
+        assert!(rt; run.latency() == want);
     }
     Ok(())
 }

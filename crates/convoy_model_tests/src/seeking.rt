@@ -71,10 +71,7 @@ fn latency_found(alloc: Global, instance: &Instance, until: u32, budget: u64) ->
 fn reaches_the_base(rt: HostRuntime) -> Result<(), Fail> {
     let alloc = rt.alloc();
     for (at, want) in [(6, 12), (5, 11)] {
-        assert_eq!(rt;
-            latency_found(alloc, &base_at(alloc, at)?, u32::MAX, 200)?,
-            want
-        );
+        assert!(rt; latency_found(alloc, &base_at(alloc, at)?, u32::MAX, 200)? == want);
     }
     Ok(())
 }
@@ -82,17 +79,14 @@ fn reaches_the_base(rt: HostRuntime) -> Result<(), Fail> {
 /// All schedules have the same delays, and one order of ties makes t late.
 #[test]
 fn reaches_an_order(rt: HostRuntime) -> Result<(), Fail> {
-    assert_eq!(rt;
-        latency_found(rt.alloc(), &tied(rt.alloc())?, u32::MAX, 400)?,
-        4
-    );
+    assert!(rt; latency_found(rt.alloc(), &tied(rt.alloc())?, u32::MAX, 400)? == 4);
     Ok(())
 }
 
 #[test]
 fn reaches_two_senders(rt: HostRuntime) -> Result<(), Fail> {
     let instance = two_senders(rt.alloc())?;
-    assert_eq!(rt; latency_found(rt.alloc(), &instance, u32::MAX, 4_000)?, 11);
+    assert!(rt; latency_found(rt.alloc(), &instance, u32::MAX, 4_000)? == 11);
     Ok(())
 }
 
@@ -105,7 +99,7 @@ fn reaches_nine_messages(rt: HostRuntime) -> Result<(), Fail> {
         (2, 4_000, 2),
         (3, 4_000, 18),
     ] {
-        assert_eq!(rt; latency_found(rt.alloc(), &instance, until, budget)?, want);
+        assert!(rt; latency_found(rt.alloc(), &instance, until, budget)? == want);
     }
     Ok(())
 }
@@ -113,7 +107,7 @@ fn reaches_nine_messages(rt: HostRuntime) -> Result<(), Fail> {
 #[test]
 fn reaches_three_groups(rt: HostRuntime) -> Result<(), Fail> {
     let instance = three_groups(rt.alloc())?;
-    assert_eq!(rt; latency_found(rt.alloc(), &instance, u32::MAX, 4_000)?, 30);
+    assert!(rt; latency_found(rt.alloc(), &instance, u32::MAX, 4_000)? == 30);
     Ok(())
 }
 

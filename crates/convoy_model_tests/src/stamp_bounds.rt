@@ -37,7 +37,7 @@ fn hold<R: Abort>(
     instance: &Instance,
     want: (u32, u32, u32),
 ) -> Result<(), AllocError> {
-    assert_eq!(rt; root_bounds(alloc, instance)?, want);
+    assert!(rt; root_bounds(alloc, instance)? == want);
     Ok(())
 }
 

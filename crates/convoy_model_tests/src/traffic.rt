@@ -48,9 +48,9 @@ fn known_issues(rt: HostRuntime) -> Result<(), Fail> {
     let base = base_with_window(rt.alloc())?;
     let found = seek_traffic(rt.alloc(), &base, 1_000)?;
     // In the scenario y comes too late to hold t back; in traffic it comes as t is committed.
-    assert_eq!(rt; found.record.latency(), 12);
+    assert!(rt; found.record.latency() == 12);
     for message in 0..found.traffic.message_count() {
-        assert_eq!(rt; found.traffic.longest_wait(message), 0);
+        assert!(rt; found.traffic.longest_wait(message) == 0);
     }
     Ok(())
 }

@@ -80,14 +80,13 @@ fn base_is_one_leaf(rt: HostRuntime) -> Result<(), Fail> {
     let instance = base(alloc)?;
     for limit in [1, 1_000_000] {
         let outcome = search_alone(alloc, &instance, limit, Bounds::Plain)?;
-        assert_eq!(rt;
-            ending_of(&outcome),
-            Ending::Proved(12, 1, 1),
+        assert!(rt;
+            ending_of(&outcome) == Ending::Proved(12, 1, 1),
             "limit {limit}"
         );
         if let Outcome::Proved { certificate, .. } = &outcome {
-            assert_eq!(rt; certificate.nodes(), [Node::Bound].as_slice());
-            assert_eq!(rt; certificate.schedule().delays(), [3; 8].as_slice());
+            assert!(rt; certificate.nodes() == [Node::Bound].as_slice());
+            assert!(rt; certificate.schedule().delays() == [3; 8].as_slice());
         }
     }
     Ok(())
@@ -97,10 +96,7 @@ fn base_is_one_leaf(rt: HostRuntime) -> Result<(), Fail> {
 fn no_ticket_at_all(rt: HostRuntime) -> Result<(), Fail> {
     let alloc = rt.alloc();
     let instance = base(alloc)?;
-    assert_eq!(rt;
-        ending_alone(alloc, &instance, 0, Bounds::Plain)?,
-        Ending::Open(2, 12, 0)
-    );
+    assert!(rt; ending_alone(alloc, &instance, 0, Bounds::Plain)? == Ending::Open(2, 12, 0));
     Ok(())
 }
 
@@ -110,7 +106,7 @@ fn swapped_groups(rt: HostRuntime) -> Result<(), Fail> {
     let instance = swapped(alloc)?;
     for limit in [1_469, 1_000_000] {
         let ending = ending_alone(alloc, &instance, limit, Bounds::Plain)?;
-        assert_eq!(rt; ending, Ending::Proved(6, 1_469, 1_469), "limit {limit}");
+        assert!(rt; ending == Ending::Proved(6, 1_469, 1_469), "limit {limit}");
     }
     Ok(())
 }
@@ -120,9 +116,9 @@ fn swapped_groups_by_stamps(rt: HostRuntime) -> Result<(), Fail> {
     let alloc = rt.alloc();
     let instance = swapped(alloc)?;
     let outcome = search_alone(alloc, &instance, 1, Bounds::Stamp)?;
-    assert_eq!(rt; ending_of(&outcome), Ending::Proved(6, 1, 1));
+    assert!(rt; ending_of(&outcome) == Ending::Proved(6, 1, 1));
     if let Outcome::Proved { certificate, .. } = &outcome {
-        assert_eq!(rt; certificate.nodes(), [Node::Stamp].as_slice());
+        assert!(rt; certificate.nodes() == [Node::Stamp].as_slice());
     }
     Ok(())
 }
@@ -133,7 +129,7 @@ fn swapped_groups_limited(rt: HostRuntime) -> Result<(), Fail> {
     let instance = swapped(alloc)?;
     for limit in [1, 10] {
         let ending = ending_alone(alloc, &instance, limit, Bounds::Plain)?;
-        assert_eq!(rt; ending, Ending::Open(6, 12, limit), "limit {limit}");
+        assert!(rt; ending == Ending::Open(6, 12, limit), "limit {limit}");
     }
     Ok(())
 }
@@ -142,7 +138,7 @@ fn swapped_groups_limited(rt: HostRuntime) -> Result<(), Fail> {
 fn no_ticket_by_stamps(rt: HostRuntime) -> Result<(), Fail> {
     let instance = swapped(rt.alloc())?;
     let ending = ending_alone(rt.alloc(), &instance, 0, Bounds::Stamp)?;
-    assert_eq!(rt; ending, Ending::Open(2, 6, 0));
+    assert!(rt; ending == Ending::Open(2, 6, 0));
     Ok(())
 }
 
@@ -164,7 +160,7 @@ fn neighbours_of_the_base(rt: HostRuntime) -> Result<(), Fail> {
                 Ending::Proved(latency, _, _) => Some(latency),
                 Ending::Open(..) | Ending::WrongTickets => None,
             };
-            assert_eq!(rt; latency, Some(want), "y at {at}, delay {delay}");
+            assert!(rt; latency == Some(want), "y at {at}, delay {delay}");
         }
     }
     Ok(())
@@ -174,7 +170,7 @@ fn neighbours_of_the_base(rt: HostRuntime) -> Result<(), Fail> {
 fn opens_with_a_record(rt: HostRuntime) -> Result<(), Fail> {
     let alloc = rt.alloc();
     let outcome = outcome_from_greatest(&rt, alloc, &base(alloc)?, 0)?;
-    assert_eq!(rt; ending_of(&outcome), Ending::Open(12, 12, 0));
+    assert!(rt; ending_of(&outcome) == Ending::Open(12, 12, 0));
     Ok(())
 }
 
@@ -182,7 +178,7 @@ fn opens_with_a_record(rt: HostRuntime) -> Result<(), Fail> {
 fn ends_from_a_record(rt: HostRuntime) -> Result<(), Fail> {
     let alloc = rt.alloc();
     let outcome = outcome_from_greatest(&rt, alloc, &swapped(alloc)?, 1_469)?;
-    assert_eq!(rt; ending_of(&outcome), Ending::Proved(6, 1_469, 1_469));
+    assert!(rt; ending_of(&outcome) == Ending::Proved(6, 1_469, 1_469));
     Ok(())
 }
 
@@ -213,8 +209,8 @@ fn calls_its_gate(rt: HostRuntime) -> Result<(), Fail> {
         in_turn: AtomicBool::new(true),
     };
     let outcome = search_alone_from(alloc, &instance, opening, 10, Bounds::Plain, &gate)?;
-    assert_eq!(rt; ending_of(&outcome), Ending::Open(6, 12, 10));
-    assert_eq!(rt; gate.calls.load(Ordering::Relaxed), 10);
+    assert!(rt; ending_of(&outcome) == Ending::Open(6, 12, 10));
+    assert!(rt; gate.calls.load(Ordering::Relaxed) == 10);
     assert!(rt; gate.in_turn.load(Ordering::Relaxed));
     Ok(())
 }

@@ -90,17 +90,17 @@ fn board_of_three_hands(rt: HostRuntime) -> Result<(), Fail> {
     let mut second = half_of(&rt, &board, &mut first);
     let mut third = half_of(&rt, &board, &mut second);
     let found = record_of(&rt, alloc, &instance, &LATENCY_5);
-    assert_eq!(rt; published(&rt, &board, &mut first, found), 5);
+    assert!(rt; published(&rt, &board, &mut first, found) == 5);
     let found = record_of(&rt, alloc, &instance, &LATENCY_9);
-    assert_eq!(rt; published(&rt, &board, &mut second, found), 9);
+    assert!(rt; published(&rt, &board, &mut second, found) == 9);
     let found = record_of(&rt, alloc, &instance, &ALSO_LATENCY_9);
-    assert_eq!(rt; published(&rt, &board, &mut third, found), 9);
+    assert!(rt; published(&rt, &board, &mut third, found) == 9);
     board.join(&mut first, third);
     let Err(CloseFault::HandsOut(board, mut first)) = board.close(first) else {
         panic!(rt; "closed while a hand was out");
     };
     board.join(&mut first, second);
-    assert_eq!(rt; closed(&rt, board, first), 9);
+    assert!(rt; closed(&rt, board, first) == 9);
     Ok(())
 }
 
@@ -111,14 +111,14 @@ fn look_sees_others(rt: HostRuntime) -> Result<(), Fail> {
     let least = record_of(&rt, alloc, &instance, &LATENCY_2);
     let (board, mut first) = opened(&rt, alloc, least);
     let mut second = half_of(&rt, &board, &mut first);
-    assert_eq!(rt; board.look(&mut second), 2);
+    assert!(rt; board.look(&mut second) == 2);
     let found = record_of(&rt, alloc, &instance, &LATENCY_9);
-    assert_eq!(rt; published(&rt, &board, &mut first, found), 9);
-    assert_eq!(rt; board.look(&mut second), 9);
+    assert!(rt; published(&rt, &board, &mut first, found) == 9);
+    assert!(rt; board.look(&mut second) == 9);
     // A lesser latency leaves the greater one.
     let found = record_of(&rt, alloc, &instance, &LATENCY_5);
-    assert_eq!(rt; published(&rt, &board, &mut first, found), 9);
-    assert_eq!(rt; board.look(&mut second), 9);
+    assert!(rt; published(&rt, &board, &mut first, found) == 9);
+    assert!(rt; board.look(&mut second) == 9);
     Ok(())
 }
 
@@ -144,9 +144,9 @@ fn hand_shares(rt: HostRuntime) -> Result<(), Fail> {
     let instance = lone(alloc)?;
     let least = record_of(&rt, alloc, &instance, &LATENCY_2);
     let (board, mut hand) = opened(&rt, alloc, least);
-    assert_eq!(rt; share_after_splits(&rt, &board, &mut hand, 32), 1);
-    assert_eq!(rt; hand.share(), 4_294_967_296);
-    assert_eq!(rt; closed(&rt, board, hand), 2);
+    assert!(rt; share_after_splits(&rt, &board, &mut hand, 32) == 1);
+    assert!(rt; hand.share() == 4_294_967_296);
+    assert!(rt; closed(&rt, board, hand) == 2);
     Ok(())
 }
 
@@ -160,7 +160,7 @@ fn dropped_hand(rt: HostRuntime) -> Result<(), Fail> {
     let Err(CloseFault::HandsOut(board, mut first)) = board.close(first) else {
         panic!(rt; "closed without the share of a hand that was dropped");
     };
-    assert_eq!(rt; board.look(&mut first), 2);
+    assert!(rt; board.look(&mut first) == 2);
     Ok(())
 }
 
@@ -206,6 +206,6 @@ fn two_threads_publish(rt: HostRuntime) -> Result<(), Fail> {
         { publish_and_look(rt_shared, shared, second, greater, 300) },
     );
     board.join(&mut first, second);
-    assert_eq!(rt; closed(&rt, board, first), 9);
+    assert!(rt; closed(&rt, board, first) == 9);
     Ok(())
 }

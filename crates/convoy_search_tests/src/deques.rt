@@ -28,7 +28,7 @@ fn first_and_last_branch(rt: HostRuntime) -> Result<(), Fail> {
     let branch = root.copy().expect(&rt, "there is memory for a branch");
     let mut owner = Owner::open(alloc, root).expect(&rt, "there is memory for a deque");
     assert!(rt; matches!(owner.put(branch), Ok(1)));
-    assert_eq!(rt; owner.len(), 2);
+    assert!(rt; owner.len() == 2);
     let thief = owner.thief().expect(&rt, "there is memory for a thief");
     let rt_shared = &rt;
     let (thief, _) = join(
@@ -37,16 +37,16 @@ fn first_and_last_branch(rt: HostRuntime) -> Result<(), Fail> {
             ensures { result.deque ≡ thief.deque }
         {
             let (thief, number) = stolen(rt_shared, thief);
-            assert_eq!(rt_shared; number, 0);
+            assert!(rt_shared; number == 0);
             thief
         },
         move || (),
     );
-    assert_eq!(rt; owner.len(), 1);
+    assert!(rt; owner.len() == 1);
     let task = owner
         .take()
         .expect(&rt, "the last branch stands in the deque");
-    assert_eq!(rt; task.number, 1);
+    assert!(rt; task.number == 1);
     assert!(rt; owner.take().is_none());
     owner.join(thief);
     assert!(rt; owner.take().is_none());

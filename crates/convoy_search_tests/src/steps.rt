@@ -98,14 +98,8 @@ fn closes_by_the_latency_found(rt: HostRuntime) -> Result<(), Fail> {
     let alloc = rt.alloc();
     let instance = base(alloc)?;
     for bounds in [Bounds::Plain, Bounds::Stamp] {
-        assert_eq!(rt;
-            root_step(alloc, &instance, 2, bounds)?,
-            (Some(12), Some(Node::Bound))
-        );
-        assert_eq!(rt;
-            root_step(alloc, &instance, 12, bounds)?,
-            (None, Some(Node::Bound))
-        );
+        assert!(rt; root_step(alloc, &instance, 2, bounds)? == (Some(12), Some(Node::Bound)));
+        assert!(rt; root_step(alloc, &instance, 12, bounds)? == (None, Some(Node::Bound)));
     }
     Ok(())
 }
@@ -115,14 +109,8 @@ fn parts_the_first_of_the_widest(rt: HostRuntime) -> Result<(), Fail> {
     let alloc = rt.alloc();
     let instance = swapped(alloc)?;
     let split = Node::Split { packet: 0, at: 2 };
-    assert_eq!(rt;
-        root_step(alloc, &instance, 2, Bounds::Plain)?,
-        (Some(6), Some(split))
-    );
-    assert_eq!(rt;
-        root_step(alloc, &instance, 6, Bounds::Plain)?,
-        (None, Some(split))
-    );
+    assert!(rt; root_step(alloc, &instance, 2, Bounds::Plain)? == (Some(6), Some(split)));
+    assert!(rt; root_step(alloc, &instance, 6, Bounds::Plain)? == (None, Some(split)));
     Ok(())
 }
 
@@ -130,18 +118,9 @@ fn parts_the_first_of_the_widest(rt: HostRuntime) -> Result<(), Fail> {
 fn closes_by_stamps(rt: HostRuntime) -> Result<(), Fail> {
     let alloc = rt.alloc();
     let instance = swapped(alloc)?;
-    assert_eq!(rt;
-        root_step(alloc, &instance, 2, Bounds::Stamp)?,
-        (Some(6), Some(Node::Stamp))
-    );
-    assert_eq!(rt;
-        root_step(alloc, &instance, 6, Bounds::Stamp)?,
-        (None, Some(Node::Stamp))
-    );
-    assert_eq!(rt;
-        root_step(alloc, &instance, 12, Bounds::Stamp)?,
-        (None, Some(Node::Bound))
-    );
+    assert!(rt; root_step(alloc, &instance, 2, Bounds::Stamp)? == (Some(6), Some(Node::Stamp)));
+    assert!(rt; root_step(alloc, &instance, 6, Bounds::Stamp)? == (None, Some(Node::Stamp)));
+    assert!(rt; root_step(alloc, &instance, 12, Bounds::Stamp)? == (None, Some(Node::Bound)));
     Ok(())
 }
 
@@ -149,22 +128,10 @@ fn closes_by_stamps(rt: HostRuntime) -> Result<(), Fail> {
 fn closes_a_point(rt: HostRuntime) -> Result<(), Fail> {
     let alloc = rt.alloc();
     let instance = swapped(alloc)?;
-    assert_eq!(rt;
-        point_step(alloc, &instance, 2, Bounds::Plain)?,
-        (Some(6), Some(Node::Point))
-    );
-    assert_eq!(rt;
-        point_step(alloc, &instance, 6, Bounds::Plain)?,
-        (None, Some(Node::Point))
-    );
-    assert_eq!(rt;
-        point_step(alloc, &instance, 6, Bounds::Stamp)?,
-        (None, Some(Node::Stamp))
-    );
-    assert_eq!(rt;
-        point_step(alloc, &instance, 12, Bounds::Plain)?,
-        (None, Some(Node::Bound))
-    );
+    assert!(rt; point_step(alloc, &instance, 2, Bounds::Plain)? == (Some(6), Some(Node::Point)));
+    assert!(rt; point_step(alloc, &instance, 6, Bounds::Plain)? == (None, Some(Node::Point)));
+    assert!(rt; point_step(alloc, &instance, 6, Bounds::Stamp)? == (None, Some(Node::Stamp)));
+    assert!(rt; point_step(alloc, &instance, 12, Bounds::Plain)? == (None, Some(Node::Bound)));
     Ok(())
 }
 
@@ -173,18 +140,9 @@ fn closes_a_point(rt: HostRuntime) -> Result<(), Fail> {
 fn point_in_real_time(rt: HostRuntime) -> Result<(), Fail> {
     let alloc = rt.alloc();
     let instance = tied(alloc)?;
-    assert_eq!(rt;
-        root_step(alloc, &instance, 1, Bounds::Plain)?,
-        (Some(2), None)
-    );
-    assert_eq!(rt;
-        root_step(alloc, &instance, 2, Bounds::Stamp)?,
-        (None, None)
-    );
-    assert_eq!(rt; root_step(alloc, &instance, 3, Bounds::Lead)?, (None, None));
-    assert_eq!(rt;
-        root_step(alloc, &instance, 4, Bounds::Plain)?,
-        (None, Some(Node::Bound))
-    );
+    assert!(rt; root_step(alloc, &instance, 1, Bounds::Plain)? == (Some(2), None));
+    assert!(rt; root_step(alloc, &instance, 2, Bounds::Stamp)? == (None, None));
+    assert!(rt; root_step(alloc, &instance, 3, Bounds::Lead)? == (None, None));
+    assert!(rt; root_step(alloc, &instance, 4, Bounds::Plain)? == (None, Some(Node::Bound)));
     Ok(())
 }

@@ -16,7 +16,7 @@ use std::thread::{Threads, join};
 #[test]
 fn all_tickets_are_drawn(rt: HostRuntime) -> Result<(), Fail> {
     for most in [1, 2, 1000] {
-        assert_eq!(rt; draw_together(&rt, rt.alloc(), most)?, most);
+        assert!(rt; draw_together(&rt, rt.alloc(), most)? == most);
     }
     Ok(())
 }
@@ -31,7 +31,7 @@ fn best_of_records(rt: HostRuntime) -> Result<(), Fail> {
     let Ok(best) = best_of_three(&rt, alloc, opening, first, second) else {
         panic!(rt; "no best record");
     };
-    assert_eq!(rt; best.latency(), 9);
+    assert!(rt; best.latency() == 9);
     Ok(())
 }
 
@@ -113,6 +113,6 @@ fn one_board_and_one_ledger(rt: HostRuntime) -> Result<(), Fail> {
     let (Ok(best), Ok(drawn)) = (board.close(hand), ledger.close(clerk)) else {
         panic!(rt; "not closed with the whole share");
     };
-    assert_eq!(rt; (best.latency(), drawn), (9, 600));
+    assert!(rt; (best.latency(), drawn) == (9, 600));
     Ok(())
 }

@@ -37,13 +37,13 @@ fn latencies_under_schedules(rt: HostRuntime) {
             Err(Fault::Schedule(ListFault::Range(4))),
         ),
     ] {
-        assert_eq!(rt; latency_under(alloc, BASE.as_bytes(), schedule), want);
+        assert!(rt; latency_under(alloc, BASE.as_bytes(), schedule) == want);
     }
     let too_long =
         b"delay = 17\ngroups = [\"a\"]\nmulticast = []\ntarget = { message = \"t\", group = \"a\" }\n";
-    assert_eq!(rt;
-        latency_under(alloc, too_long, &[]),
-        Err(Fault::Scenario(ScenarioFault::OverLimit(Limit::Delay)))
+    assert!(rt;
+        latency_under(alloc, too_long, &[])
+            == Err(Fault::Scenario(ScenarioFault::OverLimit(Limit::Delay)))
     );
 }
 
@@ -82,7 +82,7 @@ fn certificates_vouch(rt: HostRuntime) -> Result<(), Fail> {
             v.latency,
             v.scenario.delay(),
         ));
-        assert_eq!(rt; found, want, "latency {latency} {nodes}");
+        assert!(rt; found == want, "latency {latency} {nodes}");
     }
     Ok(())
 }
@@ -97,7 +97,7 @@ fn greatest_latencies(rt: HostRuntime) -> Result<(), Fail> {
         (&second, 1_469, Answer::Exactly(6)),
     ] {
         let found = greatest_latency(alloc, instance, limit)?;
-        assert_eq!(rt; found, want, "limit {limit}");
+        assert!(rt; found == want, "limit {limit}");
     }
     Ok(())
 }
@@ -113,7 +113,7 @@ fn greatest_latencies_by_workers(rt: HostRuntime) -> Result<(), Fail> {
     ] {
         for workers in [1, 4, 16] {
             let found = greatest_latency_by(&rt, alloc, instance, workers, limit);
-            assert_eq!(rt; found, Ok(want), "{workers} workers, limit {limit}");
+            assert!(rt; found == Ok(want), "{workers} workers, limit {limit}");
         }
     }
     Ok(())
@@ -132,7 +132,7 @@ fn timeouts_are_judged(rt: HostRuntime) -> Result<(), Fail> {
         (&second, 6, 1_469, Judgement::Enough),
     ] {
         let found = judge_timeout(alloc, instance, timeout, limit)?;
-        assert_eq!(rt; found, want, "timeout {timeout} limit {limit}");
+        assert!(rt; found == want, "timeout {timeout} limit {limit}");
     }
     Ok(())
 }
@@ -142,8 +142,8 @@ fn timeouts_are_judged(rt: HostRuntime) -> Result<(), Fail> {
 fn timeouts_in_traffic(rt: HostRuntime) -> Result<(), Fail> {
     let alloc = rt.alloc();
     let (first, second) = (base(alloc)?, swapped(alloc)?);
-    assert_eq!(rt; timeout_in_traffic(first.scenario()), 12);
-    assert_eq!(rt; timeout_in_traffic(second.scenario()), 12);
+    assert!(rt; timeout_in_traffic(first.scenario()) == 12);
+    assert!(rt; timeout_in_traffic(second.scenario()) == 12);
     Ok(())
 }
 
@@ -154,17 +154,11 @@ fn exchanges_take_two_delays(rt: HostRuntime) -> Result<(), Fail> {
     for delay in [1, 3, 16] {
         let scenario = exchange(alloc, delay).ok().ok_or("no scenario")?;
         let instance = Instance::of(alloc, scenario)?;
-        assert_eq!(rt;
-            greatest_latency(alloc, &instance, 1)?,
-            Answer::Exactly(2 * delay)
-        );
+        assert!(rt; greatest_latency(alloc, &instance, 1)? == Answer::Exactly(2 * delay));
     }
     for delay in [0, 17] {
         let fault = exchange(alloc, delay).err();
-        assert_eq!(rt;
-            fault,
-            Some(Fault::Scenario(ScenarioFault::OverLimit(Limit::Delay)))
-        );
+        assert!(rt; fault == Some(Fault::Scenario(ScenarioFault::OverLimit(Limit::Delay))));
     }
     Ok(())
 }
@@ -192,7 +186,7 @@ fn faults_tell_themselves(rt: HostRuntime) -> Result<(), Fail> {
         (Fault::Memory, "out of memory"),
     ] {
         let line = format!(in alloc; "{fault}")?;
-        assert_eq!(rt; line.as_str(), want);
+        assert!(rt; line.as_str() == want);
     }
     Ok(())
 }

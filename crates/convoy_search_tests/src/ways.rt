@@ -60,8 +60,8 @@ fn shares(rt: HostRuntime) {
         (110_000, 10_000, 100_000),
         (4_000_000, 10_000, 100_000),
     ] {
-        assert_eq!(rt; plain_share(limit), plain, "limit {limit}");
-        assert_eq!(rt; lead_share(limit), leads, "limit {limit}");
+        assert!(rt; plain_share(limit) == plain, "limit {limit}");
+        assert!(rt; lead_share(limit) == leads, "limit {limit}");
     }
 }
 
@@ -76,10 +76,10 @@ fn swapped_groups(rt: HostRuntime) -> Result<(), Fail> {
         (1_469, (6, None, 1_469)),
         (10_001, (6, None, 1_469)),
     ] {
-        assert_eq!(rt; told_of(alloc, &instance, limit)?, want, "limit {limit}");
+        assert!(rt; told_of(alloc, &instance, limit)? == want, "limit {limit}");
     }
     let (latency, upper, tickets) = told_of(alloc, &instance, 1_000)?;
-    assert_eq!(rt; (latency, upper.is_some(), tickets), (6, true, 1_000));
+    assert!(rt; (latency, upper.is_some(), tickets) == (6, true, 1_000));
     Ok(())
 }
 
@@ -119,13 +119,13 @@ impl Gate for Seen {
 fn leads_end_what_plain_bounds_do_not(rt: HostRuntime) -> Result<(), Fail> {
     let alloc = rt.alloc();
     let instance = base_with(alloc, 6, &["b", "a"], 12)?;
-    assert_eq!(rt; told_of(alloc, &instance, 10_000)?, (12, Some(24), 10_000));
+    assert!(rt; told_of(alloc, &instance, 10_000)? == (12, Some(24), 10_000));
     let seen = Seen::nothing();
     let outcome = outcome_of(alloc, &instance, 10_001, &seen)?;
-    assert_eq!(rt; told(&outcome), (12, None, 1));
-    assert_eq!(rt; seen.branches.load(Ordering::Relaxed), 10_001);
-    assert_eq!(rt; seen.anew.load(Ordering::Relaxed), 1);
-    assert_eq!(rt; seen.limit.load(Ordering::Relaxed), 1);
+    assert!(rt; told(&outcome) == (12, None, 1));
+    assert!(rt; seen.branches.load(Ordering::Relaxed) == 10_001);
+    assert!(rt; seen.anew.load(Ordering::Relaxed) == 1);
+    assert!(rt; seen.limit.load(Ordering::Relaxed) == 1);
     Ok(())
 }
 
@@ -152,9 +152,9 @@ fn points_in_real_time(rt: HostRuntime) -> Result<(), Fail> {
     let alloc = rt.alloc();
     let instance = tied(alloc)?;
     let (least, upper, _) = told(&outcome_from(alloc, &instance, &[0; 10])?);
-    assert_eq!(rt; (least, upper), (2, Some(4)));
+    assert!(rt; (least, upper) == (2, Some(4)));
     let other = told(&outcome_from(alloc, &instance, &[0, 0, 1, 0, 0, 0, 0, 0, 0, 0])?);
-    assert_eq!(rt; other, (4, None, 1));
+    assert!(rt; other == (4, None, 1));
     Ok(())
 }
 
@@ -177,9 +177,9 @@ fn lesser_upper_bounds(rt: HostRuntime) -> Result<(), Fail> {
     let instance = base_with(alloc, 3, &["b", "a"], 6)?;
     for (upper, want) in [(9, 9), (12, 12), (15, 12)] {
         let told = told_with_upper(alloc, &instance, 10, Bounds::Plain, upper)?;
-        assert_eq!(rt; told, (6, Some(want), 10));
+        assert!(rt; told == (6, Some(want), 10));
     }
     let proved = told_with_upper(alloc, &instance, 1, Bounds::Stamp, 9)?;
-    assert_eq!(rt; proved, (6, None, 1));
+    assert!(rt; proved == (6, None, 1));
     Ok(())
 }

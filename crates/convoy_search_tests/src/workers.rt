@@ -119,7 +119,7 @@ fn ends<R: Threads + Wait + Sync + Abort>(
 {
     let outcome = outcome_of(rt, alloc, instance, workers, limit, &NoGate);
     let ending = ending_of(&outcome, workers as usize);
-    assert_eq!(rt; ending, want, "{workers} workers");
+    assert!(rt; ending == want, "{workers} workers");
 }
 
 /// Checks that searches of one scenario end alike, whatever the number of workers.
@@ -179,11 +179,8 @@ fn sixteen_workers(rt: HostRuntime) -> Result<(), Fail> {
     let alloc = rt.alloc();
     let instance = base(alloc)?;
     let outcome = outcome_of(&rt, alloc, &instance, 16, MANY, &NoGate);
-    assert_eq!(rt;
-        shares_of(&outcome),
-        [1, 0, 0, 0, 0, 0, 0, 0, 0, 0, 0, 0, 0, 0, 0, 0].as_slice()
-    );
-    assert_eq!(rt; ending_of(&outcome, 16), Ending::Proved(12));
+    assert!(rt; shares_of(&outcome) == [1, 0, 0, 0, 0, 0, 0, 0, 0, 0, 0, 0, 0, 0, 0, 0].as_slice());
+    assert!(rt; ending_of(&outcome, 16) == Ending::Proved(12));
     Ok(())
 }
 
@@ -230,7 +227,7 @@ fn by_stamps_from_a_record(rt: HostRuntime) -> Result<(), Fail> {
         &NoGate,
     )
     .ok();
-    assert_eq!(rt; ending_of(&outcome, 2), Ending::Proved(6));
+    assert!(rt; ending_of(&outcome, 2) == Ending::Proved(6));
     Ok(())
 }
 
@@ -280,8 +277,8 @@ fn two_workers_meet(rt: HostRuntime) -> Result<(), Fail> {
         seen: AtomicU32::new(0),
     };
     let outcome = outcome_of(&rt, alloc, &instance, 2, MANY, &gate);
-    assert_eq!(rt; gate.seen.load(Ordering::SeqCst), 2);
-    assert_eq!(rt; ending_of(&outcome, 2), Ending::Proved(6));
+    assert!(rt; gate.seen.load(Ordering::SeqCst) == 2);
+    assert!(rt; ending_of(&outcome, 2) == Ending::Proved(6));
     assert!(rt; drawn_by(&outcome, 1) >= 971);
     Ok(())
 }
@@ -333,7 +330,7 @@ fn four_workers_meet(rt: HostRuntime) -> Result<(), Fail> {
         seen: AtomicU32::new(0),
     };
     let outcome = outcome_of(&rt, alloc, &instance, 4, MANY, &gate);
-    assert_eq!(rt; gate.seen.load(Ordering::SeqCst), 4);
-    assert_eq!(rt; ending_of(&outcome, 4), Ending::Proved(6));
+    assert!(rt; gate.seen.load(Ordering::SeqCst) == 4);
+    assert!(rt; ending_of(&outcome, 4) == Ending::Proved(6));
     Ok(())
 }

@@ -100,22 +100,19 @@ fn third(alloc: Global) -> Result<Vec<u8>, Fail> {
 
 #[test]
 fn certificate_of_base(rt: HostRuntime) -> Result<(), Fail> {
-    assert_eq!(rt; BASE.len(), 149);
+    assert!(rt; BASE.len() == 149);
     assert!(rt; is_kept(rt.alloc(), BASE)?);
     let certificate = read(rt.alloc(), BASE)?;
-    assert_eq!(rt; certificate.latency(), 12);
-    assert_eq!(rt;
-        certificate.schedule().delays(),
-        [3, 3, 3, 3, 3, 3, 3, 3].as_slice()
-    );
-    assert_eq!(rt; certificate.nodes(), [Node::Bound].as_slice());
-    assert_eq!(rt; certificate.scenario().delay(), 3);
+    assert!(rt; certificate.latency() == 12);
+    assert!(rt; certificate.schedule().delays() == [3, 3, 3, 3, 3, 3, 3, 3].as_slice());
+    assert!(rt; certificate.nodes() == [Node::Bound].as_slice());
+    assert!(rt; certificate.scenario().delay() == 3);
     Ok(())
 }
 
 #[test]
 fn certificate_of_lone_message(rt: HostRuntime) -> Result<(), Fail> {
-    assert_eq!(rt; LONE.len(), 80);
+    assert!(rt; LONE.len() == 80);
     assert!(rt; is_kept(rt.alloc(), LONE)?);
     Ok(())
 }
@@ -176,10 +173,7 @@ fn lead_leaf_beside_link(rt: HostRuntime) -> Result<(), Fail> {
 fn node_of_lead_leaf(rt: HostRuntime) -> Result<(), Fail> {
     let text = with(rt.alloc(), &third(rt.alloc())?, b"b\nend", b"c 12\nend")?;
     let certificate = read(rt.alloc(), &text)?;
-    assert_eq!(rt;
-        certificate.nodes(),
-        [Node::Lead { latency: 12 }].as_slice()
-    );
+    assert!(rt; certificate.nodes() == [Node::Lead { latency: 12 }].as_slice());
     Ok(())
 }
 
@@ -224,10 +218,10 @@ fn lead_leaves_of_older_versions(rt: HostRuntime) -> Result<(), Fail> {
 #[test]
 fn certificate_in_real_time(rt: HostRuntime) -> Result<(), Fail> {
     let certificate = read(rt.alloc(), REAL)?;
-    assert_eq!(rt; certificate.scenario().time(), Time::Real);
+    assert!(rt; certificate.scenario().time() == Time::Real);
     let order = certificate.schedule().order();
-    assert_eq!(rt; order.arrival(2, 0), 1);
-    assert_eq!(rt; order.commit(2, 0), 0);
+    assert!(rt; order.arrival(2, 0) == 1);
+    assert!(rt; order.commit(2, 0) == 0);
     Ok(())
 }
 
@@ -384,7 +378,7 @@ fn text_of_lead_leaf(rt: HostRuntime) -> Result<(), Fail> {
     let mut written = Vec::new(alloc);
     write(alloc, &led, &mut written)?;
     let third = with(alloc, BASE, b"convoy 1", b"convoy 3")?;
-    assert_eq!(rt; written, with(alloc, &third, b"b\nend", b"c 11\nend")?);
+    assert!(rt; written == with(alloc, &third, b"b\nend", b"c 11\nend")?);
     Ok(())
 }
 
@@ -395,7 +389,7 @@ fn texts_of_values(rt: HostRuntime) -> Result<(), Fail> {
         let certificate = one_leaf(alloc, instance, latency)?;
         let mut written = Vec::new(alloc);
         write(alloc, &certificate, &mut written)?;
-        assert_eq!(rt; written.as_slice(), text);
+        assert!(rt; written.as_slice() == text);
     }
     Ok(())
 }
@@ -404,14 +398,10 @@ fn texts_of_values(rt: HostRuntime) -> Result<(), Fail> {
 fn faults_tell_themselves(rt: HostRuntime) -> Result<(), Fail> {
     let alloc = rt.alloc();
     let line = format!(in alloc; "{}", TextFault::Line(9, Expected::Schedule))?;
-    assert_eq!(rt;
-        line.as_str(),
-        "line 9 is not a line `schedule`, or is not ended"
-    );
+    assert!(rt; line.as_str() == "line 9 is not a line `schedule`, or is not ended");
     let scenario = format!(in alloc; "{}", TextFault::Scenario(ScenarioFault::LinkToItself))?;
-    assert_eq!(rt;
-        scenario.as_str(),
-        "the lines are no scenario: a link leads from a group to itself"
+    assert!(rt;
+        scenario.as_str() == "the lines are no scenario: a link leads from a group to itself"
     );
     Ok(())
 }

@@ -123,24 +123,17 @@ fn right_end(image: &str) -> u32 {
 #[test]
 fn image_of_base(rt: HostRuntime) -> Result<(), Fail> {
     let image = image_of(rt.alloc(), &base(rt.alloc())?)?;
-    assert_eq!(rt;
-        count(&image, "<title>t at a: at worst 12 ticks</title>"),
-        1
-    );
-    assert_eq!(rt; count(&image, ">t waits 6 ticks for y</text>"), 1);
-    assert_eq!(rt;
-        count(
+    assert!(rt; count(&image, "<title>t at a: at worst 12 ticks</title>") == 1);
+    assert!(rt; count(&image, ">t waits 6 ticks for y</text>") == 1);
+    assert!(rt;
+        (count(
             &image,
             "packet 5: y from a to b, sent at tick 6, there at tick 9<"
-        ),
-        1
+        )) == 1
     );
-    assert_eq!(rt;
-        count(&image, ">t is committed at a at tick 6 with stamp 2.b<"),
-        1
-    );
-    assert_eq!(rt; count(&image, "stroke-width=\"40\""), 3);
-    assert_eq!(rt; count(&image, "signs without room"), 0);
+    assert!(rt; count(&image, ">t is committed at a at tick 6 with stamp 2.b<") == 1);
+    assert!(rt; count(&image, "stroke-width=\"40\"") == 3);
+    assert!(rt; count(&image, "signs without room") == 0);
     Ok(())
 }
 
@@ -148,13 +141,13 @@ fn image_of_base(rt: HostRuntime) -> Result<(), Fail> {
 #[test]
 fn hostile_names(rt: HostRuntime) -> Result<(), Fail> {
     let image = image_of(rt.alloc(), &hostile(rt.alloc())?)?;
-    assert_eq!(rt; count(&image, "l60 -120M"), 8);
-    assert_eq!(rt; image.is_ascii(), true);
-    assert_eq!(rt; count(&image, "&"), 0);
+    assert!(rt; count(&image, "l60 -120M") == 8);
+    assert!(rt; image.is_ascii());
+    assert!(rt; count(&image, "&") == 0);
     for (opened, closed) in [("<g", "</g>"), ("<text", "</text>"), ("<title", "</title>")] {
-        assert_eq!(rt; count(&image, opened), count(&image, closed));
+        assert!(rt; count(&image, opened) == count(&image, closed));
     }
-    assert_eq!(rt; count(&image, "\"") % 2, 0);
+    assert!(rt; count(&image, "\"") % 2 == 0);
     Ok(())
 }
 
@@ -163,9 +156,9 @@ fn hostile_names(rt: HostRuntime) -> Result<(), Fail> {
 #[test]
 fn narrow_ticks(rt: HostRuntime) -> Result<(), Fail> {
     let image = image_of(rt.alloc(), &two_regions(rt.alloc())?)?;
-    assert_eq!(rt; greatest_after(&image, "H"), 10_080);
-    assert_eq!(rt; right_end(&image) <= 11_200, true);
-    assert_eq!(rt; count(&image, "stroke=\"#dddddd\""), 9);
+    assert!(rt; greatest_after(&image, "H") == 10_080);
+    assert!(rt; right_end(&image) <= 11_200);
+    assert!(rt; count(&image, "stroke=\"#dddddd\"") == 9);
     Ok(())
 }
 
@@ -174,10 +167,10 @@ fn narrow_ticks(rt: HostRuntime) -> Result<(), Fail> {
 #[test]
 fn narrowest_ticks(rt: HostRuntime) -> Result<(), Fail> {
     let image = image_of(rt.alloc(), &finest_base(rt.alloc())?)?;
-    assert_eq!(rt; greatest_after(&image, "H"), 10_080);
-    assert_eq!(rt; right_end(&image) <= 11_200, true);
-    assert_eq!(rt; count(&image, "stroke=\"#dddddd\""), 14);
-    assert_eq!(rt; count(&image, " cx=\"3775\""), 1);
-    assert_eq!(rt; count(&image, " cx=\"3835\""), 2);
+    assert!(rt; greatest_after(&image, "H") == 10_080);
+    assert!(rt; right_end(&image) <= 11_200);
+    assert!(rt; count(&image, "stroke=\"#dddddd\"") == 14);
+    assert!(rt; count(&image, " cx=\"3775\"") == 1);
+    assert!(rt; count(&image, " cx=\"3835\"") == 2);
     Ok(())
 }

@@ -22,10 +22,10 @@ fn counts_of_links(rt: HostRuntime) -> Result<(), Fail> {
     let over = Some(LineFault::Scenario(ScenarioFault::OverLimit(Limit::Link)));
     for (count, fault) in [(0, None), (1, None), (2, double), (72, double), (73, over)] {
         let found = fault_of(rt.alloc(), Version::Two, count)?;
-        assert_eq!(rt; found, fault, "{count} links");
+        assert!(rt; found == fault, "{count} links");
     }
     let found = fault_of(rt.alloc(), Version::One, 1)?;
-    assert_eq!(rt; found, Some(LineFault::Line(3, Expected::Multicast)));
+    assert!(rt; found == Some(LineFault::Line(3, Expected::Multicast)));
     Ok(())
 }
 
@@ -35,12 +35,12 @@ fn real_time(rt: HostRuntime) -> Result<(), Fail> {
         b"time real\ndelay 3\ngroups a b\nlink a b 1 2\nmulticast x client 0 b\ntarget x b\n";
     let mut reader = LineReader::over(text);
     let scenario = read_lines(rt.alloc(), Version::Three, &mut reader)?;
-    assert_eq!(rt; scenario.time(), Time::Real);
+    assert!(rt; scenario.time() == Time::Real);
     let mut reader = LineReader::over(text);
     let older = read_lines(rt.alloc(), Version::Two, &mut reader).err();
-    assert_eq!(rt; older, Some(LineFault::Line(1, Expected::Delay)));
+    assert!(rt; older == Some(LineFault::Line(1, Expected::Delay)));
     let found = fault_of(rt.alloc(), Version::Three, 0)?;
-    assert_eq!(rt; found, Some(LineFault::Line(1, Expected::Time)));
+    assert!(rt; found == Some(LineFault::Line(1, Expected::Time)));
     Ok(())
 }
 
@@ -80,7 +80,7 @@ fn many_names(rt: HostRuntime) -> Result<(), Fail> {
         ("a B", "b b b b b b b b b b b z", ScenarioFault::BadName),
     ] {
         let found = fault_of_names(rt.alloc(), groups, to)?;
-        assert_eq!(rt; found, Some(LineFault::Scenario(fault)), "{to}");
+        assert!(rt; found == Some(LineFault::Scenario(fault)), "{to}");
     }
     Ok(())
 }

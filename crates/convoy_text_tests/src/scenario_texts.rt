@@ -40,16 +40,16 @@ fn fault_with(alloc: Global, part: &str, other: &str) -> Result<Option<ScenarioF
 }
 
 fn assert_messages(rt: &impl Abort, scenario: &Scenario) {
-    assert_eq!(rt; scenario.message_count(), 3);
-    assert_eq!(rt; scenario.message_name(0), "x");
-    assert_eq!(rt; scenario.message_name(1), "t");
-    assert_eq!(rt; scenario.message_name(2), "y");
-    assert_eq!(rt; scenario.sender(1), Sender::Client);
-    assert_eq!(rt; scenario.sender(2), Sender::Group(0));
-    assert_eq!(rt; scenario.destinations(0), [1].as_slice());
-    assert_eq!(rt; scenario.destinations(1), [0, 1].as_slice());
-    assert_eq!(rt; scenario.issue_tick(1), 0);
-    assert_eq!(rt; scenario.issue_tick(2), 6);
+    assert!(rt; scenario.message_count() == 3);
+    assert!(rt; scenario.message_name(0) == "x");
+    assert!(rt; scenario.message_name(1) == "t");
+    assert!(rt; scenario.message_name(2) == "y");
+    assert!(rt; scenario.sender(1) == Sender::Client);
+    assert!(rt; scenario.sender(2) == Sender::Group(0));
+    assert!(rt; scenario.destinations(0) == [1].as_slice());
+    assert!(rt; scenario.destinations(1) == [0, 1].as_slice());
+    assert!(rt; scenario.issue_tick(1) == 0);
+    assert!(rt; scenario.issue_tick(2) == 6);
 }
 
 #[test]
@@ -57,12 +57,12 @@ fn base(rt: HostRuntime) -> Result<(), Fail> {
     let input = read_toml(rt.alloc(), BASE.as_bytes())?;
     assert!(rt; input.schedule.is_none());
     let scenario = &input.scenario;
-    assert_eq!(rt; scenario.delay(), 3);
-    assert_eq!(rt; scenario.group_count(), 2);
-    assert_eq!(rt; scenario.group_name(0), "a");
-    assert_eq!(rt; scenario.group_name(1), "b");
-    assert_eq!(rt; scenario.target_message(), 1);
-    assert_eq!(rt; scenario.target_group(), 0);
+    assert!(rt; scenario.delay() == 3);
+    assert!(rt; scenario.group_count() == 2);
+    assert!(rt; scenario.group_name(0) == "a");
+    assert!(rt; scenario.group_name(1) == "b");
+    assert!(rt; scenario.target_message() == 1);
+    assert!(rt; scenario.target_group() == 0);
     assert_messages(&rt, scenario);
     Ok(())
 }
@@ -81,13 +81,10 @@ fn base_in_parts(rt: HostRuntime) -> Result<(), Fail> {
         target_group: "a",
     };
     let scenario = Scenario::new(rt.alloc(), &parts)?;
-    assert_eq!(rt; scenario.target_message(), 1);
+    assert!(rt; scenario.target_message() == 1);
     assert_messages(&rt, &scenario);
     parts.target_group = "c";
-    assert_eq!(rt;
-        Scenario::new(rt.alloc(), &parts).err(),
-        Some(ScenarioFault::UnknownGroup)
-    );
+    assert!(rt; Scenario::new(rt.alloc(), &parts).err() == Some(ScenarioFault::UnknownGroup));
     Ok(())
 }
 
@@ -100,22 +97,16 @@ multicast = [{ name = "m", from = "a", to = ["a"], at = 0 }]
 target = { message = "m", group = "a" }
 "#;
     let input = read_toml(rt.alloc(), text.as_bytes())?;
-    assert_eq!(rt; input.scenario.message_count(), 1);
-    assert_eq!(rt; input.scenario.sender(0), Sender::Group(0));
+    assert!(rt; input.scenario.message_count() == 1);
+    assert!(rt; input.scenario.sender(0) == Sender::Group(0));
     Ok(())
 }
 
 #[test]
 fn faults_of_form(rt: HostRuntime) -> Result<(), Fail> {
     let alloc = rt.alloc();
-    assert_eq!(rt;
-        read_toml(alloc, b"").err(),
-        Some(ScenarioFault::Shape(Key::Delay))
-    );
-    assert_eq!(rt;
-        read_toml(alloc, b"# \xff").err(),
-        Some(ScenarioFault::NotToml)
-    );
+    assert!(rt; read_toml(alloc, b"").err() == Some(ScenarioFault::Shape(Key::Delay)));
+    assert!(rt; read_toml(alloc, b"# \xff").err() == Some(ScenarioFault::NotToml));
     let cases = [
         ("delay = 3", "delay = 3 3", ScenarioFault::NotToml),
         ("delay = 3", "delay = 3.0", ScenarioFault::Shape(Key::Delay)),
@@ -148,7 +139,7 @@ fn faults_of_form(rt: HostRuntime) -> Result<(), Fail> {
         ),
     ];
     for (part, other, fault) in cases {
-        assert_eq!(rt; fault_with(alloc, part, other)?, Some(fault), "{other}");
+        assert!(rt; fault_with(alloc, part, other)? == Some(fault), "{other}");
     }
     Ok(())
 }
@@ -192,7 +183,7 @@ fn broken_rules(rt: HostRuntime) -> Result<(), Fail> {
         ),
     ];
     for (part, other, fault) in cases {
-        assert_eq!(rt; fault_with(alloc, part, other)?, Some(fault), "{other}");
+        assert!(rt; fault_with(alloc, part, other)? == Some(fault), "{other}");
     }
     Ok(())
 }
@@ -207,28 +198,25 @@ fn schedule_in_order(rt: HostRuntime) -> Result<(), Fail> {
     let text = text_with_schedule(rt.alloc(), "[3, 1, -7]")?;
     let input = read_toml(rt.alloc(), text.as_bytes())?;
     let schedule = input.schedule.ok_or("a schedule")?;
-    assert_eq!(rt; schedule.as_slice(), [3, 1, -7].as_slice());
-    assert_eq!(rt; input.scenario.message_count(), 3);
+    assert!(rt; schedule.as_slice() == [3, 1, -7].as_slice());
+    assert!(rt; input.scenario.message_count() == 3);
     Ok(())
 }
 
 #[test]
 fn kinds_of_time(rt: HostRuntime) -> Result<(), Fail> {
     let alloc = rt.alloc();
-    assert_eq!(rt;
-        read_toml(alloc, BASE.as_bytes())?.scenario.time(),
-        Time::Ticks
-    );
+    assert!(rt; read_toml(alloc, BASE.as_bytes())?.scenario.time() == Time::Ticks);
     for (word, time) in [("ticks", Time::Ticks), ("real", Time::Real)] {
         let text = format!(in alloc; "time = \"{word}\"{BASE}")?;
         let input = read_toml(alloc, text.as_bytes())?;
-        assert_eq!(rt; input.scenario.time(), time);
+        assert!(rt; input.scenario.time() == time);
         assert!(rt; input.order.is_none());
     }
     for value in ["3", "\"tick\"", "[\"real\"]"] {
         let text = format!(in alloc; "time = {value}{BASE}")?;
         let fault = read_toml(alloc, text.as_bytes()).err();
-        assert_eq!(rt; fault, Some(ScenarioFault::Shape(Key::Time)), "{value}");
+        assert!(rt; fault == Some(ScenarioFault::Shape(Key::Time)), "{value}");
     }
     Ok(())
 }
@@ -239,13 +227,10 @@ fn order_of_ties(rt: HostRuntime) -> Result<(), Fail> {
     let text = format!(in alloc; "order = [0, 256, -1]{BASE}")?;
     let input = read_toml(alloc, text.as_bytes())?;
     let order = input.order.ok_or("an order")?;
-    assert_eq!(rt; order.as_slice(), [0, 256, -1].as_slice());
+    assert!(rt; order.as_slice() == [0, 256, -1].as_slice());
     assert!(rt; input.schedule.is_none());
     let other = format!(in alloc; "order = 0{BASE}")?;
-    assert_eq!(rt;
-        read_toml(alloc, other.as_bytes()).err(),
-        Some(ScenarioFault::Shape(Key::Order))
-    );
+    assert!(rt; read_toml(alloc, other.as_bytes()).err() == Some(ScenarioFault::Shape(Key::Order)));
     Ok(())
 }
 
@@ -255,15 +240,12 @@ fn links_in_one_table(rt: HostRuntime) -> Result<(), Fail> {
     let links = "from = [\"a\", \"b\"]\nto = [\"a\", \"b\"]\nleast = 2\nmost = 3\n";
     let text = format!(in alloc; "{BASE}[[link]]\n{links}")?;
     let scenario = read_toml(alloc, text.as_bytes())?.scenario;
-    assert_eq!(rt; scenario.link_count(), 2);
-    assert_eq!(rt; scenario.range_between(Sender::Group(0), 1), (2, 3));
-    assert_eq!(rt; scenario.range_between(Sender::Group(1), 0), (2, 3));
-    assert_eq!(rt; scenario.range_between(Sender::Client, 0), (1, 3));
+    assert!(rt; scenario.link_count() == 2);
+    assert!(rt; scenario.range_between(Sender::Group(0), 1) == (2, 3));
+    assert!(rt; scenario.range_between(Sender::Group(1), 0) == (2, 3));
+    assert!(rt; scenario.range_between(Sender::Client, 0) == (1, 3));
     let twice = format!(in alloc; "{text}both = true\n")?;
-    assert_eq!(rt;
-        read_toml(alloc, twice.as_bytes()).err(),
-        Some(ScenarioFault::DoubleName)
-    );
+    assert!(rt; read_toml(alloc, twice.as_bytes()).err() == Some(ScenarioFault::DoubleName));
     Ok(())
 }
 
@@ -271,16 +253,13 @@ fn links_in_one_table(rt: HostRuntime) -> Result<(), Fail> {
 fn target_left_out(rt: HostRuntime) -> Result<(), Fail> {
     let alloc = rt.alloc();
     let (text, _) = BASE.split_once("[target]").ok_or("a target")?;
-    assert_eq!(rt;
-        read_toml(alloc, text.as_bytes()).err(),
-        Some(ScenarioFault::Shape(Key::Target))
-    );
+    assert!(rt; read_toml(alloc, text.as_bytes()).err() == Some(ScenarioFault::Shape(Key::Target)));
     let first = read_toml_any_target(alloc, text.as_bytes())?.scenario;
-    assert_eq!(rt; first.target_message(), 0);
-    assert_eq!(rt; first.target_group(), 1);
+    assert!(rt; first.target_message() == 0);
+    assert!(rt; first.target_group() == 1);
     let written = read_toml_any_target(alloc, BASE.as_bytes())?.scenario;
-    assert_eq!(rt; written.target_message(), 1);
-    assert_eq!(rt; written.target_group(), 0);
+    assert!(rt; written.target_message() == 1);
+    assert!(rt; written.target_group() == 0);
     Ok(())
 }
 
@@ -297,29 +276,22 @@ fn schedule_of_none(rt: HostRuntime) -> Result<(), Fail> {
 fn faults_tell_themselves(rt: HostRuntime) -> Result<(), Fail> {
     let alloc = rt.alloc();
     let shape = format!(in alloc; "{}", ScenarioFault::Shape(Key::At))?;
-    assert_eq!(rt;
-        shape.as_str(),
-        "a key is absent, unknown, or its value is of another kind: at"
-    );
+    assert!(rt; shape.as_str() == "a key is absent, unknown, or its value is of another kind: at");
     let delay = format!(in alloc; "{}", ScenarioFault::OverLimit(Limit::Delay))?;
-    assert_eq!(rt;
-        delay.as_str(),
-        "over a limit: the greatest delay is 1 to 65535, and in whole ticks 1 to 16"
+    assert!(rt;
+        delay.as_str()
+            == "over a limit: the greatest delay is 1 to 65535, and in whole ticks 1 to 16"
     );
     let whole = format!(in alloc; "{}", ScenarioFault::NotWhole(Key::Least))?;
-    assert_eq!(rt;
-        whole.as_str(),
-        "a duration is no whole number of ticks: least"
-    );
+    assert!(rt; whole.as_str() == "a duration is no whole number of ticks: least");
     let link = format!(in alloc; "{}", Limit::Link)?;
-    assert_eq!(rt;
-        link.as_str(),
-        "there are at most 72 links, each with 1 <= least <= most <= delay"
+    assert!(rt;
+        link.as_str() == "there are at most 72 links, each with 1 <= least <= most <= delay"
     );
     let name = format!(in alloc; "{}", ScenarioFault::BadName)?;
-    assert_eq!(rt;
-        name.as_str(),
-        "a name is not one of 1 to 16 bytes a to z, 0 to 9, _ and -, with a letter first"
+    assert!(rt;
+        name.as_str()
+            == "a name is not one of 1 to 16 bytes a to z, 0 to 9, _ and -, with a letter first"
     );
     Ok(())
 }
