@@ -121,6 +121,6 @@ fn one_ticket_is_not_watched(rt: HostRuntime) -> Result<(), Fail> {
     assert!(rt; seen.begun.load(Ordering::Relaxed) == 0);
     assert!(rt; seen.branches.load(Ordering::Relaxed) == 0);
     assert!(rt; seen.ended.load(Ordering::Relaxed) == 1);
-    assert!(rt; seen.greatest.load(Ordering::Relaxed) == 6);
+    assert!(rt; seen.greatest.load(Ordering::Relaxed) == 12);
     Ok(())
 }
