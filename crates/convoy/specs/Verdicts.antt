@@ -18,7 +18,6 @@ use Rattle.convoy_about.specs.Abouts.{CheckAboutSays, IsScenarioRead}
 use Rattle.convoy_batch.specs.declared.batch_table.TheConstants.{LONGEST_BATCH}
 use Rattle.convoy_batch.specs.BatchTables.{BatchTableSays}
 use Rattle.convoy_batch.specs.Batches.{IsBatchRun}
-use Rattle.convoy_commands.specs.Besides.{BesideSays, longest_of}
 use Rattle.convoy_commands.specs.Commands.{longest_for, says_for}
 use Rattle.convoy_commands.specs.Devices.{Answer, HasRun}
 use Rattle.convoy_commands.specs.Faults.{fault_line_of}
@@ -31,7 +30,7 @@ use Rattle.convoy_what_if.specs.WhatIf.{WhatIfSays}
 use Rattle.convoy_arguments.specs.declared.input.Input.{Input}
 use Rattle.convoy_arguments.specs.declared.limits.TheConstants.{MOST_READS}
 use Rattle.convoy_arguments.specs.declared.task.Task.{Task}
-use Rattle.convoy_arguments.specs.declared.task.Task.TheVariants.{Command, Beside, CheckAbout, Batch, BatchTable, Survey, WhatIf, Ceilings}
+use Rattle.convoy_arguments.specs.declared.task.Task.TheVariants.{Command, CheckAbout, Batch, BatchTable, Survey, WhatIf, Ceilings}
 use Rattle.convoy_arguments.specs.declared.verdict.Verdict.{Verdict}
 use Rattle.convoy_arguments.specs.declared.verdict.Verdict.TheVariants.{Ask, Text, Memory}
 use Rattle.convoy.specs.declared.ending.End.{End}
@@ -109,9 +108,6 @@ abbrev pub Performs : {S K : Type 0} → (S → Answer → S → Type 0) → (K 
 Performs may_read may_write (Command command) source new_source other new_other sink new_sink result =
     (new_other ≡ other)
     × RunsSo end_of (longest_for command) (says_for command) may_read may_write source new_source sink new_sink result
-Performs may_read may_write (Beside question) source new_source other new_other sink new_sink result =
-    (new_other ≡ other)
-    × RunsSo end_of (longest_of question) (BesideSays question) may_read may_write source new_source sink new_sink result
 Performs may_read may_write (CheckAbout scenario tells) source new_source other new_other sink new_sink result =
     ChecksAbout scenario tells may_read may_write source new_source other new_other sink new_sink result
 Performs may_read may_write (Batch options tells_status) source new_source other new_other sink new_sink result =

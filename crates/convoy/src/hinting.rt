@@ -8,7 +8,7 @@ use convoy_arguments::{Input, REJECTED, Task, Verdict, hint_for_words};
 use convoy_batch::MOST_JOBS;
 use convoy_commands::{
     Asking, Bounds, Command, Direct, Done, Fault, LONGEST_JOB, MOST_SIMULATIONS, MOST_TICKETS,
-    Options, Question, ReadFault, ScenarioFault, SearchEnd, Ways, lead_share, plain_share,
+    Options, ReadFault, ScenarioFault, SearchEnd, Ways, lead_share, plain_share,
 };
 use convoy_hints::{
     hint_for_batch, hint_for_both, hint_for_ceiling, hint_for_certificate, hint_for_explained,
@@ -75,7 +75,6 @@ pub fn greeting(alloc: Global, verdict: &Verdict) -> Result<Option<String>, Allo
 fn text_of(task: &Task) -> &'static str {
     match task {
         Task::Command(Command::Direct(Direct::First | Direct::Ceiling(_)) | Command::Search(..))
-        | Task::Beside(Question::Latency(_))
         | Task::CheckAbout {
             scenario: Some(Input::Standard),
             ..
@@ -83,8 +82,7 @@ fn text_of(task: &Task) -> &'static str {
         | Task::Survey { .. }
         | Task::WhatIf { .. }
         | Task::Ceilings { .. } => "a scenario",
-        Task::Command(Command::Direct(Direct::Ask(_)))
-        | Task::Beside(Question::Explain)
+        Task::Command(Command::Direct(Direct::Ask(_) | Direct::ExplainWithCeiling))
         | Task::CheckAbout { .. } => "a certificate",
         Task::Command(Command::Direct(Direct::Tell(_))) => "a scenario or a certificate",
         Task::Batch { .. } | Task::BatchTable { .. } => "scenarios",
@@ -279,7 +277,6 @@ fn options_of(verdict: &Verdict) -> Option<&Options> {
     match verdict {
         Verdict::Ask {
             task: Task::Command(Command::Search(_, options))
-            | Task::Beside(Question::Latency(options))
             | Task::Survey { options, .. }
             | Task::WhatIf { options, .. },
             ..
@@ -358,15 +355,16 @@ fn hint_for_answer<R, W>(
             Ok(Some(hint_for_first(alloc)?))
         }
         Verdict::Ask {
-            task: Task::Command(Command::Search(..)) | Task::Beside(Question::Latency(_)),
+            task: Task::Command(Command::Search(..)),
             ..
         } => match ended.greatest {
             Some(greatest) => hint_for_greatest(alloc, reader.text(), greatest),
             None => Ok(None),
         },
         Verdict::Ask {
-            task: Task::Command(Command::Direct(Direct::Ask(Asking::Explain)))
-            | Task::Beside(Question::Explain),
+            task: Task::Command(Command::Direct(
+                Direct::Ask(Asking::Explain) | Direct::ExplainWithCeiling,
+            )),
             ..
         } if reader.is_whole() => hint_for_explained(alloc, reader.text()),
         _ => Ok(None),

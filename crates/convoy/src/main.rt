@@ -7,7 +7,6 @@ ghost use Rattle.convoy_arguments.specs.Verdicts.{HasReads, IsVerdict};
 ghost use Rattle.convoy_arguments.specs.declared.limits.TheConstants.{MOST_READS};
 ghost use Rattle.convoy_batch.specs.declared.batch_table.TheConstants.{LONGEST_BATCH};
 ghost use Rattle.convoy_batch.specs.BatchTables.{BatchTableSays};
-ghost use Rattle.convoy_commands.specs.Besides.{BesideSays, longest_of};
 ghost use Rattle.convoy_commands.specs.declared.limits.TheConstants.{LONGEST_JOB};
 ghost use Rattle.convoy_commands.specs.Commands.{longest_for, says_for};
 ghost use Rattle.convoy_commands.specs.Runs.{IsRun};
@@ -36,8 +35,8 @@ use convoy_about::{read_scenario, run_check_about};
 use convoy_arguments::{Input, MOST_READS, Task, Verdict, judge, judge_bytes};
 use convoy_batch::{run_batch, run_batch_table};
 use convoy_commands::{
-    Command, DeviceFailed, Fault, Options, Question, SearchEnd, Sink, Source, StreamSink,
-    StreamSource, Watch, fault_line, run, run_beside, run_search, write_all,
+    Command, DeviceFailed, Fault, Options, SearchEnd, Sink, Source, StreamSink, StreamSource,
+    Watch, fault_line, run, run_search, write_all,
 };
 use convoy_survey::{Format, run_ceilings, run_survey};
 use convoy_what_if::run_what_if;
@@ -175,7 +174,6 @@ fn perform<R: Threads + Wait + Sync, S: Source, K: Sink, W: Watch + Sync>(
 {
     match task {
         Task::Command(command) => answer_command(rt, alloc, command, source, sink, watch),
-        Task::Beside(question) => answer_beside(rt, alloc, question, source, sink, watch),
         Task::CheckAbout { scenario, tells } => {
             check_about(alloc, scenario, *tells, source, other, sink)
         }
@@ -233,23 +231,6 @@ fn answer_command<R: Threads + Wait + Sync, S: Source, K: Sink, W: Watch + Sync>
             run_search(rt, alloc, *goal, options, source, sink, watch)?
         }
     };
-    Ok(End::Answered(done))
-}
-
-/// Answers with the ceiling beside the answer.
-#[inline(never)]
-fn answer_beside<R: Threads + Wait + Sync, S: Source, K: Sink, W: Watch + Sync>(
-    rt: &R,
-    alloc: Global,
-    question: &Question,
-    source: &mut S,
-    sink: &mut K,
-    watch: &W,
-) -> Result<End, Fault>
-    ensures { RunsSo end_of (longest_of question.now) (BesideSays question.now)
-        S.reads K.writes source.old source.new sink.old sink.new result }
-{
-    let done = run_beside(rt, alloc, question, source, sink, watch, MOST_READS)?;
     Ok(End::Answered(done))
 }
 

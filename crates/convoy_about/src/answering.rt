@@ -49,10 +49,25 @@ fn answer_to_yes(
         (Ok (answer.0, answer.1.items))) }
 {
     let certificate = accepted_certificate(alloc, text)?;
+    answer_of(alloc, wanted, tells, &certificate, line)
+}
+
+/// The answer to the text of a certificate that `check` accepts with this line.
+fn answer_of(
+    alloc: Global,
+    wanted: Option<&Scenario>,
+    tells: bool,
+    certificate: &Certificate,
+    line: Vec<u8>,
+) -> Result<(AboutEnd, Vec<u8>), AllocError>
+    ensures { (text : List ℕ) → IsAcceptedAs certificate.now text line.items
+        → IfOk result (λ answer. CheckAboutSays (option_map (λ s. s.now) wanted.entry) tells text
+        (Ok (answer.0, answer.1.items))) }
+{
     match unwanted_part(wanted, certificate.scenario()) {
         Some(part) => Ok((AboutEnd::Differs(part), differs_line(alloc, part)?)),
         None => {
-            let out = accepted_text(&certificate, tells, line)?;
+            let out = accepted_text(certificate, tells, line)?;
             Ok((AboutEnd::Checked(Done::Fine), out))
         }
     }

@@ -1,10 +1,9 @@
 -- What a command line asks for.
 use Rattle.std.specs.Prelude.{◌≡◌, ◌⊎◌, ℕ, List, Option, Some, None}
-use Rattle.convoy_commands.specs.declared.beside.Question.TheVariants.{Latency, Explain}
 use Rattle.convoy_commands.specs.declared.command.Command.TheVariants.{Direct, Search}
 use Rattle.convoy_arguments.specs.declared.limits.TheConstants.{MOST_READS}
 use Rattle.convoy_arguments.specs.declared.task.Task.{Task}
-use Rattle.convoy_arguments.specs.declared.task.Task.TheVariants.{Command, Beside, CheckAbout, Batch, BatchTable, Survey, WhatIf, Ceilings}
+use Rattle.convoy_arguments.specs.declared.task.Task.TheVariants.{Command, CheckAbout, Batch, BatchTable, Survey, WhatIf, Ceilings}
 use Rattle.convoy_arguments.specs.declared.input.Input.{Input}
 use Rattle.convoy_arguments.specs.declared.input.Input.TheVariants.{Standard}
 use Rattle.convoy_arguments.specs.declared.verdict.Verdict.{Verdict}
@@ -15,8 +14,6 @@ use Rattle.convoy_arguments.specs.Inputs.{file_in}
 abbrev pub HasReads : Task → Type 0
 HasReads (Command (Direct command)) = Unit {0}
 HasReads (Command (Search goal options)) = options.most_reads ≡ MOST_READS
-HasReads (Beside (Latency options)) = options.most_reads ≡ MOST_READS
-HasReads (Beside Explain) = Unit {0}
 HasReads (CheckAbout scenario tells) = Unit {0}
 HasReads (Batch options tells_status) = options.most_reads ≡ MOST_READS
 HasReads (BatchTable format options tells_status) = options.most_reads ≡ MOST_READS

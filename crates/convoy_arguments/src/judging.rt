@@ -9,7 +9,7 @@ use super::task::Task;
 use super::verdict::Verdict;
 use clap::error::ErrorKind;
 use clap::{ArgMatches, Error};
-use convoy_commands::{Asking, Command, Direct, Goal, Question, Telling};
+use convoy_commands::{Asking, Command, Direct, Goal, Telling};
 use std::alloc::{AllocError, Global};
 use std::convert::AsStr;
 
@@ -116,10 +116,6 @@ fn task_for(alloc: Global, name: &str, given: &ArgMatches<'_>) -> Result<Task, A
     ensures { IfOk result HasReads }
 {
     match name {
-        "latency" if given.get_flag("ceiling") => {
-            Ok(Task::Beside(Question::Latency(options_of(given))))
-        }
-        "explain" if given.get_flag("ceiling") => Ok(Task::Beside(Question::Explain)),
         "check" => check_for(alloc, given),
         "ceiling" => ceiling_for(alloc, given),
         "batch" => Ok(batch_for(given)),
@@ -200,11 +196,15 @@ fn command_for(name: &str, given: &ArgMatches<'_>) -> Command
 {
     match name {
         "analyse" => Command::Search(Goal::Certificate, options_of(given)),
+        "latency" if given.get_flag("ceiling") => {
+            Command::Search(Goal::LatencyWithCeiling, options_of(given))
+        }
         "latency" => Command::Search(Goal::Latency, options_of(given)),
         "simulate" => Command::Direct(Direct::Tell(Telling::Simulate)),
         "timeline" => Command::Direct(Direct::Tell(Telling::Timeline)),
         "packets" => Command::Direct(Direct::Tell(Telling::Packets)),
         "scenario" => Command::Direct(Direct::Tell(Telling::Toml)),
+        "explain" if given.get_flag("ceiling") => Command::Direct(Direct::ExplainWithCeiling),
         "explain" => Command::Direct(Direct::Ask(Asking::Explain)),
         "draw" => Command::Direct(Direct::Ask(Asking::Draw)),
         _ => Command::Direct(Direct::First),

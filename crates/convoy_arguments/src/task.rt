@@ -1,5 +1,5 @@
 use super::input::Input;
-use convoy_commands::{Command, Options, Question};
+use convoy_commands::{Command, Options};
 use convoy_tables::Format;
 
 /// What a command line asks for of the text that is read.
@@ -7,8 +7,6 @@ use convoy_tables::Format;
 pub enum Task {
     /// What a command answers.
     Command(Command),
-    /// What `latency` or `explain` answers, with the ceiling beside it.
-    Beside(Question),
     /// Whether a certificate is valid and, where a second input is named, is of the scenario in it; and whether
     /// what is accepted is told below the yes.
     CheckAbout {

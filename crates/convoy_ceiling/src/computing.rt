@@ -5,6 +5,7 @@ ghost use Rattle.convoy_scenario.specs.declared.sender.Sender.TheVariants.{Group
 ghost use Rattle.convoy_ceiling.specs.Ceiling.{
   IsUpperInTraffic,
   ceiling_at,
+  ceiling_of,
   delays_between,
   longest_after,
   longest_by,
@@ -26,6 +27,16 @@ pub fn ceiling(scenario: &Scenario, message: usize, group: usize) -> u32
 {
     ceiling_holds();
     longest_to_commit(scenario, message, group) + longest_after(scenario, group)
+}
+
+/// The ceiling of a scenario's own target, in ticks.
+pub fn target_ceiling(scenario: &Scenario) -> u32
+    ensures value { result ≡ ceiling_of scenario.now }
+    ensures lawful { IsScenario scenario.now }
+    ensures safe { IsUpperInTraffic scenario.now scenario.now.target_message scenario.now.target_group
+        (ceiling_of scenario.now) }
+{
+    ceiling(scenario, scenario.target_message(), scenario.target_group())
 }
 
 /// Whether a message goes to a group.

@@ -5,7 +5,7 @@ use Rattle.convoy_branch.specs.Options.{Settings}
 use Rattle.convoy_commands.specs.declared.command.Command.{Command}
 use Rattle.convoy_commands.specs.declared.command.Command.TheVariants as commands
 use Rattle.convoy_commands.specs.declared.command.Direct.{Direct}
-use Rattle.convoy_commands.specs.declared.command.Direct.TheVariants.{First, Tell, Ask, Ceiling}
+use Rattle.convoy_commands.specs.declared.command.Direct.TheVariants.{First, Tell, Ask, ExplainWithCeiling, Ceiling}
 use Rattle.convoy_commands.specs.declared.command.Goal.{Goal}
 use Rattle.convoy_commands.specs.declared.command.Goal.TheVariants as goals
 use Rattle.convoy_commands.specs.declared.asking.Asking.TheVariants.{Check, Explain, Draw}
@@ -72,12 +72,14 @@ direct_no_device (Tell telling) text fault says = tell_no_device telling text fa
 direct_no_device (Ask Check) text fault says = check_no_device text fault says
 direct_no_device (Ask Explain) text fault says = explain_no_device text fault says
 direct_no_device (Ask Draw) text fault says = draw_no_device text fault says
+direct_no_device ExplainWithCeiling text fault says = explain_no_device text fault says
 direct_no_device (Ceiling simulations) text fault says = search_no_device text fault says
 
 pub goal_no_device : (goal : Goal) (settings : Settings) (text : List ℕ) (fault : Fault) →
     search_says goal settings text (Err fault) → IsNoDevice fault
 goal_no_device goals.Certificate settings text fault says = search_no_device text fault says
 goal_no_device goals.Latency settings text fault says = search_no_device text fault says
+goal_no_device goals.LatencyWithCeiling settings text fault says = search_no_device text fault says
 
 pub says_no_device : (command : Command) (text : List ℕ) (fault : Fault) → says_for command text (Err fault) → IsNoDevice fault
 says_no_device (commands.Direct direct) text fault says = direct_no_device direct text fault says

@@ -1,6 +1,5 @@
 pub mod Acceptance
 pub mod AskTexts
-pub mod BesideTexts
 pub mod CeilingTexts
 pub mod CheckTexts
 pub mod CommandTexts

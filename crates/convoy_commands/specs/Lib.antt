@@ -55,8 +55,8 @@ pub mod Draws
 pub mod Asks
 pub mod Searches
 pub mod Ceilings
+pub mod WithCeilings
 pub mod Commands
-pub mod Besides
 pub mod Runs
 pub mod SearchEnds
 pub mod Laws

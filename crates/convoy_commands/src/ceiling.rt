@@ -1,6 +1,5 @@
 ghost use Rattle.std.specs.Prelude.{◌≡◌, ◌==◌, IfOk, if◌then◌else◌};
-ghost use Rattle.convoy_scenario.specs.WellFormed.{IsScenario};
-ghost use Rattle.convoy_ceiling.specs.Ceiling.{IsUpperInTraffic, ceiling_of};
+ghost use Rattle.convoy_ceiling.specs.Ceiling.{ceiling_of};
 ghost use Rattle.convoy_commands.specs.declared.done.Done.TheVariants.{Fine, Open};
 ghost use Rattle.convoy_commands.specs.Ceilings.{CeilingSays, ceiling_text};
 ghost use Rattle.convoy_commands.specs.Replies.{SaysUnlessMemory, reply_of};
@@ -8,7 +7,7 @@ ghost use Rattle.convoy_commands.specs.Replies.{SaysUnlessMemory, reply_of};
 use super::done::Done;
 use super::fault::Fault;
 use super::lines::push_ceiling;
-use convoy_ceiling::ceiling;
+use convoy_ceiling::target_ceiling;
 use convoy_lines::push_number_line;
 use convoy_scenario::Scenario;
 use convoy_toml::read_toml;
@@ -33,16 +32,6 @@ pub(crate) fn ceiling_answer(
     let latency = found.record.latency();
     let done = ending(ceiling, latency);
     Ok((done, out))
-}
-
-/// The ceiling of the target of a scenario.
-pub(crate) fn target_ceiling(scenario: &Scenario) -> u32
-    ensures value { result ≡ ceiling_of scenario.now }
-    ensures lawful { IsScenario scenario.now }
-    ensures safe { IsUpperInTraffic scenario.now scenario.now.target_message scenario.now.target_group
-        (ceiling_of scenario.now) }
-{
-    ceiling(scenario, scenario.target_message(), scenario.target_group())
 }
 
 /// How the command ends: well where the latency is the ceiling.

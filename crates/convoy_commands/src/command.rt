@@ -16,6 +16,7 @@ use super::latency::latency_answer;
 use super::limits::{LONGEST_CERTIFICATE, LONGEST_JOB};
 use super::telling::{Telling, tell};
 use super::watch::Watch;
+use super::with_ceiling::{explain_with_ceiling, latency_with_ceiling};
 use super::writing::write_reply;
 use convoy_branch::Options;
 use convoy_streams::{Sink, Source, read_to_end};
@@ -41,6 +42,8 @@ pub enum Direct {
     Tell(Telling),
     /// What is asked of a certificate.
     Ask(Asking),
+    /// Why the latency of a certificate's schedule is what it is, and below it the ceiling of its scenario.
+    ExplainWithCeiling,
     /// The ceiling of a scenario, and traffic that is sought by so many simulations at most.
     Ceiling(u64),
 }
@@ -52,6 +55,8 @@ pub enum Goal {
     Certificate,
     /// The greatest latency.
     Latency,
+    /// The greatest latency, and below it the ceiling of the scenario.
+    LatencyWithCeiling,
 }
 
 /// Runs a command that does not search: reads a text to the end of the source, in at most `most_reads`
@@ -99,7 +104,7 @@ fn longest_of(command: Direct) -> usize
 {
     match command {
         Direct::First | Direct::Ceiling(_) => LONGEST_JOB,
-        Direct::Tell(_) | Direct::Ask(_) => LONGEST_CERTIFICATE,
+        Direct::Tell(_) | Direct::Ask(_) | Direct::ExplainWithCeiling => LONGEST_CERTIFICATE,
     }
 }
 
@@ -111,6 +116,7 @@ fn answer_of(alloc: Global, command: Direct, text: &[u8]) -> Result<(Done, Vec<u
         Direct::First => fine(first_answer(alloc, text)),
         Direct::Tell(telling) => tell(alloc, telling, text),
         Direct::Ask(asking) => ask(alloc, asking, text),
+        Direct::ExplainWithCeiling => explain_with_ceiling(alloc, text),
         Direct::Ceiling(simulations) => ceiling_answer(alloc, simulations, text),
     }
 }
@@ -129,6 +135,7 @@ fn found_of<R: Threads + Wait + Sync, W: Watch + Sync>(
     match goal {
         Goal::Certificate => analyse_answer(rt, alloc, text, options, watch),
         Goal::Latency => latency_answer(rt, alloc, text, options, watch),
+        Goal::LatencyWithCeiling => latency_with_ceiling(rt, alloc, text, options, watch),
     }
 }
 

@@ -1,7 +1,7 @@
-ghost use Rattle.std.specs.Prelude.{◌≡◌, IfOk};
+ghost use Rattle.std.specs.Prelude.{◌≡◌, ℕ, List, IfOk};
 ghost use Rattle.convoy_commands.specs.Lines.{greatest_line, open_line};
 ghost use Rattle.convoy_commands.specs.Replies.{SaysUnlessMemory, reply_of};
-ghost use Rattle.convoy_commands.specs.Searches.{LatencySays};
+ghost use Rattle.convoy_commands.specs.Searches.{IsSearchOf, LatencySays};
 
 use super::done::Done;
 use super::fault::Fault;
@@ -9,7 +9,7 @@ use super::lines::{push_greatest, push_open};
 use super::search::search_text;
 use super::watch::Watch;
 use convoy_branch::{Options, Outcome};
-use convoy_scenario::Duration;
+use convoy_scenario::{Duration, Scenario};
 use std::alloc::{AllocError, Global};
 use std::sync::Wait;
 use std::thread::Threads;
@@ -26,17 +26,31 @@ pub fn latency_answer<R: Threads + Wait + Sync, W: Watch + Sync>(
 ) -> Result<(Done, Vec<u8>), Fault>
     ensures { SaysUnlessMemory (LatencySays options.now) text.now (reply_of result) }
 {
-    let _limit = options.limit();
     let (instance, outcome) = search_text(rt, alloc, text, options, watch)?;
-    let tick = instance.scenario().tick();
+    latency_told(alloc, options, instance.scenario(), &outcome)
+}
+
+/// What `latency` tells of the outcome of a search for a scenario, and how it ends.
+pub(crate) fn latency_told(
+    alloc: Global,
+    options: &Options,
+    scenario: &Scenario,
+    outcome: &Outcome,
+) -> Result<(Done, Vec<u8>), Fault>
+    ensures { (text : List ℕ) → IsSearchOf options.now text scenario.now outcome.now
+        → SaysUnlessMemory (LatencySays options.now) text (reply_of result) }
+{
+    let _limit = options.limit();
+    let tick = scenario.tick();
     match outcome {
         Outcome::Proved { certificate, .. } => Ok((
             Done::Fine,
             greatest_text(alloc, tick, certificate.latency())?,
         )),
-        Outcome::Open { best, upper, .. } => {
-            Ok((Done::Open, open_text(alloc, tick, best.latency(), upper)?))
-        }
+        Outcome::Open { best, upper, .. } => Ok((
+            Done::Open,
+            open_text(alloc, tick, best.latency(), *upper)?,
+        )),
     }
 }
 

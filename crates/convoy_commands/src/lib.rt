@@ -2,7 +2,6 @@
 #![tactic(auto)]
 
 pub use asking::{Asking, ask};
-pub use beside::{Question, run_beside};
 pub use calls::{run_analyse, run_check, run_first, run_latency, run_simulate, run_timeline};
 pub use command::{Command, Direct, Goal, run, run_search};
 pub use convoy_branch::{
@@ -28,8 +27,6 @@ pub use writing::write_reply;
 
 mod analyse;
 mod asking;
-mod beside;
-mod beside_answers;
 mod calls;
 mod ceiling;
 mod command;
@@ -46,4 +43,5 @@ mod search;
 mod search_end;
 mod telling;
 mod watch;
+mod with_ceiling;
 mod writing;

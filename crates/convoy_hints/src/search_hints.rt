@@ -1,4 +1,4 @@
-use convoy_ceiling::ceiling;
+use convoy_ceiling::target_ceiling;
 use convoy_certificate::read;
 use convoy_scenario::{Scenario, Time};
 use convoy_scenario_hints::has_waits;
@@ -55,7 +55,7 @@ fn hint_at_ceiling(
     scenario: &Scenario,
     greatest: u32,
 ) -> Result<Option<String>, AllocError> {
-    if !has_waits(scenario) || greatest < ceiling_of_target(scenario) {
+    if !has_waits(scenario) || greatest < target_ceiling(scenario) {
         return Ok(None);
     }
     let hint = String::from_str(
@@ -63,11 +63,6 @@ fn hint_at_ceiling(
         "hint: this is the ceiling of the system: wider windows and further messages of these kinds give no more, and narrower windows may give less\n",
     )?;
     Ok(Some(hint))
-}
-
-/// The latency that no traffic of the scenario's kinds exceeds at its target.
-fn ceiling_of_target(scenario: &Scenario) -> u32 {
-    ceiling(scenario, scenario.target_message(), scenario.target_group())
 }
 
 /// What to do where a search by plain or stamp bounds alone, or both ways with no ticket for leads, did not

@@ -79,7 +79,7 @@ fn search<R: Threads + Wait + Sync, W: Watch + Sync>(
     ensures { IfOk result (IsFinding options.now instance.now) }
 {
     let outcome = search_instance(rt, alloc, instance, options, watch)?;
-    finding_of(alloc, instance, options, outcome)
+    finding_of(alloc, instance, options, &outcome)
 }
 
 /// What was found of an instance by a search that ended so.
@@ -87,9 +87,9 @@ fn finding_of(
     alloc: Global,
     instance: &Instance,
     options: &Options,
-    outcome: Outcome,
+    outcome: &Outcome,
 ) -> Result<Finding, AllocError>
-    requires { IsEnd options.now instance.now outcome }
+    requires { IsEnd options.now instance.now outcome.now }
     ensures { IfOk result (IsFinding options.now instance.now) }
 {
     match outcome {
@@ -105,7 +105,7 @@ fn finding_of(
             let cause = cause_of(alloc, instance, best.schedule())?;
             Ok(Finding::Open {
                 least: best.latency(),
-                most: upper,
+                most: *upper,
                 cause,
             })
         }

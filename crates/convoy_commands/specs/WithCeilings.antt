@@ -9,13 +9,10 @@ use Rattle.convoy_branch.specs.Options.{Settings}
 use Rattle.convoy_commands.specs.declared.asking.Asking.TheVariants.{Explain}
 use Rattle.convoy_commands.specs.declared.done.Done.{Done}
 use Rattle.convoy_commands.specs.declared.done.Done.TheVariants.{Fine, Open, Refused}
-use Rattle.convoy_commands.specs.declared.limits.TheConstants.{LONGEST_CERTIFICATE, LONGEST_JOB}
 use Rattle.convoy_commands.specs.Asks.{AskSays}
 use Rattle.convoy_commands.specs.Ceilings.{ceiling_line}
 use Rattle.convoy_commands.specs.Replies.{Rule}
 use Rattle.convoy_commands.specs.Searches.{LatencySays}
-use Rattle.convoy_commands.specs.declared.beside.Question.{Question}
-use Rattle.convoy_commands.specs.declared.beside.Question.TheVariants as questions
 
 -- below an answer stands the ceiling of the scenario that it is about, above which no latency is in any traffic of the scenario's kinds
 pub record HasCeilingBelow (scenario : Scenario) (answer out : List ℕ) : Type 0 where
@@ -39,23 +36,13 @@ pub record IsExplanationWithCeiling (text out : List ℕ) : Type 0 where
   pub ceiling : HasCeilingBelow certificate.scenario answer out
 
 -- what may be answered for the text of a scenario: below a fault stands no ceiling
-abbrev pub LatencyBesideSays : Settings → Rule
-LatencyBesideSays settings text (Ok (done, out)) = IsLatencyWithCeiling settings text out done
-LatencyBesideSays settings text (Err fault) = LatencySays settings text (Err fault)
+abbrev pub LatencyWithCeilingSays : Settings → Rule
+LatencyWithCeilingSays settings text (Ok (done, out)) = IsLatencyWithCeiling settings text out done
+LatencyWithCeilingSays settings text (Err fault) = LatencySays settings text (Err fault)
 
 -- what may be answered for the text of a certificate: below a refusal and a fault stands no ceiling
-abbrev pub ExplainBesideSays : Rule
-ExplainBesideSays text (Ok (Fine, out)) = IsExplanationWithCeiling text out
-ExplainBesideSays text (Ok (Open, out)) = AskSays Explain text (Ok (Open, out))
-ExplainBesideSays text (Ok (Refused refusal, out)) = AskSays Explain text (Ok (Refused refusal, out))
-ExplainBesideSays text (Err fault) = AskSays Explain text (Err fault)
-
--- the rule of a question
-abbrev pub BesideSays : Question → Rule
-BesideSays (questions.Latency options) = LatencyBesideSays options
-BesideSays questions.Explain = ExplainBesideSays
-
--- how many bytes the text has at most
-abbrev pub longest_of : Question → ℕ
-longest_of (questions.Latency options) = LONGEST_JOB
-longest_of questions.Explain = LONGEST_CERTIFICATE
+abbrev pub ExplainWithCeilingSays : Rule
+ExplainWithCeilingSays text (Ok (Fine, out)) = IsExplanationWithCeiling text out
+ExplainWithCeilingSays text (Ok (Open, out)) = AskSays Explain text (Ok (Open, out))
+ExplainWithCeilingSays text (Ok (Refused refusal, out)) = AskSays Explain text (Ok (Refused refusal, out))
+ExplainWithCeilingSays text (Err fault) = AskSays Explain text (Err fault)

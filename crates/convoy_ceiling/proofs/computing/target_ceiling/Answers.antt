@@ -1,6 +1,6 @@
 use Rattle.std.proofs.Common.{ℕ, subst, ap₂, ◌∙◌}
 use Rattle.convoy_ceiling.specs.Ceiling.{IsUpperInTraffic, ceiling_at, ceiling_of}
-use Rattle.convoy_commands.proofs.ceiling.target_ceiling.Goals as goal
+use Rattle.convoy_ceiling.proofs.computing.target_ceiling.Goals as goal
 
 pub returns-clause-value : goal.returns-clause-value
 unfolding ceiling_of

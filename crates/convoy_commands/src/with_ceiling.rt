@@ -1,0 +1,76 @@
+//! An answer with the ceiling of its scenario in a line below it (docs/FORMATS.md, "What `ceiling` writes").
+
+ghost use Rattle.std.specs.Prelude.{ℕ, List, OnOk};
+ghost use Rattle.convoy_commands.specs.Replies.{SaysUnlessMemory, reply_of};
+ghost use Rattle.convoy_commands.specs.Searches.{IsSearchOf};
+ghost use Rattle.convoy_commands.specs.WithCeilings.{
+  ExplainWithCeilingSays,
+  HasCeilingBelow,
+  LatencyWithCeilingSays,
+};
+
+use super::asking::{Asking, ask};
+use super::done::Done;
+use super::fault::Fault;
+use super::latency::latency_told;
+use super::lines::push_ceiling;
+use super::search::search_text;
+use super::watch::Watch;
+use convoy_branch::{Options, Outcome};
+use convoy_ceiling::target_ceiling;
+use convoy_certificate::{Certificate, read};
+use convoy_scenario::Scenario;
+use std::alloc::{AllocError, Global};
+use std::sync::Wait;
+use std::thread::Threads;
+
+/// What `latency` answers for a text, and below it the ceiling of the text's scenario.
+pub(crate) fn latency_with_ceiling<R: Threads + Wait + Sync, W: Watch + Sync>(
+    rt: &R,
+    alloc: Global,
+    text: &[u8],
+    options: &Options,
+    watch: &W,
+) -> Result<(Done, Vec<u8>), Fault>
+    ensures { SaysUnlessMemory (LatencyWithCeilingSays options.now) text.now (reply_of result) }
+{
+    let (instance, outcome) = search_text(rt, alloc, text, options, watch)?;
+    told_with_ceiling(alloc, options, instance.scenario(), &outcome)
+}
+
+/// What `latency` tells of the outcome of a search for a scenario, and below it the ceiling of the scenario.
+fn told_with_ceiling(
+    alloc: Global,
+    options: &Options,
+    scenario: &Scenario,
+    outcome: &Outcome,
+) -> Result<(Done, Vec<u8>), Fault>
+    ensures { (text : List ℕ) → IsSearchOf options.now text scenario.now outcome.now
+        → SaysUnlessMemory (LatencyWithCeilingSays options.now) text (reply_of result) }
+{
+    let (done, mut out) = latency_told(alloc, options, scenario, outcome)?;
+    push_ceiling_of(scenario, &mut out)?;
+    Ok((done, out))
+}
+
+/// What `explain` answers for a text, and below it the ceiling of the certificate's scenario.
+pub(crate) fn explain_with_ceiling(alloc: Global, text: &[u8]) -> Result<(Done, Vec<u8>), Fault>
+    ensures { SaysUnlessMemory ExplainWithCeilingSays text.now (reply_of result) }
+{
+    let (done, mut out) = ask(alloc, Asking::Explain, text)?;
+    if let Done::Fine = done {
+        // The text was that of a certificate, so that only memory can be wanting to read it once more.
+        let Ok(certificate) = read(alloc, text) else {
+            return Err(Fault::Memory);
+        };
+        push_ceiling_of(certificate.scenario(), &mut out)?;
+    }
+    Ok((done, out))
+}
+
+/// Appends the line of the ceiling of a scenario's target.
+fn push_ceiling_of(scenario: &Scenario, out: &mut Vec<u8>) -> Result<(), AllocError>
+    ensures { OnOk result (HasCeilingBelow scenario.now out.old.items out.new.items) }
+{
+    push_ceiling(scenario.tick(), target_ceiling(scenario), out)
+}
