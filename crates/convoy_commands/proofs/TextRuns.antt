@@ -1,10 +1,10 @@
 -- How a run ends that reads a text and writes what is replied to it: before its text was read, and once it was.
-use Rattle.std.proofs.Common.{◌≡◌, inl, inr, ℕ, List, [], Result, Ok, Err, refl, sym, subst}
+use Rattle.std.proofs.Common.{◌≡◌, inl, inr, ℕ, List, [], ◌≤◌, length, Result, Ok, Err, refl, sym, subst}
 use Rattle.convoy_scenario.specs.declared.fault.ScenarioFault.{ScenarioFault}
 use Rattle.convoy_scenario.specs.declared.fault.ScenarioFault.TheVariants as scenario
 use Rattle.convoy_streams.specs.declared.reading.ReadFault.{ReadFault}
 use Rattle.convoy_streams.specs.declared.reading.ReadFault.TheVariants as reading
-use Rattle.convoy_streams.specs.Devices.{Answer}
+use Rattle.convoy_streams.specs.Devices.{Answer, HasRun}
 use Rattle.convoy_streams.specs.Reads.{ReadsText, StopsReading}
 use Rattle.convoy_toml.specs.declared.target.TargetKey.{TargetKey}
 use Rattle.convoy_commands.specs.declared.command.Command.{Command}
@@ -13,7 +13,7 @@ use Rattle.convoy_commands.specs.declared.fault.Fault.TheVariants.{Memory, Write
 use Rattle.convoy_commands.specs.Commands.{says_for}
 use Rattle.convoy_commands.specs.Faults.{told_of, told_of_reading}
 use Rattle.convoy_commands.specs.Replies.{ReplyWith, RuleOf, SaysUnlessMemory}
-use Rattle.convoy_commands.specs.Runs.{RunsTo, WritesReply}
+use Rattle.convoy_commands.specs.Runs.{IsRun, RunsTo, WritesReply}
 use Rattle.convoy_commands.specs.Searches.{IsFaultyBy}
 use Rattle.convoy_commands.proofs.CommandTexts.{says_no_device}
 
@@ -64,3 +64,35 @@ replied_run longest says most_reads reads writes text (Ok (done, out)) (Ok ended
 replied_run longest says most_reads reads writes text (Ok (done, out)) (Err fault) sane read (inl allowed) wrote =
     rw wrote.0 (done, out, record { text = text; read = read; allowed = allowed }, wrote.1)
 replied_run longest says most_reads reads writes text (Ok (done, out)) result sane read (inr refused) wrote = cc
+
+-- So a run ends whose reads stopped: with the fault of these, and with nothing written.
+pub unread_so : {End S K : Type 0} (longest : ℕ) (says : RuleOf End) (most_reads : ℕ)
+    {may_read : S → Answer → S → Type 0} {may_write : K → Answer → K → Type 0} {source new_source : S} {sink : K} (cause : ReadFault) →
+    HasRun may_read source new_source (λ reads. (length reads ≤ most_reads) × StopsReading longest most_reads reads cause) →
+    IsRun longest says most_reads may_read may_write source new_source sink sink (Err (told_of_reading cause))
+unread_so longest says most_reads cause read = record {
+  reads = read.answers;
+  writes = [];
+  read = read.calls;
+  few = read.says.0;
+  wrote = refl;
+  outcome = unread_run longest says most_reads read.answers cause read.says.1;
+}
+
+-- So a run ends whose text was read and replied to: as the writing of the reply does.
+pub replied_so : {End S K : Type 0} (longest : ℕ) (says : RuleOf End) (most_reads : ℕ)
+    {may_read : S → Answer → S → Type 0} {may_write : K → Answer → K → Type 0} {source new_source : S} {sink new_sink : K}
+    {text : List ℕ} {reply : ReplyWith End} {result : Result End Fault} →
+    (says text (Err Write) → ⊥) →
+    HasRun may_read source new_source (λ reads. (length reads ≤ most_reads) × ReadsText longest reads text) →
+    SaysUnlessMemory says text reply →
+    HasRun may_write sink new_sink (λ writes. WritesReply reply writes result) →
+    IsRun longest says most_reads may_read may_write source new_source sink new_sink result
+replied_so longest says most_reads sane read allowed wrote = record {
+  reads = read.answers;
+  writes = wrote.answers;
+  read = read.calls;
+  few = read.says.0;
+  wrote = wrote.calls;
+  outcome = replied_run longest says most_reads read.answers wrote.answers _ _ _ sane read.says.1 allowed wrote.says;
+}

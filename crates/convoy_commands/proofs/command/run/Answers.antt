@@ -1,34 +1,13 @@
-use Rattle.std.proofs.Common.{[], refl}
 use Rattle.std.proofs.lemmas.Result.{err_from_is_err_and}
 use Rattle.convoy_commands.specs.declared.fault.Fault.TheVariants.{Write}
 use Rattle.convoy_commands.proofs.CommandTexts.{direct_no_device}
-use Rattle.convoy_commands.proofs.TextRuns.{replied_run, unread_run}
+use Rattle.convoy_commands.proofs.TextRuns.{replied_so, unread_so}
 use Rattle.convoy_commands.proofs.command.run.Goals as goal
 
 pub returns-in_err-text : goal.returns-in_err-text
 returns-in_err-text g c =
-    let read = c.in_err-text.ensures in
     let returned = err_from_is_err_and c.from_residual.result c.from_residual.ensures.1 in
-    rw (returned.1, returned.2)
-    (record {
-      reads = read.answers;
-      writes = [];
-      read = read.calls;
-      few = read.says.0;
-      wrote = refl;
-      outcome = unread_run _ _ _ _ _ (rw c.longest_of.ensures at read.says.1);
-    })
+    rw (returned.1, returned.2) (unread_so _ _ _ _ (rw c.longest_of.ensures at c.in_err-text.ensures))
 
 pub returns : goal.returns
-returns g c =
-    let read = c.in_ok-text.ensures in
-    let wrote = c.write_reply.ensures in
-    record {
-      reads = read.answers;
-      writes = wrote.answers;
-      read = read.calls;
-      few = read.says.0;
-      wrote = wrote.calls;
-      outcome = replied_run _ _ _ _ _ _ _ _ (λ allowed. direct_no_device _ _ Write allowed)
-          (rw c.longest_of.ensures at read.says.1) (rw c.deref.ensures.value at c.answer_of.ensures) wrote.says;
-    }
+returns g c = replied_so _ _ _ (λ allowed. direct_no_device _ _ Write allowed) (rw c.longest_of.ensures at c.in_ok-text.ensures) (rw c.deref.ensures.value at c.answer_of.ensures) c.write_reply.ensures
