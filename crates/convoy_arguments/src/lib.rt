@@ -15,6 +15,7 @@ mod judging;
 mod limits;
 mod options;
 mod parser;
+mod settings;
 mod task;
 mod verdict;
 mod word_hints;
