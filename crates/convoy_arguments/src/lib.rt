@@ -5,6 +5,7 @@
 pub use input::Input;
 pub use judging::{judge, judge_bytes};
 pub use limits::{MOST_READS, REJECTED};
+pub use manner::Manner;
 pub use task::Task;
 pub use verdict::Verdict;
 pub use word_hints::hint_for_words;
@@ -13,6 +14,7 @@ mod help;
 mod input;
 mod judging;
 mod limits;
+mod manner;
 mod options;
 mod parser;
 mod settings;
