@@ -128,9 +128,9 @@ Performs may_read may_write (Ceilings format group simulations) source new_sourc
 -- What the command line asks for is done. Only a task reads, from a file as from standard input.
 abbrev pub Obeys : {S K : Type 0} → (S → Answer → S → Type 0) → (K → Answer → K → Type 0) → Verdict →
     S → S → S → S → K → K → Result End Fault → Type 0
-Obeys may_read may_write (Ask task input) source new_source other new_other sink new_sink result =
+Obeys may_read may_write (Ask task input manner) source new_source other new_other sink new_sink result =
     Performs may_read may_write task source new_source other new_other sink new_sink result
-Obeys may_read may_write (Text text status) source new_source other new_other sink new_sink result =
+Obeys may_read may_write (Text text status is_quiet) source new_source other new_other sink new_sink result =
     (new_source ≡ source)
     × (new_other ≡ other)
     × HasRun may_write sink new_sink (λ answers. MatchResult result

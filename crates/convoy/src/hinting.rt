@@ -7,17 +7,18 @@ use super::kept::{KeptReader, KeptWriter};
 use convoy_arguments::{Input, REJECTED, Task, Verdict, hint_for_words};
 use convoy_batch::MOST_JOBS;
 use convoy_commands::{
-    Asking, Bounds, Command, Direct, Done, Fault, LONGEST_JOB, MOST_SIMULATIONS, MOST_TICKETS,
-    Options, ReadFault, ScenarioFault, SearchEnd, Ways, lead_share, plain_share,
+    Asking, Bounds, Command, Direct, Done, Fault, LONGEST_JOB, ListFault, MOST_SIMULATIONS,
+    MOST_TICKETS, Options, OrderFault, ReadFault, ScenarioFault, SearchEnd, Ways, lead_share,
+    plain_share,
 };
 use convoy_hints::{
     hint_for_batch, hint_for_both, hint_for_ceiling, hint_for_certificate, hint_for_explained,
-    hint_for_first, hint_for_greatest, hint_for_jobs, hint_for_leads, hint_for_length,
-    hint_for_limit, hint_for_reading, hint_for_real_time, hint_for_run, hint_for_scenario,
+    hint_for_first, hint_for_given_order, hint_for_given_schedule, hint_for_greatest,
+    hint_for_jobs, hint_for_leads, hint_for_length, hint_for_limit, hint_for_named_group,
+    hint_for_order_in_ticks, hint_for_reading, hint_for_real_time, hint_for_scenario,
     hint_for_tickets, hint_for_writing, is_in_real_time, line_for_file,
 };
 use std::alloc::{AllocError, Global};
-use std::convert::AsStr;
 use std::io::{Error, Write};
 
 // Hints tell these limits in words.
@@ -29,6 +30,7 @@ const _: () = prove!(MOST_SIMULATIONS == 1_000_000);
 #[derive(Drop)]
 pub struct Ended<'a, R, W> {
     pub verdict: &'a Verdict,
+    /// The words of the command line: what a rejected one meant.
     pub words: &'a [String],
     pub result: &'a Result<End, Fault>,
     pub reader: &'a KeptReader<R>,
@@ -37,11 +39,6 @@ pub struct Ended<'a, R, W> {
     pub writer: &'a KeptWriter<W>,
     /// The greatest latency in ticks that the last search found, where it did.
     pub greatest: Option<u32>,
-}
-
-/// Whether the command line asks for no hints.
-pub fn is_quiet<S: AsStr>(words: &[S]) -> bool {
-    words.iter().any(|word| word.as_str() == "--quiet")
 }
 
 /// Whether something is read from standard input, the certificate of a check or the scenario for it.
@@ -90,14 +87,9 @@ fn text_of(task: &Task) -> &'static str {
 }
 
 /// Writes why a file could not be read, and the hint for how the run ended unless it is to be quiet.
-pub fn tell_ended<E: Write, R, W>(
-    errors: &mut E,
-    alloc: Global,
-    ended: &Ended<'_, R, W>,
-    is_quiet: bool,
-) {
+pub fn tell_ended<E: Write, R, W>(errors: &mut E, alloc: Global, ended: &Ended<'_, R, W>) {
     write_line(errors, line_for_input(alloc, ended));
-    if !is_quiet {
+    if !ended.verdict.is_quiet() {
         write_line(errors, hint_for(alloc, ended));
     }
 }
@@ -157,14 +149,12 @@ fn hint_for_fault<R, W>(
     };
     match fault {
         Fault::Scenario(fault) if reader.is_whole() => {
-            match hint_for_scenario(alloc, reader.text(), *fault)? {
-                Some(hint) => Ok(Some(hint)),
-                None => hint_for_group(alloc, ended.verdict, *fault),
-            }
+            hint_for_scenario_or_group(alloc, ended.verdict, reader.text(), *fault)
         }
-        Fault::Schedule(_) | Fault::Order(_) if reader.is_whole() => {
-            hint_for_run(alloc, reader.text())
+        Fault::Schedule(fault) if reader.is_whole() => {
+            hint_for_given_schedule(alloc, reader.text(), *fault)
         }
+        Fault::Order(fault) if reader.is_whole() => { hint_for_ranks(alloc, reader.text(), *fault) }
         Fault::Reading(ReadFault::Read) => match failed_input(ended) {
             (None, Some(error)) => Ok(Some(hint_for_reading(alloc, &error)?)),
             _ => Ok(None),
@@ -188,24 +178,48 @@ fn hint_for_fault<R, W>(
     }
 }
 
-/// The hint for a group that the command line names and the scenario has not.
-fn hint_for_group(
+/// The hint for a fault of a scenario. A group that is unknown is the one that the command line names, where the
+/// text is that of a scenario without it.
+fn hint_for_scenario_or_group(
     alloc: Global,
     verdict: &Verdict,
+    text: &[u8],
     fault: ScenarioFault,
 ) -> Result<Option<String>, AllocError> {
-    match (verdict, fault) {
-        (
-            Verdict::Ask {
-                task: Task::Ceilings { group: Some(_), .. },
+    let hint = match (fault, group_of(verdict)) {
+        (ScenarioFault::UnknownGroup, Some(group)) => hint_for_named_group(alloc, text, group)?,
+        _ => None,
+    };
+    match hint {
+        Some(hint) => Ok(Some(hint)),
+        None => hint_for_scenario(alloc, text, fault),
+    }
+}
+
+/// The group at which the command line asks for ceilings, where it names one.
+fn group_of(verdict: &Verdict) -> Option<&str> {
+    match verdict {
+        Verdict::Ask {
+            task: Task::Ceilings {
+                group: Some(name),
                 ..
             },
-            ScenarioFault::UnknownGroup,
-        ) => Ok(Some(String::from_str(
-            alloc,
-            "hint: the scenario has no group of the name that '--group' gives\n",
-        )?)),
-        _ => Ok(None),
+            ..
+        } => Some(name.as_str()),
+        _ => None,
+    }
+}
+
+/// The hint for an order of ties that is none of the scenario.
+fn hint_for_ranks(
+    alloc: Global,
+    text: &[u8],
+    fault: OrderFault,
+) -> Result<Option<String>, AllocError> {
+    match fault {
+        OrderFault::InTicks => hint_for_order_in_ticks(alloc).map(Some),
+        OrderFault::Length => hint_for_given_order(alloc, text, ListFault::Length),
+        OrderFault::Rank(place) => hint_for_given_order(alloc, text, ListFault::Range(place)),
     }
 }
 
@@ -255,7 +269,7 @@ fn hint_for_open<R, W>(
     let hint = if is_in_real_time(alloc, ended.reader.text()) {
         hint_in_real_time(alloc, options)?
     } else {
-        hint_in_ticks(alloc, options, ended.words)?
+        hint_in_ticks(alloc, options, names_bounds(ended.verdict))?
     };
     Ok(Some(hint))
 }
@@ -309,14 +323,14 @@ fn hint_in_real_time(alloc: Global, options: &Options) -> Result<String, AllocEr
 }
 
 /// The hint for a search in whole ticks that did not end.
-fn hint_in_ticks<S: AsStr>(
+fn hint_in_ticks(
     alloc: Global,
     options: &Options,
-    words: &[S],
+    names_bounds: bool,
 ) -> Result<String, AllocError> {
     let tickets = options.limit();
     match options.ways() {
-        Ways::One(Bounds::Plain) if !names_bounds(words) => hint_for_limit(alloc, tickets),
+        Ways::One(Bounds::Plain) if !names_bounds => hint_for_limit(alloc, tickets),
         Ways::One(Bounds::Plain | Bounds::Stamp) => hint_for_leads(alloc, tickets),
         Ways::One(Bounds::Lead) => {
             hint_for_tickets(alloc, tickets, Bounds::Lead.most_nodes() as u64)
@@ -329,11 +343,12 @@ fn hint_in_ticks<S: AsStr>(
     }
 }
 
-/// Whether the command line names bounds.
-fn names_bounds<S: AsStr>(words: &[S]) -> bool {
-    words
-        .iter()
-        .any(|word| word.as_str().starts_with("--bounds"))
+/// Whether the command line names the bounds by which a search goes.
+fn names_bounds(verdict: &Verdict) -> bool {
+    match verdict {
+        Verdict::Ask { manner, .. } => manner.names_bounds,
+        Verdict::Text { .. } | Verdict::Memory => false,
+    }
 }
 
 /// The hint for a run that gave its answer: the blocks of a batch have the faults of its jobs, without a
@@ -350,10 +365,9 @@ fn hint_for_answer<R, W>(
         } => hint_for_batch(alloc, reader.text(), reader.is_whole(), LONGEST_JOB),
         Verdict::Ask {
             task: Task::Command(Command::Direct(Direct::First)),
+            manner,
             ..
-        } if !ended.words.iter().any(|word| word.as_str() == "first") => {
-            Ok(Some(hint_for_first(alloc)?))
-        }
+        } if !manner.names_command => Ok(Some(hint_for_first(alloc)?)),
         Verdict::Ask {
             task: Task::Command(Command::Search(..)),
             ..

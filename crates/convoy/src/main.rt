@@ -41,7 +41,7 @@ use convoy_commands::{
 use convoy_survey::{Format, run_ceilings, run_survey};
 use convoy_what_if::run_what_if;
 use ending::End;
-use hinting::{Ended, greeting, is_quiet, reads_standard, tell_ended, write_line};
+use hinting::{Ended, greeting, reads_standard, tell_ended, write_line};
 use input::open_input;
 use kept::{KeptReader, KeptWriter};
 use progress::{Progress, screen_for};
@@ -70,8 +70,7 @@ fn main(rt: HostRuntime) -> ExitCode {
     let words = words(&rt);
     let verdict = verdict(alloc, &words);
     let words = words.unwrap_or(Vec::new(alloc));
-    let is_quiet = is_quiet(&words);
-    if !is_quiet && reads_standard(&verdict) && rt.stdin().is_terminal() {
+    if !verdict.is_quiet() && reads_standard(&verdict) && rt.stdin().is_terminal() {
         write_line(&mut rt.stderr(), greeting(alloc, &verdict));
     }
     let input = open_input(&rt, rt.stdin(), verdict.file());
@@ -85,7 +84,7 @@ fn main(rt: HostRuntime) -> ExitCode {
     let mut sink = StreamSink {
         writer: KeptWriter::new(rt.stdout()),
     };
-    let screen = screen_for(&words, rt.stderr().is_terminal());
+    let screen = screen_for(&verdict, rt.stderr().is_terminal());
     let progress = Progress::new(&rt, alloc, rt.stderr(), screen);
     let result = obey(
         &rt,
@@ -112,7 +111,7 @@ fn main(rt: HostRuntime) -> ExitCode {
         writer: &sink.writer,
         greatest: progress.greatest(),
     };
-    tell_ended(&mut rt.stderr(), alloc, &ended, is_quiet);
+    tell_ended(&mut rt.stderr(), alloc, &ended);
     ExitCode::from(status)
 }
 
@@ -150,7 +149,7 @@ fn obey<R: Threads + Wait + Sync, S: Source, K: Sink, W: Watch + Sync>(
 {
     match verdict {
         Verdict::Ask { task, .. } => perform(rt, alloc, task, source, other, sink, watch),
-        Verdict::Text { text, status } => match write_all(sink, text.as_bytes()) {
+        Verdict::Text { text, status, .. } => match write_all(sink, text.as_bytes()) {
             Ok(()) => Ok(End::Told(*status)),
             Err(DeviceFailed) => Err(Fault::Write),
         },

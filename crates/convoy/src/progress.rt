@@ -1,8 +1,8 @@
 //! How far a long search has come, told on standard error.
 
+use convoy_arguments::Verdict;
 use convoy_commands::{Bounds, Duration, Gate, Watch};
 use std::alloc::{AllocError, Global};
-use std::convert::AsStr;
 use std::io::{Stderr, Write};
 use std::sync::atomic::{AtomicBool, AtomicU32, AtomicU64, Ordering};
 use std::time::Clock;
@@ -24,16 +24,19 @@ pub enum Screen {
     Stream,
 }
 
-/// Where progress is told, by the words of the command line, and by whether standard error is a terminal.
-pub fn screen_for<S: AsStr>(words: &[S], is_terminal: bool) -> Screen {
-    if words.iter().any(|word| word.as_str() == "--quiet") {
-        Screen::Off
-    } else if is_terminal {
-        Screen::Terminal
-    } else if words.iter().any(|word| word.as_str() == "--progress") {
-        Screen::Stream
-    } else {
-        Screen::Off
+/// Where progress is told, by what the command line asks for, and by whether standard error is a terminal.
+pub fn screen_for(verdict: &Verdict, is_terminal: bool) -> Screen {
+    match verdict {
+        Verdict::Ask { manner, .. } if !manner.is_quiet => {
+            if is_terminal {
+                Screen::Terminal
+            } else if manner.tells_progress {
+                Screen::Stream
+            } else {
+                Screen::Off
+            }
+        }
+        _ => Screen::Off,
     }
 }
 

@@ -29,23 +29,23 @@ AreApart task input = Unit {0}
 -- The program ends at once: with a text, which has the status of help or of a command line that is
 -- rejected, or for want of memory.
 abbrev pub EndsAtOnce : Verdict → Type 0
-EndsAtOnce (Ask task input) = ⊥
-EndsAtOnce (Text text status) = (status ≡ 0) ⊎ (status ≡ 2)
+EndsAtOnce (Ask task input manner) = ⊥
+EndsAtOnce (Text text status is_quiet) = (status ≡ 0) ⊎ (status ≡ 2)
 EndsAtOnce Memory = Unit {0}
 
 -- a task on an input, or an end at once
 abbrev pub IsVerdict : Verdict → Type 0
-IsVerdict (Ask task input) = HasReads task × AreApart task input
-IsVerdict (Text text status) = EndsAtOnce (Text text status)
+IsVerdict (Ask task input manner) = HasReads task × AreApart task input
+IsVerdict (Text text status is_quiet) = EndsAtOnce (Text text status is_quiet)
 IsVerdict Memory = Unit {0}
 
 -- the file that is read, where one is
 abbrev pub file_of : Verdict → Option (List ℕ)
-file_of (Ask task input) = file_in input
-file_of (Text text status) = None
+file_of (Ask task input manner) = file_in input
+file_of (Text text status is_quiet) = None
 file_of Memory = None
 
 -- the file with the scenario that a certificate is to be of, where one is named
 abbrev pub scenario_file_of : Verdict → Option (List ℕ)
-scenario_file_of (Ask (CheckAbout (Some scenario) tells) input) = file_in scenario
+scenario_file_of (Ask (CheckAbout (Some scenario) tells) input manner) = file_in scenario
 scenario_file_of other = None

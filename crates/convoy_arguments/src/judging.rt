@@ -3,6 +3,7 @@ ghost use Rattle.convoy_arguments.specs.Verdicts.{EndsAtOnce, HasReads, IsVerdic
 
 use super::input::Input;
 use super::limits::{HELP, REJECTED};
+use super::manner::Manner;
 use super::options::{format_of, options_of, simulations_of};
 use super::parser::parser;
 use super::task::Task;
@@ -17,14 +18,22 @@ use std::convert::AsStr;
 const BOTH_STANDARD: &str =
     "error: the certificate and the scenario cannot both be read from standard input: name a file for one\n";
 
+/// The option for which there are no hints.
+const QUIET: &str = "--quiet";
+
 /// What is to be done for these words, the program's own name not among them.
 pub fn judge<S: AsStr>(alloc: Global, words: &[S]) -> Verdict
     ensures { IsVerdict result }
 {
     match verdict_of(alloc, words) {
         Ok(verdict) => verdict,
-        Err(error) => rejection(alloc, &error),
+        Err(error) => rejection(alloc, &error, asks_for_quiet(words)),
     }
+}
+
+/// Whether words that could not be parsed ask for no hints all the same.
+fn asks_for_quiet<S: AsStr>(words: &[S]) -> bool {
+    words.iter().any(|word| word.as_str() == QUIET)
 }
 
 /// What is to be done for a command line that is not UTF-8.
@@ -35,6 +44,7 @@ pub fn judge_bytes(alloc: Global) -> Verdict
         Ok(text) => Verdict::Text {
             text,
             status: REJECTED,
+            is_quiet: false,
         },
         Err(AllocError) => Verdict::Memory,
     }
@@ -46,18 +56,18 @@ fn verdict_of<S: AsStr>(alloc: Global, words: &[S]) -> Result<Verdict, Error>
     ensures { IfOk result IsVerdict }
 {
     match words {
-        [help] if help.as_str() == "help" => command_of(alloc, ["--help"].as_slice()),
+        [help] if help.as_str() == "help" => command_of(alloc, ["--help"].as_slice(), true),
         [help, command] if help.as_str() == "help" => {
-            command_of(alloc, [command.as_str(), "--help"].as_slice())
+            command_of(alloc, [command.as_str(), "--help"].as_slice(), true)
         }
-        _ if begins_with_dash(words) => command_of(alloc, &with_first(alloc, words)?),
-        _ => command_of(alloc, words),
+        _ if begins_with_dash(words) => command_of(alloc, &with_first(alloc, words)?, false),
+        _ => command_of(alloc, words, true),
     }
 }
 
 /// Whether the first word that is not `--quiet` is `-`.
 fn begins_with_dash<S: AsStr>(words: &[S]) -> bool {
-    match words.iter().find(|word| word.as_str() != "--quiet") {
+    match words.iter().find(|word| word.as_str() != QUIET) {
         Some(word) => word.as_str() == "-",
         None => false,
     }
@@ -72,8 +82,8 @@ fn with_first<'a, S: AsStr>(alloc: Global, words: &'a [S]) -> Result<Vec<&'a str
     Ok(all)
 }
 
-/// What these words ask for.
-fn command_of<S: AsStr>(alloc: Global, words: &[S]) -> Result<Verdict, Error>
+/// What these words ask for, of which the person wrote the command word, where there is one, or did not.
+fn command_of<S: AsStr>(alloc: Global, words: &[S], names_command: bool) -> Result<Verdict, Error>
     ensures { IfOk result IsVerdict }
 {
     let matches = parser(alloc)?.try_get_matches_from(words)?;
@@ -81,17 +91,18 @@ fn command_of<S: AsStr>(alloc: Global, words: &[S]) -> Result<Verdict, Error>
         Some((name, given)) => {
             let input = Input::of(alloc, given.get_str("file"))?;
             let task = task_for(alloc, name, given)?;
-            asked(alloc, task, input)
+            asked(alloc, task, input, Manner::of_command(given, names_command))
         }
         None => Ok(Verdict::Ask {
             task: Task::Command(Command::Direct(Direct::First)),
             input: Input::Standard,
+            manner: Manner::of_program(&matches),
         }),
     }
 }
 
 /// The verdict for a task: a certificate and its scenario cannot both come from standard input.
-fn asked(alloc: Global, task: Task, input: Input) -> Result<Verdict, Error>
+fn asked(alloc: Global, task: Task, input: Input, manner: Manner) -> Result<Verdict, Error>
     requires { HasReads task }
     ensures { IfOk result IsVerdict }
 {
@@ -106,9 +117,14 @@ fn asked(alloc: Global, task: Task, input: Input) -> Result<Verdict, Error>
         return Ok(Verdict::Text {
             text: String::from_str(alloc, BOTH_STANDARD)?,
             status: REJECTED,
+            is_quiet: manner.is_quiet,
         });
     }
-    Ok(Verdict::Ask { task, input })
+    Ok(Verdict::Ask {
+        task,
+        input,
+        manner,
+    })
 }
 
 /// What the command of that name asks for.
@@ -212,7 +228,7 @@ fn command_for(name: &str, given: &ArgMatches<'_>) -> Command
 }
 
 /// What is to be done where no command was found: clap's own text is to be written.
-fn rejection(alloc: Global, error: &Error) -> Verdict
+fn rejection(alloc: Global, error: &Error, is_quiet: bool) -> Verdict
     ensures { EndsAtOnce result }
 {
     if error.kind() == ErrorKind::OutOfMemory {
@@ -224,7 +240,11 @@ fn rejection(alloc: Global, error: &Error) -> Verdict
         REJECTED
     };
     match error.to_string(alloc) {
-        Ok(text) => Verdict::Text { text, status },
+        Ok(text) => Verdict::Text {
+            text,
+            status,
+            is_quiet,
+        },
         Err(_) => Verdict::Memory,
     }
 }

@@ -5,6 +5,7 @@
 pub use input::Input;
 pub use judging::{judge, judge_bytes};
 pub use limits::{MOST_READS, REJECTED};
+pub use manner::Manner;
 pub use task::Task;
 pub use verdict::Verdict;
 pub use word_hints::hint_for_words;
@@ -13,8 +14,10 @@ mod help;
 mod input;
 mod judging;
 mod limits;
+mod manner;
 mod options;
 mod parser;
+mod settings;
 mod task;
 mod verdict;
 mod word_hints;

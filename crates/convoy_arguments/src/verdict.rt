@@ -2,20 +2,39 @@ ghost use Rattle.std.specs.Prelude.{◌≡◌, option_map};
 ghost use Rattle.convoy_arguments.specs.Verdicts.{file_of, scenario_file_of};
 
 use super::input::Input;
+use super::manner::Manner;
 use super::task::Task;
 
 /// What is to be done for a command line.
 #[derive(Debug, Drop)]
 pub enum Verdict {
-    /// It asks for this, of the text that the input holds.
-    Ask { task: Task, input: Input },
-    /// It asks for help, or is rejected: a text is to be written, and the program ends with the status.
-    Text { text: String, status: u8 },
+    /// It asks for this, of the text that the input holds, and in this manner.
+    Ask {
+        task: Task,
+        input: Input,
+        manner: Manner,
+    },
+    /// It asks for help, or is rejected: a text is to be written, and the program ends with the status. Whether
+    /// there is no hint.
+    Text {
+        text: String,
+        status: u8,
+        is_quiet: bool,
+    },
     /// Memory ran out.
     Memory,
 }
 
 impl Verdict {
+    /// Whether hints and progress are left out.
+    pub fn is_quiet(&self) -> bool {
+        match self {
+            Verdict::Ask { manner, .. } => manner.is_quiet,
+            Verdict::Text { is_quiet, .. } => *is_quiet,
+            Verdict::Memory => false,
+        }
+    }
+
     /// The name of the file that is read, where one is.
     pub fn file(&self) -> Option<&str>
         ensures { option_map (λ text. text.now) result ≡ file_of self.now }

@@ -1,56 +1,22 @@
+use super::settings::{Value, command_named, setting_named};
 use convoy_sketch::Quoted;
 use std::alloc::{AllocError, Global};
 use std::convert::AsStr;
-
-/// The commands, each of which reads a text.
-const COMMANDS: [&str; 13] = [
-    "analyse", "explain", "draw", "latency", "ceiling", "survey", "batch", "check", "scenario",
-    "first", "simulate", "timeline", "packets",
-];
+use std::fmt;
 
 /// The commands that write tables: `ceiling` where it is asked for several ceilings.
 const WITH_TABLES: [&str; 3] = ["survey", "batch", "ceiling"];
 
-/// The options that have a value.
-const WITH_VALUE: [&str; 7] = [
-    "--limit",
-    "--seek",
-    "--bounds",
-    "--workers",
-    "--format",
-    "--group",
-    "--scenario",
-];
-
-/// The options that have none.
-const WITHOUT_VALUE: [&str; 7] = [
-    "--progress",
-    "--status",
-    "--quiet",
-    "--all",
-    "--ceiling",
-    "--without",
-    "--tell",
-];
-
-/// Options of a command or two, with these commands, also as they are told.
-const OF_SOME: [(&str, [&str; 3], &str); 8] = [
-    ("--all", ["ceiling", "", ""], "'ceiling'"),
-    ("--group", ["ceiling", "", ""], "'ceiling'"),
-    (
-        "--ceiling",
-        ["latency", "explain", "survey"],
-        "'latency', 'explain' and 'survey'",
-    ),
-    ("--without", ["survey", "", ""], "'survey'"),
-    ("--scenario", ["check", "", ""], "'check'"),
-    ("--tell", ["check", "", ""], "'check'"),
-    ("--status", ["batch", "", ""], "'batch'"),
-    (
-        "--format",
-        ["survey", "batch", "ceiling"],
-        "'survey', 'batch' and 'ceiling'",
-    ),
+/// Options of a command or two, and these commands as they are told.
+const OF_SOME: [(&str, &str); 8] = [
+    ("all", "'ceiling'"),
+    ("group", "'ceiling'"),
+    ("ceiling", "'latency', 'explain' and 'survey'"),
+    ("without", "'survey'"),
+    ("scenario", "'check'"),
+    ("tell", "'check'"),
+    ("status", "'batch'"),
+    ("format", "'survey', 'batch' and 'ceiling'"),
 ];
 
 /// The options by which `ceiling` is asked for several ceilings.
@@ -146,11 +112,10 @@ impl<'a> Sorted<'a> {
             self.settings.push(format)?;
             return Ok(None);
         }
-        let has_value = WITH_VALUE.contains(&name);
-        if !has_value && !WITHOUT_VALUE.contains(&name) {
+        let Some(has_value) = has_value(name) else {
             self.is_strange = true;
             return Ok(None);
-        }
+        };
         self.names_format = self.names_format || name == "--format";
         self.asks_for_several = self.asks_for_several || OF_SEVERAL.contains(&name);
         self.names_scenario = self.names_scenario || name == "--scenario";
@@ -214,10 +179,8 @@ impl<'a> Sorted<'a> {
     fn misplaced(&self) -> Option<(&'static str, &'static str)> {
         let command = self.named_command();
         for setting in &self.settings {
-            for (option, takers, told) in OF_SOME {
-                if is_option(setting, option) && !takers.contains(&command) {
-                    return Some((option, told));
-                }
+            if let Some(misplaced) = misplaced_in(command, setting) {
+                return Some(misplaced);
             }
         }
         None
@@ -266,23 +229,12 @@ pub fn hint_for_words<S: AsStr>(alloc: Global, words: &[S]) -> Result<Option<Str
         return hint_for_option(alloc, &sorted);
     };
     let (command, addition) = (sorted.command(), sorted.addition());
-    let mut line = format!(in alloc; "hint: {mistake}: convoy {command}{addition}")?;
-    for setting in &sorted.settings {
-        line.push_str(" ")?;
-        line.push_str(setting)?;
-    }
-    if let Some(scenario) = sorted.second_text() {
-        let scenario = shown(alloc, scenario)?;
-        line.push_str(" --scenario ")?;
-        line.push_str(scenario.as_str())?;
-    }
-    if let Some(file) = file {
-        let file = shown(alloc, file)?;
-        line.push_str(" ")?;
-        line.push_str(file.as_str())?;
-    }
-    line.push_str("\n")?;
-    Ok(Some(line))
+    let settings = Following(&sorted.settings);
+    let scenario = Named(" --scenario ", sorted.second_text());
+    let file = Named(" ", file);
+    format!(in alloc;
+        "hint: {mistake}: convoy {command}{addition}{settings}{scenario}{file}\n"
+    ).map(Some)
 }
 
 /// Which commands have an option that stands with another. None where there is no such option, or no command.
@@ -292,20 +244,47 @@ fn hint_for_option(alloc: Global, sorted: &Sorted<'_>) -> Result<Option<String>,
     }
     match sorted.misplaced() {
         Some((option, told)) => {
-            let line = format!(in alloc; "hint: '{option}' is an option of {told}\n")?;
-            Ok(Some(line))
+            format!(in alloc; "hint: '--{option}' is an option of {told}\n").map(Some)
         }
         None => Ok(None),
     }
 }
 
-/// A file as it is written in a command line: in quotes where its name needs them.
-fn shown(alloc: Global, file: &str) -> Result<String, AllocError> {
-    if !file.is_empty() && file.bytes().all(|byte| byte.is_ascii_graphic()) {
-        return String::from_str(alloc, file);
+/// Words that go on with a command line, each after a space.
+#[derive(Clone, Copy, Drop)]
+struct Following<'a>(&'a [&'a str]);
+
+impl fmt::Display for Following<'_> {
+    fn fmt<W: fmt::Write>(&self, f: &mut fmt::Formatter<W>) -> fmt::Result {
+        for word in self.0 {
+            write!(f, " {word}")?;
+        }
+        Ok(())
     }
-    let file = Quoted(file);
-    format!(in alloc; "{file}")
+}
+
+/// A file as it goes on with a command line, if one is named, after that text: in quotes where its name needs
+/// them.
+#[derive(Clone, Copy, Drop)]
+struct Named<'a>(&'static str, Option<&'a str>);
+
+impl fmt::Display for Named<'_> {
+    fn fmt<W: fmt::Write>(&self, f: &mut fmt::Formatter<W>) -> fmt::Result {
+        let before = self.0;
+        match self.1 {
+            Some(file) if is_plain(file) => write!(f, "{before}{file}"),
+            Some(file) => {
+                let file = Quoted(file);
+                write!(f, "{before}{file}")
+            }
+            None => Ok(()),
+        }
+    }
+}
+
+/// Whether the name of a file can stand in a command line as it is.
+fn is_plain(file: &str) -> bool {
+    !file.is_empty() && file.bytes().all(|byte| byte.is_ascii_graphic())
 }
 
 /// The format that an option is, by which other programs let it be chosen.
@@ -318,17 +297,43 @@ fn format_of(option: &str) -> Option<&'static str> {
     None
 }
 
-/// Whether a word is that option, with a value or without.
-fn is_option(word: &str, option: &str) -> bool {
-    match word.split_once('=') {
-        Some((name, _)) => name == option,
-        None => word == option,
+/// The option that a word is, and the commands that have it, where that command has it not.
+fn misplaced_in(command: &str, word: &str) -> Option<(&'static str, &'static str)> {
+    for (option, told) in OF_SOME {
+        if is_option(word, option) && !has_option(command, option) {
+            return Some((option, told));
+        }
     }
+    None
+}
+
+/// Whether the command of that name has an option.
+fn has_option(command: &str, option: &str) -> bool {
+    match command_named(command) {
+        Some(listed) => listed.setting(option).is_some(),
+        None => false,
+    }
+}
+
+/// Whether a word is the option of that name, with a value or without.
+fn is_option(word: &str, name: &str) -> bool {
+    let (option, _) = word.split_once('=').unwrap_or((word, ""));
+    option.strip_prefix("--") == Some(name)
+}
+
+/// Whether an option has a value; None where there is no such option.
+fn has_value(option: &str) -> Option<bool> {
+    let name = option.strip_prefix("--")?;
+    if name == "quiet" {
+        return Some(false);
+    }
+    let setting = setting_named(name)?;
+    Some(!matches!(setting.value, Value::Absent))
 }
 
 /// Whether a word is a command.
 fn is_command(word: &str) -> bool {
-    COMMANDS.contains(&word)
+    command_named(word).is_some()
 }
 
 /// Whether a word that is no command has a sign that files have in their names and commands do not.

@@ -3,7 +3,7 @@ use super::lines::{numbers_of, scenario_in, sketch_of_lines};
 use super::tree_hints::hint_for_refused;
 use convoy_certificate::{TextFault, read};
 use convoy_checker::{Refusal, Refused};
-use convoy_packets::Instance;
+use convoy_packets::{Instance, ListFault, Order, Schedule};
 use convoy_scenario::{Scenario, ScenarioFault};
 use convoy_scenario_hints::{
     hint_for_bytes, hint_for_damage, hint_for_order, hint_for_schedule, hint_for_sketch,
@@ -157,7 +157,8 @@ fn hint_for_scenario_lines(
     hint_for_sketch(alloc, &sketch_of_lines(alloc, text)?, fault)
 }
 
-/// What is wrong with the schedule in a certificate, or else with the order of its ties.
+/// What is wrong with the schedule in a certificate, or else with the order of its ties. Which of the two is
+/// no part of the fault.
 fn hint_for_schedule_lines(alloc: Global, text: &[u8]) -> Result<Option<String>, AllocError> {
     let Some((scenario, mut reader)) = scenario_in(alloc, text) else {
         return Ok(None);
@@ -172,14 +173,23 @@ fn hint_for_schedule_lines(alloc: Global, text: &[u8]) -> Result<Option<String>,
     }
 }
 
-/// What is wrong with the delays of a line.
+/// What is wrong with the delays of a line; None where they are a schedule.
 fn hint_for_delays(
     alloc: Global,
     instance: &Instance,
     line: &[u8],
 ) -> Result<Option<String>, AllocError> {
     let delays = numbers_of(alloc, line)?;
-    hint_for_schedule(alloc, instance, &delays)
+    match fault_of_delays(alloc, instance, &delays) {
+        Some(ListFault::Memory) => Err(AllocError),
+        Some(fault) => hint_for_schedule(alloc, instance, &delays, fault),
+        None => Ok(None),
+    }
+}
+
+/// Why delays are no schedule; None where they are one.
+fn fault_of_delays(alloc: Global, instance: &Instance, delays: &[i64]) -> Option<ListFault> {
+    Schedule::from_list(alloc, instance.table(), delays).err()
 }
 
 /// What is wrong with the ranks of a line, the delays before it being right.
@@ -189,9 +199,9 @@ fn hint_for_ranks(
     line: &[u8],
 ) -> Result<Option<String>, AllocError> {
     let ranks = numbers_of(alloc, line)?;
-    match hint_for_order(alloc, scenario, &ranks)? {
-        Some(hint) => Ok(Some(hint)),
-        None => String::from_str(
+    match Order::from_list(alloc, scenario, &ranks) {
+        Err(fault) => hint_for_order(alloc, scenario, &ranks, fault),
+        Ok(_) => String::from_str(
             alloc,
             "the ranks are all 0, and the line is to be 'order' alone",
         )

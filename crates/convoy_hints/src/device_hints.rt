@@ -20,7 +20,8 @@ pub fn line_for_file(alloc: Global, file: &str, error: &Error) -> Result<String,
     format!(in alloc; "convoy: {name}: {cause}\n")
 }
 
-/// What the system says of an error, without its number.
+/// What the system says of an error, without its number. An `Error` has a kind, a number and one text with the
+/// number in it, and the words of its kind are others than the system's: so they are cut out of that text.
 fn cause_in(told: &str) -> &str {
     match told.split_once(" (os error ") {
         Some((cause, _)) => cause,

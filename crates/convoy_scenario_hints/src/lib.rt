@@ -6,15 +6,17 @@
 
 pub use damage::{hint_for_bytes, hint_for_damage};
 pub use inputs::{is_meant_as_certificate, is_meant_as_scenario};
-pub use scenario_hints::{
-    hint_for_fault, hint_for_run, hint_for_scenario, hint_for_sketch, with_label,
-};
+pub use runs::{hint_for_given_order, hint_for_given_schedule, hint_for_order_in_ticks};
+pub use scenario_hints::{hint_for_fault, hint_for_scenario, hint_for_sketch, with_label};
 pub use schedules::{has_waits, hint_for_order, hint_for_schedule};
+pub use targets::hint_for_named_group;
 
 mod damage;
 mod inputs;
 mod names;
 mod numbers;
 mod references;
+mod runs;
 mod scenario_hints;
 mod schedules;
+mod targets;

@@ -7,14 +7,11 @@ use super::references::{
     hint_for_target_not_addressed, hint_for_unknown_group, hint_for_unknown_target,
     hint_for_waiting_target,
 };
-use super::schedules::{hint_for_order, hint_for_schedule};
 use convoy_certificate::{Form, form_of};
-use convoy_packets::Instance;
 use convoy_scenario::ScenarioFault;
 use convoy_sketch::{
     Quoted, Sketch, hint_for_part_of_tick, hint_for_shape, sketch_of_table, spot_at,
 };
-use convoy_toml::{Input, read_toml};
 use std::alloc::{AllocError, Global};
 use toml::de::Error;
 
@@ -40,43 +37,6 @@ pub fn hint_for_fault(
         ScenarioFault::Memory => Ok(None),
         ScenarioFault::NotToml => hint_for_text(alloc, text),
         fault => hint_for_table(alloc, text, fault),
-    }
-}
-
-/// What is wrong with the schedule that stands beside a scenario, or else with the order of its ties, in one
-/// line `hint: ..`. None where nothing is, or where the text is that of no scenario.
-pub fn hint_for_run(alloc: Global, text: &[u8]) -> Result<Option<String>, AllocError> {
-    match read_toml(alloc, text) {
-        Ok(input) => with_label(alloc, hint_for_input(alloc, input)?),
-        Err(_) => Ok(None),
-    }
-}
-
-/// What is wrong with the schedule of a scenario without a fault, or with the order of its ties.
-fn hint_for_input(alloc: Global, input: Input) -> Result<Option<String>, AllocError> {
-    let Input {
-        scenario,
-        schedule,
-        order,
-    } = input;
-    let instance = Instance::of(alloc, scenario)?;
-    hint_for_lists(alloc, &instance, &schedule, &order)
-}
-
-/// What is wrong with the delays that are given for a scenario, or else with its ranks.
-fn hint_for_lists(
-    alloc: Global,
-    instance: &Instance,
-    schedule: &Option<Vec<i64>>,
-    order: &Option<Vec<i64>>,
-) -> Result<Option<String>, AllocError> {
-    let hint = match schedule {
-        Some(delays) => hint_for_schedule(alloc, instance, delays)?,
-        None => None,
-    };
-    match (hint, order) {
-        (None, Some(ranks)) => hint_for_order(alloc, instance.scenario(), ranks),
-        (hint, _) => Ok(hint),
     }
 }
 

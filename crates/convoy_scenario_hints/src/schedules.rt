@@ -1,25 +1,28 @@
 use convoy_explain::write_packets;
-use convoy_packets::{GREATEST_RANK, Instance};
-use convoy_scenario::{Scenario, Time};
+use convoy_packets::{GREATEST_RANK, Instance, ListFault};
+use convoy_scenario::Scenario;
 use convoy_sketch::{Quoted, noun};
 use std::alloc::{AllocError, Global};
 
-/// What is wrong with a schedule of the scenario: how many delays it has, or the first that its packet
-/// may not take, or its message not wait. Delays count ticks, in packet order (docs/PROTOCOL.md). The
-/// label of a hint is not in it. None where nothing is wrong.
+/// What is wrong with a schedule of the scenario that has that fault: how many delays it has, or which one
+/// its packet may not take, or its message not wait. Delays count ticks, in packet order
+/// (docs/PROTOCOL.md). The label of a hint is not in it. None where nothing can be said of the fault.
 pub fn hint_for_schedule(
     alloc: Global,
     instance: &Instance,
     delays: &[i64],
+    fault: ListFault,
 ) -> Result<Option<String>, AllocError> {
-    let table = instance.table();
-    if delays.len() != table.len() {
-        let scenario = instance.scenario();
-        return hint_for_length(alloc, scenario, delays.len(), table.len()).map(Some);
-    }
-    match first_outside(table.ranges(), delays) {
-        Some((packet, delay)) => hint_for_outside(alloc, instance, packet, delay),
-        None => Ok(None),
+    match fault {
+        ListFault::Length => {
+            let wanted = instance.table().len();
+            hint_for_length(alloc, instance.scenario(), delays.len(), wanted).map(Some)
+        }
+        ListFault::Range(packet) => match delays.get(packet) {
+            Some(delay) => hint_for_outside(alloc, instance, packet, *delay),
+            None => Ok(None),
+        },
+        ListFault::Memory => Ok(None),
     }
 }
 
@@ -63,16 +66,6 @@ fn hint_for_outside(
     format!(in alloc; "the schedule gives {delay} {ticks} to {line}").map(Some)
 }
 
-/// The first delay that is outside its range, after its place.
-fn first_outside(ranges: &[(u16, u16)], delays: &[i64]) -> Option<(usize, i64)> {
-    for (packet, ((least, most), delay)) in ranges.iter().zip(delays).enumerate() {
-        if *delay < i64::from(*least) || i64::from(*most) < *delay {
-            return Some((packet, *delay));
-        }
-    }
-    None
-}
-
 /// The line of a text at a place from 0.
 fn line_at(text: &[u8], place: usize) -> Option<&str> {
     std::str::from_utf8(text).ok()?.lines().nth(place)
@@ -86,38 +79,24 @@ struct Moment<'a> {
     is_commit: bool,
 }
 
-/// What is wrong with an order of the scenario's ties: that its time is not real, how many ranks there
-/// are, or the first that is too great. Ranks go by message and by group, that of the arrival before that
-/// of the commit (docs/PROTOCOL.md). The label of a hint is not in it. None where nothing is wrong.
+/// What is wrong with an order of the scenario's ties that has that fault: how many ranks there are, or
+/// which one is too great. Ranks go by message and by group, that of the arrival before that of the commit
+/// (docs/PROTOCOL.md). The label of a hint is not in it. None where nothing can be said of the fault.
 pub fn hint_for_order(
     alloc: Global,
     scenario: &Scenario,
     ranks: &[i64],
+    fault: ListFault,
 ) -> Result<Option<String>, AllocError> {
-    if scenario.time() == Time::Ticks {
-        let hint =
-            "ties have no order in whole ticks: write 'time = \"real\"', or leave 'order' out";
-        return String::from_str(alloc, hint).map(Some);
-    }
     let moments = moments_of(alloc, scenario)?;
-    hint_for_ranks(alloc, &moments, ranks)
-}
-
-/// What is wrong with the ranks of what happens in a run.
-fn hint_for_ranks(
-    alloc: Global,
-    moments: &[Moment<'_>],
-    ranks: &[i64],
-) -> Result<Option<String>, AllocError> {
-    if ranks.len() != moments.len() {
-        return hint_for_count(alloc, ranks.len(), moments.len()).map(Some);
+    match fault {
+        ListFault::Length => hint_for_count(alloc, ranks.len(), moments.len()).map(Some),
+        ListFault::Range(place) => match (ranks.get(place), moments.get(place)) {
+            (Some(rank), Some(moment)) => hint_for_rank(alloc, *rank, *moment).map(Some),
+            _ => Ok(None),
+        },
+        ListFault::Memory => Ok(None),
     }
-    for (rank, moment) in ranks.iter().zip(moments) {
-        if *rank < 0 || i64::from(GREATEST_RANK) < *rank {
-            return hint_for_rank(alloc, *rank, *moment).map(Some);
-        }
-    }
-    Ok(None)
 }
 
 /// There are too many ranks, or too few.

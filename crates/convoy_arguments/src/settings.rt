@@ -1,0 +1,309 @@
+//! The commands and their options, in the order in which help lists them.
+
+use super::help::{
+    ABOUT_ALL, ABOUT_ANALYSE, ABOUT_BATCH, ABOUT_BATCH_FORMAT, ABOUT_BESIDE, ABOUT_BOUNDS,
+    ABOUT_CEILING, ABOUT_CHECK, ABOUT_DRAW, ABOUT_EXPLAIN, ABOUT_FIRST, ABOUT_FORMAT, ABOUT_GROUP,
+    ABOUT_LATENCY, ABOUT_LIMIT, ABOUT_PACKETS, ABOUT_PROGRESS, ABOUT_SCENARIO, ABOUT_SEEK,
+    ABOUT_SEEK_TRAFFIC, ABOUT_SIMULATE, ABOUT_STATUS, ABOUT_SURVEY, ABOUT_TELL, ABOUT_TIMELINE,
+    ABOUT_WANTED, ABOUT_WITHOUT, ABOUT_WORKERS, LONG_ABOUT_ANALYSE, LONG_ABOUT_BATCH,
+    LONG_ABOUT_CEILING, LONG_ABOUT_CHECK, LONG_ABOUT_DRAW, LONG_ABOUT_EXPLAIN, LONG_ABOUT_FIRST,
+    LONG_ABOUT_LATENCY, LONG_ABOUT_PACKETS, LONG_ABOUT_SCENARIO, LONG_ABOUT_SIMULATE,
+    LONG_ABOUT_SURVEY, LONG_ABOUT_TIMELINE,
+};
+use clap::builder::ValueParser;
+use convoy_commands::{DEFAULT_SIMULATIONS, MOST_SIMULATIONS, MOST_TICKETS, MOST_WORKERS};
+
+/// A command, with its options but for those that all commands have. Each reads a text, from a file where one
+/// is named.
+#[derive(Clone, Copy)]
+pub(crate) struct Listed {
+    pub(crate) name: &'static str,
+    pub(crate) about: &'static str,
+    pub(crate) long_about: &'static str,
+    pub(crate) settings: &'static [Setting],
+}
+
+impl Listed {
+    /// The option of that name, where the command has it.
+    pub(crate) fn setting(&self, name: &str) -> Option<Setting> {
+        self.settings
+            .iter()
+            .find(|setting| setting.name == name)
+            .copied()
+    }
+}
+
+/// The command of that name.
+pub(crate) fn command_named(name: &str) -> Option<Listed> {
+    COMMANDS.iter().find(|listed| listed.name == name).copied()
+}
+
+/// The option of that name, of the first command that has it.
+pub(crate) fn setting_named(name: &str) -> Option<Setting> {
+    for listed in COMMANDS {
+        if let Some(setting) = listed.setting(name) {
+            return Some(setting);
+        }
+    }
+    None
+}
+
+/// An option of a command.
+#[derive(Clone, Copy)]
+pub(crate) struct Setting {
+    pub(crate) name: &'static str,
+    pub(crate) about: &'static str,
+    pub(crate) value: Value,
+    pub(crate) company: Company,
+}
+
+/// Which value an option has.
+#[derive(Clone, Copy)]
+pub(crate) enum Value {
+    /// None: the option is given or not.
+    Absent,
+    /// One that help calls by this word, and that has to be so.
+    Given(&'static str, ValueParser<'static>),
+    /// The same, with the one that it has where the option is not given.
+    Usual(&'static str, ValueParser<'static>, &'static str),
+}
+
+/// Beside which other options of its command an option may stand.
+#[derive(Clone, Copy)]
+pub(crate) enum Company {
+    /// Beside each.
+    Any,
+    /// Beside none that is of this group as well.
+    OneOf(&'static str),
+    /// Only beside one of this group.
+    With(&'static str),
+    /// Not beside this one.
+    Without(&'static str),
+}
+
+/// The group of the options by which `ceiling` is asked for several ceilings.
+const TARGETS: &str = "targets";
+
+/// How a table may be written.
+const FORMATS: Value = Value::Given("FORMAT", ValueParser::Names(&["text", "csv", "json"]));
+
+/// How many schedules may be simulated, and how many are where that is not said.
+const SIMULATIONS: Value = Value::Usual("N", ValueParser::Unsigned(0, MOST_SIMULATIONS), "20000");
+
+// The usual number is told as a text.
+const _: () = prove!(DEFAULT_SIMULATIONS == 20_000);
+
+/// The limit of a search.
+const LIMIT: Setting = Setting {
+    name: "limit",
+    about: ABOUT_LIMIT,
+    value: Value::Given("N", ValueParser::Unsigned(1, MOST_TICKETS)),
+    company: Company::Any,
+};
+
+/// How many schedules are simulated before a search.
+const SEEK: Setting = Setting {
+    name: "seek",
+    about: ABOUT_SEEK,
+    value: SIMULATIONS,
+    company: Company::Any,
+};
+
+/// How many schedules are simulated to find traffic.
+const SEEK_TRAFFIC: Setting = Setting {
+    name: "seek",
+    about: ABOUT_SEEK_TRAFFIC,
+    value: SIMULATIONS,
+    company: Company::Any,
+};
+
+/// By which bounds a search goes.
+const BOUNDS: Setting = Setting {
+    name: "bounds",
+    about: ABOUT_BOUNDS,
+    value: Value::Given(
+        "KIND",
+        ValueParser::Names(&["plain", "stamp", "lead", "best"]),
+    ),
+    company: Company::Any,
+};
+
+/// How many workers share a search.
+const WORKERS: Setting = Setting {
+    name: "workers",
+    about: ABOUT_WORKERS,
+    value: Value::Usual("N", ValueParser::Signed(1, MOST_WORKERS as i64), "1"),
+    company: Company::Any,
+};
+
+/// Whether a search tells how far it has come.
+const PROGRESS: Setting = Setting {
+    name: "progress",
+    about: ABOUT_PROGRESS,
+    value: Value::Absent,
+    company: Company::Any,
+};
+
+/// Whether an answer has the ceiling beside it.
+const CEILING: Setting = Setting {
+    name: "ceiling",
+    about: ABOUT_BESIDE,
+    value: Value::Absent,
+    company: Company::Any,
+};
+
+/// Whether the exit status of a batch tells how its jobs end.
+const STATUS: Setting = Setting {
+    name: "status",
+    about: ABOUT_STATUS,
+    value: Value::Absent,
+    company: Company::Any,
+};
+
+/// How the table of a survey is written.
+const FORMAT: Setting = Setting {
+    name: "format",
+    about: ABOUT_FORMAT,
+    value: FORMATS,
+    company: Company::Any,
+};
+
+/// How a batch is written as a table.
+const BATCH_FORMAT: Setting = Setting {
+    name: "format",
+    about: ABOUT_BATCH_FORMAT,
+    value: FORMATS,
+    company: Company::Any,
+};
+
+/// How a table of ceilings is written.
+const CEILINGS_FORMAT: Setting = Setting {
+    name: "format",
+    about: ABOUT_FORMAT,
+    value: FORMATS,
+    company: Company::With(TARGETS),
+};
+
+/// Whether the ceilings of all targets are asked for.
+const ALL: Setting = Setting {
+    name: "all",
+    about: ABOUT_ALL,
+    value: Value::Absent,
+    company: Company::OneOf(TARGETS),
+};
+
+/// The group at which the ceilings of all messages are asked for.
+const GROUP: Setting = Setting {
+    name: "group",
+    about: ABOUT_GROUP,
+    value: Value::Given("GROUP", ValueParser::String),
+    company: Company::OneOf(TARGETS),
+};
+
+/// Whether a survey is one of changes.
+const WITHOUT: Setting = Setting {
+    name: "without",
+    about: ABOUT_WITHOUT,
+    value: Value::Absent,
+    company: Company::Without("ceiling"),
+};
+
+/// The scenario that a certificate is to be of.
+const SCENARIO: Setting = Setting {
+    name: "scenario",
+    about: ABOUT_WANTED,
+    value: Value::Given("FILE", ValueParser::String),
+    company: Company::Any,
+};
+
+/// Whether what is accepted is told.
+const TELL: Setting = Setting {
+    name: "tell",
+    about: ABOUT_TELL,
+    value: Value::Absent,
+    company: Company::Any,
+};
+
+/// The commands.
+pub(crate) const COMMANDS: [Listed; 13] = [
+    Listed {
+        name: "analyse",
+        about: ABOUT_ANALYSE,
+        long_about: LONG_ABOUT_ANALYSE,
+        settings: &[LIMIT, SEEK, BOUNDS, WORKERS, PROGRESS],
+    },
+    Listed {
+        name: "explain",
+        about: ABOUT_EXPLAIN,
+        long_about: LONG_ABOUT_EXPLAIN,
+        settings: &[CEILING],
+    },
+    Listed {
+        name: "draw",
+        about: ABOUT_DRAW,
+        long_about: LONG_ABOUT_DRAW,
+        settings: &[],
+    },
+    Listed {
+        name: "latency",
+        about: ABOUT_LATENCY,
+        long_about: LONG_ABOUT_LATENCY,
+        settings: &[LIMIT, SEEK, BOUNDS, WORKERS, PROGRESS, CEILING],
+    },
+    Listed {
+        name: "ceiling",
+        about: ABOUT_CEILING,
+        long_about: LONG_ABOUT_CEILING,
+        settings: &[ALL, GROUP, CEILINGS_FORMAT, SEEK_TRAFFIC],
+    },
+    Listed {
+        name: "survey",
+        about: ABOUT_SURVEY,
+        long_about: LONG_ABOUT_SURVEY,
+        settings: &[
+            LIMIT, SEEK, BOUNDS, WORKERS, PROGRESS, FORMAT, CEILING, WITHOUT,
+        ],
+    },
+    Listed {
+        name: "batch",
+        about: ABOUT_BATCH,
+        long_about: LONG_ABOUT_BATCH,
+        settings: &[LIMIT, SEEK, BOUNDS, WORKERS, PROGRESS, STATUS, BATCH_FORMAT],
+    },
+    Listed {
+        name: "check",
+        about: ABOUT_CHECK,
+        long_about: LONG_ABOUT_CHECK,
+        settings: &[SCENARIO, TELL],
+    },
+    Listed {
+        name: "first",
+        about: ABOUT_FIRST,
+        long_about: LONG_ABOUT_FIRST,
+        settings: &[],
+    },
+    Listed {
+        name: "simulate",
+        about: ABOUT_SIMULATE,
+        long_about: LONG_ABOUT_SIMULATE,
+        settings: &[],
+    },
+    Listed {
+        name: "timeline",
+        about: ABOUT_TIMELINE,
+        long_about: LONG_ABOUT_TIMELINE,
+        settings: &[],
+    },
+    Listed {
+        name: "packets",
+        about: ABOUT_PACKETS,
+        long_about: LONG_ABOUT_PACKETS,
+        settings: &[],
+    },
+    Listed {
+        name: "scenario",
+        about: ABOUT_SCENARIO,
+        long_about: LONG_ABOUT_SCENARIO,
+        settings: &[],
+    },
+];
