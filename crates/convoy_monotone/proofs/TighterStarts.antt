@@ -11,8 +11,9 @@ use Rattle.convoy_stamps.specs.declared.pair.Pair.{Pair}
 use Rattle.convoy_stamps.specs.Reach.{pairs_of}
 use Rattle.convoy_sure.specs.Windows.{LeadTables}
 use Rattle.convoy_sure.specs.SureLeads.{Sure, sure_of, is_earlier}
-use Rattle.convoy_leads.specs.Leads.{Start, barred_at, raise_high, may_commit, start_of, covers_all, covers, with_start, add_start, starts_before, first_past, starts_by, last_arrival, stamp_high, is_surely_less, is_led}
-use Rattle.convoy_leads.proofs.Times.{first_past_rises}
+use Rattle.convoy_starts.specs.Starts.{Start, barred_at, raise_high, may_commit, start_of, covers_all, covers, with_start, add_start, starts_before, first_past, starts_by, last_arrival, stamp_high, is_surely_less}
+use Rattle.convoy_starts.proofs.Times.{first_past_rises}
+use Rattle.convoy_leads.specs.Leads.{is_led}
 use Rattle.convoy_monotone.proofs.Among.{all_too}
 use Rattle.convoy_monotone.proofs.Firsts.{earlier_too, less_too}
 use Rattle.convoy_monotone.proofs.TighterWindows.{IsTighter, IsOpen}
