@@ -1,5 +1,6 @@
 pub mod Times
 pub mod Caps
+pub mod AddedStarts
 pub mod StartLaws
 pub mod Known
 pub mod Loops

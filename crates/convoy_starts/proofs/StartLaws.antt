@@ -1,9 +1,9 @@
 -- The law of leads: no stamp exceeds that of a message at the target's group by more than the starts say.
-use Rattle.std.proofs.Common.{Bool, ◌++◌, ◌⊎◌, ◌≡◌, ◌≢◌, ℕ, ◌+◌, ◌-◌, ◌<◌, ◌≤◌, zero, suc, max, min, true, false, not, ◌==◌, ◌&&◌, nat_lt, nat_le, inl, inr, List, [], ◌∷◌, length, map, filter, fold, get_or, refl, sym, ap, subst, ◌∙◌, arith}
-use Rattle.std.specs.List.{list_any, range_with_len}
+use Rattle.std.proofs.Common.{Bool, ◌⊎◌, ◌≡◌, ◌≢◌, ℕ, ◌+◌, ◌-◌, ◌<◌, ◌≤◌, zero, suc, max, min, true, false, not, ◌==◌, ◌&&◌, nat_lt, nat_le, inl, inr, List, [], ◌∷◌, length, map, filter, fold, get_or, refl, sym, ap, subst, ◌∙◌, arith}
+use Rattle.std.specs.List.{range_with_len}
 use Rattle.std.proofs.lemmas.List.{get_or_past}
 use Rattle.std.proofs.lemmas.List.FromFn.{length-map-range_with_len, get_or-map-range_with_len}
-use Rattle.std.proofs.lemmas.Bool.{cases_Bool, cond-true, cond-false, cases_lt, and_from, and_parts, leb-true, both_ways, eq-eqb, eqb-true, lt-ltb, le-leb, not_from_false, false_from_ne_true, false≢true}
+use Rattle.std.proofs.lemmas.Bool.{cond-true, cases_lt, and_from, and_parts, leb-true, both_ways, eq-eqb, eqb-true, lt-ltb, le-leb, not_from_false, false_from_ne_true, false≢true}
 use Rattle.convoy_scenario.specs.Scenario.{Scenario, message_at, GoesTo}
 use Rattle.convoy_scenario.specs.WellFormed.{IsScenario}
 use Rattle.convoy_packets.specs.Assignment.{Schedule, IsAssignment}
@@ -12,7 +12,7 @@ use Rattle.convoy_sim.specs.Moments.{is_before, arrival_of, commit_of, next_arri
 use Rattle.convoy_sim.specs.Stamps.{local_stamp, final_stamp}
 use Rattle.convoy_sim.specs.Delivery.{addressed_to}
 use Rattle.convoy_sim.specs.RaiseLaws.{IsLastRaise, IsRaise, IsCounted}
-use Rattle.convoy_sim.proofs.Membership.{IsIn, in-append_left, in-append_right, in_append_cases, in_of_list_any, in-filter, in_of_filter, in-map, in_greatest}
+use Rattle.convoy_sim.proofs.Membership.{IsIn, in-filter, in_of_filter, in-map, in_greatest}
 use Rattle.convoy_sim.proofs.Addressed.{in-addressed, goes_of_addressed, in_of_goes}
 use Rattle.convoy_sim.proofs.MomentsOrder.{before_by_tick, before_itself, before_one_way, time_of_not_less}
 use Rattle.convoy_sim.proofs.MomentTicks.{tick_of_before, tick_of_commit}
@@ -24,9 +24,10 @@ use Rattle.convoy_starts.specs.Below.{LawsBelow}
 use Rattle.convoy_sure.specs.Windows.{LeadTables, EnclosesAll}
 use Rattle.convoy_sure.specs.SureLeads.{Sure, may_be_earlier, sure_after, sure_later, lead_at, top_of}
 use Rattle.convoy_sure.specs.Laws.{IsSure}
-use Rattle.convoy_starts.specs.Starts.{first_past, window, may_arrive, arrivals_since, Start, barred_at, value_for, clock_since, clock_from, may_start, may_have_come, stamp_high, stamp_for, raise_high, may_commit, covers_all, covers, start_of, with_start, add_start, starts_before}
+use Rattle.convoy_starts.specs.Starts.{first_past, window, may_arrive, arrivals_since, Start, barred_at, value_for, clock_since, clock_from, may_start, may_have_come, stamp_high, stamp_for, raise_high, may_commit, covers_all, covers, start_of, add_start, starts_before}
 use Rattle.convoy_starts.proofs.Times.{before_first_past, first_past_next, may_precede_by, no_later_than_commit, proposal_takes_time, within_all}
 use Rattle.convoy_starts.proofs.Caps.{within_cap, within_window}
+use Rattle.convoy_starts.proofs.AddedStarts.{add_stays, in_of_add, add_has, all_stay}
 
 in_max : (a x : ℕ) (xs : List ℕ) → IsIn x xs → x ≤ fold max a xs
 in_max a x [] h = absurd h
@@ -307,67 +308,29 @@ module _ (below_laws : LawsBelow) (scenario : Scenario) (schedule : Schedule) (t
   abbrev pub AreBy : List Start → ℕ → Type 0
   AreBy starts tick = (start : Start) → IsIn start starts → start.at ≤ tick
 
-  covered_by : List Start → Start → Bool
-  covered_by starts new = list_any (λ old. covers old new) starts
-
-  with_stays : (starts : List Start) (new s : Start) → IsIn s starts → IsIn s (with_start starts new)
-  unfolding covered_by
-  with_stays starts new s i = elim (cases_Bool (covered_by starts new)) [
-    | inl e ↦ subst (IsIn s) (sym (cond-true (covered_by starts new) starts (starts ++ new ∷ []) e)) i
-    | inr e ↦ subst (IsIn s) (sym (cond-false (covered_by starts new) starts (starts ++ new ∷ []) e)) (in-append_left s starts (new ∷ []) i)
-  ]
-
-  with_in : (starts : List Start) (new s : Start) → IsIn s (with_start starts new) → IsIn s starts ⊎ (new ≡ s)
-  unfolding covered_by
-  with_in starts new s i = elim (cases_Bool (covered_by starts new)) [
-    | inl e ↦ inl (subst (IsIn s) (cond-true (covered_by starts new) starts (starts ++ new ∷ []) e) i)
-    | inr e ↦ elim (in_append_cases s starts (new ∷ []) (subst (IsIn s) (cond-false (covered_by starts new) starts (starts ++ new ∷ []) e) i)) [
-      | inl j ↦ inl j
-      | inr j ↦ elim j [ inl same ↦ inr same | inr none ↦ absurd none ]
-    ]
-  ]
-
   module _ (barring : Bool) (tick : ℕ) where
-    one : List Start → Pair → List Start
-    one starts pair = add_start scenario tables sure barring tick starts pair
-
-    add_stays : (starts : List Start) (pair : Pair) (s : Start) → IsIn s starts → IsIn s (one starts pair)
-    unfolding one
-    add_stays starts pair s i = elim (cases_Bool (may_commit scenario tables.times tick pair)) [
-      | inl e ↦ subst (IsIn s) (sym (cond-true (may_commit scenario tables.times tick pair) (with_start starts (start_of scenario tables sure barring starts tick pair)) starts e))
-          (with_stays starts (start_of scenario tables sure barring starts tick pair) s i)
-      | inr e ↦ subst (IsIn s) (sym (cond-false (may_commit scenario tables.times tick pair) (with_start starts (start_of scenario tables sure barring starts tick pair)) starts e)) i
-    ]
+    abbrev pub one : List Start → Pair → List Start
+    one = add_start scenario tables sure barring tick
 
     add_by : (starts : List Start) (pair : Pair) → AreBy starts tick → AreBy (one starts pair) tick
-    unfolding one
-    add_by starts pair by s i = elim (cases_Bool (may_commit scenario tables.times tick pair)) [
-      | inl e ↦ elim (with_in starts (start_of scenario tables sure barring starts tick pair) s
-          (subst (IsIn s) (cond-true (may_commit scenario tables.times tick pair) (with_start starts (start_of scenario tables sure barring starts tick pair)) starts e) i)) [
-            | inl j ↦ by s j
-            | inr same ↦ let at : tick ≡ s.at = ap (λ k. k.at) same in omega arith
-          ]
-      | inr e ↦ by s (subst (IsIn s) (cond-false (may_commit scenario tables.times tick pair) (with_start starts (start_of scenario tables sure barring starts tick pair)) starts e) i)
+    add_by starts pair by s i = elim (in_of_add scenario tables sure barring tick starts pair s i) [
+      | inl j ↦ by s j
+      | inr new ↦ let at : tick ≡ s.at = ap (λ (k : Start). k.at) new.1 in omega arith
     ]
 
-    all_stay : (starts : List Start) (pairs : List Pair) (s : Start) → IsIn s starts → IsIn s (fold (add_start scenario tables sure barring tick) starts pairs)
-    unfolding one
-    all_stay starts [] s i = i
-    all_stay starts (p ∷ ps) s i = all_stay (one starts p) ps s (add_stays starts p s i)
-
-    all_by : (starts : List Start) (pairs : List Pair) → AreBy starts tick → AreBy (fold (add_start scenario tables sure barring tick) starts pairs) tick
-    unfolding one
+    all_by : (starts : List Start) (pairs : List Pair) → AreBy starts tick → AreBy (fold one starts pairs) tick
     all_by starts [] by = by
     all_by starts (p ∷ ps) by = all_by (one starts p) ps (add_by starts p by)
 
     still : (starts : List Start) (p : Pair) → HaveStarts starts tick → HaveStarts (one starts p) tick
-    still starts p have c g goes other l = let r = have c g goes other l in (r.0, add_stays starts p r.0 r.1, r.2)
+    still starts p have c g goes other l =
+        let r = have c g goes other l in
+        (r.0, add_stays scenario tables sure barring tick starts p r.0 r.1, r.2)
 
     -- a commit at the tick has a start once its pair is added
-    add_has : (starts : List Start) → HaveStarts starts tick → AreBy starts tick → (c g : ℕ) → GoesTo scenario c g → c ≢ scenario.target_message
+    has_start : (starts : List Start) → HaveStarts starts tick → AreBy starts tick → (c g : ℕ) → GoesTo scenario c g → c ≢ scenario.target_message
         → settle scenario schedule c g ≡ tick → (s : Start) × IsIn s (one starts (pair_of c g)) × IsFor c g s
-    unfolding one covered_by
-    add_has starts have by c g goes other at =
+    has_start starts have by c g goes other at =
         let least : tables.times.least_settling c g ≤ settle scenario schedule c g = enclosed.times.settling_low c g goes in
         let most : settle scenario schedule c g ≤ tables.times.greatest_settling c g = enclosed.times.settling_high c g goes in
         let pair : Pair = pair_of c g in
@@ -378,28 +341,22 @@ module _ (below_laws : LawsBelow) (scenario : Scenario) (schedule : Schedule) (t
         (and_from (not (c == scenario.target_message)) (nat_le (tables.times.least_settling c g) tick) (differ c scenario.target_message other)
         (le-leb (tables.times.least_settling c g) tick (omega arith)))
         (le-leb tick (tables.times.greatest_settling c g) (omega arith)) in
-        let added = cond-true (may_commit scenario tables.times tick pair) (with_start starts new) starts test in
-        elim (cases_Bool (covered_by starts new)) [
-          | inl some ↦
-              let old = in_of_list_any (λ old. covers old new) starts some in
-              let sooner = by old.0 old.1 in
-              (old.0, add_stays starts pair old.0 old.1, covering old.0 new c g old.2 (omega arith) is)
-          | inr none ↦ (
-            new,
-            subst (IsIn new) (sym added) (subst (IsIn new) (sym (cond-false (covered_by starts new) starts (starts ++ new ∷ []) none))
-                (in-append_right new starts (new ∷ []) (inl refl))),
-            is,
-          )
-        ]
+        let r = add_has scenario tables sure barring tick starts pair test in (
+          r.0,
+          r.1,
+          elim r.2 [
+            | inl old ↦ let sooner = by r.0 old.0 in covering r.0 new c g old.1 (omega arith) is
+            | inr same ↦ subst (λ (k : Start). IsFor c g k) same is
+          ],
+        )
 
     all_has : (starts : List Start) (pairs : List Pair) → HaveStarts starts tick → AreBy starts tick → (c g : ℕ) → IsIn (pair_of c g) pairs → GoesTo scenario c g
         → c ≢ scenario.target_message → settle scenario schedule c g ≡ tick
-        → (s : Start) × IsIn s (fold (add_start scenario tables sure barring tick) starts pairs) × IsFor c g s
-    unfolding one
+        → (s : Start) × IsIn s (fold one starts pairs) × IsFor c g s
     all_has starts [] have by c g i goes other at = absurd i
     all_has starts (p ∷ ps) have by c g (inl e) goes other at =
-        let r = add_has starts have by c g goes other at in
-        (r.0, all_stay (one starts p) ps r.0 (subst (λ (q : Pair). IsIn r.0 (one starts q)) (sym e) r.1), r.2)
+        let r = has_start starts have by c g goes other at in
+        (r.0, all_stay scenario tables sure barring tick (one starts p) ps r.0 (subst (λ (q : Pair). IsIn r.0 (one starts q)) (sym e) r.1), r.2)
     all_has starts (p ∷ ps) have by c g (inr i) goes other at =
         all_has (one starts p) ps (still starts p have) (add_by starts p by) c g i goes other at
 
@@ -416,7 +373,7 @@ module _ (below_laws : LawsBelow) (scenario : Scenario) (schedule : Schedule) (t
       elim (cases_lt (settle scenario schedule c g) tick) [
         | inl before ↦
             let r = have_starts barring tick c g goes other before in
-            (r.0, all_stay barring tick starts (pairs_of scenario) r.0 r.1, r.2)
+            (r.0, all_stay scenario tables sure barring tick starts (pairs_of scenario) r.0 r.1, r.2)
         | inr now ↦
             all_has barring tick starts (pairs_of scenario) (have_starts barring tick) (start_by barring tick) c g (in-pairs scenario (pair_of c g) goes) goes other (omega arith)
       ]
