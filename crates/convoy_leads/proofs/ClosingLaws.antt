@@ -13,7 +13,7 @@ use Rattle.convoy_sim.specs.Laws.{ahead_of}
 use Rattle.convoy_sim.proofs.Membership.{IsIn, in-filter, in_of_filter, in_greatest, greatest_most}
 use Rattle.convoy_sim.proofs.Addressed.{in_of_goes, goes_from_in, in-addressed, goes_of_addressed, in_of_ahead}
 use Rattle.convoy_intervals.specs.Bounds.{Tables, rivals, tables_of, plain_bound}
-use Rattle.convoy_leads.specs.Below.{LawsBelow}
+use Rattle.convoy_starts.specs.Below.{LawsBelow}
 use Rattle.convoy_sure.specs.Windows.{LeadTables, EnclosesAll, Windows, tables_by, windows_of, with_arrival}
 use Rattle.convoy_sure.specs.Laws.{WindowsAreTables, WindowsEncloseMembers}
 use Rattle.convoy_leads.specs.Leads.{is_led}

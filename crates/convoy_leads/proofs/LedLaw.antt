@@ -14,13 +14,14 @@ use Rattle.convoy_sim.proofs.Membership.{IsIn, in_greatest}
 use Rattle.convoy_sim.proofs.Addressed.{in_of_goes}
 use Rattle.convoy_sim.proofs.MomentsOrder.{before_one_way}
 use Rattle.convoy_stamps.proofs.Arrivals.{arrives_first}
-use Rattle.convoy_leads.specs.Below.{LawsBelow}
+use Rattle.convoy_starts.specs.Below.{LawsBelow}
 use Rattle.convoy_sure.specs.Windows.{LeadTables, EnclosesAll}
 use Rattle.convoy_sure.specs.SureLeads.{Sure, sure_of, is_earlier}
 use Rattle.convoy_sure.specs.Laws.{IsSure}
-use Rattle.convoy_leads.specs.Leads.{Start, first_past, stamp_high, starts_before, last_arrival, is_surely_less, is_led}
-use Rattle.convoy_leads.proofs.LeadLaws.{stamp_within, have_starts}
-use Rattle.convoy_leads.proofs.Times.{first_past_rises}
+use Rattle.convoy_starts.specs.Starts.{Start, first_past, stamp_high, starts_before, last_arrival, is_surely_less}
+use Rattle.convoy_leads.specs.Leads.{is_led}
+use Rattle.convoy_starts.proofs.StartLaws.{stamp_within, have_starts}
+use Rattle.convoy_starts.proofs.Times.{first_past_rises}
 
 pub list_all_in : {X : Type 0} (p : X → Bool) (x : X) (xs : List X) → list_all p xs ≡ true → IsIn x xs → p x ≡ true
 list_all_in p x [] h i = absurd i

@@ -4,7 +4,7 @@ use Rattle.convoy_scenario.specs.Scenario.{Scenario}
 use Rattle.convoy_sure.specs.Windows.{LeadTables}
 use Rattle.convoy_sure.specs.SureLeads.{is_earlier, sure_of}
 use Rattle.convoy_leads.specs.Leads.{is_led}
-use Rattle.convoy_leads.specs.Tests.{is_less_elsewhere}
+use Rattle.convoy_starts.specs.Tests.{is_less_elsewhere}
 
 module _ (scenario : Scenario) (tables : LeadTables) (n : ℕ) where
   abbrev pub arrives_behind : Bool

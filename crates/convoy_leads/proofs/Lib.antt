@@ -1,13 +1,5 @@
 pub mod Rows
-pub mod Times
-pub mod Caps
-pub mod LeadLaws
 pub mod LedLaw
 pub mod ClosingLaws
 pub mod LedTests
 pub mod Rivals
-pub mod Known
-pub mod Loops
-pub mod CoveredTicks
-pub mod SteadyStarts
-pub mod MostLaws

@@ -14,14 +14,11 @@ pub use Rattle.convoy_intervals.specs.Bounds
 pub use Rattle.convoy_stamps.specs.Reach
 pub use Rattle.convoy_sure.specs.Windows
 pub use Rattle.convoy_sure.specs.SureLeads
+pub use Rattle.convoy_starts.specs.Starts
+pub use Rattle.convoy_starts.specs.Links
 -- What a caller of leads reads: leads, what it is to be closed by leads, and the laws of these.
 pub mod Leads
 pub mod Closing
 pub mod Laws
 -- What is told of a box that leads leave open.
 pub mod Openings
--- Words of the crate's own parts: no promise rests on them.
-pub mod Below
-pub mod Mosts
-pub mod Changes
-pub mod Tests

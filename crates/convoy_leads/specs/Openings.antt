@@ -1,10 +1,10 @@
 -- What leads leave open of a box: the first case that they do not show to be none, and the chain by which a stamp of the target may exceed the rival's there. A search goes by it where it splits a box; no promise rests on it.
-use Rattle.std.specs.Prelude.{◌≡◌, ◌<◌, false, length, All, IfSome}
+use Rattle.std.specs.Prelude.{◌≡◌, ◌<◌, false, length, All}
 use Rattle.convoy_scenario.specs.declared.limits.TheConstants.{MOST_GROUPS}
 use Rattle.convoy_scenario.specs.Scenario.{Scenario}
 use Rattle.convoy_sure.specs.Windows.{tables_by}
+use Rattle.convoy_starts.specs.Links.{IsLink}
 use Rattle.convoy_leads.specs.Closing.{is_behind}
-use Rattle.convoy_leads.specs.declared.chain.Link.{Link}
 use Rattle.convoy_leads.specs.declared.open_case.OpenCase.{OpenCase}
 use Rattle.convoy_leads.specs.declared.opening.Opening.{Opening}
 
@@ -14,13 +14,6 @@ pub record IsOpenCase (scenario : Scenario) (case : OpenCase) : Type 0 where
   pub rival_by : case.rival_by < MOST_GROUPS
   pub target_by : case.target_by < MOST_GROUPS
   pub not_behind : is_behind scenario (tables_by case.windows) case.rival ≡ false
-
--- a link speaks of messages of the scenario, and of a group that there may be
-pub record IsLink (scenario : Scenario) (link : Link) : Type 0 where
-  pub message : link.message < length scenario.multicasts
-  pub group : link.group < MOST_GROUPS
-  pub commit : IfSome link.commit (λ commit. commit.message < length scenario.multicasts)
-  pub others : All (λ z. z < length scenario.multicasts) link.others
 
 -- the case is open, and its chain is of such links
 pub record IsOpening (scenario : Scenario) (opening : Opening) : Type 0 where

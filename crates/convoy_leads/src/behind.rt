@@ -5,40 +5,18 @@ ghost use Rattle.convoy_scenario.specs.Scenario.{message_at};
 ghost use Rattle.convoy_intervals.specs.Bounds.{rivals};
 ghost use Rattle.convoy_sure.specs.SureLeads.{is_earlier, sure_of};
 ghost use Rattle.convoy_sure.specs.Windows.{tables_by, with_arrival};
+ghost use Rattle.convoy_starts.specs.Tests.{is_less_elsewhere};
 ghost use Rattle.convoy_leads.specs.Leads.{is_led};
-ghost use Rattle.convoy_leads.specs.Tests.{is_less_elsewhere};
 ghost use Rattle.convoy_leads.specs.Closing.{closes_over, is_behind, is_behind_after, is_behind_by};
 ghost use Rattle.convoy_leads.specs.Closing.{is_behind_late, is_behind_target};
 
 use super::facts::Facts;
-use super::start::Start;
-use super::told::Told;
 use convoy_scenario::{MOST_GROUPS, MOST_MULTICASTS};
+use convoy_starts::Scratch;
 use convoy_sure::{
     LAST_ARRIVAL, Messages, Sure, Windows, destinations, is_earlier, sure_of, target_group,
 };
 use std::alloc::{AllocError, Global};
-
-/// Memory that tests use, one after the other.
-#[derive(Drop)]
-pub(crate) struct Scratch {
-    pub(crate) alloc: Global,
-    pub(crate) starts: Vec<Start>,
-    pub(crate) told: Vec<Told>,
-    pub(crate) nexts: Vec<u32>,
-}
-
-impl Scratch {
-    /// Memory for tests, of which none is taken yet.
-    pub(crate) fn new(alloc: Global) -> Scratch {
-        Scratch {
-            alloc,
-            starts: Vec::new(alloc),
-            told: Vec::new(alloc),
-            nexts: Vec::new(alloc),
-        }
-    }
-}
 
 impl<'a> Facts<'a> {
     /// What is sure of a message at the target's group.
@@ -94,12 +72,7 @@ impl<'a> Facts<'a> {
             ≡ is_less_elsewhere self.now.scenario.now (tables_by windows.now) sure.now barring) }
     {
         let setting = self.setting(windows, sure, barring);
-        setting.is_led(
-            &self.pairs,
-            &mut scratch.starts,
-            &mut scratch.told,
-            &mut scratch.nexts,
-        )
+        setting.is_led(&self.pairs, scratch)
     }
 
     /// The same at first with no message barred, and then with each.

@@ -5,12 +5,12 @@ ghost use Rattle.convoy_sim.specs.Delivery.{latency_of};
 ghost use Rattle.convoy_intervals.specs.Boxes.{IsBox, IsIn};
 ghost use Rattle.convoy_leads.specs.Closing.{closes_by_leads};
 
-use super::behind::Scratch;
 use super::facts::Facts;
 use super::laws::leads_hold;
 use convoy_intervals::DelayBox;
 use convoy_intervals::laws::members_are_assignments;
 use convoy_packets::Instance;
+use convoy_starts::Scratch;
 use convoy_sure::Windows;
 use std::alloc::{AllocError, Global};
 

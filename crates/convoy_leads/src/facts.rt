@@ -4,11 +4,11 @@ ghost use Rattle.convoy_scenario.specs.declared.limits.TheConstants.{MOST_GROUPS
 ghost use Rattle.convoy_scenario.specs.Scenario.{message_numbers};
 ghost use Rattle.convoy_sim.specs.Delivery.{addressed_to};
 ghost use Rattle.convoy_stamps.specs.Reach.{pairs_of};
-ghost use Rattle.convoy_leads.specs.Mosts.{bars_of};
+ghost use Rattle.convoy_starts.specs.Mosts.{bars_of};
 
-use super::setting::Setting;
 use convoy_scenario::{MOST_GROUPS, MOST_MULTICASTS, Scenario};
 use convoy_stamps::Pair;
+use convoy_starts::Setting;
 use convoy_sure::{Messages, Sure, Windows, all_messages, audiences, list_pairs, one_message};
 use std::alloc::{AllocError, Global};
 

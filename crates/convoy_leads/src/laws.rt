@@ -1,7 +1,7 @@
 //! The laws of leads. Each is the one clause of a function that does nothing; a caller that needs the
 //! law calls the function.
 
-ghost use Rattle.convoy_leads.specs.Below.{LawsBelow};
+ghost use Rattle.convoy_starts.specs.Below.{LawsBelow};
 ghost use Rattle.convoy_leads.specs.Laws.{ClosedHoldsOverWindows, LeadsHold, ClosesAtPlain};
 
 use convoy_sim::laws::{

@@ -2,24 +2,14 @@
 //! stamp that surely exceeds the target's.
 #![tactic(auto)]
 
-pub use chain::{Commit, Link};
 pub use closing::closes_by_leads;
+pub use convoy_starts::{Commit, Link};
 pub use open_case::OpenCase;
 pub use opening::{Opening, opening_of};
 
 mod behind;
-mod chain;
-mod changes;
 mod closing;
 mod facts;
 pub mod laws;
-mod led;
-mod mosts;
 mod open_case;
 mod opening;
-mod setting;
-mod stamps;
-mod start;
-mod starts;
-mod told;
-mod window;

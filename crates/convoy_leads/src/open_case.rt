@@ -4,9 +4,9 @@ ghost use Rattle.convoy_sure.specs.Windows.{tables_by};
 ghost use Rattle.convoy_leads.specs.Closing.{is_behind};
 ghost use Rattle.convoy_leads.specs.Openings.{IsOpenCase};
 
-use super::behind::Scratch;
 use super::facts::Facts;
 use convoy_scenario::{MOST_GROUPS, MOST_MULTICASTS};
+use convoy_starts::Scratch;
 use convoy_sure::{Windows, destinations, target_group};
 use std::alloc::{AllocError, Global};
 

@@ -1,13 +1,13 @@
 ghost use Rattle.std.specs.Prelude.{◌<◌, length, All, IfOk, IfSome};
 ghost use Rattle.convoy_intervals.specs.Boxes.{IsBox};
-ghost use Rattle.convoy_leads.specs.Openings.{IsLink, IsOpening};
+ghost use Rattle.convoy_starts.specs.Links.{IsLink};
+ghost use Rattle.convoy_leads.specs.Openings.{IsOpening};
 
-use super::behind::Scratch;
-use super::chain::Link;
 use super::facts::Facts;
 use super::open_case::OpenCase;
 use convoy_intervals::DelayBox;
 use convoy_packets::Instance;
+use convoy_starts::{Link, Scratch};
 use convoy_sure::Windows;
 use std::alloc::{AllocError, Global};
 
@@ -38,13 +38,7 @@ impl<'a> Facts<'a> {
         }
         let sure = self.sure_of(scratch.alloc, windows, n)?;
         let setting = self.setting(windows, &sure, false);
-        setting.links(
-            scratch.alloc,
-            &self.pairs,
-            &mut scratch.starts,
-            &mut scratch.told,
-            &mut scratch.nexts,
-        )
+        setting.links(&self.pairs, scratch)
     }
 }
 

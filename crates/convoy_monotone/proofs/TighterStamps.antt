@@ -10,8 +10,8 @@ use Rattle.convoy_sim.proofs.Membership.{IsIn, in-map, in_of_map, in-range, in_o
 use Rattle.convoy_stamps.proofs.Arrivals.{next_rises}
 use Rattle.convoy_sure.specs.Windows.{LeadTables}
 use Rattle.convoy_sure.specs.SureLeads.{Sure, may_be_earlier, lead_at, top_of, pair_count, sure_after, sure_later}
-use Rattle.convoy_leads.specs.Leads.{capped, may_be_above, room_above, window, may_arrive, arrivals_since, Start, barred_at, value_for, clock_alone, clock_since, may_start, clock_from, clock_high, lead_by, stamp_high, arrives_by, may_have_come, stamp_for, raise_high}
-use Rattle.convoy_leads.proofs.Caps.{least_over}
+use Rattle.convoy_starts.specs.Starts.{capped, may_be_above, room_above, window, may_arrive, arrivals_since, Start, barred_at, value_for, clock_alone, clock_since, may_start, clock_from, clock_high, lead_by, stamp_high, arrives_by, may_have_come, stamp_for, raise_high}
+use Rattle.convoy_starts.proofs.Caps.{least_over}
 use Rattle.convoy_monotone.proofs.Among.{AreAmong, among_filtered, among_passed, is_within_greatest, greatest_is_within}
 use Rattle.convoy_monotone.proofs.Firsts.{may_be_earlier_too}
 use Rattle.convoy_monotone.proofs.TighterWindows.{IsTighter}

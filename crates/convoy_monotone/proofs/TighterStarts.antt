@@ -1,18 +1,20 @@
 -- Starts by tables that allow less are served by those of the others, so that leads which show a message to be behind still do.
-use Rattle.std.proofs.Common.{◌≡◌, ℕ, zero, suc, ◌+◌, ◌-◌, ◌≤◌, Bool, true, false, cond, not, ◌==◌, ◌&&◌, ◌||◌, ◌⊎◌, nat_le, inl, inr, List, [], ◌∷◌, ◌++◌, length, map, fold, get_or, refl, sym, ap, subst, ◌∙◌, arith}
-use Rattle.std.specs.List.{list_any, list_all}
+use Rattle.std.proofs.Common.{◌≡◌, ℕ, zero, suc, ◌+◌, ◌-◌, ◌≤◌, Bool, true, false, cond, not, ◌==◌, ◌&&◌, ◌||◌, nat_le, inl, inr, List, [], ◌∷◌, length, map, fold, get_or, refl, sym, ap, subst, ◌∙◌, arith}
+use Rattle.std.specs.List.{list_all}
 use Rattle.std.proofs.lemmas.List.{length-map}
-use Rattle.std.proofs.lemmas.Bool.{cases_Bool, cond-true, cond-false, and_from, and_parts, or_cases, or_left, or_right, le-leb, leb-true, eqb-true, false≢true}
+use Rattle.std.proofs.lemmas.Bool.{and_from, and_parts, or_cases, or_left, or_right, le-leb, leb-true, eqb-true, false≢true}
 use Rattle.convoy_scenario.specs.Scenario.{Scenario, message_at, message_numbers}
 use Rattle.convoy_scenario.specs.WellFormed.{IsScenario}
 use Rattle.convoy_sim.specs.Times.{Tick}
-use Rattle.convoy_sim.proofs.Membership.{IsIn, in-append_left, in-append_right, in_append_cases, in_of_list_any, in_greatest, greatest_most}
+use Rattle.convoy_sim.proofs.Membership.{IsIn, in_greatest, greatest_most}
 use Rattle.convoy_stamps.specs.declared.pair.Pair.{Pair}
 use Rattle.convoy_stamps.specs.Reach.{pairs_of}
 use Rattle.convoy_sure.specs.Windows.{LeadTables}
 use Rattle.convoy_sure.specs.SureLeads.{Sure, sure_of, is_earlier}
-use Rattle.convoy_leads.specs.Leads.{Start, barred_at, raise_high, may_commit, start_of, covers_all, covers, with_start, add_start, starts_before, first_past, starts_by, last_arrival, stamp_high, is_surely_less, is_led}
-use Rattle.convoy_leads.proofs.Times.{first_past_rises}
+use Rattle.convoy_starts.specs.Starts.{Start, barred_at, raise_high, may_commit, start_of, covers_all, covers, add_start, starts_before, first_past, starts_by, last_arrival, stamp_high, is_surely_less}
+use Rattle.convoy_starts.proofs.Times.{first_past_rises}
+use Rattle.convoy_starts.proofs.AddedStarts.{add_stays, in_of_add, add_has, all_stay}
+use Rattle.convoy_leads.specs.Leads.{is_led}
 use Rattle.convoy_monotone.proofs.Among.{all_too}
 use Rattle.convoy_monotone.proofs.Firsts.{earlier_too, less_too}
 use Rattle.convoy_monotone.proofs.TighterWindows.{IsTighter, IsOpen}
@@ -52,83 +54,17 @@ module _ (scenario : Scenario) (tables : LeadTables) (sure : Sure) (barring : Bo
     abbrev pub add : List Start → Pair → List Start
     add = add_start scenario tables sure barring tick
 
-    covered_by : List Start → Start → Bool
-    covered_by starts new = list_any (λ old. covers old new) starts
-
-    with_stays : (starts : List Start) (new s : Start) → IsIn s starts → IsIn s (with_start starts new)
-    unfolding covered_by
-    with_stays starts new s i = elim (cases_Bool (covered_by starts new)) [
-      | inl e ↦ subst (IsIn s) (sym (cond-true (covered_by starts new) starts (starts ++ new ∷ []) e)) i
-      | inr e ↦ subst (IsIn s) (sym (cond-false (covered_by starts new) starts (starts ++ new ∷ []) e)) (in-append_left s starts (new ∷ []) i)
-    ]
-
-    in_of_with : (starts : List Start) (new s : Start) → IsIn s (with_start starts new) → IsIn s starts ⊎ (new ≡ s)
-    unfolding covered_by
-    in_of_with starts new s i = elim (cases_Bool (covered_by starts new)) [
-      | inl e ↦ inl (subst (IsIn s) (cond-true (covered_by starts new) starts (starts ++ new ∷ []) e) i)
-      | inr e ↦ elim (in_append_cases s starts (new ∷ []) (subst (IsIn s) (cond-false (covered_by starts new) starts (starts ++ new ∷ []) e) i)) [
-        | inl j ↦ inl j
-        | inr j ↦ elim j [ inl same ↦ inr same | inr none ↦ absurd none ]
-      ]
-    ]
-
-    -- a start that covers a new one, or that itself, is there once it is added
-    with_has : (starts : List Start) (new : Start) → (s : Start) × IsIn s (with_start starts new) × ((IsIn s starts × (covers s new ≡ true)) ⊎ (new ≡ s))
-    unfolding covered_by
-    with_has starts new = elim (cases_Bool (covered_by starts new)) [
-      | inl e ↦
-          let r = in_of_list_any (λ old. covers old new) starts e in
-          (r.0, with_stays starts new r.0 r.1, inl (r.1, r.2))
-      | inr e ↦ (
-        new,
-        subst (IsIn new) (sym (cond-false (covered_by starts new) starts (starts ++ new ∷ []) e)) (in-append_right new starts (new ∷ []) (inl refl)),
-        inr refl,
-      )
-    ]
-
-    pub add_stays : (starts : List Start) (pair : Pair) (s : Start) → IsIn s starts → IsIn s (add starts pair)
-    add_stays starts pair s i =
-        let new : Start = start_of scenario tables sure barring starts tick pair in
-        elim (cases_Bool (may_commit scenario tables.times tick pair)) [
-          | inl e ↦ subst (IsIn s) (sym (cond-true (may_commit scenario tables.times tick pair) (with_start starts new) starts e)) (with_stays starts new s i)
-          | inr e ↦ subst (IsIn s) (sym (cond-false (may_commit scenario tables.times tick pair) (with_start starts new) starts e)) i
-        ]
-
-    pub in_of_add : (starts : List Start) (pair : Pair) (s : Start) → IsIn s (add starts pair)
-        → IsIn s starts ⊎ ((may_commit scenario tables.times tick pair ≡ true) × (start_of scenario tables sure barring starts tick pair ≡ s))
-    in_of_add starts pair s i =
-        let new : Start = start_of scenario tables sure barring starts tick pair in
-        elim (cases_Bool (may_commit scenario tables.times tick pair)) [
-          | inl e ↦ elim (in_of_with starts new s (subst (IsIn s) (cond-true (may_commit scenario tables.times tick pair) (with_start starts new) starts e) i)) [
-            | inl j ↦ inl j
-            | inr same ↦ inr (e, same)
-          ]
-          | inr e ↦ inl (subst (IsIn s) (cond-false (may_commit scenario tables.times tick pair) (with_start starts new) starts e) i)
-        ]
-
-    pub add_has : (starts : List Start) (pair : Pair) → may_commit scenario tables.times tick pair ≡ true
-        → (s : Start) × IsIn s (add starts pair)
-        × ((IsIn s starts × (covers s (start_of scenario tables sure barring starts tick pair) ≡ true)) ⊎ (start_of scenario tables sure barring starts tick pair ≡ s))
-    add_has starts pair e =
-        let new : Start = start_of scenario tables sure barring starts tick pair in
-        let r = with_has starts new in
-        (r.0, subst (IsIn r.0) (sym (cond-true (may_commit scenario tables.times tick pair) (with_start starts new) starts e)) r.1, r.2)
-
     -- each start is of that tick or an earlier one, and has as many values as any
     abbrev pub AreBy : List Start → Type 0
     AreBy starts = (s : Start) → IsIn s starts → (s.at ≤ tick) × (length s.barred ≡ bars)
 
     pub add_by : (starts : List Start) (pair : Pair) → AreBy starts → AreBy (add starts pair)
-    add_by starts pair by s i = elim (in_of_add starts pair s i) [
+    add_by starts pair by s i = elim (in_of_add scenario tables sure barring tick starts pair s i) [
       | inl j ↦ by s j
       | inr new ↦
           let at : tick ≡ s.at = ap (λ (k : Start). k.at) new.1 in
           (omega (arith, at), ap (λ (k : Start). length k.barred) (sym new.1) ∙ start_bars starts tick pair)
     ]
-
-    pub all_stay : (starts : List Start) (pairs : List Pair) (s : Start) → IsIn s starts → IsIn s (fold add starts pairs)
-    all_stay starts [] s i = i
-    all_stay starts (p ∷ ps) s i = all_stay (add starts p) ps s (add_stays starts p s i)
 
     pub all_by : (starts : List Start) (pairs : List Pair) → AreBy starts → AreBy (fold add starts pairs)
     all_by starts [] by = by
@@ -146,7 +82,7 @@ module _ (scenario : Scenario) (tables : LeadTables) (sure : Sure) (barring : Bo
   before_stays tick (suc more) s i =
       let next : suc (more + tick) ≡ suc more + tick = omega arith in
       subst (λ k. IsIn s (starts_before scenario tables sure barring k)) next
-      (all_stay (more + tick) (starts_before scenario tables sure barring (more + tick)) (pairs_of scenario) s (before_stays tick more s i))
+      (all_stay scenario tables sure barring (more + tick) (starts_before scenario tables sure barring (more + tick)) (pairs_of scenario) s (before_stays tick more s i))
 
 -- ---- by tables and by those that allow less
 module _ (scenario : Scenario) (outer inner : LeadTables) (tight : IsTighter outer inner) (wide close : Sure) (risen : HaveRisen wide close) (barring : Bool) where

@@ -1,7 +1,7 @@
 use Rattle.std.proofs.Common.{◌≡◌, ◌||◌, true, false, IfOk, subst}
 use Rattle.convoy_sure.specs.Windows.{tables_by}
 use Rattle.convoy_sure.specs.SureLeads.{Sure}
-use Rattle.convoy_leads.specs.Tests.{is_less_elsewhere}
+use Rattle.convoy_starts.specs.Tests.{is_less_elsewhere}
 use Rattle.convoy_leads.proofs.facts.Facts.is_led_behind.Goals as goal
 
 pub returns : goal.returns

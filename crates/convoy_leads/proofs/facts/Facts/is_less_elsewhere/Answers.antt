@@ -2,7 +2,7 @@ use Rattle.std.proofs.Common.{◌≡◌, Bool, IfOk, subst}
 use Rattle.convoy_scenario.specs.Scenario.{Scenario}
 use Rattle.convoy_sure.specs.Windows.{Windows, tables_by}
 use Rattle.convoy_sure.specs.SureLeads.{Sure}
-use Rattle.convoy_leads.specs.Tests.{is_less_elsewhere}
+use Rattle.convoy_starts.specs.Tests.{is_less_elsewhere}
 use Rattle.convoy_leads.proofs.facts.Facts.is_less_elsewhere.Goals as goal
 
 pub returns : goal.returns

@@ -1,9 +1,0 @@
-use Rattle.std.proofs.Common.{◌≡◌, ℕ, ◌<◌, ◌≤◌, max, get_or}
-use Rattle.convoy_leads.proofs.mosts.raise_all.Given as goal
-
-abbrev pub invariant-loop-k : goal.invariant-loop-k
-invariant-loop-k l =
-    record {
-      done : (j : ℕ) → j < l.k → get_or l.mosts j 0 ≡ max (get_or l.initial.mosts j 0) (get_or l.others j 0);
-      left : (j : ℕ) → l.k ≤ j → get_or l.mosts j 0 ≡ get_or l.initial.mosts j 0;
-    }

@@ -1,6 +1,0 @@
-use Rattle.std.proofs.Common.{◌<◌}
-use Rattle.std.specs.Prelude.{IfSome}
-use Rattle.convoy_leads.proofs.setting.Setting.highest_stamp.Given as goal
-
-abbrev pub invariant-loop-from : goal.invariant-loop-from
-invariant-loop-from l = IfSome l.found (λ from. from < 8)

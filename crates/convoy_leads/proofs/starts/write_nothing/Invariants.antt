@@ -1,9 +1,0 @@
-use Rattle.std.proofs.Common.{◌≡◌, [], length, All}
-use Rattle.convoy_leads.proofs.starts.write_nothing.Given as goal
-
-abbrev pub invariant-loop-place : goal.invariant-loop-place
-invariant-loop-place l =
-    record {
-      long : length l.told.items ≡ l._place;
-      nothing : All (λ t. (t.by ≡ 0) × (t.stamps ≡ [])) l.told.items;
-    }

@@ -1,0 +1,9 @@
+pub mod Times
+pub mod Caps
+pub mod AddedStarts
+pub mod StartLaws
+pub mod Known
+pub mod Loops
+pub mod CoveredTicks
+pub mod SteadyStarts
+pub mod MostLaws

@@ -1,0 +1,349 @@
+-- At which ticks the start of a pair's commit may be another one than before.
+use Rattle.std.proofs.Common.{◌≡◌, ◌≢◌, ◌⊎◌, ℕ, ◌+◌, ◌<◌, ◌≤◌, ◌==◌, suc, inl, inr, nat_lt, nat_le, Bool, true, false, ◌&&◌, ◌||◌, not, cond, List, [], ◌∷◌, ◌++◌, length, get_or, max, min, map, filter, fold, All, refl, sym, ap, ap₂, subst, ◌∙◌, arith}
+use Rattle.std.specs.List.{list_any}
+use Rattle.std.proofs.Math.Nat.{max-zero}
+use Rattle.std.proofs.lemmas.Bool.{cases_Bool, cases_lt, cond-true, cond-false, lt-ltb, le-ltb, le-leb, ltb-true, leb-true, eqb-true, eq-eqb, and_parts, both_ways, false≢true}
+use Rattle.std.proofs.lemmas.Bool.Decides.{nat_tests}
+use Rattle.convoy_scenario.specs.declared.time.Time.{Time}
+use Rattle.convoy_scenario.specs.declared.time.Time.TheVariants.{Ticks, Real}
+use Rattle.convoy_scenario.specs.Scenario.{Scenario, message_at, message_numbers}
+use Rattle.convoy_sim.specs.Times.{Tick, greatest}
+use Rattle.convoy_sim.specs.Moments.{next_arrival}
+use Rattle.convoy_sim.specs.Delivery.{addressed_to}
+use Rattle.convoy_intervals.specs.Bounds.{Tables}
+use Rattle.convoy_stamps.specs.declared.pair.Pair.{Pair}
+use Rattle.convoy_sure.specs.Windows.{LeadTables}
+use Rattle.convoy_sure.specs.SureLeads.{Sure, pair_count, is_earlier, may_be_earlier, sure_after, sure_later, lead_at, top_of}
+use Rattle.convoy_starts.specs.Starts.{Start, add_start, arrivals_since, arrives_by, capped, clock_alone, clock_from, clock_high, clock_since, covers, covers_all, lead_by, may_arrive, may_commit, may_have_come, may_start, raise_high, stamp_for, stamp_high, start_of, value_for, window, with_start}
+use Rattle.convoy_starts.specs.Changes.{IsCovered, IsSteady}
+
+-- ---- lists
+filter_same : (p q : ℕ → Bool) (zs : List ℕ) → All (λ z. p z ≡ q z) zs → filter p zs ≡ filter q zs
+filter_same p q [] same = refl
+filter_same p q (z ∷ zs) same =
+    ap₂ (λ (b : Bool) (rest : List ℕ). cond b (z ∷ rest) rest) (same 0 z (omega arith)) (filter_same p q zs (λ k d l. same (suc k) d (omega arith)))
+
+map_same : {X Y : Type 0} (f g : X → Y) (xs : List X) → All (λ x. f x ≡ g x) xs → map f xs ≡ map g xs
+map_same f g [] same = refl
+map_same f g (x ∷ xs) same = ap₂ (λ y ys. y ∷ ys) (same 0 x (omega arith)) (map_same f g xs (λ k d l. same (suc k) d (omega arith)))
+
+any_same : (p q : Start → Bool) (starts : List Start) → ((s : Start) → p s ≡ q s) → list_any p starts ≡ list_any q starts
+any_same p q [] same = refl
+any_same p q (s ∷ ss) same = ap₂ (λ m n. m || n) (same s) (any_same p q ss same)
+
+any_more : (p : Start → Bool) (starts more : List Start) → list_any p starts ≡ true → list_any p (starts ++ more) ≡ true
+any_more p [] more any = absurd (false≢true any)
+any_more p (s ∷ ss) more any = elim (cases_Bool (p s)) [
+  | inl e ↦ ap (λ m. m || list_any p (ss ++ more)) e
+  | inr e ↦ ap (λ m. m || list_any p (ss ++ more)) e ∙ any_more p ss more (sym (ap (λ m. m || list_any p ss) e) ∙ any)
+]
+
+any_last : (p : Start → Bool) (starts : List Start) (new : Start) → p new ≡ true → list_any p (starts ++ new ∷ []) ≡ true
+any_last p [] new e = ap (λ m. m || false) e
+any_last p (s ∷ ss) new e = elim (cases_Bool (p s)) [
+  | inl t ↦ ap (λ m. m || list_any p (ss ++ new ∷ [])) t
+  | inr t ↦ ap (λ m. m || list_any p (ss ++ new ∷ [])) t ∙ any_last p ss new e
+]
+
+-- ---- ticks between which no other one lies
+pub lt_same : (a b x : ℕ) → a ≤ b → (a < x → b < x) → nat_lt b x ≡ nat_lt a x
+lt_same a b x late past = elim (cases_lt a x) [
+  | inl l ↦ lt-ltb b x (past l) ∙ sym (lt-ltb a x l)
+  | inr l ↦ le-ltb b x (omega arith) ∙ sym (le-ltb a x l)
+]
+
+pub le_same : (a b x : ℕ) → a ≤ b → (a < x → b < x) → nat_le x b ≡ nat_le x a
+le_same a b x late past = elim (cases_lt a x) [
+  | inl l ↦ let m = past l in late_is x b m ∙ sym (late_is x a l)
+  | inr l ↦ le-leb x b (omega arith) ∙ sym (le-leb x a l)
+] where
+  late_is : (x a : ℕ) → a < x → nat_le x a ≡ false
+  late_is x a l = grind (arith, nat_tests, l)
+
+-- ---- the most of a stamp in real time, where no arrival and no start lies between two ticks
+module _ (scenario : Scenario) (real : scenario.time ≡ Real) (tables : Tables) (sure : Sure) (q h : ℕ) (a b : Tick) (late : a ≤ b)
+    (arrivals : All (λ z. a < tables.least_arrival z h → b < tables.least_arrival z h) (addressed_to scenario h)) where
+  after_same : sure_after scenario tables b q h ≡ sure_after scenario tables a q h
+  after_same =
+      filter_same (λ z. is_earlier scenario.time b q (tables.least_arrival z h) z) (λ z. is_earlier scenario.time a q (tables.least_arrival z h) z) (addressed_to scenario h)
+      (λ k d l. one (get_or (addressed_to scenario h) k d) (arrivals k d l)) where
+        one : (z : ℕ) → (a < tables.least_arrival z h → b < tables.least_arrival z h)
+            → is_earlier scenario.time b q (tables.least_arrival z h) z ≡ is_earlier scenario.time a q (tables.least_arrival z h) z
+        one z past =
+            ap (λ (t : Time). is_earlier t b q (tables.least_arrival z h) z) real
+            ∙ lt_same a b (tables.least_arrival z h) late past
+            ∙ sym (ap (λ (t : Time). is_earlier t a q (tables.least_arrival z h) z) real)
+
+  since_same : (since : Tick) → since ≤ a → arrivals_since scenario tables b q h since ≡ arrivals_since scenario tables a q h since
+  since_same since by =
+      filter_same (may_arrive scenario.time tables b q h since) (may_arrive scenario.time tables a q h since) (addressed_to scenario h)
+      (λ k d l. one (get_or (addressed_to scenario h) k d) (arrivals k d l)) where
+        one : (z : ℕ) → (a < tables.least_arrival z h → b < tables.least_arrival z h)
+            → may_arrive scenario.time tables b q h since z ≡ may_arrive scenario.time tables a q h since z
+        one z past =
+            let first : ℕ = max since (tables.least_arrival z h) in
+            ap (λ (m : Bool). not (z == q) && m && nat_le since (tables.greatest_arrival z h))
+            (ap (λ (t : Time). may_be_earlier t first z b q) real
+            ∙ le_same a b first late (λ l. let m = past (omega arith) in omega arith)
+            ∙ sym (ap (λ (t : Time). may_be_earlier t first z a q) real))
+
+  module _ (x : ℕ) where
+    from_same : (start : Start) → (start.group ≡ h → a < start.at → b < start.at)
+        → clock_from scenario tables sure x q h b start ≡ clock_from scenario tables sure x q h a start
+    from_same start past = elim (cases_Bool (may_start scenario.time x q h a start)) [
+      | inl e ↦
+          let soon : start.at ≤ a = leb-true start.at a (sym (next_is start.at a) ∙ (and_parts (start.group == h) (nat_le (next_arrival scenario.time start.at) a) (inner a e)).1) in
+          ap (λ (m : Bool). cond m (clock_since scenario tables sure x q h b start) 0) test
+          ∙ ap (λ (zs : List ℕ). cond (may_start scenario.time x q h a start) (window sure.time (λ z. lead_at sure.leads z h) (filter (λ z. not (z == start.message)) zs) (value_for start x q)) 0)
+          (since_same (next_arrival scenario.time start.at) (subst (λ (n : ℕ). n ≤ a) (sym (at_is start.at)) soon))
+      | inr e ↦ cond-false (may_start scenario.time x q h b start) (clock_since scenario tables sure x q h b start) 0 (test ∙ e)
+          ∙ sym (cond-false (may_start scenario.time x q h a start) (clock_since scenario tables sure x q h a start) 0 e)
+    ] where
+      at_is : (t : Tick) → next_arrival scenario.time t ≡ t
+      at_is t = ap (λ (time : Time). next_arrival time t) real
+
+      next_is : (t by : Tick) → nat_le (next_arrival scenario.time t) by ≡ nat_le t by
+      next_is t by = ap (λ (n : ℕ). nat_le n by) (at_is t)
+
+      inner : (by : Tick) → may_start scenario.time x q h by start ≡ true → ((start.group == h) && nat_le (next_arrival scenario.time start.at) by) ≡ true
+      inner by e =
+          let here : Bool = (start.group == h) && nat_le (next_arrival scenario.time start.at) by in
+          (and_parts here (not (start.message == q)) (and_parts (here && not (start.message == q)) (not (start.message == x)) e).0).0
+
+      group_test : ((start.group == h) && nat_le start.at b) ≡ ((start.group == h) && nat_le start.at a)
+      group_test = elim (cases_Bool (start.group == h)) [
+        | inl e ↦ ap (λ (m : Bool). (start.group == h) && m) (le_same a b start.at late (past (eqb-true start.group h e)))
+        | inr e ↦ ap (λ (m : Bool). m && nat_le start.at b) e ∙ sym (ap (λ (m : Bool). m && nat_le start.at a) e)
+      ]
+
+      test : may_start scenario.time x q h b start ≡ may_start scenario.time x q h a start
+      test =
+          ap (λ (m : Bool). m && not (start.message == q) && not (start.message == x))
+          (ap (λ (m : Bool). (start.group == h) && m) (next_is start.at b) ∙ group_test ∙ sym (ap (λ (m : Bool). (start.group == h) && m) (next_is start.at a)))
+
+    clock_same : (starts : List Start) → All (λ s. s.group ≡ h → a < s.at → b < s.at) starts
+        → clock_high scenario tables sure starts x q h b ≡ clock_high scenario tables sure starts x q h a
+    clock_same starts past =
+        ap₂ (λ (alone : ℕ) (rest : List ℕ). greatest (alone ∷ rest))
+        (ap (λ (zs : List ℕ). window sure.time (λ z. lead_at sure.leads z h) zs 0) (since_same 0 (omega arith)))
+        (map_same (clock_from scenario tables sure x q h b) (clock_from scenario tables sure x q h a) starts (λ k d l. from_same (get_or starts k d) (past k d l)))
+
+    pub stamp_same : (starts : List Start) → All (λ s. s.group ≡ h → a < s.at → b < s.at) starts
+        → stamp_high scenario tables sure starts x q h b ≡ stamp_high scenario tables sure starts x q h a
+    stamp_same starts past =
+        ap₂ (λ (after : List ℕ) (clock : ℕ). min (pair_count scenario) (capped sure.time (max (lead_at sure.leads q h) (top_of (λ z. lead_at sure.leads z h) after)) (clock + 1)))
+        after_same (clock_same starts past)
+
+-- ---- the start of a pair's commit
+module _ (scenario : Scenario) (tables : LeadTables) (sure : Sure) (pair : Pair) where
+  abbrev raise : List Start → Tick → ℕ → ℕ
+  raise starts tick x = raise_high scenario tables sure starts tick x pair.message pair.group
+
+  -- it is covered where it was, if it gives the same
+  covers_same : (barring : Bool) (starts others : List Start) (tick later : Tick) (old : Start)
+      → ((x : ℕ) → raise others later x ≡ raise starts tick x)
+      → covers old (start_of scenario tables sure barring others later pair) ≡ covers old (start_of scenario tables sure barring starts tick pair)
+  covers_same barring starts others tick later old same =
+      ap₂ (λ (base : ℕ) (barred : List ℕ). (old.message == pair.message) && (old.group == pair.group) && nat_le base old.base && covers_all old.barred barred)
+      (same scenario.target_message)
+      (ap (λ (ns : List ℕ). cond barring ns []) (map_same (raise others later) (raise starts tick) (message_numbers scenario) (λ k d l. same (get_or (message_numbers scenario) k d))))
+
+  -- so it is still covered at a later tick by which nothing has changed, ..
+  pub covered_again : (barring : Bool) (starts : List Start) (tick later : Tick) → may_commit scenario tables.times tick pair ≡ true
+      → IsSteady scenario tables sure starts tick later pair
+      → IsCovered scenario tables sure barring starts tick pair → IsCovered scenario tables sure barring starts later pair
+  covered_again barring starts tick later may same covered may_later =
+      any_same (λ (old : Start). covers old (start_of scenario tables sure barring starts later pair)) (λ (old : Start). covers old (start_of scenario tables sure barring starts tick pair))
+      starts (λ old. covers_same barring starts starts tick later old same) ∙ covered may
+
+  -- .. or with a start more that none of its stamps follows
+  pub covered_with : (barring : Bool) (starts : List Start) (new : Start) (tick : Tick)
+      → ((x : ℕ) → raise (starts ++ new ∷ []) tick x ≡ raise starts tick x)
+      → IsCovered scenario tables sure barring starts tick pair → IsCovered scenario tables sure barring (starts ++ new ∷ []) tick pair
+  covered_with barring starts new tick same covered may =
+      any_same (λ (old : Start). covers old (start_of scenario tables sure barring (starts ++ new ∷ []) tick pair)) (λ (old : Start). covers old (start_of scenario tables sure barring starts tick pair))
+      (starts ++ new ∷ []) (λ old. covers_same barring starts (starts ++ new ∷ []) tick tick old same)
+      ∙ any_more (λ (old : Start). covers old (start_of scenario tables sure barring starts tick pair)) starts (new ∷ []) (covered may)
+
+  -- a start that an arrival may not follow gives no clock
+  unread_same : (starts : List Start) (new : Start) (x q h : ℕ) (by : Tick) → (new.group ≡ h → by < next_arrival scenario.time new.at)
+      → stamp_high scenario tables.times sure (starts ++ new ∷ []) x q h by ≡ stamp_high scenario tables.times sure starts x q h by
+  unread_same starts new x q h by late =
+      ap (λ (clock : ℕ). min (pair_count scenario) (capped sure.time (lead_by scenario tables.times sure q h by) (clock + 1)))
+      (pushed f (max 0 (clock_alone scenario tables.times sure q h by)) starts
+      ∙ ap (λ n. max (fold max (max 0 (clock_alone scenario tables.times sure q h by)) (map f starts)) n) none
+      ∙ max-zero (fold max (max 0 (clock_alone scenario tables.times sure q h by)) (map f starts))) where
+        f : Start → ℕ
+        f = clock_from scenario tables.times sure x q h by
+
+        pushed : (f : Start → ℕ) (b : ℕ) (ys : List Start) → fold max b (map f (ys ++ new ∷ [])) ≡ max (fold max b (map f ys)) (f new)
+        pushed f b [] = refl
+        pushed f b (y ∷ ys) = pushed f (max b (f y)) ys
+
+        before : (m n : ℕ) → n < m → nat_le m n ≡ false
+        before m n l = grind (arith, nat_tests, l)
+
+        second : (m n : Bool) → n ≡ false → (m && n) ≡ false
+        second true n e = e
+        second false n e = refl
+
+        may_not : may_start scenario.time x q h by new ≡ false
+        may_not =
+            ap (λ (m : Bool). m && not (new.message == q) && not (new.message == x))
+            (elim (cases_Bool (new.group == h)) [
+              | inl e ↦ second (new.group == h) (nat_le (next_arrival scenario.time new.at) by)
+                  (before (next_arrival scenario.time new.at) by (late (eqb-true new.group h e)))
+              | inr e ↦ ap (λ (m : Bool). m && nat_le (next_arrival scenario.time new.at) by) e
+            ])
+
+        none : f new ≡ 0
+        none = cond-false (may_start scenario.time x q h by new) (clock_since scenario tables.times sure x q h by new) 0 may_not
+
+  -- so a commit raises the clock as before with a start more that none of its stamps follows
+  pub raise_with : (starts : List Start) (new : Start) (tick : Tick)
+      → (new.group ≢ pair.group → 0 < tick → arrives_by tables tick pair.message pair.group new.group < next_arrival scenario.time new.at)
+      → (x : ℕ) → raise (starts ++ new ∷ []) tick x ≡ raise starts tick x
+  raise_with starts new tick unread x =
+      ap (λ (stamps : List ℕ). capped sure.time (top_of (λ z. lead_at sure.leads z pair.group) (sure_later scenario tables.times tick pair.group)) (greatest stamps))
+      (map_same (stamp_for scenario tables sure (starts ++ new ∷ []) tick x pair.message pair.group) (stamp_for scenario tables sure starts tick x pair.message pair.group)
+      (message_at scenario pair.message).destinations
+      (λ k d l. one (get_or (message_at scenario pair.message).destinations k d))) where
+        one : (f : ℕ) → stamp_for scenario tables sure (starts ++ new ∷ []) tick x pair.message pair.group f ≡ stamp_for scenario tables sure starts tick x pair.message pair.group f
+        one f =
+            let most : List Start → ℕ = λ ss. stamp_high scenario tables.times sure ss x pair.message f (arrives_by tables tick pair.message pair.group f) in
+            elim (cases_Bool (may_have_come tick f pair.group)) [
+              | inl e ↦
+                  let parts = and_parts (not (f == pair.group)) (nat_lt 0 tick) e in
+                  ap (λ (n : ℕ). cond (may_have_come tick f pair.group) n 0)
+                  (unread_same starts new x pair.message f (arrives_by tables tick pair.message pair.group f)
+                  (λ same. subst (λ (h : ℕ). arrives_by tables tick pair.message pair.group h < next_arrival scenario.time new.at) same
+                  (unread (λ own. both_ways (f == pair.group) (no (f == pair.group) parts.0) (eq-eqb f pair.group (sym same ∙ own))) (ltb-true 0 tick parts.1))))
+              | inr e ↦ cond-false (may_have_come tick f pair.group) (most (starts ++ new ∷ [])) 0 e
+                  ∙ sym (cond-false (may_have_come tick f pair.group) (most starts) 0 e)
+            ] where
+              no : (m : Bool) → not m ≡ true → m ≡ false
+              no true e = sym e
+              no false e = refl
+
+  -- a stamp of its own tick or later follows no start of that tick
+  pub own_unread : (tick : Tick) (h : ℕ) (at : Tick) → at ≡ tick → 0 < tick → arrives_by tables tick pair.message pair.group h < next_arrival scenario.time at
+  own_unread tick h at is some = let rise = no_sooner scenario.time at in omega arith where
+    no_sooner : (time : Time) (t : Tick) → t ≤ next_arrival time t
+    no_sooner Ticks t = omega arith
+    no_sooner Real t = omega arith
+
+  -- a start covers itself
+  covers_itself : (s : Start) → covers s s ≡ true
+  covers_itself s = four (s.message == s.message) (s.group == s.group) (nat_le s.base s.base) (covers_all s.barred s.barred)
+      (eq-eqb s.message s.message refl) (eq-eqb s.group s.group refl) (le-leb s.base s.base (omega arith)) (all s.barred) where
+        all : (xs : List ℕ) → covers_all xs xs ≡ true
+        all [] = refl
+        all (x ∷ xs) = ap₂ (λ m n. m && n) (le-leb x x (omega arith)) (all xs)
+
+        four : (a b c d : Bool) → a ≡ true → b ≡ true → c ≡ true → d ≡ true → (a && b && c && d) ≡ true
+        four true true true true e f g h = refl
+        four true true true false e f g h = h
+        four true true false d e f g h = g
+        four true false c d e f g h = f
+        four false b c d e f g h = e
+
+  -- where a start covers it, none is added
+  pub add_same : (barring : Bool) (starts : List Start) (tick : Tick) → IsCovered scenario tables sure barring starts tick pair
+      → add_start scenario tables sure barring tick starts pair ≡ starts
+  add_same barring starts tick covered =
+      let new : Start = start_of scenario tables sure barring starts tick pair in
+      elim (cases_Bool (may_commit scenario tables.times tick pair)) [
+        | inl e ↦ cond-true (may_commit scenario tables.times tick pair) (with_start starts new) starts e
+            ∙ cond-true (list_any (λ (old : Start). covers old new) starts) starts (starts ++ new ∷ []) (covered e)
+        | inr e ↦ cond-false (may_commit scenario tables.times tick pair) (with_start starts new) starts e
+      ]
+
+  -- what is there once it is added: no more starts, and one covers it, or one more, of that tick and group, that does
+  abbrev pub WasAdded : Bool → List Start → Tick → Type 0
+  WasAdded barring starts tick =
+      ((add_start scenario tables sure barring tick starts pair ≡ starts) × IsCovered scenario tables sure barring starts tick pair)
+      ⊎ ((new : Start) × (add_start scenario tables sure barring tick starts pair ≡ starts ++ new ∷ []) × (new.at ≡ tick) × (new.group ≡ pair.group)
+      × IsCovered scenario tables sure barring (starts ++ new ∷ []) tick pair)
+
+  pub was_added : (barring : Bool) (starts : List Start) (tick : Tick) → WasAdded barring starts tick
+  was_added barring starts tick =
+      let new : Start = start_of scenario tables sure barring starts tick pair in
+      let own : (x : ℕ) → raise (starts ++ new ∷ []) tick x ≡ raise starts tick x =
+      raise_with starts new tick (λ away some. own_unread tick pair.group tick refl some) in
+      elim (cases_Bool (may_commit scenario tables.times tick pair)) [
+        | inr e ↦ inl (
+          cond-false (may_commit scenario tables.times tick pair) (with_start starts new) starts e,
+          λ may. absurd (both_ways (may_commit scenario tables.times tick pair) e may),
+        )
+        | inl e ↦ elim (cases_Bool (list_any (λ (old : Start). covers old new) starts)) [
+          | inl any ↦ inl (
+            cond-true (may_commit scenario tables.times tick pair) (with_start starts new) starts e
+                ∙ cond-true (list_any (λ (old : Start). covers old new) starts) starts (starts ++ new ∷ []) any,
+            λ may. any,
+          )
+          | inr none ↦ inr (
+            new,
+            cond-true (may_commit scenario tables.times tick pair) (with_start starts new) starts e
+                ∙ cond-false (list_any (λ (old : Start). covers old new) starts) starts (starts ++ new ∷ []) none,
+            refl,
+            refl,
+            λ may. any_last (λ (old : Start). covers old (start_of scenario tables sure barring (starts ++ new ∷ []) tick pair)) starts new
+                (covers_same barring starts (starts ++ new ∷ []) tick tick new own ∙ covers_itself new),
+          )
+        ]
+      ]
+
+  -- ---- the ticks of changes
+  pub commits_from : (tick : Tick) → may_commit scenario tables.times tick pair ≡ true → tables.times.least_settling pair.message pair.group ≤ tick
+  commits_from tick may =
+      let first : Bool = not (pair.message == scenario.target_message) in
+      let low : Bool = nat_le (tables.times.least_settling pair.message pair.group) tick in
+      leb-true (tables.times.least_settling pair.message pair.group) tick
+      (and_parts first low (and_parts (first && low) (nat_le tick (tables.times.greatest_settling pair.message pair.group)) may).0).1
+
+  -- the next stamp that may follow a commit at group h
+  pub reading_late : (h : ℕ) (next later : Tick) → 0 < next
+      → later < max (next + max 1 (tables.least_proposal pair.message h pair.group)) (tables.times.least_settling pair.message pair.group)
+      → may_commit scenario tables.times later pair ≡ true → arrives_by tables later pair.message pair.group h < next
+  reading_late h next later some soon may = let first = commits_from later may in omega arith
+
+  -- of the group's own stamp nothing is read
+  pub own_stamp : (starts : List Start) (tick later : Tick) (x f : ℕ) → f ≡ pair.group
+      → stamp_for scenario tables sure starts later x pair.message pair.group f ≡ stamp_for scenario tables sure starts tick x pair.message pair.group f
+  own_stamp starts tick later x f same = none later ∙ sym (none tick) where
+    none : (at : Tick) → stamp_for scenario tables sure starts at x pair.message pair.group f ≡ 0
+    none at = ap (λ (m : Bool). cond (not m && nat_lt 0 at) (stamp_high scenario tables.times sure starts x pair.message f (arrives_by tables at pair.message pair.group f)) 0) (eq-eqb f pair.group same)
+
+  -- until the next arrival or start at another group has come by a proposal, its stamp is the same
+  pub stamp_for_same : scenario.time ≡ Real → (starts : List Start) (tick later : Tick) (x f next : ℕ) → 0 < tick → tick ≤ later
+      → arrives_by tables tick pair.message pair.group f < next
+      → All (λ z. arrives_by tables tick pair.message pair.group f < tables.times.least_arrival z f → next ≤ tables.times.least_arrival z f) (addressed_to scenario f)
+      → All (λ s. s.group ≡ f → arrives_by tables tick pair.message pair.group f < s.at → next ≤ s.at) starts
+      → (tables.times.greatest_arrival pair.message f < next) ⊎ (later < next + max 1 (tables.least_proposal pair.message f pair.group))
+      → stamp_for scenario tables sure starts later x pair.message pair.group f ≡ stamp_for scenario tables sure starts tick x pair.message pair.group f
+  stamp_for_same real starts tick later x f next some late past arrivals commits soon =
+      let a : ℕ = arrives_by tables tick pair.message pair.group f in
+      let b : ℕ = arrives_by tables later pair.message pair.group f in
+      let before : b < next = elim soon [ inl l ↦ omega arith | inr l ↦ omega arith ] in
+      ap₂ (λ (m : Bool) (stamp : ℕ). cond (not (f == pair.group) && m) stamp 0)
+      (lt-ltb 0 later (omega arith) ∙ sym (lt-ltb 0 tick some))
+      (stamp_same scenario real tables.times sure pair.message f a b (omega arith)
+      (λ k d l m. let n = arrivals k d l m in omega arith) x starts
+      (λ k d l same m. let n = commits k d l same m in omega arith))
+
+  -- so it raises the clock as before until one of these stamps changes, or a message surely arrives no later any more
+  pub steady : (starts : List Start) (tick later : Tick) → tick ≤ later
+      → All (λ z. tick < tables.times.least_arrival z pair.group → later < tables.times.least_arrival z pair.group) (addressed_to scenario pair.group)
+      → ((x k : ℕ) → k < length (message_at scenario pair.message).destinations
+      → stamp_for scenario tables sure starts later x pair.message pair.group (get_or (message_at scenario pair.message).destinations k 0)
+      ≡ stamp_for scenario tables sure starts tick x pair.message pair.group (get_or (message_at scenario pair.message).destinations k 0))
+      → IsSteady scenario tables sure starts tick later pair
+  steady starts tick later late arrivals same x =
+      ap₂ (λ (zs stamps : List ℕ). capped sure.time (top_of (λ z. lead_at sure.leads z pair.group) zs) (greatest stamps))
+      (filter_same (λ z. nat_lt later (tables.times.least_arrival z pair.group)) (λ z. nat_lt tick (tables.times.least_arrival z pair.group)) (addressed_to scenario pair.group)
+      (λ k d l. lt_same tick later (tables.times.least_arrival (get_or (addressed_to scenario pair.group) k d) pair.group) late (arrivals k d l)))
+      (map_by (stamp_for scenario tables sure starts later x pair.message pair.group) (stamp_for scenario tables sure starts tick x pair.message pair.group)
+      (message_at scenario pair.message).destinations (same x)) where
+        map_by : (f g : ℕ → ℕ) (xs : List ℕ) → ((k : ℕ) → k < length xs → f (get_or xs k 0) ≡ g (get_or xs k 0)) → map f xs ≡ map g xs
+        map_by f g [] each = refl
+        map_by f g (x ∷ xs) each = ap₂ (λ y ys. y ∷ ys) (each 0 (omega arith)) (map_by f g xs (λ k l. each (suc k) (omega arith)))

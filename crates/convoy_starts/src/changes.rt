@@ -1,0 +1,199 @@
+ghost use Rattle.std.specs.Prelude.{◌≡◌, ◌≢◌, ℕ, ◌<◌, ◌≤◌, length, slice_index, slice_index_or, All};
+ghost use Rattle.convoy_scenario.specs.declared.limits.TheConstants.{MOST_GROUPS, MOST_MULTICASTS};
+ghost use Rattle.convoy_scenario.specs.declared.time.Time.TheVariants.{Real};
+ghost use Rattle.convoy_sim.specs.Delivery.{addressed_to};
+ghost use Rattle.convoy_stamps.specs.declared.pair.Pair.{Pair};
+ghost use Rattle.convoy_sure.specs.Windows.{tables_by};
+ghost use Rattle.convoy_starts.specs.Starts.{stamp_for};
+ghost use Rattle.convoy_starts.specs.Changes.{IsCovered, IsSteady, IsUnread};
+
+use super::setting::Setting;
+use super::start::Start;
+use convoy_scenario::{MOST_GROUPS, MOST_MULTICASTS, Time};
+use convoy_sim::next_arrival;
+use convoy_stamps::Pair;
+use convoy_sure::destinations;
+
+/// A tick, if it is past another one, or else the greatest number.
+fn if_past(tick: u32, by: u32) -> u32
+    requires { by < u32.MAX }
+    ensures past { by < result }
+    ensures first { by < tick → result ≤ tick }
+{
+    if by < tick { tick } else { u32::MAX }
+}
+
+/// The tick of a start, if it is of that group and past the tick, or else the greatest number.
+fn start_past(group: usize, by: u32, start: &Start) -> u32
+    requires { by < u32.MAX }
+    ensures past { by < result }
+    ensures first { start.now.group ≡ group → by < start.now.at → result ≤ start.now.at }
+{
+    if start.group() == group {
+        if_past(start.at(), by)
+    } else {
+        u32::MAX
+    }
+}
+
+/// The first tick past another one of which a start at a group is, or else the greatest number.
+fn next_start(starts: &[Start], group: usize, by: u32) -> u32
+    requires { by < u32.MAX }
+    ensures past { by < result }
+    ensures first { All (λ s. s.group ≡ group → by < s.at → result ≤ s.at) starts.now }
+{
+    let mut next = u32::MAX;
+    for start in starts {
+        next = next.min(start_past(group, by, start));
+    }
+    next
+}
+
+/// The least of some ticks and another one.
+pub(crate) fn least(ticks: &[u32], end: u32) -> u32
+    ensures within { result ≤ end }
+    ensures least { All (λ t. result ≤ t) ticks.now }
+    ensures low { (low : ℕ) → low ≤ end → All (λ t. low ≤ t) ticks.now → low ≤ result }
+{
+    let mut first = end;
+    for tick in ticks {
+        first = first.min(*tick);
+    }
+    first
+}
+
+impl<'a> Setting<'a> {
+    /// The first tick past another one at which a message arrives at a group at the earliest, or else
+    /// the greatest number.
+    fn next_least_arrival(&self, group: usize, by: u32) -> u32
+        requires group { group < MOST_GROUPS }
+        requires by { by < u32.MAX }
+        ensures past { by < result }
+        ensures first { All (λ z. by < (tables_by self.now.windows.now).times.least_arrival z group
+            → result ≤ (tables_by self.now.windows.now).times.least_arrival z group)
+            (addressed_to self.now.scenario.now group) }
+    {
+        let mut next = u32::MAX;
+        for z in self.addressed_to(group) {
+            next = next.min(if_past(self.windows.least_arrival(*z, group), by));
+        }
+        next
+    }
+
+    /// In real time: the next tick past that one at which another stamp of group `from` may have come
+    /// for a pair's commit.
+    fn next_change_by(&self, starts: &[Start], tick: u32, pair: Pair, from: usize) -> u32
+        requires message { pair.message < MOST_MULTICASTS }
+        requires group { pair.group < MOST_GROUPS }
+        requires from { from < MOST_GROUPS }
+        requires tick { tick < u32.MAX }
+        ensures past { tick < result }
+        ensures same { self.now.scenario.now.time ≡ Real → 0 < tick
+            → (later x : ℕ) → tick ≤ later → later < result
+            → stamp_for self.now.scenario.now (tables_by self.now.windows.now) self.now.sure.now
+            starts.now later x pair.message pair.group from
+            ≡ stamp_for self.now.scenario.now (tables_by self.now.windows.now) self.now.sure.now
+            starts.now tick x pair.message pair.group from }
+    {
+        let Pair { message, group } = pair;
+        if from == group {
+            return u32::MAX;
+        }
+        let by = self.arrives_by(tick, message, group, from);
+        let next = self
+            .next_least_arrival(from, by)
+            .min(next_start(starts, from, by));
+        if self.windows.greatest_arrival(message, from) < next {
+            return u32::MAX;
+        }
+        next.saturating_add(self.windows.least_proposal(message, from, group).max(1))
+    }
+
+    /// In real time: the next tick past that one at which a pair's commit may raise the clock higher.
+    fn next_change(&self, starts: &[Start], tick: u32, pair: Pair) -> u32
+        requires message { pair.message < length self.now.scenario.now.multicasts }
+        requires known { pair.message < MOST_MULTICASTS }
+        requires group { pair.group < MOST_GROUPS }
+        requires tick { tick < u32.MAX }
+        ensures past { tick < result }
+        ensures same { self.now.scenario.now.time ≡ Real → 0 < tick
+            → (later : ℕ) → tick ≤ later → later < result
+            → IsSteady self.now.scenario.now (tables_by self.now.windows.now) self.now.sure.now
+            starts.now tick later pair }
+    {
+        let mut next = self.next_least_arrival(pair.group, tick);
+        for from in destinations(self.scenario, pair.message) {
+            next = next.min(self.next_change_by(starts, tick, pair, *from));
+        }
+        next
+    }
+
+    /// The next tick past that one, at which a start covers that of a pair's commit, where this may be
+    /// no more so.
+    pub(crate) fn next_uncovered(&self, starts: &[Start], tick: u32, pair: Pair) -> u32
+        requires message { pair.message < length self.now.scenario.now.multicasts }
+        requires known { pair.message < MOST_MULTICASTS }
+        requires group { pair.group < MOST_GROUPS }
+        requires tick { tick < u32.MAX }
+        ensures past { tick < result }
+        ensures covered { IsCovered self.now.scenario.now (tables_by self.now.windows.now)
+            self.now.sure.now self.now.barring starts.now tick pair
+            → (later : ℕ) → tick ≤ later → later < result
+            → IsCovered self.now.scenario.now (tables_by self.now.windows.now)
+            self.now.sure.now self.now.barring starts.now later pair }
+    {
+        if !self.may_commit(tick, pair) {
+            return self.next_commit_of(pair, tick + 1, u32::MAX);
+        }
+        match self.time {
+            Time::Ticks => tick + 1,
+            Time::Real if tick == 0 => 1,
+            Time::Real => self.next_change(starts, tick, pair),
+        }
+    }
+
+    /// The next tick past that one at which a stamp may have come for a pair's commit that follows a
+    /// commit at a group at that tick.
+    fn next_reading(&self, pair: Pair, group: usize, tick: u32) -> u32
+        requires message { pair.message < length self.now.scenario.now.multicasts }
+        requires known { pair.message < MOST_MULTICASTS }
+        requires own { pair.group < MOST_GROUPS }
+        requires group { group < MOST_GROUPS }
+        requires tick { tick < u32.MAX }
+        ensures past { tick < result }
+        ensures unread { (later : ℕ) → later < result → IsUnread self.now.scenario.now
+            (tables_by self.now.windows.now) group tick later pair }
+    {
+        if tick == 0 {
+            return 1;
+        }
+        let next = next_arrival(self.time, tick);
+        if pair.group == group || self.windows.greatest_arrival(pair.message, group) < next {
+            return u32::MAX;
+        }
+        let delay = self.windows.least_proposal(pair.message, group, pair.group);
+        let first = self.windows.least_settling(pair.message, pair.group);
+        next.saturating_add(delay.max(1)).max(first)
+    }
+
+    /// Brings the next ticks of pairs forward to those at which a start may count that was added at a
+    /// group at that tick.
+    pub(crate) fn hasten(&self, nexts: &mut [u32], pairs: &[Pair], group: usize, tick: u32)
+        requires messages { All (λ p. p.message < length self.now.scenario.now.multicasts) pairs.now }
+        requires groups { All (λ p. p.group < MOST_GROUPS) pairs.now }
+        requires few { length self.now.scenario.now.multicasts ≤ MOST_MULTICASTS }
+        requires long { length nexts.old ≡ length pairs.now }
+        requires group { group < MOST_GROUPS }
+        requires tick { tick < u32.MAX }
+        ensures sooner { (k : ℕ) → k < length pairs.now
+            → slice_index nexts.new k ≤ slice_index nexts.old k }
+        ensures past { (k : ℕ) → tick < slice_index nexts.old k → tick < slice_index nexts.new k }
+        ensures unread { (k : ℕ) (pair : Pair) (later : ℕ) → k < length pairs.now
+            → later < slice_index nexts.new k → IsUnread self.now.scenario.now
+            (tables_by self.now.windows.now) group tick later (slice_index_or pairs.now k pair) }
+    {
+        for k in 0..pairs.len() {
+            nexts[k] = nexts[k].min(self.next_reading(pairs[k], group, tick));
+        }
+    }
+}
