@@ -12,7 +12,8 @@ use Rattle.convoy_sim.specs.Times.{arrive, settle}
 use Rattle.convoy_sim.specs.Moments.{is_before, rank_in, arrival_rank, rank_then, commit_rank, arrival_of, commit_of, unordered_moments}
 use Rattle.convoy_sim.proofs.Membership.{IsIn, in_of_map}
 use Rattle.convoy_sim.proofs.Addressed.{goes_from_in}
-use Rattle.convoy_sim.proofs.MomentsOrder.{before_one_way, before_itself, coming_before_commit}
+use Rattle.convoy_sim.proofs.MomentsOrder.{before_one_way, before_itself, coming_before_commit, same_moment}
+use Rattle.convoy_sim.proofs.MomentTicks.{tick_of_before}
 use Rattle.convoy_finer.specs.FinerTicks.{IsFiner}
 use Rattle.convoy_finer.proofs.Used.{Used}
 use Rattle.convoy_finer.proofs.Ceiling.{up, up_rises}
@@ -20,7 +21,7 @@ use Rattle.convoy_finer.proofs.Lists.{greatest_first}
 use Rattle.convoy_finer.proofs.SameParts.{same_message, same_numbers, goes_too}
 use Rattle.convoy_finer.proofs.Delays.{whole_in, arrives, settles}
 use Rattle.convoy_finer.proofs.Ranks.{rank_among, rank_rises, order_among, arrival_among, arrival_ranked, commit_ranked}
-use Rattle.convoy_finer.proofs.MomentOrder.{tick_of_before, before_by_rank, same_moment, arrival_rank_commit}
+use Rattle.convoy_finer.proofs.MomentOrder.{before_by_rank, arrival_rank_commit}
 use Rattle.convoy_finer.proofs.SameRun.{IsMoved, moment_at, moved}
 
 -- a moment rounded up to whole ticks, with its rank among others

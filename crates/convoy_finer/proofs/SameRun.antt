@@ -9,7 +9,7 @@ use Rattle.convoy_sim.specs.Moments.{is_before, insert_moment, arrival_of, commi
 use Rattle.convoy_sim.specs.Stamps.{Clocks, first_clocks, after_moment, clocks_of, local_in, greatest_in, local_stamp, final_stamp}
 use Rattle.convoy_sim.proofs.Membership.{IsIn}
 use Rattle.convoy_sim.proofs.Addressed.{goes_from_in}
-use Rattle.convoy_finer.proofs.MomentOrder.{insert_before, insert_behind, in_of_insert}
+use Rattle.convoy_sim.proofs.MomentsInOrder.{insert_before, insert_behind, in_of_insert}
 use Rattle.convoy_finer.proofs.Lists.{flat_map_made}
 
 -- a moment at a tick, with a rank

@@ -4,7 +4,6 @@ use Rattle.std.specs.List.{Contains}
 use Rattle.std.proofs.lemmas.Bool.{cases_Bool, and_from, and_parts, or_cases, or_left, or_right, eqb-true}
 use Rattle.std.proofs.lemmas.Bool.Decides.{nat_tests}
 use Rattle.convoy_scenario.specs.declared.time.Time.{Time}
-use Rattle.convoy_scenario.specs.declared.time.Time.TheVariants.{Ticks, Real}
 use Rattle.convoy_scenario.specs.Scenario.{Scenario, message_at, is_addressed, GoesTo}
 use Rattle.convoy_scenario.specs.WellFormed.{IsScenario}
 use Rattle.convoy_sim.specs.declared.timestamp.Timestamp.{Timestamp}
@@ -19,14 +18,12 @@ use Rattle.convoy_stamps.specs.Closures.{is_follower, reached_after}
 use Rattle.convoy_stamps.specs.Reach.{pair_of, IsPair, pairs_of, may_precede, may_raise, leads_to, follows, reach_of}
 use Rattle.convoy_stamps.specs.StampBounds.{sure_before, lowest_stamp, highest_stamp, highest_final, is_surely_behind}
 use Rattle.convoy_stamps.specs.Laws.{ReachIsClosed, ReachIsLeast}
+use Rattle.convoy_stamps.proofs.Arrivals.{next_rises}
+use Rattle.convoy_stamps.proofs.GreatestStamps.{fold_later_first, less_by_greatest}
 use Rattle.convoy_stamps.proofs.Pairs.{goes_of_pair}
 use Rattle.convoy_monotone.specs.Narrower.{AreNarrower}
 use Rattle.convoy_monotone.proofs.Among.{no_fewer}
 use Rattle.convoy_monotone.proofs.NarrowTables.{le_apart, lt_apart}
-
-next_rises : (time : Time) (a b : ℕ) → a ≤ b → next_arrival time a ≤ next_arrival time b
-next_rises Ticks a b l = omega arith
-next_rises Real a b l = omega arith
 
 -- ---- comparisons of stamps
 less_lower : (low high h : ℕ) (s : Timestamp) → low ≤ high → is_less (record { time = high; group = h }) s ≡ true → is_less (record { time = low; group = h }) s ≡ true
@@ -38,23 +35,7 @@ less_higher low high g s l t = grind (arith, nat_tests, l, t)
 later_less : (a b s : Timestamp) → is_less a s ≡ true → is_less b s ≡ true → is_less (later a b) s ≡ true
 later_less a b s h k = elim (cases_Bool (is_less a b)) [ inl e ↦ rw e k | inr e ↦ rw e h ]
 
-less_by_first : (a b s : Timestamp) → is_less (later a b) s ≡ true → is_less a s ≡ true
-less_by_first a b s h = grind (arith, nat_tests)
-
-less_by_second : (a b s : Timestamp) → is_less (later a b) s ≡ true → is_less b s ≡ true
-less_by_second a b s h = grind (arith, nat_tests)
-
-fold_later_first : (a s : Timestamp) (xs : List Timestamp) → is_less (fold later a xs) s ≡ true → is_less a s ≡ true
-fold_later_first a s [] h = h
-fold_later_first a s (x ∷ xs) h = less_by_first a x s (fold_later_first (later a x) s xs h)
-
--- what is above the greatest is above each ..
-less_by_greatest : (a s x : Timestamp) (xs : List Timestamp) → is_less (fold later a xs) s ≡ true → IsIn x xs → is_less x s ≡ true
-less_by_greatest a s x [] h i = absurd i
-less_by_greatest a s x (y ∷ ys) h (inl e) = subst (λ z. is_less z s ≡ true) e (less_by_second a y s (fold_later_first (later a y) s ys h))
-less_by_greatest a s x (y ∷ ys) h (inr i) = less_by_greatest (later a y) s x ys h i
-
--- .. and what is above each is above the greatest
+-- what is above each is above the greatest
 greatest_less : (a s : Timestamp) (xs : List Timestamp) → is_less a s ≡ true → ((x : Timestamp) → IsIn x xs → is_less x s ≡ true) → is_less (fold later a xs) s ≡ true
 greatest_less a s [] h each = h
 greatest_less a s (x ∷ xs) h each = greatest_less (later a x) s xs (later_less a x s h (each x (inl refl))) (λ y i. each y (inr i))

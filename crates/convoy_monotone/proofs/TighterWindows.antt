@@ -4,11 +4,11 @@ use Rattle.std.specs.List.{AllZip, range_with_len}
 use Rattle.convoy_scenario.specs.declared.limits.TheConstants.{MOST_GROUPS}
 use Rattle.convoy_scenario.specs.Scenario.{Scenario, message_at, is_addressed, GoesTo}
 use Rattle.convoy_scenario.specs.WellFormed.{IsScenario}
-use Rattle.convoy_packets.specs.declared.packet.Packet.TheVariants.{Wait, Multicast, Propose}
+use Rattle.convoy_packets.specs.declared.packet.Packet.TheVariants.{Multicast, Propose}
 use Rattle.convoy_packets.specs.Assignment.{AreWithin, Schedule, delay_of}
 use Rattle.convoy_packets.specs.Order.{place}
 use Rattle.convoy_packets.specs.Table.{least_of, greatest_delays}
-use Rattle.convoy_sim.specs.Times.{issue, arrive, settle, propose_arrive}
+use Rattle.convoy_sim.specs.Times.{arrive, settle, propose_arrive}
 use Rattle.convoy_sim.proofs.Membership.{IsIn, in_greatest}
 use Rattle.convoy_sim.proofs.Addressed.{goes_from_in, in_of_goes}
 use Rattle.convoy_intervals.specs.Boxes.{Box, greatest_of}

@@ -20,7 +20,7 @@ tick_of_before a b h = elim (cases_lt b.tick a.tick) [
 ]
 
 -- in whole ticks an arrival counts as of rank 0
-rank_in_ticks : (plan : Scenario) (schedule : Schedule) (q h : ℕ) → plan.time ≡ Ticks → arrival_rank plan schedule q h ≡ 0
+pub rank_in_ticks : (plan : Scenario) (schedule : Schedule) (q h : ℕ) → plan.time ≡ Ticks → arrival_rank plan schedule q h ≡ 0
 unfolding arrival_rank
 rank_in_ticks plan schedule q h e = ap (λ t. rank_in t (rank_at schedule.order.arrivals q h)) e
 

@@ -1,5 +1,5 @@
 -- The order of arrivals and commits, and the times of stamps, as the laws of the crates below have them. This file is open to the crates above.
-use Rattle.std.proofs.Common.{◌≡◌, ◌≢◌, ℕ, ◌<◌, ◌≤◌, true, false, ◌⊎◌, inl, inr, length, refl, sym, ap, subst, arith}
+use Rattle.std.proofs.Common.{◌≡◌, ◌≢◌, ℕ, ◌<◌, ◌≤◌, true, false, ◌⊎◌, inl, inr, length, refl, sym, subst, arith}
 use Rattle.std.proofs.lemmas.Bool.{cases_Bool, cases_lt, both_ways}
 use Rattle.std.proofs.lemmas.Bool.Decides.{nat_tests}
 use Rattle.convoy_scenario.specs.declared.time.Time.{Time}
@@ -7,17 +7,17 @@ use Rattle.convoy_scenario.specs.declared.time.Time.TheVariants.{Ticks, Real}
 use Rattle.convoy_scenario.specs.Scenario.{Scenario, message_at, message_numbers, is_addressed, GoesTo}
 use Rattle.convoy_scenario.specs.WellFormed.{IsScenario}
 use Rattle.convoy_packets.specs.Assignment.{Schedule}
-use Rattle.convoy_packets.specs.Order.{rank_at}
 use Rattle.convoy_sim.specs.declared.moment.Moment.{Moment}
 use Rattle.convoy_sim.specs.declared.moment.MomentKind.TheVariants.{Arrival}
 use Rattle.convoy_sim.specs.Times.{arrive}
-use Rattle.convoy_sim.specs.Moments.{is_before, arrival_of, arrival_rank, commit_of, next_arrival, rank_in}
+use Rattle.convoy_sim.specs.Moments.{is_before, arrival_of, arrival_rank, commit_of, next_arrival}
 use Rattle.convoy_sim.specs.Stamps.{local_stamp}
 use Rattle.convoy_sim.specs.Delivery.{addressed_to}
 use Rattle.convoy_sim.specs.Laws.{StampsRise}
 use Rattle.convoy_sim.specs.RaiseLaws.{LastRaise}
 use Rattle.convoy_sim.proofs.Membership.{IsOnce, once-range}
 use Rattle.convoy_sim.proofs.MomentsOrder.{before_itself, before_total, before_trans}
+use Rattle.convoy_sim.proofs.MomentTicks.{rank_in_ticks}
 use Rattle.convoy_sim.proofs.ScenarioMoments.{coming_in}
 use Rattle.convoy_sim.proofs.StampLaws.{comings_before_commit}
 use Rattle.convoy_stamps.proofs.Counting.{once-filter}
@@ -52,11 +52,6 @@ arrives_before_other scenario schedule a b g before same =
 pub next_rises : (time : Time) (a b : ℕ) → a ≤ b → next_arrival time a ≤ next_arrival time b
 next_rises Ticks a b l = omega arith
 next_rises Real a b l = l
-
--- in whole ticks an arrival counts as of rank 0
-rank_in_ticks : (scenario : Scenario) (schedule : Schedule) (m g : ℕ) → scenario.time ≡ Ticks → arrival_rank scenario schedule m g ≡ 0
-unfolding arrival_rank
-rank_in_ticks scenario schedule m g whole = ap (λ t. rank_in t (rank_at schedule.order.arrivals m g)) whole
 
 -- in whole ticks, of two arrivals at a group in one tick that of the lesser message is before the other, ..
 pub first_in_tick : (scenario : Scenario) (schedule : Schedule) (a b g : ℕ) → scenario.time ≡ Ticks

@@ -7,6 +7,7 @@ pub mod Loops
 pub mod KnownPairs
 pub mod StampReach
 pub mod BoundBy
+pub mod GreatestStamps
 pub mod StampBoundLaw
 pub mod ReachRounds
 pub mod LastCommits

@@ -1,36 +1,20 @@
 -- The stamp bound: a rival that it leaves out is not ahead of the target.
-use Rattle.std.proofs.Common.{◌≡◌, ℕ, ◌+◌, ◌≤◌, true, List, [], ◌∷◌, inl, inr, length, map, fold, sym, subst, arith}
+use Rattle.std.proofs.Common.{◌≡◌, ℕ, ◌+◌, ◌≤◌, true, length, map, sym, subst, arith}
 use Rattle.std.proofs.lemmas.Bool.{false_from_ne_true}
 use Rattle.std.proofs.lemmas.Bool.Decides.{nat_tests}
 use Rattle.convoy_scenario.specs.Scenario.{Scenario, message_at}
 use Rattle.convoy_scenario.specs.WellFormed.{IsScenario}
 use Rattle.convoy_packets.specs.Assignment.{Schedule}
 use Rattle.convoy_sim.specs.declared.timestamp.Timestamp.{Timestamp}
-use Rattle.convoy_sim.specs.Stamps.{is_less, later, no_stamp, local_stamp}
+use Rattle.convoy_sim.specs.Stamps.{is_less, no_stamp, local_stamp}
 use Rattle.convoy_sim.specs.Laws.{FinalStampIsLocal, LocalStampNamesGroup}
-use Rattle.convoy_sim.proofs.Membership.{IsIn, in-map}
+use Rattle.convoy_sim.proofs.Membership.{in-map}
 use Rattle.convoy_sim.proofs.Addressed.{in_of_goes}
 use Rattle.convoy_intervals.specs.Bounds.{Tables, Encloses}
 use Rattle.convoy_stamps.specs.Reach.{reach_of}
 use Rattle.convoy_stamps.specs.StampBounds.{sure_before, lowest_stamp, highest_stamp, is_surely_behind}
+use Rattle.convoy_stamps.proofs.GreatestStamps.{less_by_greatest}
 use Rattle.convoy_stamps.specs.Laws.{KeepsThoseAhead, StampsWithinReach, StampsPastSureBefore}
-
--- ---- the greatest of some stamps
-less_by_first : (a b s : Timestamp) → is_less (later a b) s ≡ true → is_less a s ≡ true
-less_by_first a b s h = grind (arith, nat_tests)
-
-less_by_second : (a b s : Timestamp) → is_less (later a b) s ≡ true → is_less b s ≡ true
-less_by_second a b s h = grind (arith, nat_tests)
-
-fold_later_first : (a s : Timestamp) (xs : List Timestamp) → is_less (fold later a xs) s ≡ true → is_less a s ≡ true
-fold_later_first a s [] h = h
-fold_later_first a s (x ∷ xs) h = less_by_first a x s (fold_later_first (later a x) s xs h)
-
--- what is above the greatest is above each
-less_by_greatest : (a s x : Timestamp) (xs : List Timestamp) → is_less (fold later a xs) s ≡ true → IsIn x xs → is_less x s ≡ true
-less_by_greatest a s x [] h i = absurd i
-less_by_greatest a s x (y ∷ ys) h (inl e) = subst (λ z. is_less z s ≡ true) e (less_by_second a y s (fold_later_first (later a y) s ys h))
-less_by_greatest a s x (y ∷ ys) h (inr i) = less_by_greatest (later a y) s x ys h i
 
 -- a stamp that is no less than a lower limit is not below one that is at most an upper limit, where the upper is below the lower
 not_ahead : (n t : Timestamp) (low high g h : ℕ) → is_less n t ≡ true → n.group ≡ g → t.group ≡ h → t.time ≤ high → low ≤ n.time

@@ -16,7 +16,7 @@ use Rattle.convoy_sim.proofs.Addressed.{in_of_goes, goes_from_in, number_of_goes
 use Rattle.convoy_intervals.specs.Boxes.{Box, greatest_of}
 use Rattle.convoy_intervals.specs.Bounds.{Encloses, tables_of}
 use Rattle.convoy_intervals.specs.Laws.{MembersAreEnclosed}
-use Rattle.convoy_sure.specs.Windows.{EnclosesAll, Windows, entry_at, tables_by, entries_of, issued_since, proposal_delay, proposals_of, windows_of, with_issue, with_settling, with_arrival}
+use Rattle.convoy_sure.specs.Windows.{EnclosesAll, Windows, entry_at, tables_by, entries_of, issued_since, proposal_delay, proposals_of, windows_of, raised, with_issue, with_arrival}
 use Rattle.convoy_sure.specs.Laws.{WindowsAreTables, WindowsEncloseMembers, CutsEnclose}
 use Rattle.convoy_sure.proofs.SureLaws.{set_cases, same_place, group_is_low}
 use Rattle.convoy_sure.proofs.MemberDelays.{least_delay, greatest_delay}
@@ -101,23 +101,24 @@ module _ (scenario : Scenario) (schedule : Schedule) (windows : Windows) (m k ti
         subst (λ v. v ≤ what i h) (sym e.1) (subst (λ a. value ≤ what a h) same.0 (subst (λ b. value ≤ what n b) same.1 here))
   ]
 
+  -- entries stay so where they are raised, at destinations of the message, to no more than the numbers there
+  raised_below : (what : ℕ → ℕ → ℕ) (least : ℕ → ℕ) → ((g : ℕ) → GoesTo scenario m g → least g ≤ what m g) → (entries : List ℕ) (gs : List ℕ)
+      → ((g : ℕ) → IsIn g gs → GoesTo scenario m g) → AreBelow what entries → AreBelow what (fold (λ es g. raised es m g (least g)) entries gs)
+  unfolding AreBelow
+  raised_below what least low entries [] to below = below
+  raised_below what least low entries (g ∷ gs) to below =
+      let there = to g (inl refl) in
+      let here = low g there in
+      let old = below m g there in
+      raised_below what least low (raised entries m g (least g)) gs (λ h i. to h (inr i))
+      (set_below what entries m g (max (least g) (entry_at entries m g)) there (omega arith) below)
+
   by_way : (g : ℕ) → GoesTo scenario m g → tick + (tables_by windows).least_proposal m k g ≤ settle scenario schedule m g
   unfolding settle
   by_way g to =
       let low = enclosed.proposals_low m k g goes to in
       let most = in_greatest (propose_arrive scenario schedule m g) k (message_at scenario m).destinations (in_of_goes scenario m k goes) in
       omega arith
-
-  settlings_below : (entries : List ℕ) (gs : List ℕ) → ((g : ℕ) → IsIn g gs → GoesTo scenario m g) → AreBelow (settle scenario schedule) entries
-      → AreBelow (settle scenario schedule) (fold (with_settling windows m k tick) entries gs)
-  unfolding AreBelow
-  settlings_below entries [] to below = below
-  settlings_below entries (g ∷ gs) to below =
-      let there = to g (inl refl) in
-      let way = by_way g there in
-      let old = below m g there in
-      settlings_below (with_settling windows m k tick entries g) gs (λ h i. to h (inr i))
-      (set_below (settle scenario schedule) entries m g (max (tick + (tables_by windows).least_proposal m k g) (entry_at entries m g)) there (omega arith) below)
 
   -- the message is issued no earlier than the cut says, ..
   issued_by : issued_since windows m k tick ≤ issue scenario schedule m
@@ -133,28 +134,19 @@ module _ (scenario : Scenario) (schedule : Schedule) (windows : Windows) (m k ti
       let low = enclosed.multicasts_low m g to in
       omega (arith, issued_by)
 
-  arrivals_below : (entries : List ℕ) (gs : List ℕ) → ((g : ℕ) → IsIn g gs → GoesTo scenario m g) → AreBelow (arrive scenario schedule) entries
-      → AreBelow (arrive scenario schedule) (fold (with_issue windows m k tick) entries gs)
-  unfolding AreBelow
-  arrivals_below entries [] to below = below
-  arrivals_below entries (g ∷ gs) to below =
-      let there = to g (inl refl) in
-      let come = comes_by g there in
-      let old = below m g there in
-      arrivals_below (with_issue windows m k tick entries g) gs (λ h i. to h (inr i))
-      (set_below (arrive scenario schedule) entries m g (max (issued_since windows m k tick + (tables_by windows).least_multicast m g) (entry_at entries m g)) there (omega arith) below)
-
   arrival_cut : EnclosesAll scenario schedule (tables_by (with_arrival scenario windows m k tick))
   unfolding AreBelow
   arrival_cut =
       let issued : List ℕ = fold (with_issue windows m k tick) windows.least_arrivals (message_at scenario m).destinations in
-      let below = arrivals_below windows.least_arrivals (message_at scenario m).destinations (λ g i. goes_from_in scenario m g i) enclosed.times.arrival_low in
+      let below = raised_below (arrive scenario schedule) (λ g. issued_since windows m k tick + (tables_by windows).least_multicast m g) comes_by windows.least_arrivals (message_at scenario m).destinations
+      (λ g i. goes_from_in scenario m g i) enclosed.times.arrival_low in
       let old = below m k goes in
       record {
         times = record {
           arrival_low = set_below (arrive scenario schedule) issued m k (max tick (entry_at issued m k)) goes (omega arith) below;
           arrival_high = enclosed.times.arrival_high;
-          settling_low = settlings_below windows.least_settlings (message_at scenario m).destinations (λ g i. goes_from_in scenario m g i) enclosed.times.settling_low;
+          settling_low = raised_below (settle scenario schedule) (λ g. tick + (tables_by windows).least_proposal m k g) by_way windows.least_settlings (message_at scenario m).destinations
+              (λ g i. goes_from_in scenario m g i) enclosed.times.settling_low;
           settling_high = enclosed.times.settling_high;
         };
         multicasts_low = enclosed.multicasts_low;

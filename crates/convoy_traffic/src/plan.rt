@@ -89,7 +89,7 @@ impl Plan {
 
     /// The schedule of the plan in its traffic: each packet takes its greatest delay, but those that are in
     /// a hurry their least.
-    #[tactic(auto, using(crate::proofs::Schedules::length_within))]
+    #[tactic(auto, using(convoy_seek::proofs::Schedules::length_within))]
     pub fn schedule(&self, alloc: Global, traffic: &Instance) -> Result<Schedule, AllocError>
         ensures { IfOk result (λ schedule. IsAssignment traffic.now schedule) }
     {

@@ -1,4 +1,4 @@
-use Rattle.std.proofs.Common.{◌≡◌, ℕ, ◌<◌, refl, sym, ap, ap₂, subst, ◌∙◌}
+use Rattle.std.proofs.Common.{◌≡◌, ℕ, ◌<◌, length, refl, sym, ap, ap₂, subst, ◌∙◌}
 use Rattle.std.specs.List.{All}
 use Rattle.convoy_scenario.specs.Scenario.{Scenario, message_at}
 use Rattle.convoy_sim.specs.Scheduled.{Scheduled}
@@ -40,10 +40,14 @@ issued : (over : given.Over) (c : After-issue_tick over) → c.issue_tick.result
 issued over c =
     c.issue_tick.ensures.value ∙ ap (λ (p : Scenario). (message_at p c.target_message-message.result).at) c.scenario-scenario.ensures.value
 
+target_known : (over : given.Over) (c : After-target_group-group over)
+    → c.target_message-message.result < length (over.T.Ticks.scheduled c.args.times.now).scenario.multicasts
+target_known over c =
+    number_of_goes (over.T.Ticks.scheduled c.args.times.now).scenario c.target_message-message.result c.target_group-group.result
+    (target_goes _ _ _ _ _ (is_target over c))
+
 pub settling-requires-clause-message : goal.settling-requires-clause-message
-settling-requires-clause-message over c =
-    let is = is_target over (goal.at.settling-requires-clause-message over c).After-target_group-group in
-    number_of_goes (over.T.Ticks.scheduled c.args.times.now).scenario c.target_message-message.result c.target_group-group.result (target_goes _ _ _ _ _ is)
+settling-requires-clause-message over c = target_known over (goal.at.settling-requires-clause-message over c).After-target_group-group
 
 pub settling-requires-clause-group : goal.settling-requires-clause-group
 settling-requires-clause-group over c =
@@ -51,9 +55,7 @@ settling-requires-clause-group over c =
     group_known _ (target_well _ _ _ _ _ is) c.target_message-message.result c.target_group-group.result (target_goes _ _ _ _ _ is)
 
 pub commit_rank-requires-clause-message : goal.commit_rank-requires-clause-message
-commit_rank-requires-clause-message over c =
-    let is = is_target over (goal.at.commit_rank-requires-clause-message over c).After-target_group-group in
-    number_of_goes (over.T.Ticks.scheduled c.args.times.now).scenario c.target_message-message.result c.target_group-group.result (target_goes _ _ _ _ _ is)
+commit_rank-requires-clause-message over c = target_known over (goal.at.commit_rank-requires-clause-message over c).After-target_group-group
 
 pub commit_rank-requires-clause-group : goal.commit_rank-requires-clause-group
 commit_rank-requires-clause-group over c =

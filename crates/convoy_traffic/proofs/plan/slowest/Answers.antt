@@ -1,4 +1,4 @@
-use Rattle.convoy_traffic.proofs.Schedules.{greatest_assigned}
+use Rattle.convoy_seek.proofs.Schedules.{greatest_assigned}
 use Rattle.convoy_traffic.proofs.plan.slowest.Goals as goal
 
 pub returns : goal.returns
