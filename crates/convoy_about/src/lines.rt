@@ -3,7 +3,7 @@
 ghost use Rattle.std.specs.Prelude.{◌≡◌, ◌*◌, ◌∷◌, [], ◌++◌, decimal, IfOk, OnOk};
 ghost use Rattle.std.specs.List.{flat_map};
 ghost use Rattle.convoy_lines.specs.Texts.{spaced};
-ghost use Rattle.convoy_scenario.specs.Durations.{count_of};
+ghost use Rattle.convoy_draft.specs.Durations.{count_of};
 ghost use Rattle.convoy_scenario.specs.Scenario.{group_name_at, message_at};
 ghost use Rattle.convoy_commands.specs.Lines.{in_unit};
 ghost use Rattle.convoy_about.specs.Lines.{certificate_told, count_line, counts_told, delay_line, differs_line, scenario_told, target_line};

@@ -3,7 +3,7 @@ use Rattle.std.proofs.Common.{◌≡◌, [], ◌∷◌, Some, Err, codes, refl}
 use Rattle.std.specs.Fmt.{digits}
 use Rattle.convoy_streams.specs.declared.reading.ReadFault.TheVariants.{TooLong}
 use Rattle.convoy_tables.specs.Tables.{nothing, word}
-use Rattle.convoy_scenario.specs.declared.fault.ScenarioFault.TheVariants.{UnknownGroup}
+use Rattle.convoy_draft.specs.declared.fault.ScenarioFault.TheVariants.{UnknownGroup}
 use Rattle.convoy_commands.specs.declared.fault.Fault.TheVariants.{Reading, Scenario}
 use Rattle.convoy_commands.specs.declared.limits.TheConstants.{LONGEST_JOB}
 use Rattle.convoy_commands.specs.Faults.{fault_line_of}

@@ -2,7 +2,7 @@
 use Rattle.std.specs.Prelude.{ℕ, ◌-◌, List, [], ◌∷◌, ◌++◌, length, map, take, replicate, Option, Some, None, Result, Ok, Err, codes, decimal}
 use Rattle.std.specs.List.{enumerate_from}
 use Rattle.convoy_lines.specs.Texts.{line_of}
-use Rattle.convoy_scenario.specs.Durations.{count_of, unit_of, unit_word}
+use Rattle.convoy_draft.specs.Durations.{count_of, unit_of, unit_word}
 use Rattle.convoy_tables.specs.Tables.{Cell, Table, nothing, number, word}
 use Rattle.convoy_commands.specs.declared.fault.Fault.{Fault}
 use Rattle.convoy_commands.specs.Faults.{fault_line_of}

@@ -3,7 +3,7 @@ use Rattle.std.specs.Prelude.{◌≡◌, ℕ, ◌<◌, ◌≤◌, Bool, true, fa
 use Rattle.std.specs.List.{All}
 use Rattle.std.proofs.Common.{refl, arith, get_or}
 use Rattle.std.proofs.lemmas.List.Elements.{All-nil, All-cons, All-get_or, AllZip-get_or, length_all_zip}
-use Rattle.convoy_scenario.specs.declared.limits.TheConstants.{GREATEST_WHOLE_DELAY}
+use Rattle.convoy_draft.specs.declared.limits.TheConstants.{GREATEST_WHOLE_DELAY}
 use Rattle.convoy_scenario.specs.Scenario.{Scenario, is_timed}
 use Rattle.convoy_packets.specs.Assignment.{ranges_of}
 use Rattle.convoy_packets.specs.Table.{IsRange, IsTable, table_of}

@@ -1,8 +1,8 @@
 -- The boxes that a search closes for a latency, by their bounds or by leads.
 use Rattle.std.specs.Prelude.{ℕ, nat_le, Bool, ◌||◌, if◌then◌else◌, Option, Some, None}
 use Rattle.convoy_scenario.specs.Scenario.{Scenario}
-use Rattle.convoy_scenario.specs.declared.time.Time.{Time}
-use Rattle.convoy_scenario.specs.declared.time.Time.TheVariants.{Ticks, Real}
+use Rattle.convoy_draft.specs.declared.time.Time.{Time}
+use Rattle.convoy_draft.specs.declared.time.Time.TheVariants.{Ticks, Real}
 use Rattle.convoy_certificate.specs.declared.certificate.TheConstants.{MOST_LEADS, MOST_NODES}
 use Rattle.convoy_certificate.specs.declared.node.Node.{Node}
 use Rattle.convoy_certificate.specs.declared.node.Node.TheVariants as nodes

@@ -1,7 +1,7 @@
 -- A step of a search: what it does with one box, where the latency of the best record is known.
 use Rattle.std.specs.Prelude.{◌≡◌, ◌≢◌, ℕ, ◌≤◌, ◌<◌, ◌^◌, nat_le, Bool, true, false, IsTrue, IsFalse, ◌||◌, if◌then◌else◌, Option, Some, None, IfSome}
 use Rattle.convoy_scenario.specs.Scenario.{Scenario}
-use Rattle.convoy_scenario.specs.declared.time.Time.TheVariants.{Ticks, Real}
+use Rattle.convoy_draft.specs.declared.time.Time.TheVariants.{Ticks, Real}
 use Rattle.convoy_sim.specs.Delivery.{latency_of}
 use Rattle.convoy_sim.specs.Record.{Record, attained_by}
 use Rattle.convoy_certificate.specs.declared.node.Node.TheVariants as nodes

@@ -9,22 +9,24 @@ use Rattle.std.proofs.lemmas.Fmt.{length-decimal-le}
 use Rattle.std.proofs.lemmas.List.{length-map}
 use Rattle.std.proofs.lemmas.List.Concat.{flat_map-append}
 use Rattle.std.proofs.lemmas.List.Elements.{recursion_from_All}
-use Rattle.convoy_scenario.specs.declared.limits.TheConstants.{GREATEST_AT, LONGEST_NAME, LONGEST_WAIT, MOST_GROUPS}
+use Rattle.convoy_draft.specs.declared.limits.TheConstants.{GREATEST_AT, LONGEST_NAME, LONGEST_WAIT, MOST_GROUPS}
 use Rattle.convoy_scenario.specs.declared.sender.Sender.{Sender}
-use Rattle.convoy_scenario.specs.declared.time.Time.{Time}
-use Rattle.convoy_scenario.specs.declared.time.Time.TheVariants.{Ticks, Real}
+use Rattle.convoy_draft.specs.declared.time.Time.{Time}
+use Rattle.convoy_draft.specs.declared.time.Time.TheVariants.{Ticks, Real}
 use Rattle.convoy_scenario.specs.declared.sender.Sender.TheVariants.{Client, Group}
 use Rattle.convoy_lines.specs.Texts.{spaced, line_of, ended, text_of}
-use Rattle.convoy_scenario.specs.declared.duration.TimeUnit.{TimeUnit}
-use Rattle.convoy_scenario.specs.declared.duration.TimeUnit.TheVariants.{Seconds, Milliseconds, Microseconds, Nanoseconds}
-use Rattle.convoy_scenario.specs.declared.duration.TheConstants.{LONGEST_DURATION, MOST_UNITS}
-use Rattle.convoy_scenario.specs.Durations.{count_of, unit_of, unit_word}
+use Rattle.convoy_draft.specs.declared.duration.TimeUnit.{TimeUnit}
+use Rattle.convoy_draft.specs.declared.duration.TimeUnit.TheVariants.{Seconds, Milliseconds, Microseconds, Nanoseconds}
+use Rattle.convoy_draft.specs.declared.duration.TheConstants.{LONGEST_DURATION, MOST_UNITS}
+use Rattle.convoy_draft.specs.Durations.{count_of, unit_of, unit_word}
 use Rattle.convoy_scenario.specs.Naming.{sender_word}
 use Rattle.convoy_scenario_lines.specs.declared.version.Version.{Version as LinesVersion}
 use Rattle.convoy_scenario_lines.specs.declared.version.Version.TheVariants as lines
 use Rattle.convoy_scenario_lines.specs.Lines.{time_lines, issue_word, tick_line, tick_lines, delay_line, groups_line, link_line, multicast_line, target_line, lines_from_delay, scenario_lines}
 use Rattle.convoy_scenario.specs.Scenario.{Link, Message, Scenario, is_timed, message_at, group_name_at, no_message}
-use Rattle.convoy_scenario.specs.WellFormed.{is_tick, is_letter, is_name_byte, is_name, client_word, is_group_name, sender_place, is_before, follows, ascend_after, IsSender, IsLink, IsMulticast, IsScenario}
+use Rattle.convoy_scenario.specs.WellFormed.{sender_place, is_before, follows, ascend_after, IsSender, IsLink, IsMulticast, IsScenario}
+use Rattle.convoy_draft.specs.Names.{is_letter, is_name_byte, is_name, client_word, is_group_name}
+use Rattle.convoy_draft.specs.Limits.{is_tick}
 use Rattle.convoy_packets.specs.Laws.{PacketsAreFew, DelaysAreOneEach, RanksAreFew}
 use Rattle.convoy_certificate.specs.declared.certificate.TheConstants.{LONGEST_TEXT, MOST_NODES}
 use Rattle.convoy_certificate.specs.declared.node.Node.{Node}

@@ -4,7 +4,7 @@ use Rattle.std.proofs.lemmas.List.{append-nil}
 use Rattle.convoy_scenario_lines.specs.declared.line_fault.Expected.TheVariants as expected
 use Rattle.convoy_lines.specs.Places.{Place}
 use Rattle.convoy_scenario_lines.specs.LineReading.{form_at}
-use Rattle.convoy_scenario.specs.declared.time.Time.{Time}
+use Rattle.convoy_draft.specs.declared.time.Time.{Time}
 use Rattle.convoy_certificate.specs.declared.node.Node.{Node}
 use Rattle.convoy_certificate.specs.declared.version.Version.{Version}
 use Rattle.convoy_certificate.specs.declared.text_fault.TextFault.{TextFault}

@@ -2,7 +2,7 @@
 use Rattle.std.proofs.Common.{◌≡◌, ℕ, ◌==◌, ◌&&◌, Bool, true, false, not, List, All, refl, ap, subst, ◌∙◌, inl, inr}
 use Rattle.std.specs.List.{list_any}
 use Rattle.std.proofs.lemmas.Bool.{cases_Bool}
-use Rattle.convoy_scenario.specs.declared.time.Time.{Time}
+use Rattle.convoy_draft.specs.declared.time.Time.{Time}
 use Rattle.convoy_scenario.specs.Scenario.{Scenario, is_timed}
 use Rattle.convoy_certificate.specs.declared.node.Node.{Node}
 use Rattle.convoy_certificate.specs.declared.version.Version.{Version}

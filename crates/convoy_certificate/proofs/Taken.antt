@@ -18,8 +18,8 @@ use Rattle.convoy_scenario_lines.specs.Lines.{scenario_lines}
 use Rattle.convoy_scenario_lines.specs.declared.line_fault.Expected.{Expected}
 use Rattle.convoy_packets.specs.Order.{Order, no_order}
 use Rattle.convoy_packets.specs.OrderLists.{order_of}
-use Rattle.convoy_scenario.specs.declared.time.Time.{Time}
-use Rattle.convoy_scenario.specs.declared.time.Time.TheVariants.{Ticks, Real}
+use Rattle.convoy_draft.specs.declared.time.Time.{Time}
+use Rattle.convoy_draft.specs.declared.time.Time.TheVariants.{Ticks, Real}
 use Rattle.convoy_scenario.specs.Scenario.{Scenario}
 use Rattle.convoy_certificate.proofs.LineLaws.{ReadGrounds, latency_word, same_bytes}
 use Rattle.convoy_certificate.proofs.Orders.{list_kept}

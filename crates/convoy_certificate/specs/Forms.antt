@@ -1,8 +1,8 @@
 -- The forms of a certificate's own lines: what a line says, where it has its form.
 use Rattle.std.specs.Prelude.{ℕ, nat_le, ◌==◌, Bool, ◌&&◌, if◌then◌else◌, List, [], ◌∷◌, length, codes, Option, Some, None, option_map, option_and_then}
 use Rattle.std.specs.Str.{bytes_eq}
-use Rattle.convoy_scenario.specs.declared.time.Time.{Time}
-use Rattle.convoy_scenario.specs.declared.time.Time.TheVariants.{Ticks, Real}
+use Rattle.convoy_draft.specs.declared.time.Time.{Time}
+use Rattle.convoy_draft.specs.declared.time.Time.TheVariants.{Ticks, Real}
 use Rattle.convoy_lines.specs.Chains.{◌>>=◌}
 use Rattle.convoy_lines.specs.Labels.{greatest_number, words_after}
 use Rattle.convoy_lines.specs.Words.{words_of, next_word, number_of}

@@ -9,8 +9,8 @@ use Rattle.convoy_lines.specs.Labels.{number_in}
 use Rattle.convoy_lines.specs.Places.{Place, place_before, is_at_end}
 use Rattle.convoy_scenario_lines.specs.LineReading.{form_at, scenario_at}
 use Rattle.convoy_lines.specs.Results.{◌>>=◌}
-use Rattle.convoy_scenario.specs.declared.time.Time.{Time}
-use Rattle.convoy_scenario.specs.declared.time.Time.TheVariants.{Ticks, Real}
+use Rattle.convoy_draft.specs.declared.time.Time.{Time}
+use Rattle.convoy_draft.specs.declared.time.Time.TheVariants.{Ticks, Real}
 use Rattle.convoy_scenario.specs.Scenario.{Scenario}
 use Rattle.convoy_packets.specs.declared.order.TheConstants.{GREATEST_RANK}
 use Rattle.convoy_packets.specs.Assignment.{ranges_of}

@@ -2,7 +2,7 @@
 use Rattle.std.specs.Prelude.{ℕ, nat_le, ◌==◌, Bool, ◌&&◌, if◌then◌else◌, List, length, slice_index, take, codes}
 use Rattle.convoy_lines.specs.Labels.{begins_with}
 use Rattle.convoy_lines.specs.Words.{words_of}
-use Rattle.convoy_scenario.specs.WellFormed.{is_digit}
+use Rattle.convoy_draft.specs.Names.{is_digit}
 use Rattle.convoy_certificate.specs.declared.form.Form.{Form}
 use Rattle.convoy_certificate.specs.declared.form.Form.TheVariants.{Certificate, Other}
 use Rattle.convoy_certificate.specs.Forms.{version_in}

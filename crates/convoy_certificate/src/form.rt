@@ -1,5 +1,5 @@
 ghost use Rattle.std.specs.Prelude.{◌≡◌};
-ghost use Rattle.convoy_scenario.specs.WellFormed.{is_digit};
+ghost use Rattle.convoy_draft.specs.Names.{is_digit};
 ghost use Rattle.convoy_certificate.specs.TextForms.{form_of};
 
 use super::lines::version_in;

@@ -7,7 +7,7 @@ ghost use Rattle.convoy_lines.specs.Labels.{number_in};
 ghost use Rattle.convoy_packets.specs.declared.order.TheConstants.{GREATEST_RANK};
 ghost use Rattle.convoy_packets.specs.Order.{IsOrder};
 ghost use Rattle.convoy_packets.specs.OrderLists.{AreSmall, order_of};
-ghost use Rattle.convoy_scenario.specs.declared.time.Time.TheVariants.{Real};
+ghost use Rattle.convoy_draft.specs.declared.time.Time.TheVariants.{Real};
 ghost use Rattle.convoy_scenario_lines.specs.LineReading.{form_at, scenario_at};
 ghost use Rattle.convoy_certificate.specs.Certificate.{Certificate, IsCertificate, IsNodeWhere};
 ghost use Rattle.convoy_certificate.specs.Forms.{version_in, schedule_in, order_in, node_or_end};

@@ -1,10 +1,10 @@
 -- Scenarios that differ from another in one thing.
 use Rattle.std.specs.Prelude.{ℕ, ◌==◌, Bool, false, ◌&&◌, not, nat_lt, if◌then◌else◌, List, [], ◌∷◌, ◌++◌, length, map, Result}
 use Rattle.std.specs.List.{flat_map, list_any, range_with_len}
-use Rattle.convoy_scenario.specs.declared.fault.ScenarioFault.{ScenarioFault}
+use Rattle.convoy_draft.specs.declared.fault.ScenarioFault.{ScenarioFault}
 use Rattle.convoy_scenario.specs.declared.sender.Sender.{Sender}
 use Rattle.convoy_scenario.specs.declared.sender.Sender.TheVariants.{Client, Group}
-use Rattle.convoy_scenario.specs.Draft.{Draft, DraftLink, DraftMessage}
+use Rattle.convoy_draft.specs.Draft.{Draft, DraftLink, DraftMessage}
 use Rattle.convoy_scenario.specs.Naming.{draft_for, draft_link, draft_message}
 use Rattle.convoy_scenario.specs.Numbering.{scenario_of_draft}
 use Rattle.convoy_scenario.specs.Scenario.{Link, Scenario, is_same_sender, message_at, message_numbers, range_between}

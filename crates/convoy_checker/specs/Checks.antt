@@ -1,8 +1,8 @@
 -- What checking a certificate answers: its latency if it is valid, and else its first fault.
 use Rattle.std.specs.Prelude.{true, false, ℕ, ◌+◌, ◌==◌, nat_le, Bool, ◌&&◌, if◌then◌else◌, List, [], ◌∷◌, ◌++◌, Option, Some, None, Result, Ok, Err}
 use Rattle.std.specs.Option.{option_or}
-use Rattle.convoy_scenario.specs.declared.time.Time.{Time}
-use Rattle.convoy_scenario.specs.declared.time.Time.TheVariants.{Ticks, Real}
+use Rattle.convoy_draft.specs.declared.time.Time.{Time}
+use Rattle.convoy_draft.specs.declared.time.Time.TheVariants.{Ticks, Real}
 use Rattle.convoy_scenario.specs.Scenario.{Scenario}
 use Rattle.convoy_sim.specs.Delivery.{latency_of}
 use Rattle.convoy_intervals.specs.Boxes.{Box, can_split, is_point, root_of, greatest_of}

@@ -1,6 +1,6 @@
 -- What each kind of leaf, and a split, says of its box, for the latency that the certificate states.
 use Rattle.std.specs.Prelude.{◌≡◌, ℕ, ◌≤◌, IsTrue}
-use Rattle.convoy_scenario.specs.declared.time.Time.TheVariants.{Ticks}
+use Rattle.convoy_draft.specs.declared.time.Time.TheVariants.{Ticks}
 use Rattle.convoy_scenario.specs.Scenario.{Scenario}
 use Rattle.convoy_sim.specs.Delivery.{latency_of}
 use Rattle.convoy_certificate.specs.declared.node.Node.{Node}

@@ -1,7 +1,7 @@
 -- How a run ends that reads a text and writes what is replied to it: before its text was read, and once it was.
 use Rattle.std.proofs.Common.{◌≡◌, inl, inr, ℕ, List, [], ◌≤◌, length, Result, Ok, Err, refl, sym, subst}
-use Rattle.convoy_scenario.specs.declared.fault.ScenarioFault.{ScenarioFault}
-use Rattle.convoy_scenario.specs.declared.fault.ScenarioFault.TheVariants as scenario
+use Rattle.convoy_draft.specs.declared.fault.ScenarioFault.{ScenarioFault}
+use Rattle.convoy_draft.specs.declared.fault.ScenarioFault.TheVariants as scenario
 use Rattle.convoy_streams.specs.declared.reading.ReadFault.{ReadFault}
 use Rattle.convoy_streams.specs.declared.reading.ReadFault.TheVariants as reading
 use Rattle.convoy_streams.specs.Devices.{Answer, HasRun}

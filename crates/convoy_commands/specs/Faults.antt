@@ -4,11 +4,11 @@ use Rattle.convoy_streams.specs.declared.reading.ReadFault.{ReadFault}
 use Rattle.convoy_streams.specs.declared.reading.ReadFault.TheVariants as reading
 use Rattle.convoy_packets.specs.declared.fault.ListFault.{ListFault}
 use Rattle.convoy_packets.specs.declared.fault.ListFault.TheVariants as lists
-use Rattle.convoy_scenario.specs.Keys.{key_word}
-use Rattle.convoy_scenario.specs.declared.fault.Limit.{Limit}
-use Rattle.convoy_scenario.specs.declared.fault.Limit.TheVariants as limits
-use Rattle.convoy_scenario.specs.declared.fault.ScenarioFault.{ScenarioFault}
-use Rattle.convoy_scenario.specs.declared.fault.ScenarioFault.TheVariants as scenario
+use Rattle.convoy_draft.specs.Keys.{key_word}
+use Rattle.convoy_draft.specs.declared.fault.Limit.{Limit}
+use Rattle.convoy_draft.specs.declared.fault.Limit.TheVariants as limits
+use Rattle.convoy_draft.specs.declared.fault.ScenarioFault.{ScenarioFault}
+use Rattle.convoy_draft.specs.declared.fault.ScenarioFault.TheVariants as scenario
 use Rattle.convoy_commands.specs.declared.fault.FaultEnding.{FaultEnding}
 use Rattle.convoy_commands.specs.declared.fault.FaultEnding.TheVariants as endings
 use Rattle.convoy_commands.specs.declared.fault.OrderFault.TheVariants as orders

@@ -4,7 +4,7 @@ pub use Rattle.convoy_scenario.specs.WellFormed
 pub use Rattle.convoy_scenario.specs.Naming
 pub use Rattle.convoy_scenario_lines.specs.Lines as ScenarioLines
 pub use Rattle.convoy_toml.specs.Reading
-pub use Rattle.convoy_scenario.specs.Keys
+pub use Rattle.convoy_draft.specs.Keys
 pub use Rattle.convoy_toml.specs.Shape
 pub use Rattle.convoy_scenario.specs.Memory
 pub use Rattle.convoy_streams.specs.Devices

@@ -1,7 +1,7 @@
 -- The lines that commands write, each with its end.
 use Rattle.std.specs.Prelude.{ℕ, ◌*◌, List, [], ◌∷◌, ◌++◌, map, Option, Some, None, codes, decimal}
 use Rattle.convoy_lines.specs.Texts.{ended, line_of, number_line, text_of}
-use Rattle.convoy_scenario.specs.Durations.{count_of, unit_of, unit_word}
+use Rattle.convoy_draft.specs.Durations.{count_of, unit_of, unit_word}
 use Rattle.convoy_scenario.specs.Scenario.{Scenario}
 use Rattle.convoy_packets.specs.Assignment.{Schedule}
 use Rattle.convoy_certificate.specs.Text.{schedule_lines}

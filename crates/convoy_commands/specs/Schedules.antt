@@ -4,9 +4,9 @@ use Rattle.std.specs.Result.{result_map_both}
 use Rattle.convoy_lines.specs.Results.{◌>>=◌}
 use Rattle.convoy_toml.specs.Reading.{InputView, input_of_text}
 use Rattle.convoy_scenario.specs.Scenario.{Scenario}
-use Rattle.convoy_scenario.specs.declared.fault.ScenarioFault.{ScenarioFault}
-use Rattle.convoy_scenario.specs.declared.time.Time.{Time}
-use Rattle.convoy_scenario.specs.declared.time.Time.TheVariants.{Ticks, Real}
+use Rattle.convoy_draft.specs.declared.fault.ScenarioFault.{ScenarioFault}
+use Rattle.convoy_draft.specs.declared.time.Time.{Time}
+use Rattle.convoy_draft.specs.declared.time.Time.TheVariants.{Ticks, Real}
 use Rattle.convoy_packets.specs.Assignment.{Schedule, ranges_of}
 use Rattle.convoy_packets.specs.Given.{schedule_of}
 use Rattle.convoy_packets.specs.Order.{Order, no_order}

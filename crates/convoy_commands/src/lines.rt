@@ -1,7 +1,7 @@
 ghost use Rattle.std.specs.Prelude.{◌≡◌, ◌*◌, ◌∷◌, [], ◌++◌, decimal, OnOk};
 ghost use Rattle.std.specs.List.{flat_map};
 ghost use Rattle.convoy_lines.specs.Texts.{spaced};
-ghost use Rattle.convoy_scenario.specs.Durations.{count_of};
+ghost use Rattle.convoy_draft.specs.Durations.{count_of};
 ghost use Rattle.convoy_commands.specs.Ceilings.{ceiling_line};
 ghost use Rattle.convoy_commands.specs.Lines.{greatest_line, in_unit, open_line};
 

@@ -2,8 +2,8 @@
 use Rattle.std.specs.Prelude.{ℕ, ◌==◌, Bool, true, false, ◌&&◌, List, Option, None, find, unwrap_or, slice_index, if◌then◌else◌}
 use Rattle.std.specs.Option.{option_map}
 use Rattle.convoy_scenario.specs.Scenario.{Scenario, message_at, message_numbers, is_addressed}
-use Rattle.convoy_scenario.specs.declared.time.Time.{Time}
-use Rattle.convoy_scenario.specs.declared.time.Time.TheVariants.{Ticks, Real}
+use Rattle.convoy_draft.specs.declared.time.Time.{Time}
+use Rattle.convoy_draft.specs.declared.time.Time.TheVariants.{Ticks, Real}
 use Rattle.convoy_packets.specs.declared.packet.Packet.{Packet}
 use Rattle.convoy_packets.specs.declared.packet.Packet.TheVariants.{Multicast, Propose}
 use Rattle.convoy_packets.specs.Packets.{packets_of, place_of}

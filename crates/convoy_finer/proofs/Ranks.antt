@@ -4,7 +4,7 @@ use Rattle.std.specs.List.{range_with_len}
 use Rattle.std.proofs.lemmas.Bool.{cases_Bool, cond-true, cond-false}
 use Rattle.std.proofs.lemmas.List.Elements.{All-map}
 use Rattle.std.proofs.lemmas.List.FromFn.{length-range_with_len, length-map-range_with_len, get_or-map-range_with_len}
-use Rattle.convoy_scenario.specs.declared.time.Time.TheVariants.{Ticks, Real}
+use Rattle.convoy_draft.specs.declared.time.Time.TheVariants.{Ticks, Real}
 use Rattle.convoy_scenario.specs.Scenario.{Scenario, GoesTo, no_message, message_at, message_numbers, is_addressed}
 use Rattle.convoy_scenario.specs.WellFormed.{IsScenario}
 use Rattle.convoy_packets.specs.declared.order.TheConstants.{GREATEST_RANK}

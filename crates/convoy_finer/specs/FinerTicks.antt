@@ -1,7 +1,7 @@
 -- One scenario in ticks and in ticks that are a number of times as fine, and why whole ticks are enough in real time.
 use Rattle.std.specs.Prelude.{◌≡◌, ℕ, ◌+◌, ◌*◌, ◌≤◌, length, IsFalse, IsTrue}
 use Rattle.std.specs.List.{AllZip}
-use Rattle.convoy_scenario.specs.declared.time.Time.TheVariants.{Real}
+use Rattle.convoy_draft.specs.declared.time.Time.TheVariants.{Real}
 use Rattle.convoy_scenario.specs.Scenario.{Message, Scenario}
 use Rattle.convoy_scenario.specs.WellFormed.{IsScenario}
 use Rattle.convoy_packets.specs.declared.packet.Packet.{Packet}

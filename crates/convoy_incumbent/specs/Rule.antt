@@ -2,7 +2,7 @@
 use Rattle.std.specs.Prelude.{◌≡◌, ℕ, ◌+◌, ◌-◌, ◌/◌, ◌%◌, ◌<◌, ◌≤◌, max, List, [], ◌∷◌, ◌++◌, None}
 use Rattle.std.specs.List.{All, Any, Contains, sum_by}
 use Rattle.atomic_table.specs.Table.{State, Me, Step}
-use Rattle.convoy_scenario.specs.declared.time.Time.TheVariants.{Ticks}
+use Rattle.convoy_draft.specs.declared.time.Time.TheVariants.{Ticks}
 use Rattle.convoy_scenario.specs.Scenario.{Scenario}
 use Rattle.convoy_sim.specs.Greatest.{IsReached}
 use Rattle.convoy_shares.specs.Shares.{whole}

@@ -1,8 +1,8 @@
 -- Worked rows of leads, computed from the definitions alone.
 use Rattle.std.proofs.Common.{◌≡◌, true, false, List, [], ◌∷◌, replicate, slice_set, refl, codes, None}
 use Rattle.convoy_scenario.specs.declared.sender.Sender.TheVariants.{Client, Group}
-use Rattle.convoy_scenario.specs.declared.time.Time.{Time}
-use Rattle.convoy_scenario.specs.declared.time.Time.TheVariants.{Ticks, Real}
+use Rattle.convoy_draft.specs.declared.time.Time.{Time}
+use Rattle.convoy_draft.specs.declared.time.Time.TheVariants.{Ticks, Real}
 use Rattle.convoy_scenario.specs.Scenario.{Link, Scenario}
 use Rattle.convoy_packets.specs.Packets.{packets_of}
 use Rattle.convoy_packets.specs.Assignment.{delay_of, ranges_of}

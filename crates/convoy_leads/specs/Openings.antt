@@ -1,6 +1,6 @@
 -- What leads leave open of a box: the first case that they do not show to be none, and the chain by which a stamp of the target may exceed the rival's there. A search goes by it where it splits a box; no promise rests on it.
 use Rattle.std.specs.Prelude.{◌≡◌, ◌<◌, false, length, All}
-use Rattle.convoy_scenario.specs.declared.limits.TheConstants.{MOST_GROUPS}
+use Rattle.convoy_draft.specs.declared.limits.TheConstants.{MOST_GROUPS}
 use Rattle.convoy_scenario.specs.Scenario.{Scenario}
 use Rattle.convoy_sure.specs.Windows.{tables_by}
 use Rattle.convoy_starts.specs.Links.{IsLink}

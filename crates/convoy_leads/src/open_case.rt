@@ -1,5 +1,5 @@
 ghost use Rattle.std.specs.Prelude.{◌≡◌, ◌<◌, ◌≤◌, false, length, IfOk, IfSome};
-ghost use Rattle.convoy_scenario.specs.declared.limits.TheConstants.{MOST_GROUPS, MOST_MULTICASTS};
+ghost use Rattle.convoy_draft.specs.declared.limits.TheConstants.{MOST_GROUPS, MOST_MULTICASTS};
 ghost use Rattle.convoy_sure.specs.Windows.{tables_by};
 ghost use Rattle.convoy_leads.specs.Closing.{is_behind};
 ghost use Rattle.convoy_leads.specs.Openings.{IsOpenCase};

@@ -2,12 +2,14 @@
 pub use Rattle.convoy_scenario.specs.Memory
 pub use Rattle.convoy_scenario.specs.Scenario
 pub use Rattle.convoy_scenario.specs.WellFormed
-pub use Rattle.convoy_scenario.specs.Draft
+pub use Rattle.convoy_draft.specs.Names
+pub use Rattle.convoy_draft.specs.Limits
+pub use Rattle.convoy_draft.specs.Draft
 pub use Rattle.convoy_scenario.specs.Numbering
 pub use Rattle.convoy_toml.specs.Reading
 pub use Rattle.convoy_toml_writer.specs.Text as ScenarioText
-pub use Rattle.convoy_scenario.specs.declared.fault.ScenarioFault
-pub use Rattle.convoy_scenario.specs.declared.time.Time
+pub use Rattle.convoy_draft.specs.declared.fault.ScenarioFault
+pub use Rattle.convoy_draft.specs.declared.time.Time
 -- the lines of a scenario in a certificate
 pub use Rattle.convoy_scenario_lines.specs.Lines as ScenarioLines
 pub use Rattle.convoy_scenario_lines.specs.LineReading

@@ -2,8 +2,8 @@
 use Rattle.std.specs.Prelude.{ℕ, ◌+◌, ◌<◌, ◌==◌, nat_le, nat_lt, Bool, true, false, ◌&&◌, ◌||◌, if◌then◌else◌, List, [], ◌∷◌, ◌++◌, length, replicate, slice_get, slice_index_or, slice_set, Result, Ok, Err}
 use Rattle.std.specs.Option.{option_map_or}
 use Rattle.convoy_scenario.specs.Scenario.{Scenario}
-use Rattle.convoy_scenario.specs.declared.time.Time.{Time}
-use Rattle.convoy_scenario.specs.declared.time.Time.TheVariants.{Ticks, Real}
+use Rattle.convoy_draft.specs.declared.time.Time.{Time}
+use Rattle.convoy_draft.specs.declared.time.Time.TheVariants.{Ticks, Real}
 use Rattle.convoy_packets.specs.Assignment.{ranges_of}
 use Rattle.convoy_packets.specs.Table.{least_of}
 use Rattle.convoy_sim.specs.Delivery.{latency_of}

@@ -1,8 +1,8 @@
 -- The order of arrivals that are told by ticks and numbers, and what stays before where ticks lie further apart.
 use Rattle.std.proofs.Common.{◌≡◌, ℕ, ◌+◌, ◌-◌, ◌<◌, ◌≤◌, true, ◌⊎◌, ◌==◌, ◌&&◌, nat_lt, inl, inr, arith}
 use Rattle.std.proofs.lemmas.Bool.{cases_lt, and_from, and_parts, or_cases, or_left, or_right, lt-ltb, ltb-true, eq-eqb, eqb-true, le-leb, leb-true}
-use Rattle.convoy_scenario.specs.declared.time.Time.{Time}
-use Rattle.convoy_scenario.specs.declared.time.Time.TheVariants.{Ticks, Real}
+use Rattle.convoy_draft.specs.declared.time.Time.{Time}
+use Rattle.convoy_draft.specs.declared.time.Time.TheVariants.{Ticks, Real}
 use Rattle.convoy_sim.specs.Stamps.{is_less}
 use Rattle.convoy_sure.specs.SureLeads.{is_first, is_earlier, may_be_earlier}
 

@@ -7,7 +7,7 @@ use Rattle.std.proofs.lemmas.Bool.{and_parts, and_from, eqb-true}
 use Rattle.std.proofs.lemmas.List.{length-replicate, get_or-replicate, get_or-set_other, length-set, length-drop, drop_more, drop_all, take_all, take_more, take_more_set, append-nil}
 use Rattle.std.proofs.lemmas.List.Elements.{All-from_recursion, recursion_from_All}
 use Rattle.std.proofs.lemmas.List.FromFn.{length-map-range_with_len, get_or-map-range_with_len}
-use Rattle.convoy_scenario.specs.declared.time.Time.TheVariants.{Ticks, Real}
+use Rattle.convoy_draft.specs.declared.time.Time.TheVariants.{Ticks, Real}
 use Rattle.convoy_scenario.specs.Memory.{IsUnlessMemory}
 use Rattle.convoy_scenario.specs.Scenario.{Scenario, message_at, is_addressed}
 use Rattle.convoy_packets.specs.declared.fault.ListFault.{ListFault}

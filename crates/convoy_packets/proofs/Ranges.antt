@@ -6,12 +6,13 @@ use Rattle.std.proofs.lemmas.Bool.{true≢false, not-true}
 use Rattle.std.proofs.lemmas.List.{length-map, get_or-map}
 use Rattle.std.proofs.lemmas.List.Elements.{All-head, All-tail, All-map, recursion_from_All}
 use Rattle.std.proofs.lemmas.Option.{same_Some, slice_get-get_or, slice_get_within}
-use Rattle.convoy_scenario.specs.declared.limits.TheConstants.{GREATEST_WHOLE_DELAY, LONGEST_WAIT}
+use Rattle.convoy_draft.specs.declared.limits.TheConstants.{GREATEST_WHOLE_DELAY, LONGEST_WAIT}
 use Rattle.convoy_scenario.specs.declared.sender.Sender.{Sender}
 use Rattle.convoy_scenario.specs.Scenario.{Link, Message, Scenario, is_same_sender, is_timed, may_wait, message_at, no_message, range_between}
-use Rattle.convoy_scenario.specs.declared.time.Time.{Time}
-use Rattle.convoy_scenario.specs.declared.time.Time.TheVariants.{Ticks, Real}
-use Rattle.convoy_scenario.specs.WellFormed.{IsLink, IsScenario, greatest_delay}
+use Rattle.convoy_draft.specs.declared.time.Time.{Time}
+use Rattle.convoy_draft.specs.declared.time.Time.TheVariants.{Ticks, Real}
+use Rattle.convoy_scenario.specs.WellFormed.{IsLink, IsScenario}
+use Rattle.convoy_draft.specs.Limits.{greatest_delay}
 use Rattle.convoy_packets.specs.declared.packet.Packet.{Packet}
 use Rattle.convoy_packets.specs.declared.packet.Packet.TheVariants.{Wait, Multicast, Propose}
 use Rattle.convoy_packets.specs.Packets.{is_wait, packets_of, place_of}

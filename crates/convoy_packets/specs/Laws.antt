@@ -2,7 +2,7 @@
 use Rattle.std.specs.Prelude.{◌≡◌, ◌↔◌, ℕ, ℤ, pos, ◌*◌, ◌≤◌, ◌==◌, Bool, ◌&&◌, not, List, [], length, map, Some, Ok, slice_index, IsFalse, IsTrue}
 use Rattle.std.specs.List.{slice_get}
 use Rattle.std.specs.Option.{is_some}
-use Rattle.convoy_scenario.specs.declared.time.Time.TheVariants.{Real}
+use Rattle.convoy_draft.specs.declared.time.Time.TheVariants.{Real}
 use Rattle.convoy_scenario.specs.Scenario.{Scenario, message_at, may_wait, is_sent_by, is_addressed}
 use Rattle.convoy_scenario.specs.WellFormed.{IsScenario}
 use Rattle.convoy_packets.specs.declared.packet.TheConstants.{MOST_PACKETS}

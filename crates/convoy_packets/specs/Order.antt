@@ -1,7 +1,7 @@
 -- The order of ties: what happens at one group in one tick happens in the order of ranks, and where ranks are equal in the fixed order of docs/PROTOCOL.md.
 use Rattle.std.specs.Prelude.{◌≡◌, ℕ, ◌+◌, ◌*◌, ◌<◌, ◌≤◌, List, length, replicate, slice_index_or, All, IsFalse}
-use Rattle.convoy_scenario.specs.declared.limits.TheConstants.{MOST_GROUPS, MOST_MULTICASTS}
-use Rattle.convoy_scenario.specs.declared.time.Time.TheVariants.{Ticks}
+use Rattle.convoy_draft.specs.declared.limits.TheConstants.{MOST_GROUPS, MOST_MULTICASTS}
+use Rattle.convoy_draft.specs.declared.time.Time.TheVariants.{Ticks}
 use Rattle.convoy_scenario.specs.Scenario.{Scenario, message_at, is_addressed}
 use Rattle.convoy_packets.specs.declared.table_places.TheConstants.{PLACES}
 use Rattle.convoy_packets.specs.declared.order.TheConstants.{GREATEST_RANK}

@@ -2,7 +2,7 @@
 use Rattle.std.specs.Prelude.{◌≡◌, ℕ, ◌+◌, ◌*◌, nat_lt, Bool, true, ◌&&◌, List, length, Option, Some, None, if◌then◌else◌, slice_index_or, slice_set}
 use Rattle.std.specs.List.{All}
 use Rattle.std.specs.Option.{option_and_then, is_none}
-use Rattle.convoy_scenario.specs.declared.limits.TheConstants.{MOST_GROUPS, MOST_MULTICASTS}
+use Rattle.convoy_draft.specs.declared.limits.TheConstants.{MOST_GROUPS, MOST_MULTICASTS}
 use Rattle.convoy_packets.specs.declared.packet.Packet.{Packet}
 use Rattle.convoy_packets.specs.declared.packet.Packet.TheVariants.{Wait, Multicast, Propose}
 use Rattle.convoy_packets.specs.declared.slots.TheConstants.{SLOTS_PER_MESSAGE, SLOT_COUNT}

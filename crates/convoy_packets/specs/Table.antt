@@ -1,7 +1,7 @@
 -- What a packet table shows: whether the scenario's lines say how time goes, the packets, and the range of each.
 use Rattle.std.specs.Prelude.{◌≡◌, ℕ, ◌*◌, ◌≤◌, Bool, List, length, map, Option, IsFalse}
 use Rattle.std.specs.List.{All}
-use Rattle.convoy_scenario.specs.declared.limits.TheConstants.{GREATEST_DELAY, GREATEST_WHOLE_DELAY, MOST_GROUPS, MOST_MULTICASTS}
+use Rattle.convoy_draft.specs.declared.limits.TheConstants.{GREATEST_DELAY, GREATEST_WHOLE_DELAY, MOST_GROUPS, MOST_MULTICASTS}
 use Rattle.convoy_scenario.specs.Scenario.{Scenario, is_timed}
 use Rattle.convoy_packets.specs.declared.packet.TheConstants.{MOST_PACKETS}
 use Rattle.convoy_packets.specs.declared.packet.Packet.{Packet}

@@ -1,7 +1,7 @@
 ghost use Rattle.std.specs.Prelude.{◌≡◌, ◌==◌, ◌*◌, ◌≤◌, IfOk};
 ghost use Rattle.std.specs.List.{list_all};
 ghost use Rattle.std.specs.Result.{result_map_both};
-ghost use Rattle.convoy_scenario.specs.declared.time.Time.TheVariants.{Real};
+ghost use Rattle.convoy_draft.specs.declared.time.Time.TheVariants.{Real};
 ghost use Rattle.convoy_scenario.specs.Memory.{IsUnlessMemory};
 ghost use Rattle.convoy_packets.specs.Order.{IsOrder};
 ghost use Rattle.convoy_packets.specs.declared.order.TheConstants.{GREATEST_RANK};

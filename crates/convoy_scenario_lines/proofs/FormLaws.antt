@@ -5,7 +5,7 @@ use Rattle.std.specs.Str.{is_utf8}
 use Rattle.std.proofs.lemmas.Bool.{cases_Bool, eqb-true}
 use Rattle.std.proofs.lemmas.List.{nil_from_length}
 use Rattle.std.proofs.lemmas.Option.{cond_some, same_Some}
-use Rattle.convoy_scenario.specs.Draft.{DraftLink, DraftMessage}
+use Rattle.convoy_draft.specs.Draft.{DraftLink, DraftMessage}
 use Rattle.convoy_lines.specs.Words.{next_word, number_of}
 use Rattle.convoy_lines.specs.Chains.{◌>>=◌}
 use Rattle.convoy_lines.specs.Labels.{words_after}

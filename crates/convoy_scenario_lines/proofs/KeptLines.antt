@@ -3,8 +3,8 @@ use Rattle.std.proofs.Common.{◌≡◌, ◌⊎◌, ℕ, ◌≤◌, nat_le, ◌&
 use Rattle.std.specs.List.{list_all}
 use Rattle.std.proofs.lemmas.Bool.{and_parts, cases_Bool, cases_lt, false≢true, false_from_ne_true}
 use Rattle.std.proofs.lemmas.List.{take_all, length-map, length-take-le}
-use Rattle.convoy_scenario.specs.declared.fault.ScenarioFault.{ScenarioFault}
-use Rattle.convoy_scenario.specs.declared.limits.TheConstants.{MOST_GROUPS, MOST_MULTICASTS}
+use Rattle.convoy_draft.specs.declared.fault.ScenarioFault.{ScenarioFault}
+use Rattle.convoy_draft.specs.declared.limits.TheConstants.{MOST_GROUPS, MOST_MULTICASTS}
 use Rattle.convoy_scenario_lines.specs.declared.line_fault.Expected.TheVariants.{Delay, Groups, Link, Multicast, Target}
 use Rattle.convoy_scenario_lines.specs.declared.line_fault.LineFault.{LineFault}
 use Rattle.convoy_scenario_lines.specs.declared.line_fault.LineFault.TheVariants as faults
@@ -12,9 +12,9 @@ use Rattle.convoy_scenario_lines.specs.declared.version.Version.{Version}
 use Rattle.convoy_lines.specs.Labels.{number_in}
 use Rattle.convoy_lines.specs.Places.{Place, line_at, past_line}
 use Rattle.convoy_lines.specs.Results.{◌>>=◌}
-use Rattle.convoy_scenario.specs.Checks.{Check, is_count, all_differ, is_message, messages_differ, knows, is_target_addressed, is_target_fixed, checks, judge}
-use Rattle.convoy_scenario.specs.declared.time.Time.{Time}
-use Rattle.convoy_scenario.specs.Draft.{Draft, DraftLink, DraftMessage}
+use Rattle.convoy_draft.specs.Checks.{Check, is_count, all_differ, is_message, messages_differ, knows, is_target_addressed, is_target_fixed, checks, judge}
+use Rattle.convoy_draft.specs.declared.time.Time.{Time}
+use Rattle.convoy_draft.specs.Draft.{Draft, DraftLink, DraftMessage}
 use Rattle.convoy_scenario.specs.Laws.{DifferentNamesAreDistinct, JudgedRulesHold}
 use Rattle.convoy_scenario_lines.specs.Keeping.{kept_groups, kept_message, kept_groups_in, kept_multicast_in, kept_messages_at, kept_scenario_at}
 use Rattle.convoy_scenario_lines.specs.LineForms.{groups_in, multicast_in, target_in}

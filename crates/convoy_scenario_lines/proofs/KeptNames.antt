@@ -7,8 +7,8 @@ use Rattle.std.proofs.lemmas.Cmp.{nat_list_eq_equiv}
 use Rattle.std.proofs.lemmas.List.{take_all, take-append-le, length-take-le}
 use Rattle.std.proofs.lemmas.Map.Made.{length-le_from_is_member}
 use Rattle.std.proofs.lemmas.Slice.Eq.{bytes_eq-Decides}
-use Rattle.convoy_scenario.specs.Checks.{is_among, all_differ, is_known_sender, knows}
-use Rattle.convoy_scenario.specs.Draft.{DraftMessage}
+use Rattle.convoy_draft.specs.Checks.{is_among, all_differ, is_known_sender, knows}
+use Rattle.convoy_draft.specs.Draft.{DraftMessage}
 use Rattle.convoy_scenario.specs.Laws.{DifferentNamesAreDistinct}
 use Rattle.convoy_scenario_lines.specs.Keeping.{first_unknown, alone_or_first, kept_destinations, kept_message}
 

@@ -1,15 +1,15 @@
 -- The lines `link`, one after another.
 use Rattle.std.proofs.Common.{◌≡◌, ℕ, ◌+◌, ◌==◌, if◌then◌else◌, true, false, List, [], ◌∷◌, ◌++◌, Some, None, ok_or, Result, Ok, Err, refl, sym, ap, ◌∙◌, append_assoc, inl, inr}
 use Rattle.std.proofs.lemmas.List.{append-nil}
-use Rattle.convoy_scenario.specs.declared.fault.ScenarioFault.TheVariants.{OverLimit}
-use Rattle.convoy_scenario.specs.declared.fault.Limit.TheVariants as limit
-use Rattle.convoy_scenario.specs.declared.limits.TheConstants.{MOST_LINKS}
+use Rattle.convoy_draft.specs.declared.fault.ScenarioFault.TheVariants.{OverLimit}
+use Rattle.convoy_draft.specs.declared.fault.Limit.TheVariants as limit
+use Rattle.convoy_draft.specs.declared.limits.TheConstants.{MOST_LINKS}
 use Rattle.convoy_scenario_lines.specs.declared.line_fault.Expected.TheVariants.{Link}
 use Rattle.convoy_scenario_lines.specs.declared.line_fault.LineFault.{LineFault}
 use Rattle.convoy_scenario_lines.specs.declared.line_fault.LineFault.TheVariants as faults
 use Rattle.convoy_scenario_lines.specs.declared.version.Version.{Version}
 use Rattle.convoy_scenario.specs.Memory.{IsUnlessMemory}
-use Rattle.convoy_scenario.specs.Draft.{DraftLink}
+use Rattle.convoy_draft.specs.Draft.{DraftLink}
 use Rattle.convoy_scenario_lines.specs.LineForms.{link_in}
 use Rattle.convoy_lines.specs.Results.{◌>>=◌}
 use Rattle.convoy_lines.specs.Places.{Place, upcoming}

@@ -1,15 +1,15 @@
 -- The lines `multicast`, one after another.
 use Rattle.std.proofs.Common.{◌≡◌, ℕ, ◌+◌, if◌then◌else◌, inr, ◌==◌, true, false, List, [], ◌∷◌, ◌++◌, map, Some, None, ok_or, Result, Ok, Err, refl, sym, ap, ◌∙◌, append_assoc, inl}
 use Rattle.std.proofs.lemmas.List.{append-nil}
-use Rattle.convoy_scenario.specs.declared.fault.ScenarioFault.TheVariants.{OverLimit}
-use Rattle.convoy_scenario.specs.declared.fault.Limit.TheVariants.{Multicasts}
-use Rattle.convoy_scenario.specs.declared.limits.TheConstants.{MOST_MULTICASTS}
+use Rattle.convoy_draft.specs.declared.fault.ScenarioFault.TheVariants.{OverLimit}
+use Rattle.convoy_draft.specs.declared.fault.Limit.TheVariants.{Multicasts}
+use Rattle.convoy_draft.specs.declared.limits.TheConstants.{MOST_MULTICASTS}
 use Rattle.convoy_scenario_lines.specs.declared.line_fault.Expected.TheVariants.{Multicast}
 use Rattle.convoy_scenario_lines.specs.declared.line_fault.LineFault.{LineFault}
 use Rattle.convoy_scenario_lines.specs.declared.line_fault.LineFault.TheVariants as faults
 use Rattle.convoy_scenario_lines.specs.declared.version.Version.{Version}
 use Rattle.convoy_scenario.specs.Memory.{IsUnlessMemory}
-use Rattle.convoy_scenario.specs.Draft.{DraftMessage}
+use Rattle.convoy_draft.specs.Draft.{DraftMessage}
 use Rattle.convoy_scenario_lines.specs.Keeping.{kept_message, kept_multicast_in}
 use Rattle.convoy_scenario_lines.specs.LineForms.{multicast_in}
 use Rattle.convoy_lines.specs.Results.{◌>>=◌}

@@ -7,8 +7,8 @@ use Rattle.convoy_scenario_lines.specs.declared.version.Version.{Version}
 use Rattle.convoy_lines.specs.Labels.{number_in}
 use Rattle.convoy_lines.specs.Places.{Place}
 use Rattle.convoy_lines.specs.Results.{◌>>=◌}
-use Rattle.convoy_scenario.specs.Checks.{is_among}
-use Rattle.convoy_scenario.specs.Draft.{DraftMessage}
+use Rattle.convoy_draft.specs.Checks.{is_among}
+use Rattle.convoy_draft.specs.Draft.{DraftMessage}
 use Rattle.convoy_scenario_lines.specs.LineForms.{groups_in, multicast_in, target_in}
 use Rattle.convoy_scenario_lines.specs.LineReading.{form_at, time_at, tick_at, links_at, messages_at, draft_of, told, first_misplaced_link, first_unordered, where_ordered}
 use Rattle.convoy_scenario.specs.Numbering.{scenario_of_draft}

@@ -5,8 +5,8 @@ pub use Rattle.convoy_lines.specs.Places
 pub use Rattle.convoy_lines.specs.Results
 pub use Rattle.convoy_lines.specs.Texts
 pub use Rattle.convoy_lines.specs.Words
-pub use Rattle.convoy_scenario.specs.Checks
-pub use Rattle.convoy_scenario.specs.Draft
+pub use Rattle.convoy_draft.specs.Checks
+pub use Rattle.convoy_draft.specs.Draft
 pub use Rattle.convoy_scenario.specs.Memory
 pub use Rattle.convoy_scenario.specs.Naming
 pub use Rattle.convoy_scenario.specs.Numbering

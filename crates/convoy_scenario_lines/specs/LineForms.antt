@@ -5,11 +5,11 @@ use Rattle.std.specs.Str.{bytes_eq, is_utf8}
 use Rattle.convoy_lines.specs.Labels.{greatest_number, words_after}
 use Rattle.convoy_lines.specs.Chains.{◌>>=◌}
 use Rattle.convoy_lines.specs.Words.{next_word, number_of}
-use Rattle.convoy_scenario.specs.declared.time.Time.{Time}
-use Rattle.convoy_scenario.specs.declared.time.Time.TheVariants.{Ticks, Real}
-use Rattle.convoy_scenario.specs.Draft.{DraftLink, DraftMessage}
-use Rattle.convoy_scenario.specs.Durations.{unit_length, unit_named, unit_of, unit_word, within_longest}
-use Rattle.convoy_scenario.specs.WellFormed.{client_word}
+use Rattle.convoy_draft.specs.declared.time.Time.{Time}
+use Rattle.convoy_draft.specs.declared.time.Time.TheVariants.{Ticks, Real}
+use Rattle.convoy_draft.specs.Draft.{DraftLink, DraftMessage}
+use Rattle.convoy_draft.specs.Durations.{unit_length, unit_named, unit_of, unit_word, within_longest}
+use Rattle.convoy_draft.specs.Names.{client_word}
 use Rattle.convoy_scenario_lines.specs.declared.version.Version.{Version}
 use Rattle.convoy_scenario_lines.specs.declared.version.Version.TheVariants.{One, Two, Three}
 use Rattle.convoy_scenario_lines.specs.Lines.{time_line}

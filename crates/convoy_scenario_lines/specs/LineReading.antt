@@ -4,20 +4,20 @@ use Rattle.std.specs.Cmp.Lexicographic.{pointwise}
 use Rattle.std.specs.Str.{bytes_eq}
 use Rattle.convoy_lines.specs.Places.{Place, line_at, past_line, upcoming}
 use Rattle.convoy_lines.specs.Results.{◌>>=◌}
-use Rattle.convoy_scenario.specs.declared.fault.ScenarioFault.{ScenarioFault}
-use Rattle.convoy_scenario.specs.declared.fault.ScenarioFault.TheVariants.{OverLimit}
-use Rattle.convoy_scenario.specs.declared.fault.Limit.TheVariants as limit
-use Rattle.convoy_scenario.specs.declared.limits.TheConstants.{MOST_LINKS, MOST_MULTICASTS}
+use Rattle.convoy_draft.specs.declared.fault.ScenarioFault.{ScenarioFault}
+use Rattle.convoy_draft.specs.declared.fault.ScenarioFault.TheVariants.{OverLimit}
+use Rattle.convoy_draft.specs.declared.fault.Limit.TheVariants as limit
+use Rattle.convoy_draft.specs.declared.limits.TheConstants.{MOST_LINKS, MOST_MULTICASTS}
 use Rattle.convoy_scenario_lines.specs.declared.line_fault.Expected.{Expected}
 use Rattle.convoy_scenario_lines.specs.declared.line_fault.Expected.TheVariants.{Time, Tick, Delay, Groups, Link, Multicast, Target}
 use Rattle.convoy_scenario_lines.specs.declared.line_fault.LineFault.{LineFault}
 use Rattle.convoy_scenario_lines.specs.declared.line_fault.LineFault.TheVariants as faults
 use Rattle.convoy_scenario_lines.specs.declared.version.Version.{Version}
 use Rattle.convoy_scenario_lines.specs.declared.version.Version.TheVariants.{One, Two, Three}
-use Rattle.convoy_scenario.specs.declared.time.Time.{Time as AnyTime}
-use Rattle.convoy_scenario.specs.declared.time.Time.TheVariants.{Ticks}
-use Rattle.convoy_scenario.specs.Checks.{is_among}
-use Rattle.convoy_scenario.specs.Draft.{Draft, DraftLink, DraftMessage}
+use Rattle.convoy_draft.specs.declared.time.Time.{Time as AnyTime}
+use Rattle.convoy_draft.specs.declared.time.Time.TheVariants.{Ticks}
+use Rattle.convoy_draft.specs.Checks.{is_among}
+use Rattle.convoy_draft.specs.Draft.{Draft, DraftLink, DraftMessage}
 use Rattle.convoy_lines.specs.Labels.{begins_with, number_in}
 use Rattle.convoy_scenario_lines.specs.LineForms.{time_in, tick_in, groups_in, link_in, multicast_in, target_in}
 use Rattle.convoy_lines.specs.Words.{words_of}

@@ -1,9 +1,9 @@
 -- The canonical lines of a scenario: the one text of each.
 use Rattle.std.specs.Prelude.{ℕ, ◌+◌, ◌==◌, if◌then◌else◌, List, [], ◌∷◌, ◌++◌, map, Option, Some, None, codes, decimal}
 use Rattle.convoy_lines.specs.Texts.{line_of, number_line, text_of}
-use Rattle.convoy_scenario.specs.declared.time.Time.{Time}
-use Rattle.convoy_scenario.specs.Durations.{count_of, unit_of, unit_word}
-use Rattle.convoy_scenario.specs.Keys.{time_word}
+use Rattle.convoy_draft.specs.declared.time.Time.{Time}
+use Rattle.convoy_draft.specs.Durations.{count_of, unit_of, unit_word}
+use Rattle.convoy_draft.specs.Keys.{time_word}
 use Rattle.convoy_scenario.specs.Naming.{sender_word}
 use Rattle.convoy_scenario.specs.Scenario.{Link, Message, Scenario, message_at, group_name_at}
 use Rattle.convoy_scenario_lines.specs.declared.version.Version.{Version}

@@ -1,6 +1,6 @@
 ghost use Rattle.std.specs.Prelude.{◌≡◌, ◌≤◌, ◌==◌, Ok, [], ◌∷◌, map, codes, length, position, option_map, ok_or, IfOk, IfSome};
 ghost use Rattle.std.specs.Result.{result_map_both};
-ghost use Rattle.convoy_scenario.specs.Checks.{is_among};
+ghost use Rattle.convoy_draft.specs.Checks.{is_among};
 ghost use Rattle.convoy_scenario_lines.specs.Keeping.{kept_groups, kept_destinations, kept_groups_in, kept_multicast_in};
 ghost use Rattle.convoy_scenario.specs.Memory.{IsUnlessMemory};
 ghost use Rattle.convoy_scenario_lines.specs.LineForms.{name_of, named_sender, time_in, tick_in, link_in, tick_alone, around_dots, tick_range, issue_in, target_in};

@@ -1,7 +1,7 @@
 ghost use Rattle.std.specs.Prelude.{◌≡◌, ◌<◌, ◌≤◌, ◌++◌, length, map, IfOk, IfSome, OnOk, OnErr};
 ghost use Rattle.std.specs.List.{flat_map};
 ghost use Rattle.convoy_scenario.specs.Scenario.{message_at, group_name_at};
-ghost use Rattle.convoy_scenario.specs.Durations.{count_of};
+ghost use Rattle.convoy_draft.specs.Durations.{count_of};
 ghost use Rattle.convoy_lines.specs.Texts.{ended, spaced, text_of};
 ghost use Rattle.convoy_scenario.specs.Naming.{sender_word};
 ghost use Rattle.convoy_scenario.specs.WellFormed.{IsLink, IsSender};

@@ -15,7 +15,7 @@ use super::version::Version;
 use convoy_lines::{LineReader, number_in};
 use convoy_scenario::laws::{different_names_are_distinct, judged_rules_hold};
 use convoy_scenario::{
-    DraftLink, DraftMulticast, DraftScenario, Duration, Limit, MOST_LINKS, MOST_MULTICASTS, Name,
+    DraftLink, DraftMulticast, DraftScenario, Duration, Limit, Link, MOST_LINKS, MOST_MULTICASTS, Name,
     Scenario, ScenarioFault, Time,
 };
 use std::alloc::Global;
@@ -288,7 +288,7 @@ fn first_misplaced(delay: u32, groups: &[Name], number: usize, links: &[DraftLin
 {
     let mut before = None;
     for (i, draft) in links.iter().enumerate() {
-        let link = draft.numbered(groups);
+        let link = Link::from_draft(draft, groups);
         if !link.follows(&before) || link.is_whole(delay) {
             return Some(number + i);
         }

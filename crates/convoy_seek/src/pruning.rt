@@ -6,7 +6,7 @@ use std::alloc::{AllocError, Global};
 
 impl Seeker {
     ghost use Rattle.std.specs.Prelude.{◌≡◌, ◌<◌};
-    ghost use Rattle.convoy_scenario.specs.declared.time.Time.TheVariants.{Real};
+    ghost use Rattle.convoy_draft.specs.declared.time.Time.TheVariants.{Real};
     ghost use Rattle.convoy_seek.specs.Seeking.{IsSeeking, GoesOn};
 
     /// Gives each moment in turn the rank 0 where the latency of the best record does not need another,

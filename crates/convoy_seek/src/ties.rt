@@ -1,7 +1,7 @@
 //! Changes of orders of ties, in real time: the ranks that are tried are 0 and 1.
 
 ghost use Rattle.std.specs.Prelude.{◌≡◌, ◌<◌, length, IfOk, IsTrue, ◌↔◌};
-ghost use Rattle.convoy_scenario.specs.declared.time.Time.TheVariants.{Real};
+ghost use Rattle.convoy_draft.specs.declared.time.Time.TheVariants.{Real};
 ghost use Rattle.convoy_packets.specs.Assignment.{IsAssignment};
 ghost use Rattle.convoy_packets.specs.OrderLists.{AreSmall};
 

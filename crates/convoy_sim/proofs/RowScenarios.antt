@@ -2,7 +2,7 @@
 use Rattle.std.proofs.Common.{ℕ, List, [], ◌∷◌, codes, None}
 use Rattle.convoy_scenario.specs.declared.sender.Sender.{Sender}
 use Rattle.convoy_scenario.specs.declared.sender.Sender.TheVariants.{Client, Group}
-use Rattle.convoy_scenario.specs.declared.time.Time.TheVariants.{Ticks}
+use Rattle.convoy_draft.specs.declared.time.Time.TheVariants.{Ticks}
 use Rattle.convoy_scenario.specs.Scenario.{Message, Scenario}
 
 unfoldable pub message : List ℕ → Sender → List ℕ → ℕ → Message

@@ -7,7 +7,7 @@ use Rattle.std.proofs.lemmas.Bool.Decides.{nat_tests}
 use Rattle.std.proofs.lemmas.List.{get_or_past, get_or-take, length-take-le}
 use Rattle.std.proofs.lemmas.List.FromFn.{get_or-map-range_with_len, length-map-range_with_len}
 use Rattle.std.proofs.lemmas.Option.{slice_get-get_or}
-use Rattle.convoy_scenario.specs.declared.limits.TheConstants.{MOST_GROUPS}
+use Rattle.convoy_draft.specs.declared.limits.TheConstants.{MOST_GROUPS}
 use Rattle.convoy_scenario.specs.Scenario.{Scenario, message_at, is_addressed}
 use Rattle.convoy_scenario.specs.WellFormed.{IsScenario}
 use Rattle.convoy_packets.specs.Assignment.{Schedule, IsAssignment}

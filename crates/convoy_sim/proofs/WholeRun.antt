@@ -1,6 +1,6 @@
 -- When all moments have been read, the tables tell all that the definitions say.
 use Rattle.std.proofs.Common.{◌≡◌, ℕ, ◌<◌, ◌≤◌, true, inl, inr, List, [], ◌∷◌, length, get_or, refl, sym, ap, subst, ◌∙◌, arith}
-use Rattle.convoy_scenario.specs.declared.limits.TheConstants.{MOST_GROUPS}
+use Rattle.convoy_draft.specs.declared.limits.TheConstants.{MOST_GROUPS}
 use Rattle.convoy_scenario.specs.Scenario.{Scenario}
 use Rattle.convoy_scenario.specs.WellFormed.{IsScenario}
 use Rattle.convoy_packets.specs.Assignment.{Schedule, IsAssignment}

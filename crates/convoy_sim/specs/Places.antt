@@ -1,6 +1,6 @@
 -- Tables with an entry for each message at each group.
 use Rattle.std.specs.Prelude.{◌≡◌, ◌≢◌, ℕ, ◌<◌, List, slice_index}
-use Rattle.convoy_scenario.specs.declared.limits.TheConstants.{MOST_GROUPS}
+use Rattle.convoy_draft.specs.declared.limits.TheConstants.{MOST_GROUPS}
 use Rattle.convoy_packets.specs.Order.{place}
 
 -- the entries of message m at the first groups are those numbers

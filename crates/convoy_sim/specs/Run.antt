@@ -1,7 +1,7 @@
 -- What a run tells, and when that is what the definitions say.
 use Rattle.std.specs.Prelude.{◌≡◌, ℕ, nat_lt, ◌<◌, ◌≤◌, ◌*◌, Option, Some, None, IsFalse, List, length, slice_get, if◌then◌else◌}
 use Rattle.std.specs.Option.{option_map}
-use Rattle.convoy_scenario.specs.declared.limits.TheConstants.{MOST_GROUPS, MOST_MULTICASTS}
+use Rattle.convoy_draft.specs.declared.limits.TheConstants.{MOST_GROUPS, MOST_MULTICASTS}
 use Rattle.convoy_scenario.specs.Scenario.{Scenario, GoesTo, message_at, is_addressed}
 use Rattle.convoy_packets.specs.Assignment.{Schedule}
 use Rattle.convoy_sim.specs.declared.timestamp.Timestamp.{Timestamp}

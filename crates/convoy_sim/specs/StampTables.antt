@@ -1,7 +1,7 @@
 -- The clocks and stamps of a run, as a program keeps them.
 use Rattle.std.specs.Prelude.{◌≡◌, ℕ, ◌+◌, ◌≤◌, max, Bool, ◌&&◌, nat_lt, List, length, slice_index, slice_index_or, slice_set, replicate}
 use Rattle.std.specs.List.{All, fold}
-use Rattle.convoy_scenario.specs.declared.limits.TheConstants.{MOST_GROUPS, MOST_MULTICASTS}
+use Rattle.convoy_draft.specs.declared.limits.TheConstants.{MOST_GROUPS, MOST_MULTICASTS}
 use Rattle.convoy_packets.specs.declared.table_places.TheConstants.{PLACES}
 use Rattle.convoy_sim.specs.declared.moment.Moment.{Moment}
 use Rattle.convoy_sim.specs.declared.moment.MomentKind.{MomentKind}

@@ -1,6 +1,6 @@
 -- Chains of links: how the stamp of a message at a group may come to be as great as leads say. A search goes by them where it splits a box; no promise rests on them.
 use Rattle.std.specs.Prelude.{◌<◌, length, All, IfSome}
-use Rattle.convoy_scenario.specs.declared.limits.TheConstants.{MOST_GROUPS}
+use Rattle.convoy_draft.specs.declared.limits.TheConstants.{MOST_GROUPS}
 use Rattle.convoy_scenario.specs.Scenario.{Scenario}
 use Rattle.convoy_starts.specs.declared.chain.Link.{Link}
 

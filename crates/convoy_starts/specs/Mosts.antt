@@ -1,6 +1,6 @@
 -- Words of the program's own parts: numbers that are told for some messages at once, for each where that message is barred, that is, committed nowhere before.
 use Rattle.std.specs.Prelude.{ℕ, ◌≡◌, ◌<◌, ◌==◌, nat_le, Bool, ◌&&◌, not, List, [], ◌∷◌, length, All, slice_index, if◌then◌else◌}
-use Rattle.convoy_scenario.specs.declared.time.Time.{Time}
+use Rattle.convoy_draft.specs.declared.time.Time.{Time}
 use Rattle.convoy_scenario.specs.Scenario.{Scenario, message_numbers}
 use Rattle.convoy_sim.specs.Times.{Tick}
 use Rattle.convoy_sim.specs.Moments.{next_arrival}

@@ -1,8 +1,8 @@
 -- Starts: how far stamps may rise beside that of a message at the target's group, tick by tick. Each number is to be added to how much the message's stamp there exceeds its sure time.
 use Rattle.std.specs.Prelude.{ℕ, zero, suc, ◌+◌, ◌-◌, ◌==◌, nat_lt, nat_le, max, min, Bool, true, false, ◌&&◌, ◌||◌, not, List, [], ◌∷◌, ◌++◌, length, map, slice_index_or, if◌then◌else◌}
 use Rattle.std.specs.List.{fold, filter, list_any, range_with_len}
-use Rattle.convoy_scenario.specs.declared.time.Time.{Time}
-use Rattle.convoy_scenario.specs.declared.time.Time.TheVariants.{Ticks, Real}
+use Rattle.convoy_draft.specs.declared.time.Time.{Time}
+use Rattle.convoy_draft.specs.declared.time.Time.TheVariants.{Ticks, Real}
 use Rattle.convoy_scenario.specs.Scenario.{Scenario, message_at, message_numbers}
 use Rattle.convoy_sim.specs.Times.{Tick, greatest}
 use Rattle.convoy_sim.specs.Moments.{next_arrival}

@@ -1,5 +1,5 @@
 ghost use Rattle.std.specs.Prelude.{◌≡◌, ◌<◌, ◌≤◌, ◌==◌, ◌||◌, length, All, IfOk};
-ghost use Rattle.convoy_scenario.specs.declared.limits.TheConstants.{MOST_GROUPS, MOST_MULTICASTS};
+ghost use Rattle.convoy_draft.specs.declared.limits.TheConstants.{MOST_GROUPS, MOST_MULTICASTS};
 ghost use Rattle.convoy_stamps.specs.Reach.{pairs_of};
 ghost use Rattle.convoy_sure.specs.Windows.{tables_by};
 ghost use Rattle.convoy_starts.specs.Starts.{first_past, is_surely_less, last_arrival};

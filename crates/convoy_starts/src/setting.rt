@@ -1,6 +1,6 @@
 ghost use Rattle.std.specs.Prelude.{◌≡◌, ℕ, ◌*◌, ◌<◌, ◌≤◌, ◌==◌, length, map, slice_index, All, not};
 ghost use Rattle.std.specs.List.{filter, range_with_len};
-ghost use Rattle.convoy_scenario.specs.declared.limits.TheConstants.{MOST_GROUPS, MOST_MULTICASTS};
+ghost use Rattle.convoy_draft.specs.declared.limits.TheConstants.{MOST_GROUPS, MOST_MULTICASTS};
 ghost use Rattle.convoy_sim.specs.Delivery.{addressed_to};
 ghost use Rattle.convoy_sure.specs.SureLeads.{pair_count, sure_after, sure_later};
 ghost use Rattle.convoy_sure.specs.Windows.{tables_by};

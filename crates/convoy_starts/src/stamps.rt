@@ -1,7 +1,7 @@
 ghost use Rattle.std.specs.Prelude.{◌≡◌, ℕ, ◌+◌, ◌*◌, ◌<◌, ◌≤◌, ◌==◌, not, max, min, length, map, slice_index, All};
 ghost use Rattle.std.specs.List.{filter};
 ghost use Rattle.convoy_sim.specs.Moments.{next_arrival};
-ghost use Rattle.convoy_scenario.specs.declared.limits.TheConstants.{MOST_GROUPS, MOST_MULTICASTS};
+ghost use Rattle.convoy_draft.specs.declared.limits.TheConstants.{MOST_GROUPS, MOST_MULTICASTS};
 ghost use Rattle.convoy_sure.specs.SureLeads.{lead_at, sure_later, top_of};
 ghost use Rattle.convoy_sure.specs.Windows.{tables_by};
 ghost use Rattle.convoy_starts.specs.Starts.{arrivals_since, arrives_by, capped, clock_alone, clock_from};

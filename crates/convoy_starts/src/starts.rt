@@ -1,6 +1,6 @@
 ghost use Rattle.std.specs.Prelude.{◌≡◌, ℕ, ◌*◌, ◌<◌, ◌≤◌, false, [], length, slice_index, slice_index_or, All, OnOk};
 ghost use Rattle.std.specs.List.{fold};
-ghost use Rattle.convoy_scenario.specs.declared.limits.TheConstants.{MOST_GROUPS, MOST_MULTICASTS};
+ghost use Rattle.convoy_draft.specs.declared.limits.TheConstants.{MOST_GROUPS, MOST_MULTICASTS};
 ghost use Rattle.convoy_stamps.specs.declared.pair.Pair.{Pair};
 ghost use Rattle.convoy_stamps.specs.Reach.{pairs_of};
 ghost use Rattle.convoy_sure.specs.Windows.{tables_by};

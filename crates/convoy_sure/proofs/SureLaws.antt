@@ -2,7 +2,7 @@
 use Rattle.std.proofs.Common.{◌≡◌, ℕ, ◌+◌, ◌-◌, ◌*◌, ◌<◌, ◌≤◌, zero, suc, max, Bool, true, ◌==◌, ◌⊎◌, nat_lt, inl, inr, List, [], ◌∷◌, length, map, replicate, get_or, slice_set, fold, refl, sym, ap, ap₂, subst, arith}
 use Rattle.std.proofs.lemmas.Bool.{cases_Bool, cond-true, cond-false, ltb-true, eqb-true}
 use Rattle.std.specs.List.{filter, range_with_len}
-use Rattle.convoy_scenario.specs.declared.limits.TheConstants.{MOST_GROUPS}
+use Rattle.convoy_draft.specs.declared.limits.TheConstants.{MOST_GROUPS}
 use Rattle.convoy_scenario.specs.Scenario.{Scenario, message_at, no_message, GoesTo}
 use Rattle.convoy_scenario.specs.WellFormed.{IsScenario}
 use Rattle.convoy_packets.specs.Assignment.{Schedule}

@@ -2,7 +2,7 @@
 use Rattle.std.proofs.Common.{◌≡◌, ℕ, ◌+◌, ◌*◌, ◌/◌, ◌%◌, ◌≤◌, max, ◌&&◌, inl, inr, List, [], ◌∷◌, length, slice_set, fold, refl, sym, ap₂, subst, ◌∙◌, arith, cond}
 use Rattle.std.proofs.lemmas.Bool.{and_from, cond-true}
 use Rattle.std.proofs.lemmas.List.FromFn.{get_or-map-range_with_len}
-use Rattle.convoy_scenario.specs.declared.limits.TheConstants.{MOST_GROUPS}
+use Rattle.convoy_draft.specs.declared.limits.TheConstants.{MOST_GROUPS}
 use Rattle.convoy_scenario.specs.Scenario.{Scenario, message_at, is_addressed, GoesTo}
 use Rattle.convoy_scenario.specs.WellFormed.{IsScenario}
 use Rattle.convoy_packets.specs.declared.packet.Packet.{Packet}

@@ -1,9 +1,9 @@
 -- Sure leads: by how much the stamp of a message at the target's group surely exceeds others.
 use Rattle.std.specs.Prelude.{ℕ, ◌+◌, ◌-◌, ◌*◌, ◌==◌, nat_lt, nat_le, max, min, Bool, ◌&&◌, ◌||◌, List, [], ◌∷◌, length, map, replicate, slice_index_or, slice_set, if◌then◌else◌}
 use Rattle.std.specs.List.{fold, filter, range_with_len}
-use Rattle.convoy_scenario.specs.declared.limits.TheConstants.{MOST_GROUPS}
-use Rattle.convoy_scenario.specs.declared.time.Time.{Time}
-use Rattle.convoy_scenario.specs.declared.time.Time.TheVariants.{Ticks, Real}
+use Rattle.convoy_draft.specs.declared.limits.TheConstants.{MOST_GROUPS}
+use Rattle.convoy_draft.specs.declared.time.Time.{Time}
+use Rattle.convoy_draft.specs.declared.time.Time.TheVariants.{Ticks, Real}
 use Rattle.convoy_scenario.specs.Scenario.{Scenario, message_at}
 use Rattle.convoy_sim.specs.Times.{Tick, greatest}
 use Rattle.convoy_sim.specs.Delivery.{addressed_to}

@@ -1,7 +1,7 @@
 -- Windows: from when to when each message may arrive at each of its destinations and be committed there, and the least and the greatest delay of each of its packets, in lists.
 use Rattle.std.specs.Prelude.{ℕ, ◌+◌, ◌-◌, ◌*◌, ◌/◌, ◌%◌, ◌≤◌, max, min, ◌&&◌, List, length, All, map, slice_index_or, slice_set, if◌then◌else◌}
 use Rattle.std.specs.List.{fold, range_with_len}
-use Rattle.convoy_scenario.specs.declared.limits.TheConstants.{MOST_GROUPS, GREATEST_UNTIL}
+use Rattle.convoy_draft.specs.declared.limits.TheConstants.{MOST_GROUPS, GREATEST_UNTIL}
 use Rattle.convoy_scenario.specs.Scenario.{Scenario, message_at, is_addressed, GoesTo}
 use Rattle.convoy_packets.specs.declared.packet.Packet.TheVariants.{Multicast, Propose}
 use Rattle.convoy_packets.specs.Assignment.{Schedule, delay_of}

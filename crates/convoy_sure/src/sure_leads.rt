@@ -1,6 +1,6 @@
 ghost use Rattle.std.specs.Prelude.{◌≡◌, ℕ, ◌+◌, ◌*◌, ◌<◌, ◌≤◌, length, map, All, IfOk};
 ghost use Rattle.std.specs.List.{fold, range_with_len};
-ghost use Rattle.convoy_scenario.specs.declared.limits.TheConstants.{MOST_GROUPS, MOST_MULTICASTS};
+ghost use Rattle.convoy_draft.specs.declared.limits.TheConstants.{MOST_GROUPS, MOST_MULTICASTS};
 ghost use Rattle.convoy_scenario.specs.Scenario.{message_at};
 ghost use Rattle.convoy_sim.specs.Delivery.{addressed_to};
 ghost use Rattle.convoy_sim.specs.Times.{greatest};

@@ -4,7 +4,7 @@ use Rattle.convoy_toml.specs.declared.target.TargetKey.TheVariants.{Optional}
 use Rattle.convoy_tables.specs.declared.format.Format.{Format}
 use Rattle.convoy_commands.specs.declared.fault.Fault.TheVariants.{Scenario, Write}
 use Rattle.convoy_commands.proofs.TextRuns.{faulty_is_not_write}
-use Rattle.convoy_scenario.specs.declared.fault.ScenarioFault.{ScenarioFault}
+use Rattle.convoy_draft.specs.declared.fault.ScenarioFault.{ScenarioFault}
 use Rattle.convoy_survey.specs.CeilingTables.{CeilingsSay}
 
 scenario_is_not_write : (cause : ScenarioFault) → Write ≡ Scenario cause → ⊥

@@ -1,7 +1,7 @@
 -- The numbers of a row, and those that `latency` answers.
 use Rattle.std.proofs.Common.{◌≡◌, ◌≤◌, ℕ, Result, Ok, ap, sym, ◌∙◌, arith}
 use Rattle.convoy_scenario.specs.Scenario.{Scenario}
-use Rattle.convoy_scenario.specs.declared.fault.ScenarioFault.{ScenarioFault}
+use Rattle.convoy_draft.specs.declared.fault.ScenarioFault.{ScenarioFault}
 use Rattle.convoy_sim.specs.Greatest.{IsGreatest}
 use Rattle.convoy_commands.specs.Lines.{greatest_line}
 use Rattle.convoy_survey.specs.Laws.{RowsAreLatencies, RowsEnclose}

@@ -1,7 +1,7 @@
 -- What is written of a scenario's ceilings.
 use Rattle.std.specs.Prelude.{◌≡◌, ◌⊎◌, ℕ, IsTrue, IsFalse, List, ◌++◌, map, Option, Some, Ok, Err, codes}
 use Rattle.std.specs.List.{list_any}
-use Rattle.convoy_scenario.specs.declared.fault.ScenarioFault.TheVariants.{UnknownGroup}
+use Rattle.convoy_draft.specs.declared.fault.ScenarioFault.TheVariants.{UnknownGroup}
 use Rattle.convoy_scenario.specs.Scenario.{Scenario}
 use Rattle.convoy_scenario.specs.WellFormed.{IsScenario}
 use Rattle.convoy_toml.specs.declared.target.TargetKey.TheVariants.{Optional}

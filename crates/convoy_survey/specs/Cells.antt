@@ -1,7 +1,7 @@
 -- The table of a survey.
 use Rattle.std.specs.Prelude.{ℕ, ◌*◌, Bool, true, false, List, [], ◌∷◌, ◌++◌, map, Option, Some, None, codes}
 use Rattle.std.specs.Option.{option_map, option_and_then}
-use Rattle.convoy_scenario.specs.Durations.{count_of, unit_of, unit_word}
+use Rattle.convoy_draft.specs.Durations.{count_of, unit_of, unit_word}
 use Rattle.convoy_scenario.specs.Scenario.{Scenario, group_name_at, message_at}
 use Rattle.convoy_ceiling.specs.Ceiling.{ceiling_at}
 use Rattle.convoy_tables.specs.Tables.{Cell, Table, nothing, number, word}

@@ -1,6 +1,6 @@
 ghost use Rattle.std.specs.Prelude.{◌≡◌, option_map};
 ghost use Rattle.std.specs.List.{list_any};
-ghost use Rattle.convoy_scenario.specs.Checks.{is_among};
+ghost use Rattle.convoy_draft.specs.Checks.{is_among};
 ghost use Rattle.convoy_commands.specs.declared.limits.TheConstants.{LONGEST_JOB};
 ghost use Rattle.convoy_commands.specs.Replies.{SaysUnlessMemory, reply_of};
 ghost use Rattle.convoy_commands.specs.Runs.{IsRun};

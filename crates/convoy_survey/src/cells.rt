@@ -1,9 +1,9 @@
 //! The cells of the tables.
 
 ghost use Rattle.std.specs.Prelude.{◌≡◌, ◌<◌, ◌≤◌, ◌∷◌, [], ◌++◌, length, OnOk, IfOk, option_and_then};
-ghost use Rattle.convoy_scenario.specs.Durations.{count_of};
+ghost use Rattle.convoy_draft.specs.Durations.{count_of};
 ghost use Rattle.convoy_scenario.specs.Scenario.{group_name_at, message_at};
-ghost use Rattle.convoy_scenario.specs.declared.duration.TheConstants.{MOST_UNITS};
+ghost use Rattle.convoy_draft.specs.declared.duration.TheConstants.{MOST_UNITS};
 ghost use Rattle.convoy_survey.specs.Findings.{cause_of, nodes_of};
 ghost use Rattle.convoy_survey.specs.Cells.{cause_cells, ceiling_cells_if, cells_of, count_cell, duration_cells, finding_cells, name_cell, target_cells, tick_cells, time_cell, time_cells, unit_cells};
 

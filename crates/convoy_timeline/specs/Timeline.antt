@@ -3,7 +3,7 @@ use Rattle.std.specs.Prelude.{ℕ, ◌==◌, nat_lt, nat_le, Bool, ◌&&◌, ◌
 use Rattle.std.specs.List.{fold, flat_map}
 use Rattle.convoy_scenario.specs.Scenario.{Scenario, message_at, message_numbers, may_wait, group_name_at}
 use Rattle.convoy_scenario.specs.Naming.{sender_word}
-use Rattle.convoy_scenario.specs.Durations.{count_of, unit_of, unit_word}
+use Rattle.convoy_draft.specs.Durations.{count_of, unit_of, unit_word}
 use Rattle.convoy_packets.specs.Assignment.{Schedule}
 use Rattle.convoy_sim.specs.declared.timestamp.Timestamp.{Timestamp}
 use Rattle.convoy_sim.specs.Times.{issue, arrive, settle}

@@ -5,8 +5,8 @@ use Rattle.std.specs.Map.{keys_of}
 use Rattle.std.specs.Str.{bytes_eq}
 use Rattle.toml.specs.View.{members_view}
 use Rattle.toml.specs.declared.value.Value.{Value}
-use Rattle.convoy_scenario.specs.declared.fault.Key.{Key}
-use Rattle.convoy_scenario.specs.Keys.{key_word}
+use Rattle.convoy_draft.specs.declared.fault.Key.{Key}
+use Rattle.convoy_draft.specs.Keys.{key_word}
 use Rattle.convoy_toml.specs.Shape.{has_only}
 
 abbrev pub is_one_of : List Key → String Global → Bool

@@ -1,8 +1,8 @@
 -- Worked rows: which links some tables write.
 use Rattle.std.proofs.Common.{◌≡◌, refl, true, false, Bool, pos, [], ◌∷◌, Option, Some, None, ℕ, List, Ok, Err, codes, replicate}
-use Rattle.convoy_scenario.specs.declared.fault.Limit.TheVariants.{Link}
-use Rattle.convoy_scenario.specs.declared.fault.ScenarioFault.TheVariants.{OverLimit}
-use Rattle.convoy_scenario.specs.Draft.{DraftLink}
+use Rattle.convoy_draft.specs.declared.fault.Limit.TheVariants.{Link}
+use Rattle.convoy_draft.specs.declared.fault.ScenarioFault.TheVariants.{OverLimit}
+use Rattle.convoy_draft.specs.Draft.{DraftLink}
 use Rattle.convoy_toml.specs.Links.{Bundle, count_of, links_of_bundle, links_of_bundles}
 
 abbrev a : List ℕ

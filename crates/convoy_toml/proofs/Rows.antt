@@ -1,14 +1,14 @@
 -- Worked rows: what the definitions of the reader give for some tables.
 use Rattle.std.proofs.Common.{◌≡◌, refl, true, false, pos, negsuc, [], ◌∷◌, Option, Some, None, ℕ, ℤ, List, Result, Ok, Err, codes}
 use Rattle.toml.specs.Data.{Data, Items, no_items, item, Members, no_members, member, string, integer, boolean, array, table}
-use Rattle.convoy_scenario.specs.declared.fault.ScenarioFault.{ScenarioFault}
-use Rattle.convoy_scenario.specs.declared.fault.ScenarioFault.TheVariants.{Shape, NotWhole, OverLimit, NoDestination, LinkToItself, TargetWaits}
-use Rattle.convoy_scenario.specs.declared.fault.Key.TheVariants as key
-use Rattle.convoy_scenario.specs.declared.fault.Limit.TheVariants as limit
+use Rattle.convoy_draft.specs.declared.fault.ScenarioFault.{ScenarioFault}
+use Rattle.convoy_draft.specs.declared.fault.ScenarioFault.TheVariants.{Shape, NotWhole, OverLimit, NoDestination, LinkToItself, TargetWaits}
+use Rattle.convoy_draft.specs.declared.fault.Key.TheVariants as key
+use Rattle.convoy_draft.specs.declared.fault.Limit.TheVariants as limit
 use Rattle.convoy_scenario.specs.declared.sender.Sender.TheVariants.{Client}
-use Rattle.convoy_scenario.specs.declared.time.Time.{Time}
-use Rattle.convoy_scenario.specs.declared.time.Time.TheVariants.{Ticks, Real}
-use Rattle.convoy_scenario.specs.Durations.{duration_of}
+use Rattle.convoy_draft.specs.declared.time.Time.{Time}
+use Rattle.convoy_draft.specs.declared.time.Time.TheVariants.{Ticks, Real}
+use Rattle.convoy_draft.specs.Durations.{duration_of}
 use Rattle.convoy_scenario.specs.Scenario.{Scenario, message_at}
 use Rattle.convoy_lines.specs.Results.{◌>>=◌}
 use Rattle.convoy_toml.specs.declared.target.TargetKey.TheVariants.{Required, Optional}

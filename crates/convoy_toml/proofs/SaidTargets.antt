@@ -1,8 +1,8 @@
 -- A text in which the target is written is read alike, whether the target may be left out or not.
 use Rattle.std.proofs.Common.{◌≡◌, ℕ, List, Ok, IsSome, refl}
 use Rattle.toml.specs.Data.{Members, get_member}
-use Rattle.convoy_scenario.specs.declared.fault.Key.TheVariants.{Target}
-use Rattle.convoy_scenario.specs.Keys.{key_word}
+use Rattle.convoy_draft.specs.declared.fault.Key.TheVariants.{Target}
+use Rattle.convoy_draft.specs.Keys.{key_word}
 use Rattle.convoy_toml.specs.declared.target.TargetKey.TheVariants.{Optional}
 use Rattle.convoy_toml.specs.Reading.{table_of_text, input_of_text, input_of_text_by}
 

@@ -2,8 +2,8 @@
 use Rattle.std.specs.Int.{IsGcd}
 use Rattle.std.specs.Prelude.{◌≡◌, ℕ, List, Ok, IsSome}
 use Rattle.toml.specs.Data.{Members, get_member}
-use Rattle.convoy_scenario.specs.declared.fault.Key.TheVariants.{Target}
-use Rattle.convoy_scenario.specs.Keys.{key_word}
+use Rattle.convoy_draft.specs.declared.fault.Key.TheVariants.{Target}
+use Rattle.convoy_draft.specs.Keys.{key_word}
 use Rattle.convoy_scenario.specs.Scenario.{Scenario}
 use Rattle.convoy_scenario.specs.WellFormed.{IsScenario}
 use Rattle.convoy_toml.specs.declared.target.TargetKey.TheVariants.{Optional}

@@ -1,8 +1,8 @@
 -- what a reader has to know of the crates below
 pub use Rattle.convoy_lines.specs.Results
-pub use Rattle.convoy_scenario.specs.Draft
-pub use Rattle.convoy_scenario.specs.Durations
-pub use Rattle.convoy_scenario.specs.Keys
+pub use Rattle.convoy_draft.specs.Draft
+pub use Rattle.convoy_draft.specs.Durations
+pub use Rattle.convoy_draft.specs.Keys
 pub use Rattle.convoy_scenario.specs.Memory
 pub use Rattle.convoy_scenario.specs.Numbering
 pub use Rattle.convoy_scenario.specs.Scenario

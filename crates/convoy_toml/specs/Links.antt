@@ -1,11 +1,11 @@
 -- The links that a table writes: one from each place that sends to each group that they lead to, and perhaps the ways back.
 use Rattle.std.specs.Prelude.{ℕ, ◌*◌, nat_le, if◌then◌else◌, ℤ, List, [], ◌++◌, map, flat_map, filter, length, sum_by, Option, Some, None, option_map, unwrap_or, Result, Ok, Err}
 use Rattle.std.specs.List.{list_any}
-use Rattle.convoy_scenario.specs.declared.fault.Limit.TheVariants.{Link}
-use Rattle.convoy_scenario.specs.declared.fault.ScenarioFault.{ScenarioFault}
-use Rattle.convoy_scenario.specs.declared.fault.ScenarioFault.TheVariants.{OverLimit}
-use Rattle.convoy_scenario.specs.Checks.{leads_elsewhere}
-use Rattle.convoy_scenario.specs.Draft.{DraftLink}
+use Rattle.convoy_draft.specs.declared.fault.Limit.TheVariants.{Link}
+use Rattle.convoy_draft.specs.declared.fault.ScenarioFault.{ScenarioFault}
+use Rattle.convoy_draft.specs.declared.fault.ScenarioFault.TheVariants.{OverLimit}
+use Rattle.convoy_draft.specs.Checks.{leads_elsewhere}
+use Rattle.convoy_draft.specs.Draft.{DraftLink}
 use Rattle.convoy_toml.specs.declared.links.TheConstants.{MOST_WRITTEN_LINKS}
 use Rattle.convoy_toml.specs.Shape.{LinkEnds}
 

@@ -4,11 +4,11 @@ use Rattle.std.specs.Result.{result_map_both}
 use Rattle.std.specs.Str.{is_utf8}
 use Rattle.toml.specs.Data.{Members}
 use Rattle.toml.specs.Parse.{parse_document}
-use Rattle.convoy_scenario.specs.declared.fault.ScenarioFault.{ScenarioFault}
+use Rattle.convoy_draft.specs.declared.fault.ScenarioFault.{ScenarioFault}
 use Rattle.convoy_toml.specs.declared.input.Input.{Input}
 use Rattle.convoy_toml.specs.declared.target.TargetKey.{TargetKey}
 use Rattle.convoy_toml.specs.declared.target.TargetKey.TheVariants.{Required}
-use Rattle.convoy_scenario.specs.declared.fault.ScenarioFault.TheVariants.{NotToml}
+use Rattle.convoy_draft.specs.declared.fault.ScenarioFault.TheVariants.{NotToml}
 use Rattle.convoy_scenario.specs.Scenario.{Scenario}
 use Rattle.convoy_scenario.specs.Numbering.{scenario_of_draft}
 use Rattle.convoy_lines.specs.Results.{◌>>=◌}

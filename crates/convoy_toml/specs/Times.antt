@@ -2,11 +2,11 @@
 use Rattle.std.specs.Prelude.{ℕ, suc, zero, ◌+◌, ℤ, pos, ◌%◌, ◌/◌, ◌==◌, max, Bool, true, false, if◌then◌else◌, List, [], ◌∷◌, ◌++◌, map, flat_map, Option, Some, None, option_and_then, ok_or, Result, Ok, Err}
 use Rattle.std.specs.List.{list_all}
 use Rattle.convoy_lines.specs.Results.{◌>>=◌}
-use Rattle.convoy_scenario.specs.declared.fault.Key.{Key}
-use Rattle.convoy_scenario.specs.declared.fault.Key.TheVariants.{Tick, Delay, At, Until, Least, Most}
-use Rattle.convoy_scenario.specs.declared.fault.ScenarioFault.{ScenarioFault}
-use Rattle.convoy_scenario.specs.declared.fault.ScenarioFault.TheVariants.{Shape, NotWhole}
-use Rattle.convoy_scenario.specs.Draft.{Draft, DraftMessage}
+use Rattle.convoy_draft.specs.declared.fault.Key.{Key}
+use Rattle.convoy_draft.specs.declared.fault.Key.TheVariants.{Tick, Delay, At, Until, Least, Most}
+use Rattle.convoy_draft.specs.declared.fault.ScenarioFault.{ScenarioFault}
+use Rattle.convoy_draft.specs.declared.fault.ScenarioFault.TheVariants.{Shape, NotWhole}
+use Rattle.convoy_draft.specs.Draft.{Draft, DraftMessage}
 use Rattle.convoy_toml.specs.declared.written.WrittenTime.{WrittenTime}
 use Rattle.convoy_toml.specs.declared.written.WrittenTime.TheVariants.{Count, Lasting}
 use Rattle.convoy_toml.specs.Links.{Bundle, links_of_bundles}

@@ -1,6 +1,6 @@
 ghost use Rattle.std.specs.Prelude.{◌≡◌, ◌++◌, map, flat_map, filter, nat_le, option_map, sum_by, IfOk, OnOk};
 ghost use Rattle.std.specs.List.{list_any};
-ghost use Rattle.convoy_scenario.specs.Checks.{leads_elsewhere};
+ghost use Rattle.convoy_draft.specs.Checks.{leads_elsewhere};
 ghost use Rattle.convoy_scenario.specs.Memory.{IsUnlessMemory};
 ghost use Rattle.convoy_toml.specs.Links.{link_in, links_from, links_between, ways_of, apart, links_of_bundle, count_of, links_of_bundles};
 ghost use Rattle.convoy_toml.specs.Shape.{listed};

@@ -4,7 +4,7 @@ ghost use Rattle.std.specs.Str.{bytes_eq};
 ghost use Rattle.std.specs.Result.{result_map_both};
 ghost use Rattle.toml.specs.Data.{as_integer, as_str, as_array, as_table, get_member};
 ghost use Rattle.toml.specs.View.{view, array_view, table_view};
-ghost use Rattle.convoy_scenario.specs.Keys.{key_word};
+ghost use Rattle.convoy_draft.specs.Keys.{key_word};
 ghost use Rattle.convoy_scenario.specs.Memory.{IsUnlessMemory};
 ghost use Rattle.convoy_toml.specs.Shape.{all_of, as_duration, as_when, as_tick, need, need_all, wish, wish_all, names_in, as_names, as_both, both_of_table, ends_of_table, has_only, need_only, time_of_table, message_of_table, messages_of, link_of_table, links_of, links_of_table, written_target, target_of_table, scenario_of_table, written_of_table, listed, listed_if_there, tables_listed};
 

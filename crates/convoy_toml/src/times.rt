@@ -1,5 +1,5 @@
 ghost use Rattle.std.specs.Prelude.{◌≡◌, ◌≤◌, ◌++◌, map, flat_map, option_map, IfOk, OnOk};
-ghost use Rattle.convoy_scenario.specs.declared.duration.TheConstants.{LONGEST_DURATION};
+ghost use Rattle.convoy_draft.specs.declared.duration.TheConstants.{LONGEST_DURATION};
 ghost use Rattle.std.specs.List.{list_all};
 ghost use Rattle.convoy_scenario.specs.Memory.{IsUnlessMemory};
 ghost use Rattle.convoy_toml.specs.Shape.{listed};

@@ -3,11 +3,11 @@ use Rattle.std.proofs.Common.{◌≡◌, ℕ, ◌+◌, ◌≤◌, leb, true, Lis
 use Rattle.std.specs.List.{list_all, sum_by}
 use Rattle.std.proofs.lemmas.Bool.{cases_Bool, le-leb, ltb-false, false≢true}
 use Rattle.std.proofs.lemmas.List.Sums.{sum_by-cons}
-use Rattle.convoy_scenario.specs.declared.limits.TheConstants.{MOST_LINKS}
+use Rattle.convoy_draft.specs.declared.limits.TheConstants.{MOST_LINKS}
 use Rattle.convoy_scenario.specs.declared.sender.Sender.{Sender}
 use Rattle.convoy_scenario.specs.declared.sender.Sender.TheVariants.{Client, Group}
-use Rattle.convoy_scenario.specs.Checks.{leads_elsewhere}
-use Rattle.convoy_scenario.specs.Draft.{DraftLink, DraftMessage}
+use Rattle.convoy_draft.specs.Checks.{leads_elsewhere}
+use Rattle.convoy_draft.specs.Draft.{DraftLink, DraftMessage}
 use Rattle.convoy_scenario.specs.Naming.{draft_for, draft_link, draft_message}
 use Rattle.convoy_scenario.specs.Scenario.{Link, Message, Scenario, may_wait}
 use Rattle.convoy_toml.specs.declared.links.TheConstants.{MOST_WRITTEN_LINKS}

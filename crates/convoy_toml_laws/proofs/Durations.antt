@@ -10,10 +10,10 @@ use Rattle.std.proofs.lemmas.Bool.Decides.{nat_tests}
 use Rattle.std.proofs.lemmas.Iterator.Adapters.{position_from-zero}
 use Rattle.std.proofs.lemmas.Fmt.{decimal_nonempty, digits_decimal, digits_value-decimal}
 use Rattle.std.proofs.lemmas.Str.Parse.{IsNumeralModel, numerals_by_value, tells_all_ascii_digits}
-use Rattle.convoy_scenario.specs.declared.duration.TimeUnit.{TimeUnit}
-use Rattle.convoy_scenario.specs.declared.duration.TimeUnit.TheVariants.{Seconds, Milliseconds, Microseconds, Nanoseconds}
-use Rattle.convoy_scenario.specs.declared.duration.TheConstants.{LONGEST_DURATION, MOST_UNITS}
-use Rattle.convoy_scenario.specs.Durations.{count_of, unit_of, unit_word, unit_length, unit_named, duration_of, number_in, digits_before, digit_of, is_number_byte}
+use Rattle.convoy_draft.specs.declared.duration.TimeUnit.{TimeUnit}
+use Rattle.convoy_draft.specs.declared.duration.TimeUnit.TheVariants.{Seconds, Milliseconds, Microseconds, Nanoseconds}
+use Rattle.convoy_draft.specs.declared.duration.TheConstants.{LONGEST_DURATION, MOST_UNITS}
+use Rattle.convoy_draft.specs.Durations.{count_of, unit_of, unit_word, unit_length, unit_named, duration_of, number_in, digits_before, digit_of, is_number_byte}
 use Rattle.convoy_toml_laws.proofs.Plain.{is_plain, are_plain}
 
 -- ---- digits

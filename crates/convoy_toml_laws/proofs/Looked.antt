@@ -3,9 +3,9 @@ use Rattle.std.proofs.Common.{◌≡◌, ℕ, true, List, [], ◌∷◌, codes, 
 use Rattle.std.specs.List.{list_any}
 use Rattle.std.specs.Str.{bytes_eq}
 use Rattle.toml.specs.Data.{Data, table, Members, no_members, member, get_member}
-use Rattle.convoy_scenario.specs.declared.fault.Key.{Key}
-use Rattle.convoy_scenario.specs.declared.fault.Key.TheVariants.{Time, Tick, Delay, Groups, Multicast, Target, Link, Schedule, Order}
-use Rattle.convoy_scenario.specs.Keys.{key_word}
+use Rattle.convoy_draft.specs.declared.fault.Key.{Key}
+use Rattle.convoy_draft.specs.declared.fault.Key.TheVariants.{Time, Tick, Delay, Groups, Multicast, Target, Link, Schedule, Order}
+use Rattle.convoy_draft.specs.Keys.{key_word}
 use Rattle.convoy_toml.specs.Shape.{has_only}
 use Rattle.convoy_toml_laws.proofs.Document.{with_member, some_tables, Head, whole_table}
 

@@ -8,7 +8,7 @@ use Rattle.toml.specs.Parse.{skip_bom, parse_document}
 use Rattle.toml.specs.Tables.{no_nodes}
 use Rattle.toml.proofs.ReadLines.{read_lines}
 use Rattle.toml.proofs.Turns.{document_some}
-use Rattle.convoy_scenario.specs.Durations.{count_of}
+use Rattle.convoy_draft.specs.Durations.{count_of}
 use Rattle.convoy_scenario.specs.Scenario.{Scenario}
 use Rattle.convoy_packets.specs.Assignment.{Schedule}
 use Rattle.convoy_toml.specs.Reading.{table_of_text}

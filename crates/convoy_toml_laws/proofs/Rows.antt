@@ -4,8 +4,8 @@ use Rattle.std.specs.Fmt.{digits}
 use Rattle.std.specs.Str.{chars, is_utf8}
 use Rattle.toml.proofs.OnLiterals.{toml_on_literals}
 use Rattle.convoy_scenario.specs.declared.sender.Sender.TheVariants.{Client, Group}
-use Rattle.convoy_scenario.specs.declared.time.Time.TheVariants.{Ticks, Real}
-use Rattle.convoy_scenario.specs.Durations.{duration_of}
+use Rattle.convoy_draft.specs.declared.time.Time.TheVariants.{Ticks, Real}
+use Rattle.convoy_draft.specs.Durations.{duration_of}
 use Rattle.convoy_scenario.specs.Scenario.{Scenario}
 use Rattle.convoy_packets.specs.Assignment.{Schedule, in_fixed_order}
 use Rattle.convoy_packets.specs.Order.{Order, no_order}

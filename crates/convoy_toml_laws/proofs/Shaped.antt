@@ -5,14 +5,14 @@ use Rattle.std.proofs.lemmas.Bool.{cases_Bool, le-leb}
 use Rattle.std.proofs.lemmas.List.{map-id}
 use Rattle.toml.specs.Data.{Data, string, array, table, Items, Members, get_member, as_str, as_integer, as_table}
 use Rattle.toml.specs.View.{items_of}
-use Rattle.convoy_scenario.specs.declared.fault.Key.{Key}
-use Rattle.convoy_scenario.specs.declared.fault.Key.TheVariants.{Time, Tick, Delay, Groups, Multicast, Target, Link, Schedule, Order}
+use Rattle.convoy_draft.specs.declared.fault.Key.{Key}
+use Rattle.convoy_draft.specs.declared.fault.Key.TheVariants.{Time, Tick, Delay, Groups, Multicast, Target, Link, Schedule, Order}
 use Rattle.convoy_scenario.specs.declared.sender.Sender.{Sender}
 use Rattle.convoy_scenario.specs.declared.sender.Sender.TheVariants.{Client, Group}
-use Rattle.convoy_scenario.specs.declared.time.Time.{Time as AnyTime}
-use Rattle.convoy_scenario.specs.declared.time.Time.TheVariants.{Ticks, Real}
-use Rattle.convoy_scenario.specs.Durations.{duration_of}
-use Rattle.convoy_scenario.specs.Keys.{key_word}
+use Rattle.convoy_draft.specs.declared.time.Time.{Time as AnyTime}
+use Rattle.convoy_draft.specs.declared.time.Time.TheVariants.{Ticks, Real}
+use Rattle.convoy_draft.specs.Durations.{duration_of}
+use Rattle.convoy_draft.specs.Keys.{key_word}
 use Rattle.convoy_scenario.specs.Naming.{sender_name}
 use Rattle.convoy_scenario.specs.Scenario.{Link as ScenarioLink, Message, Scenario, group_name_at, may_wait, message_at}
 use Rattle.convoy_packets.specs.Assignment.{Schedule as ScenarioSchedule}

@@ -6,12 +6,14 @@ use Rattle.std.proofs.lemmas.Bool.{and_parts, leb-true, false≢true}
 use Rattle.std.proofs.lemmas.Bool.Decides.{nat_tests}
 use Rattle.std.proofs.lemmas.List.Elements.{recursion_from_All}
 use Rattle.std.proofs.lemmas.List.Folds.{list_all-append}
-use Rattle.convoy_scenario.specs.declared.duration.TheConstants.{LONGEST_DURATION, MOST_UNITS}
-use Rattle.convoy_scenario.specs.declared.time.Time.{Time}
-use Rattle.convoy_scenario.specs.declared.time.Time.TheVariants.{Ticks, Real}
-use Rattle.convoy_scenario.specs.Durations.{count_of, unit_of, unit_word}
+use Rattle.convoy_draft.specs.declared.duration.TheConstants.{LONGEST_DURATION, MOST_UNITS}
+use Rattle.convoy_draft.specs.declared.time.Time.{Time}
+use Rattle.convoy_draft.specs.declared.time.Time.TheVariants.{Ticks, Real}
+use Rattle.convoy_draft.specs.Durations.{count_of, unit_of, unit_word}
 use Rattle.convoy_scenario.specs.Scenario.{Link, Message, Scenario, no_message}
-use Rattle.convoy_scenario.specs.WellFormed.{IsLink, IsMulticast, IsScenario, client_word, is_group_name, is_letter, is_name, is_name_byte, is_tick}
+use Rattle.convoy_scenario.specs.WellFormed.{IsLink, IsMulticast, IsScenario}
+use Rattle.convoy_draft.specs.Names.{client_word, is_group_name, is_letter, is_name, is_name_byte}
+use Rattle.convoy_draft.specs.Limits.{is_tick}
 use Rattle.convoy_packets.specs.declared.order.TheConstants.{GREATEST_RANK}
 use Rattle.convoy_packets.specs.declared.packet.Packet.{Packet}
 use Rattle.convoy_packets.specs.Assignment.{IsAssignment, IsWithin, Schedule, range_of, ranges_of}

@@ -1,7 +1,7 @@
 -- What is proved of scenario texts that are written and read. Each is the one clause of the function of its name in the crate's module `laws`.
 use Rattle.std.specs.Prelude.{◌≡◌, ℤ, pos, if◌then◌else◌, List, map, Option, Some, None, Ok}
 use Rattle.std.specs.Option.{MatchOption}
-use Rattle.convoy_scenario.specs.declared.time.Time.TheVariants.{Real}
+use Rattle.convoy_draft.specs.declared.time.Time.TheVariants.{Real}
 use Rattle.convoy_scenario.specs.Scenario.{Scenario}
 use Rattle.convoy_scenario.specs.WellFormed.{IsScenario}
 use Rattle.convoy_packets.specs.Assignment.{Schedule, IsAssignment, in_fixed_order, ranges_of}

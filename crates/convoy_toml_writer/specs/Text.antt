@@ -3,9 +3,9 @@ use Rattle.std.specs.Prelude.{ℕ, ◌+◌, List, [], ◌∷◌, ◌++◌, map, 
 use Rattle.std.specs.List.{flat_map}
 use Rattle.convoy_scenario.specs.declared.sender.Sender.{Sender}
 use Rattle.convoy_scenario.specs.declared.sender.Sender.TheVariants.{Client, Group}
-use Rattle.convoy_scenario.specs.declared.time.Time.{Time}
-use Rattle.convoy_scenario.specs.declared.time.Time.TheVariants.{Ticks, Real}
-use Rattle.convoy_scenario.specs.Durations.{count_of, unit_of, unit_word}
+use Rattle.convoy_draft.specs.declared.time.Time.{Time}
+use Rattle.convoy_draft.specs.declared.time.Time.TheVariants.{Ticks, Real}
+use Rattle.convoy_draft.specs.Durations.{count_of, unit_of, unit_word}
 use Rattle.convoy_scenario.specs.Scenario.{Link, Message, Scenario, group_name_at, may_wait, message_at}
 use Rattle.convoy_packets.specs.Assignment.{Schedule}
 use Rattle.convoy_packets.specs.Order.{Order}

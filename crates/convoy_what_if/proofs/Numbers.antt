@@ -1,6 +1,6 @@
 -- The laws of the rows.
 use Rattle.std.proofs.Common.{◌≡◌, ◌≤◌, inl, inr, ℕ, Result, Ok, ap, sym, ◌∙◌, arith}
-use Rattle.convoy_scenario.specs.declared.fault.ScenarioFault.{ScenarioFault}
+use Rattle.convoy_draft.specs.declared.fault.ScenarioFault.{ScenarioFault}
 use Rattle.convoy_scenario.specs.Scenario.{Scenario}
 use Rattle.convoy_sim.specs.Greatest.{IsGreatest}
 use Rattle.convoy_commands.specs.Lines.{greatest_line}

@@ -1,7 +1,7 @@
 -- What is tried of a scenario: a change, and a search of the scenario that it makes.
 use Rattle.std.specs.Prelude.{◌≡◌, ◌⊎◌, Ok, Err, List}
 use Rattle.std.specs.List.{Contains}
-use Rattle.convoy_scenario.specs.declared.fault.ScenarioFault.{ScenarioFault}
+use Rattle.convoy_draft.specs.declared.fault.ScenarioFault.{ScenarioFault}
 use Rattle.convoy_scenario.specs.Scenario.{Scenario}
 use Rattle.convoy_branch.specs.Options.{Settings}
 use Rattle.convoy_commands.specs.declared.fault.Fault.{Fault}

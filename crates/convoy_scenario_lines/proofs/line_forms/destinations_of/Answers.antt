@@ -1,5 +1,5 @@
 use Rattle.std.proofs.Common.{◌≡◌, true, map, sym, ap, ◌∙◌, arith}
-use Rattle.convoy_scenario.specs.Checks.{is_among}
+use Rattle.convoy_draft.specs.Checks.{is_among}
 use Rattle.convoy_scenario_lines.specs.LineForms.{name_of}
 use Rattle.convoy_scenario_lines.proofs.KeptNames.{keeps, keeps_enough}
 use Rattle.convoy_scenario_lines.proofs.LineLaws.{next_takes}

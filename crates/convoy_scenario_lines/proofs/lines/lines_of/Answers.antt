@@ -1,6 +1,6 @@
 use Rattle.std.proofs.Common.{◌≡◌, ◌++◌, ℕ, Option, ap, ◌∙◌, codes}
 use Rattle.convoy_lines.specs.Texts.{ended, number_line, text_of}
-use Rattle.convoy_scenario.specs.declared.time.Time.{Time}
+use Rattle.convoy_draft.specs.declared.time.Time.{Time}
 use Rattle.convoy_scenario_lines.specs.Lines.{time_lines, tick_lines}
 use Rattle.convoy_scenario_lines.proofs.Texts.{in_pieces}
 use Rattle.convoy_scenario_lines.proofs.lines.lines_of.Goals as goal

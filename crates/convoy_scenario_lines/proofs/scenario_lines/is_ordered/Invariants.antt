@@ -1,7 +1,7 @@
 use Rattle.std.proofs.Common.{◌≡◌, drop, filter}
 use Rattle.std.specs.Cmp.Lexicographic.{pointwise}
 use Rattle.std.specs.Str.{bytes_eq}
-use Rattle.convoy_scenario.specs.Checks.{is_among}
+use Rattle.convoy_draft.specs.Checks.{is_among}
 use Rattle.convoy_scenario_lines.specs.LineReading.{is_ordered}
 use Rattle.convoy_scenario_lines.proofs.scenario_lines.is_ordered.Given as goal
 

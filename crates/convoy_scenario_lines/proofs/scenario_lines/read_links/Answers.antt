@@ -1,7 +1,7 @@
 use Rattle.std.proofs.Common.{◌∙◌, ap, sym, vec_len, eq-eqb, arith}
 use Rattle.std.proofs.lemmas.Bool.{ne_eqb}
 use Rattle.std.proofs.lemmas.Result.{err_from_is_err_and}
-use Rattle.convoy_scenario.specs.declared.limits.TheConstants.{MOST_LINKS}
+use Rattle.convoy_draft.specs.declared.limits.TheConstants.{MOST_LINKS}
 use Rattle.convoy_scenario_lines.specs.LineReading.{links_at}
 use Rattle.convoy_scenario_lines.proofs.Links.{with_front, faulty, too_many, goes_on, done}
 use Rattle.convoy_scenario_lines.proofs.scenario_lines.read_links.Goals as goal

@@ -1,6 +1,6 @@
 use Rattle.std.proofs.Common.{ℕ, ◌/◌, ◌%◌, [], ◌∷◌, ◌++◌, ap₂, sym, ◌∙◌, arith}
 use Rattle.std.proofs.lemmas.List.FromFn.{map-range_with_len_more}
-use Rattle.convoy_scenario.specs.declared.limits.TheConstants.{MOST_GROUPS}
+use Rattle.convoy_draft.specs.declared.limits.TheConstants.{MOST_GROUPS}
 use Rattle.convoy_sim.specs.declared.progress.Progress.{Progress}
 use Rattle.convoy_sim.specs.Progress.{progress_told}
 use Rattle.convoy_sim.proofs.progress.list_progress.Goals as goal

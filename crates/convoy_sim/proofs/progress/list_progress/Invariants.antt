@@ -1,6 +1,6 @@
 use Rattle.std.proofs.Common.{◌≡◌, ◌/◌, ◌%◌, map}
 use Rattle.std.specs.List.{range_with_len}
-use Rattle.convoy_scenario.specs.declared.limits.TheConstants.{MOST_GROUPS}
+use Rattle.convoy_draft.specs.declared.limits.TheConstants.{MOST_GROUPS}
 use Rattle.convoy_sim.specs.Progress.{progress_told}
 use Rattle.convoy_sim.proofs.progress.list_progress.Given as goal
 

@@ -1,5 +1,5 @@
 use Rattle.std.proofs.Common.{◌≡◌, false, take}
-use Rattle.convoy_scenario.specs.Checks.{is_among}
+use Rattle.convoy_draft.specs.Checks.{is_among}
 use Rattle.convoy_survey.proofs.ceiling_run.is_group.Given as goal
 
 -- none of the groups so far has the name

@@ -1,5 +1,5 @@
 use Rattle.std.proofs.Common.{◌≡◌, ◌≤◌, drop, map}
-use Rattle.convoy_scenario.specs.declared.duration.TheConstants.{LONGEST_DURATION}
+use Rattle.convoy_draft.specs.declared.duration.TheConstants.{LONGEST_DURATION}
 use Rattle.convoy_toml.specs.Times.{divisor_of_all, length_of}
 use Rattle.convoy_toml.proofs.times.divisor_of_all.Given as goal
 

@@ -1,5 +1,5 @@
 use Rattle.std.proofs.Common.{◌≡◌, ℕ, ◌<◌, ◌≤◌, get_or, All}
-use Rattle.convoy_scenario.specs.declared.time.Time.TheVariants.{Real}
+use Rattle.convoy_draft.specs.declared.time.Time.TheVariants.{Real}
 use Rattle.convoy_sim.specs.Delivery.{addressed_to}
 use Rattle.convoy_sure.specs.Windows.{tables_by}
 use Rattle.convoy_starts.specs.Starts.{stamp_for}

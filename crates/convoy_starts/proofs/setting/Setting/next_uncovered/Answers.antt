@@ -1,5 +1,5 @@
 use Rattle.std.proofs.Common.{◌≡◌, true, sym, ◌∙◌, arith}
-use Rattle.convoy_scenario.specs.declared.time.Time.TheVariants.{Real}
+use Rattle.convoy_draft.specs.declared.time.Time.TheVariants.{Real}
 use Rattle.convoy_sure.specs.Windows.{tables_by}
 use Rattle.convoy_starts.specs.Starts.{may_commit}
 use Rattle.convoy_starts.proofs.SteadyStarts.{covered_again}

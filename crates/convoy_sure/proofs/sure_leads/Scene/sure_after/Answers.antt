@@ -1,5 +1,5 @@
 use Rattle.std.proofs.Common.{ℕ, List, filter, ap, ◌∙◌}
-use Rattle.convoy_scenario.specs.declared.time.Time.{Time}
+use Rattle.convoy_draft.specs.declared.time.Time.{Time}
 use Rattle.convoy_sim.specs.Delivery.{addressed_to}
 use Rattle.convoy_sure.specs.SureLeads.{is_earlier}
 use Rattle.convoy_sure.specs.Windows.{tables_by}

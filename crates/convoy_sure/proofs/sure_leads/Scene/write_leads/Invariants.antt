@@ -1,5 +1,5 @@
 use Rattle.std.proofs.Common.{◌≡◌, ◌≤◌, ◌*◌, length, fold, take, All}
-use Rattle.convoy_scenario.specs.declared.limits.TheConstants.{MOST_GROUPS}
+use Rattle.convoy_draft.specs.declared.limits.TheConstants.{MOST_GROUPS}
 use Rattle.convoy_sure.specs.SureLeads.{with_lead}
 use Rattle.convoy_sure.specs.Windows.{tables_by}
 use Rattle.convoy_sure.proofs.sure_leads.Scene.write_leads.Given as goal
