@@ -92,7 +92,7 @@ IsClosed-ended better shared joined least ended closed board ledger board_is led
       of_scenario = scenario ∙ plan_is;
       attained = attained;
       few = omega (arith, all.within, most);
-      shares = record { each = omega (arith, count, is.joined_is); all = sum_is };
+      tickets_by_worker = record { each = omega (arith, count, is.joined_is); all = sum_is };
       whole = record {
         put = put;
         slots = slots;

@@ -124,7 +124,7 @@ IsProved-certificate trees cover no_stamps no_leads reads bounds scenario worker
       few = is.few;
       no_leads = λ others. subst (λ (ns : List Node). list_any is_lead ns ≡ false) (spent_nodes put pieces) (no_leads bounds scenario best.latency (front put pieces) others none_in fronts);
       readable = λ within. subst AreReadable (spent_nodes put pieces) (reads bounds scenario best.latency (front put pieces) none_in fronts (subst (λ (ns : List Node). length ns ≤ most_nodes bounds) (sym (spent_nodes put pieces)) (omega (arith, tree.1, is.few, within))));
-      shares = is.shares;
+      shares = is.tickets_by_worker;
     }
 
 pub IsProved-closed : (trees : WholeFrontsAreTrees) (cover : TreesCover) (no_stamps : PlainFrontsHaveNoStamps) (no_leads : OnlyLeadsHaveLeadLeaves) (reads : WholeFrontsAreReadable) (bounds : Bounds) (scenario : Scenario) (workers limit : ℕ) (closed : Closed) (certificate : Certificate) → list_any is_left closed.pieces.items ≡ false → certificate ≡ record { scenario = scenario; latency = closed.best.latency; schedule = closed.best.schedule; nodes = nodes_in closed.pieces.items } → IsClosed bounds scenario workers limit closed → IsProved bounds scenario workers limit certificate closed.tickets closed.by_worker.items
@@ -163,5 +163,5 @@ IsOpen-closed bound bounds scenario workers limit upper closed some least upper_
         ];
       };
       all = refl;
-      shares = is.shares;
+      shares = is.tickets_by_worker;
     }

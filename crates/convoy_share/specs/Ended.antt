@@ -38,6 +38,6 @@ pub record IsClosed (bounds : Bounds) (scenario : Scenario) (workers limit : ℕ
   pub of_scenario : closed.best.scenario ≡ scenario
   pub attained : IsAttained closed.best
   pub few : closed.tickets ≤ limit
-  pub shares : AreTicketsByWorker workers closed.tickets closed.by_worker.items
+  pub tickets_by_worker : AreTicketsByWorker workers closed.tickets closed.by_worker.items
   pub whole : IsWhole bounds scenario closed.best.latency closed.tickets closed.pieces.items
   pub left : All (IsRealPoint scenario) (left_in (front whole.put closed.pieces.items)) ⊎ (closed.tickets ≡ limit)
