@@ -376,9 +376,9 @@ fn hint_for_answer<R, W>(
             None => Ok(None),
         },
         Verdict::Ask {
-            task: Task::Command(Command::Direct(
-                Direct::Ask(Asking::Explain) | Direct::ExplainWithCeiling,
-            )),
+            task: Task::Command(
+                Command::Direct(Direct::Ask(Asking::Explain) | Direct::ExplainWithCeiling),
+            ),
             ..
         } if reader.is_whole() => hint_for_explained(alloc, reader.text()),
         _ => Ok(None),

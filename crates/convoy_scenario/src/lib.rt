@@ -3,9 +3,9 @@
 #![tactic(auto)]
 
 pub use convoy_draft::{
-    DraftLink, DraftMulticast, DraftScenario, Duration, GREATEST_AT, GREATEST_DELAY, GREATEST_UNTIL,
-    GREATEST_WHOLE_DELAY, Key, LONGEST_DURATION, LONGEST_NAME, LONGEST_WAIT, Limit, MOST_GROUPS,
-    MOST_LINKS, MOST_MULTICASTS, MOST_UNITS, Name, ScenarioFault, Time, TimeUnit,
+    DraftLink, DraftMulticast, DraftScenario, Duration, GREATEST_AT, GREATEST_DELAY,
+    GREATEST_UNTIL, GREATEST_WHOLE_DELAY, Key, LONGEST_DURATION, LONGEST_NAME, LONGEST_WAIT, Limit,
+    MOST_GROUPS, MOST_LINKS, MOST_MULTICASTS, MOST_UNITS, Name, ScenarioFault, Time, TimeUnit,
 };
 pub use link::Link;
 pub use parts::{LinkParts, MessageParts, ScenarioParts};

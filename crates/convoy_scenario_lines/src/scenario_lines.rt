@@ -15,8 +15,8 @@ use super::version::Version;
 use convoy_lines::{LineReader, number_in};
 use convoy_scenario::laws::{different_names_are_distinct, judged_rules_hold};
 use convoy_scenario::{
-    DraftLink, DraftMulticast, DraftScenario, Duration, Limit, Link, MOST_LINKS, MOST_MULTICASTS, Name,
-    Scenario, ScenarioFault, Time,
+    DraftLink, DraftMulticast, DraftScenario, Duration, Limit, Link, MOST_LINKS, MOST_MULTICASTS,
+    Name, Scenario, ScenarioFault, Time,
 };
 use std::alloc::Global;
 
