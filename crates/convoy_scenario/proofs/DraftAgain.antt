@@ -6,15 +6,17 @@ use Rattle.std.proofs.lemmas.Bool.{and_parts, and_from, or_cases, cases_order, e
 use Rattle.std.proofs.lemmas.List.{length-map, get_or-map}
 use Rattle.std.proofs.lemmas.List.Elements.{All-head, All-tail, All-get_or}
 use Rattle.std.proofs.lemmas.Slice.Eq.{bytes_eq-Decides}
-use Rattle.convoy_scenario.specs.declared.limits.TheConstants.{GREATEST_AT, GREATEST_DELAY, GREATEST_UNTIL, GREATEST_WHOLE_DELAY, LONGEST_WAIT, MOST_GROUPS, MOST_MULTICASTS}
+use Rattle.convoy_draft.specs.declared.limits.TheConstants.{GREATEST_AT, GREATEST_DELAY, GREATEST_UNTIL, GREATEST_WHOLE_DELAY, LONGEST_WAIT, MOST_GROUPS, MOST_MULTICASTS}
 use Rattle.convoy_scenario.specs.declared.sender.Sender.{Sender}
 use Rattle.convoy_scenario.specs.declared.sender.Sender.TheVariants.{Client, Group}
-use Rattle.convoy_scenario.specs.declared.time.Time.{Time}
-use Rattle.convoy_scenario.specs.declared.time.Time.TheVariants.{Ticks, Real}
-use Rattle.convoy_scenario.specs.Draft.{DraftLink, DraftMessage}
+use Rattle.convoy_draft.specs.declared.time.Time.{Time}
+use Rattle.convoy_draft.specs.declared.time.Time.TheVariants.{Ticks, Real}
+use Rattle.convoy_draft.specs.Draft.{DraftLink, DraftMessage}
 use Rattle.convoy_scenario.specs.Scenario.{Scenario, Link, Message, message_at, group_name_at, no_message, is_same_sender}
-use Rattle.convoy_scenario.specs.WellFormed.{greatest_delay, is_name, is_group_name, sender_place, is_before, is_whole, follows, ascend_after, IsSender, IsLink, IsMulticast, IsScenario}
-use Rattle.convoy_scenario.specs.Checks.{Check, checks, judge, is_within, ticks, is_count, is_among, all_differ, is_known_sender, knows, is_message, messages_differ, is_named_alike, is_same_pair, links_differ, has_range, has_wait, knows_link, leads_elsewhere, is_target_addressed, is_target_fixed}
+use Rattle.convoy_scenario.specs.WellFormed.{sender_place, is_before, is_whole, follows, ascend_after, IsSender, IsLink, IsMulticast, IsScenario}
+use Rattle.convoy_draft.specs.Names.{is_name, is_group_name}
+use Rattle.convoy_draft.specs.Limits.{greatest_delay}
+use Rattle.convoy_draft.specs.Checks.{Check, checks, judge, is_within, ticks, is_count, is_among, all_differ, is_known_sender, knows, is_message, messages_differ, is_named_alike, is_same_pair, links_differ, has_range, has_wait, knows_link, leads_elsewhere, is_target_addressed, is_target_fixed}
 use Rattle.convoy_scenario.specs.Naming.{sender_name, draft_link, draft_message, draft_for}
 use Rattle.convoy_scenario.specs.Numbering.{message_place, sender_of, link_of, message_of, scenario_of, scenario_of_draft}
 use Rattle.convoy_scenario.proofs.NumberedAgain.{itself, same_bytes, any_at, apart, one_place, among_at, place_again, numbers_again, Rises, rises, above, among_named}

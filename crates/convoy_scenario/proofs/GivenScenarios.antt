@@ -3,12 +3,12 @@ use Rattle.std.proofs.Common.{◌≡◌, Bool, Result, Ok, Err, true, get_or, re
 use Rattle.std.specs.Result.{result_and}
 use Rattle.std.specs.Str.{bytes_eq}
 use Rattle.std.proofs.lemmas.List.{get_or-map}
-use Rattle.convoy_scenario.specs.declared.fault.ScenarioFault.{ScenarioFault}
-use Rattle.convoy_scenario.specs.Draft.{Draft, DraftMessage}
+use Rattle.convoy_draft.specs.declared.fault.ScenarioFault.{ScenarioFault}
+use Rattle.convoy_draft.specs.Draft.{Draft, DraftMessage}
 use Rattle.convoy_scenario.specs.Laws.{IsNamedTarget}
 use Rattle.convoy_scenario.specs.Scenario.{Message, Scenario, message_at, no_message}
 use Rattle.convoy_scenario.specs.WellFormed.{IsScenario}
-use Rattle.convoy_scenario.specs.Checks.{checks, is_message, judge}
+use Rattle.convoy_draft.specs.Checks.{checks, is_message, judge}
 use Rattle.convoy_scenario.specs.Numbering.{message_of, message_place, scenario_of, scenario_of_draft}
 use Rattle.convoy_scenario.proofs.NumberedAgain.{same_bytes}
 use Rattle.convoy_scenario.proofs.NumberedLemmas.{all_hold, nothing, scenario_formed}

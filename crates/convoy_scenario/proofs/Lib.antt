@@ -9,4 +9,3 @@ pub mod PlaceLemmas
 pub mod NumberedAgain
 pub mod OtherTargets
 pub mod DraftAgain
-pub mod Judged

@@ -6,7 +6,7 @@ use Rattle.std.proofs.lemmas.Bool.{false≢true}
 use Rattle.std.proofs.lemmas.List.Elements.{filter-append, All-filter}
 use Rattle.std.proofs.lemmas.List.FromFn.{length-range_with_len, get_or-range_with_len}
 use Rattle.std.proofs.lemmas.List.Kept.{IsStrictlyIncreasing-filter}
-use Rattle.convoy_scenario.specs.Checks.{is_among}
+use Rattle.convoy_draft.specs.Checks.{is_among}
 use Rattle.convoy_scenario.specs.Numbering.{numbers_of}
 
 -- one more number at the end of a range

@@ -6,7 +6,7 @@ use Rattle.std.specs.Str.{bytes_eq}
 use Rattle.std.proofs.lemmas.Bool.{cases_Bool, cases_order, ne_eqb, eqb-true, eqb-false, or_right, false_from_ne_true, both_ways}
 use Rattle.std.proofs.lemmas.List.Elements.{All-head, All-tail}
 use Rattle.std.proofs.lemmas.Slice.Eq.{bytes_eq-Decides}
-use Rattle.convoy_scenario.specs.Checks.{is_among}
+use Rattle.convoy_draft.specs.Checks.{is_among}
 use Rattle.convoy_scenario.specs.Numbering.{place, numbers_of}
 use Rattle.convoy_scenario.proofs.PlaceLemmas.{place_within, name_at_place}
 

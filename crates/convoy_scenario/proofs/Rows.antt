@@ -1,13 +1,11 @@
 -- Worked rows: what the definitions give for some drafts.
 use Rattle.std.proofs.Common.{◌≡◌, refl, ℕ, pos, negsuc, List, [], ◌∷◌, Option, Some, None, Ok, Err, codes}
-use Rattle.convoy_scenario.specs.declared.fault.ScenarioFault.TheVariants.{OverLimit, BadName, DoubleName, UnknownGroup, NoDestination, DoubleDestination, UnknownTarget, TargetNotAddressed, LinkToItself, TargetWaits}
-use Rattle.convoy_scenario.specs.declared.fault.Limit.TheVariants as limit
+use Rattle.convoy_draft.specs.declared.fault.ScenarioFault.TheVariants.{OverLimit, BadName, DoubleName, UnknownGroup, NoDestination, DoubleDestination, UnknownTarget, TargetNotAddressed, LinkToItself, TargetWaits}
+use Rattle.convoy_draft.specs.declared.fault.Limit.TheVariants as limit
 use Rattle.convoy_scenario.specs.declared.sender.Sender.TheVariants.{Client, Group}
-use Rattle.convoy_scenario.specs.declared.time.Time.TheVariants.{Ticks, Real}
+use Rattle.convoy_draft.specs.declared.time.Time.TheVariants.{Ticks, Real}
 use Rattle.convoy_scenario.specs.Scenario.{Scenario, range_between}
-use Rattle.convoy_scenario.specs.Draft.{Draft, DraftLink}
-use Rattle.convoy_scenario.specs.declared.duration.TimeUnit.TheVariants.{Microseconds}
-use Rattle.convoy_scenario.specs.Durations.{count_of, duration_of, unit_of}
+use Rattle.convoy_draft.specs.Draft.{Draft, DraftLink}
 use Rattle.convoy_scenario.specs.Numbering.{scenario_of_draft}
 
 -- three ticks at most; x to b, t to b and a, y from a to both; t at a
@@ -164,55 +162,6 @@ link_to_itself = refl
 ranges_between : (range_between (record base_scenario { links = record { sender = Client; to = 1; least = 2; most = 3 } ∷ record { sender = Group 1; to = 0; least = 1; most = 1 } ∷ [] }) (Group 1) 0 ≡ (1, 1))
     × (range_between (record base_scenario { links = record { sender = Client; to = 1; least = 2; most = 3 } ∷ record { sender = Group 1; to = 0; least = 1; most = 1 } ∷ [] }) (Group 0) 1 ≡ (1, 3))
 ranges_between = (refl, refl)
-
--- durations
-whole_units : duration_of (codes "80 ms") ≡ Some 80000000
-unfolding duration_of
-whole_units = refl
-
-without_a_space : duration_of (codes "250us") ≡ Some 250000
-unfolding duration_of
-without_a_space = refl
-
-parts_of_units : duration_of (codes "0.35 ms") ≡ Some 350000
-unfolding duration_of
-parts_of_units = refl
-
-parts_that_are_nothing : duration_of (codes "2.000 ns") ≡ Some 2
-unfolding duration_of
-parts_that_are_nothing = refl
-
-parts_of_a_nanosecond : duration_of (codes "0.5 ns") ≡ None
-unfolding duration_of
-parts_of_a_nanosecond = refl
-
-no_unit : duration_of (codes "80") ≡ None
-unfolding duration_of
-no_unit = refl
-
-unknown_unit : duration_of (codes "80 min") ≡ None
-unfolding duration_of
-unknown_unit = refl
-
-negative : duration_of (codes "-1 ms") ≡ None
-unfolding duration_of
-negative = refl
-
-no_digit_after_point : duration_of (codes "1. ms") ≡ None
-unfolding duration_of
-no_digit_after_point = refl
-
-two_points : duration_of (codes "1.2.3 s") ≡ None
-unfolding duration_of
-two_points = refl
-
-too_long : duration_of (codes "1000001 s") ≡ None
-unfolding duration_of
-too_long = refl
-
--- a tick of 1.5 ms is 1500 us
-unit_of_tick : (count_of 1500000 ≡ 1500) × (unit_of 1500000 ≡ Microseconds)
-unit_of_tick = (refl, refl)
 
 -- a tick in whole ticks, and D above 16 there
 tick_in_ticks : scenario_of_draft (record base { tick = Some 1000 }) ≡ Err (OverLimit limit.Tick)

@@ -2,9 +2,9 @@
 use Rattle.std.specs.Prelude.{◌≡◌, ℕ, ◌<◌, ◌≤◌, false, List, [], length, slice_index_or, None, Ok, IsTrue}
 use Rattle.std.specs.List.{AllByRecursion, IsDistinct}
 use Rattle.std.specs.Str.{bytes_eq}
-use Rattle.convoy_scenario.specs.declared.limits.TheConstants.{MOST_LINKS}
-use Rattle.convoy_scenario.specs.Checks.{Check, all_differ, is_among, judge}
-use Rattle.convoy_scenario.specs.Draft.{Draft}
+use Rattle.convoy_draft.specs.declared.limits.TheConstants.{MOST_LINKS}
+use Rattle.convoy_draft.specs.Checks.{Check, all_differ, is_among, judge}
+use Rattle.convoy_draft.specs.Draft.{Draft}
 use Rattle.convoy_scenario.specs.Naming.{draft_for}
 use Rattle.convoy_scenario.specs.Numbering.{in_order, links_of_draft, place, scenario_of_draft}
 use Rattle.convoy_scenario.specs.Scenario.{Link, Scenario, group_name_at, message_at}

@@ -1,7 +1,9 @@
-pub mod Checks
-pub mod Draft
-pub mod Durations
-pub mod Keys
+-- what a text says of a scenario before it is known to be one
+pub use Rattle.convoy_draft.specs.Checks
+pub use Rattle.convoy_draft.specs.Draft
+pub use Rattle.convoy_draft.specs.Limits
+pub use Rattle.convoy_draft.specs.Names
+-- scenarios
 pub mod Laws
 pub mod Memory
 pub mod Naming

@@ -2,9 +2,9 @@
 use Rattle.std.specs.Prelude.{ℕ, ◌+◌, pos, List, map, Option, Some, None}
 use Rattle.convoy_scenario.specs.declared.sender.Sender.{Sender}
 use Rattle.convoy_scenario.specs.declared.sender.Sender.TheVariants.{Client, Group}
-use Rattle.convoy_scenario.specs.Draft.{Draft, DraftLink, DraftMessage}
+use Rattle.convoy_draft.specs.Draft.{Draft, DraftLink, DraftMessage}
 use Rattle.convoy_scenario.specs.Scenario.{Scenario, Link, Message, message_at, group_name_at}
-use Rattle.convoy_scenario.specs.WellFormed.{client_word}
+use Rattle.convoy_draft.specs.Names.{client_word}
 
 -- a sender by name
 abbrev pub sender_name : Scenario → Sender → Option (List ℕ)

@@ -4,13 +4,13 @@ use Rattle.std.specs.List.{range_with_len}
 use Rattle.std.specs.Result.{result_and}
 use Rattle.std.specs.Str.{bytes_eq}
 use Rattle.std.proofs.Common.{get_or}
-use Rattle.convoy_scenario.specs.declared.fault.ScenarioFault.{ScenarioFault}
-use Rattle.convoy_scenario.specs.declared.limits.TheConstants.{GREATEST_AT, GREATEST_DELAY, GREATEST_UNTIL}
+use Rattle.convoy_draft.specs.declared.fault.ScenarioFault.{ScenarioFault}
+use Rattle.convoy_draft.specs.declared.limits.TheConstants.{GREATEST_AT, GREATEST_DELAY, GREATEST_UNTIL}
 use Rattle.convoy_scenario.specs.declared.sender.Sender.{Sender}
 use Rattle.convoy_scenario.specs.declared.sender.Sender.TheVariants.{Client, Group}
 use Rattle.convoy_scenario.specs.Scenario.{Link, Message, Scenario}
-use Rattle.convoy_scenario.specs.Draft.{Draft, DraftLink, DraftMessage}
-use Rattle.convoy_scenario.specs.Checks.{is_among, ticks, checks, judge}
+use Rattle.convoy_draft.specs.Draft.{Draft, DraftLink, DraftMessage}
+use Rattle.convoy_draft.specs.Checks.{is_among, ticks, checks, judge}
 use Rattle.convoy_scenario.specs.WellFormed.{is_before, is_whole}
 
 -- the place of the name, or 0 where it is not there

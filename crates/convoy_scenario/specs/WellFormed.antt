@@ -1,52 +1,15 @@
 -- When a scenario is well formed: its limits, its names and its references.
-use Rattle.std.specs.Prelude.{◌≡◌, ℕ, ◌+◌, ◌<◌, ◌≤◌, ◌==◌, Bool, true, false, ◌&&◌, ◌||◌, not, nat_le, nat_lt, List, [], ◌∷◌, length, codes, Option, Some, None, IsTrue, All}
-use Rattle.std.specs.List.{list_all, IsDistinct}
+use Rattle.std.specs.Prelude.{◌≡◌, ℕ, ◌+◌, ◌<◌, ◌≤◌, ◌==◌, Bool, true, ◌&&◌, ◌||◌, not, nat_lt, List, [], ◌∷◌, length, Option, Some, None, IsTrue, All}
+use Rattle.std.specs.List.{IsDistinct}
 use Rattle.std.specs.List.Sorted.{IsStrictlyIncreasing}
 use Rattle.std.specs.Str.{bytes_eq}
 use Rattle.convoy_scenario.specs.declared.sender.Sender.{Sender}
 use Rattle.convoy_scenario.specs.declared.sender.Sender.TheVariants.{Client, Group}
-use Rattle.convoy_scenario.specs.declared.limits.TheConstants.{GREATEST_AT, GREATEST_DELAY, GREATEST_WHOLE_DELAY, LONGEST_NAME, LONGEST_WAIT, MOST_GROUPS, MOST_MULTICASTS}
-use Rattle.convoy_scenario.specs.declared.duration.TheConstants.{LONGEST_DURATION, MOST_UNITS}
-use Rattle.convoy_scenario.specs.declared.time.Time.{Time}
-use Rattle.convoy_scenario.specs.declared.time.Time.TheVariants.{Ticks, Real}
-use Rattle.convoy_scenario.specs.Durations.{count_of}
+use Rattle.convoy_draft.specs.declared.limits.TheConstants.{GREATEST_AT, GREATEST_DELAY, GREATEST_WHOLE_DELAY, LONGEST_WAIT, MOST_GROUPS, MOST_MULTICASTS}
+use Rattle.convoy_draft.specs.declared.time.Time.TheVariants.{Ticks}
+use Rattle.convoy_draft.specs.Limits.{is_tick}
+use Rattle.convoy_draft.specs.Names.{is_name, is_group_name}
 use Rattle.convoy_scenario.specs.Scenario.{Link, Message, Scenario, message_at, is_addressed, is_same_sender}
-
--- the greatest value of D, by how time goes
-abbrev pub greatest_delay : Time → ℕ
-greatest_delay Ticks = GREATEST_WHOLE_DELAY
-greatest_delay Real = GREATEST_DELAY
-
--- a tick may have this length, in nanoseconds, or none that is known: only where time is real it has one
-abbrev pub is_tick : Time → Option ℕ → Bool
-is_tick time None = true
-is_tick Ticks (Some tick) = false
-is_tick Real (Some tick) = nat_le 1 tick && nat_le tick LONGEST_DURATION && nat_le (count_of tick) MOST_UNITS
-
--- a letter from a to z
-abbrev pub is_letter : ℕ → Bool
-is_letter c = nat_le 97 c && nat_le c 122
-
--- a digit from 0 to 9
-abbrev pub is_digit : ℕ → Bool
-is_digit c = nat_le 48 c && nat_le c 57
-
--- a letter, a digit, an underscore or a dash
-abbrev pub is_name_byte : ℕ → Bool
-is_name_byte c = is_letter c || is_digit c || c == 95 || c == 45
-
--- a name begins with a letter, goes on in the bytes of names, and is not too long
-abbrev pub is_name : List ℕ → Bool
-is_name [] = false
-is_name (c ∷ cs) = is_letter c && list_all is_name_byte cs && nat_le (length (c ∷ cs)) LONGEST_NAME
-
--- the text that no group has as its name, since it stands for a client
-abbrev pub client_word : List ℕ
-client_word = codes "client"
-
--- a name that a group may have
-abbrev pub is_group_name : List ℕ → Bool
-is_group_name name = is_name name && not (bytes_eq name client_word)
 
 -- the sender is a client, or one of so many groups
 abbrev pub IsSender : ℕ → Sender → Type 0

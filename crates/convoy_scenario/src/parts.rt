@@ -1,9 +1,6 @@
 ghost use Rattle.std.specs.Prelude.{◌≡◌, map, option_map, IfOk};
 
-use super::draft::{DraftLink, DraftMulticast, DraftScenario};
-use super::duration::Duration;
-use super::name::Name;
-use super::time::Time;
+use convoy_draft::{DraftLink, DraftMulticast, DraftScenario, Duration, Name, Time};
 use std::alloc::{AllocError, Global};
 use std::marker::Model;
 
@@ -23,7 +20,7 @@ pub struct MessageParts<'a> {
 
 impl<'a> Model for MessageParts<'a> {
     ghost use Rattle.std.specs.Prelude.{map, pos, option_map};
-    ghost use Rattle.convoy_scenario.specs.Draft.{DraftMessage};
+    ghost use Rattle.convoy_draft.specs.Draft.{DraftMessage};
 
     ghost Value = { DraftMessage };
 
@@ -50,7 +47,7 @@ pub struct LinkParts<'a> {
 
 impl<'a> Model for LinkParts<'a> {
     ghost use Rattle.std.specs.Prelude.{pos, option_map};
-    ghost use Rattle.convoy_scenario.specs.Draft.{DraftLink};
+    ghost use Rattle.convoy_draft.specs.Draft.{DraftLink};
 
     ghost Value = { DraftLink };
 
@@ -85,7 +82,7 @@ pub struct ScenarioParts<'a> {
 
 impl<'a> Model for ScenarioParts<'a> {
     ghost use Rattle.std.specs.Prelude.{map, pos};
-    ghost use Rattle.convoy_scenario.specs.Draft.{Draft};
+    ghost use Rattle.convoy_draft.specs.Draft.{Draft};
 
     ghost Value = { Draft };
 

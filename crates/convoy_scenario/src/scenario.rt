@@ -4,16 +4,11 @@ ghost use Rattle.convoy_scenario.specs.Scenario.{GoesTo, message_at, may_wait, i
 ghost use Rattle.convoy_scenario.specs.Targets.{with_target};
 ghost use Rattle.convoy_scenario.specs.WellFormed.{IsScenario};
 
-use super::checks::check;
-use super::draft::DraftScenario;
-use super::duration::Duration;
-use super::fault::ScenarioFault;
 use super::link::{Link, link_between};
-use super::name::Name;
-use super::numbering::{delay_ticks, links_of, message_place, multicasts_of, place};
+use super::numbering::{links_of, message_place, multicasts_of, place};
 use super::parts::ScenarioParts;
 use super::sender::Sender;
-use super::time::Time;
+use convoy_draft::{DraftScenario, Duration, Name, ScenarioFault, Time, check, delay_ticks};
 use std::alloc::{AllocError, Global};
 use std::marker::Model;
 

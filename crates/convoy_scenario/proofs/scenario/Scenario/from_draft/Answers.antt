@@ -1,6 +1,6 @@
 use Rattle.std.proofs.Common.{◌≡◌, rules, sym}
-use Rattle.convoy_scenario.specs.declared.limits.TheConstants.{GREATEST_DELAY}
-use Rattle.convoy_scenario.specs.Checks.{ticks}
+use Rattle.convoy_draft.specs.declared.limits.TheConstants.{GREATEST_DELAY}
+use Rattle.convoy_draft.specs.Checks.{ticks}
 use Rattle.convoy_scenario.proofs.NumberedLemmas.{parts_formed}
 use Rattle.convoy_scenario.proofs.scenario.Scenario.from_draft.Goals as goal
 

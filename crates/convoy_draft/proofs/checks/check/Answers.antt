@@ -1,8 +1,8 @@
 use Rattle.std.proofs.Common.{◌++◌}
 use Rattle.std.proofs.lemmas.Result.{err_from_is_err_and}
-use Rattle.convoy_scenario.specs.Checks.{limit_checks, name_checks, reference_checks}
-use Rattle.convoy_scenario.proofs.Judged.{judge_fault, judge_rest}
-use Rattle.convoy_scenario.proofs.checks.check.Goals as goal
+use Rattle.convoy_draft.specs.Checks.{limit_checks, name_checks, reference_checks}
+use Rattle.convoy_draft.proofs.Judged.{judge_fault, judge_rest}
+use Rattle.convoy_draft.proofs.checks.check.Goals as goal
 
 pub returns-in_err-check_limits : goal.returns-in_err-check_limits
 returns-in_err-check_limits c =

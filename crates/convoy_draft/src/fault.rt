@@ -107,7 +107,7 @@ pub enum ScenarioFault {
 
 impl Key {
     ghost use Rattle.std.specs.Prelude.{◌≡◌};
-    ghost use Rattle.convoy_scenario.specs.Keys.{key_word};
+    ghost use Rattle.convoy_draft.specs.Keys.{key_word};
 
     /// The key as a scenario text has it, and `unknown` for any other.
     pub fn word(self) -> &'static str
@@ -172,7 +172,7 @@ impl fmt::Display for Limit {
 
 impl From<AllocError> for ScenarioFault {
     ghost use Rattle.std.specs.Prelude.{◌≡◌};
-    ghost use Rattle.convoy_scenario.specs.declared.fault.ScenarioFault.TheVariants.{Memory};
+    ghost use Rattle.convoy_draft.specs.declared.fault.ScenarioFault.TheVariants.{Memory};
 
     ghost from_gives = { λ _ fault. fault ≡ Memory };
 
@@ -183,7 +183,7 @@ impl From<AllocError> for ScenarioFault {
 
 impl<T: Drop> From<AllocFailed<T>> for ScenarioFault {
     ghost use Rattle.std.specs.Prelude.{◌≡◌};
-    ghost use Rattle.convoy_scenario.specs.declared.fault.ScenarioFault.TheVariants.{Memory};
+    ghost use Rattle.convoy_draft.specs.declared.fault.ScenarioFault.TheVariants.{Memory};
 
     ghost from_gives = { λ _ fault. fault ≡ Memory };
 

@@ -18,7 +18,7 @@ pub struct DraftMulticast {
 }
 
 impl Model for DraftMulticast {
-    ghost use Rattle.convoy_scenario.specs.Draft.{DraftMessage};
+    ghost use Rattle.convoy_draft.specs.Draft.{DraftMessage};
 
     ghost Value = { DraftMessage };
 
@@ -45,7 +45,7 @@ pub struct DraftLink {
 }
 
 impl Model for DraftLink {
-    ghost use Rattle.convoy_scenario.specs.Draft.{DraftLink};
+    ghost use Rattle.convoy_draft.specs.Draft.{DraftLink};
 
     ghost Value = { DraftLink };
 
@@ -80,7 +80,7 @@ pub struct DraftScenario {
 }
 
 impl Model for DraftScenario {
-    ghost use Rattle.convoy_scenario.specs.Draft.{Draft};
+    ghost use Rattle.convoy_draft.specs.Draft.{Draft};
 
     ghost Value = { Draft };
 

@@ -1,7 +1,7 @@
 ghost use Rattle.std.specs.Prelude.{◌≡◌, IfOk};
 ghost use Rattle.std.specs.Str.{bytes_eq};
-ghost use Rattle.convoy_scenario.specs.Checks.{is_among};
-ghost use Rattle.convoy_scenario.specs.WellFormed.{is_name, is_group_name, is_letter, is_name_byte};
+ghost use Rattle.convoy_draft.specs.Checks.{is_among};
+ghost use Rattle.convoy_draft.specs.Names.{is_name, is_group_name, is_letter, is_name_byte};
 
 use super::limits::LONGEST_NAME;
 use std::alloc::{AllocError, Global};

@@ -1,6 +1,6 @@
 ghost use Rattle.std.specs.Prelude.{◌≡◌};
-ghost use Rattle.convoy_scenario.specs.Keys.{time_word, time_named};
-ghost use Rattle.convoy_scenario.specs.WellFormed.{greatest_delay};
+ghost use Rattle.convoy_draft.specs.Keys.{time_word, time_named};
+ghost use Rattle.convoy_draft.specs.Limits.{greatest_delay};
 
 use super::limits::{GREATEST_DELAY, GREATEST_WHOLE_DELAY};
 

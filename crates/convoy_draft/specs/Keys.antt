@@ -1,10 +1,10 @@
 -- The keys of a scenario text, and the words for how time goes.
 use Rattle.std.specs.Prelude.{ℕ, if◌then◌else◌, List, Option, Some, None, codes}
 use Rattle.std.specs.Str.{bytes_eq}
-use Rattle.convoy_scenario.specs.declared.fault.Key.{Key}
-use Rattle.convoy_scenario.specs.declared.fault.Key.TheVariants.{Time, Tick, Delay, Groups, Multicast, Name, From, To, At, Until, Target, Message, Group, Link, Least, Most, Both, Schedule, Order, Unknown}
-use Rattle.convoy_scenario.specs.declared.time.Time.{Time as AnyTime}
-use Rattle.convoy_scenario.specs.declared.time.Time.TheVariants.{Ticks, Real}
+use Rattle.convoy_draft.specs.declared.fault.Key.{Key}
+use Rattle.convoy_draft.specs.declared.fault.Key.TheVariants.{Time, Tick, Delay, Groups, Multicast, Name, From, To, At, Until, Target, Message, Group, Link, Least, Most, Both, Schedule, Order, Unknown}
+use Rattle.convoy_draft.specs.declared.time.Time.{Time as AnyTime}
+use Rattle.convoy_draft.specs.declared.time.Time.TheVariants.{Ticks, Real}
 
 -- the word for a key
 abbrev pub key_word : Key → List ℕ

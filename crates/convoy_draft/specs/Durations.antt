@@ -1,9 +1,9 @@
 -- Durations in nanoseconds: how they are read from texts, and in which unit they are told.
 use Rattle.std.specs.Prelude.{ℕ, ◌+◌, ◌-◌, ◌*◌, ◌/◌, ◌%◌, ◌==◌, nat_le, nat_lt, Bool, ◌&&◌, ◌||◌, not, List, [], ◌∷◌, take, drop, codes, Option, Some, None, option_and_then, position, if◌then◌else◌}
 use Rattle.std.specs.Str.{bytes_eq}
-use Rattle.convoy_scenario.specs.declared.duration.TimeUnit.{TimeUnit}
-use Rattle.convoy_scenario.specs.declared.duration.TimeUnit.TheVariants.{Seconds, Milliseconds, Microseconds, Nanoseconds}
-use Rattle.convoy_scenario.specs.declared.duration.TheConstants.{LONGEST_DURATION}
+use Rattle.convoy_draft.specs.declared.duration.TimeUnit.{TimeUnit}
+use Rattle.convoy_draft.specs.declared.duration.TimeUnit.TheVariants.{Seconds, Milliseconds, Microseconds, Nanoseconds}
+use Rattle.convoy_draft.specs.declared.duration.TheConstants.{LONGEST_DURATION}
 
 -- the word for a unit
 abbrev pub unit_word : TimeUnit → List ℕ

@@ -1,13 +1,14 @@
 ghost use Rattle.std.specs.Prelude.{◌≡◌, ◌≤◌, ◌&&◌, length, nat_le, find, not, option_copied};
 ghost use Rattle.std.specs.List.{list_all, list_any};
 ghost use Rattle.std.specs.Str.{bytes_eq};
-ghost use Rattle.convoy_scenario.specs.WellFormed.{is_name, is_group_name, is_tick};
-ghost use Rattle.convoy_scenario.specs.Checks.{is_within, ticks, has_wait, is_count, is_among, all_differ, is_known_sender, is_message, messages_differ, knows, is_target_addressed, is_target_fixed, is_named_alike, is_same_pair, links_differ, has_range, knows_link, leads_elsewhere, limit_checks, name_checks, reference_checks, checks, judge};
+ghost use Rattle.convoy_draft.specs.Limits.{is_tick};
+ghost use Rattle.convoy_draft.specs.Names.{is_name, is_group_name};
+ghost use Rattle.convoy_draft.specs.Checks.{is_within, ticks, has_wait, is_count, is_among, all_differ, is_known_sender, is_message, messages_differ, knows, is_target_addressed, is_target_fixed, is_named_alike, is_same_pair, links_differ, has_range, knows_link, leads_elsewhere, limit_checks, name_checks, reference_checks, checks, judge};
 
 use super::draft::{DraftLink, DraftMulticast, DraftScenario};
 use super::duration::{Duration, LONGEST_DURATION, MOST_UNITS};
 use super::fault::{Limit, ScenarioFault};
-use super::limits::{GREATEST_AT, LONGEST_WAIT, MOST_GROUPS, MOST_MULTICASTS};
+use super::limits::{GREATEST_AT, GREATEST_DELAY, LONGEST_WAIT, MOST_GROUPS, MOST_MULTICASTS};
 use super::name::Name;
 use super::time::Time;
 
@@ -132,6 +133,23 @@ pub fn ticks(number: i64, most: u32) -> u32
         number as u32
     } else {
         0
+    }
+}
+
+/// The number as a delay, or 0 where it is none that a packet may take.
+pub fn delay_ticks(number: i64) -> u16
+    ensures { result ≡ ticks GREATEST_DELAY number }
+{
+    ticks(number, u32::from(GREATEST_DELAY)) as u16
+}
+
+impl DraftScenario {
+    /// D, the greatest delay of a packet, in ticks; 0 where what is written is none that a packet may
+    /// take.
+    pub fn delay_ticks(&self) -> u16
+        ensures { result ≡ ticks GREATEST_DELAY self.now.delay }
+    {
+        delay_ticks(self.delay)
     }
 }
 

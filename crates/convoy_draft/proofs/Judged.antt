@@ -1,7 +1,7 @@
 -- Rules that are asked one list after the other.
 use Rattle.std.proofs.Common.{◌≡◌, true, false, List, [], ◌∷◌, ◌++◌, Result, Ok, Err}
-use Rattle.convoy_scenario.specs.declared.fault.ScenarioFault.{ScenarioFault}
-use Rattle.convoy_scenario.specs.Checks.{Check, judge}
+use Rattle.convoy_draft.specs.declared.fault.ScenarioFault.{ScenarioFault}
+use Rattle.convoy_draft.specs.Checks.{Check, judge}
 
 -- a fault of the first rules is that of all
 pub judge_fault : (first then : List Check) (fault : ScenarioFault) → Err fault ≡ judge first → Err fault ≡ judge (first ++ then)

@@ -1,6 +1,6 @@
 ghost use Rattle.std.specs.Prelude.{◌≡◌, ◌≤◌, ◌<◌, not, length, position, IfSome};
-ghost use Rattle.convoy_scenario.specs.Durations.{after_point, count_of, digit_of, digits_after, digits_before, duration_of, is_number_byte, number_in, unit_length, unit_named, unit_of, unit_word, within_longest, without_space};
-ghost use Rattle.convoy_scenario.specs.declared.duration.TheConstants.{LONGEST_DURATION};
+ghost use Rattle.convoy_draft.specs.Durations.{after_point, count_of, digit_of, digits_after, digits_before, duration_of, is_number_byte, number_in, unit_length, unit_named, unit_of, unit_word, within_longest, without_space};
+ghost use Rattle.convoy_draft.specs.declared.duration.TheConstants.{LONGEST_DURATION};
 
 use std::marker::Model;
 
@@ -67,7 +67,7 @@ pub struct Duration {
 
 impl Model for Duration {
     ghost use Rattle.std.specs.Prelude.{ℕ, ◌≤◌};
-    ghost use Rattle.convoy_scenario.specs.declared.duration.TheConstants.{LONGEST_DURATION};
+    ghost use Rattle.convoy_draft.specs.declared.duration.TheConstants.{LONGEST_DURATION};
 
     ghost Value = { ℕ };
 

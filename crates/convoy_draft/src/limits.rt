@@ -21,7 +21,7 @@ pub const LONGEST_WAIT: u16 = 65_535;
 
 /// The last tick of all at which a message is issued: it waits as long as any may from the last tick
 /// that may be written for it.
-pub const GREATEST_UNTIL: u32 = 1_065_535;
+pub const GREATEST_UNTIL: u32 = GREATEST_AT + LONGEST_WAIT as u32;
 
 /// How many bytes a name has at most.
 pub const LONGEST_NAME: usize = 16;

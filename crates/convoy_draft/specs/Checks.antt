@@ -2,12 +2,13 @@
 use Rattle.std.specs.Prelude.{ℕ, ◌+◌, ℤ, nat_abs, pos, int_le, Bool, true, false, ◌&&◌, not, nat_le, if◌then◌else◌, List, [], ◌∷◌, ◌++◌, length, Option, Some, None, find, Result, Ok, Err}
 use Rattle.std.specs.List.{list_all, list_any}
 use Rattle.std.specs.Str.{bytes_eq}
-use Rattle.convoy_scenario.specs.declared.fault.ScenarioFault.{ScenarioFault}
-use Rattle.convoy_scenario.specs.declared.fault.ScenarioFault.TheVariants.{OverLimit, BadName, DoubleName, UnknownGroup, NoDestination, DoubleDestination, UnknownTarget, TargetNotAddressed, LinkToItself, TargetWaits}
-use Rattle.convoy_scenario.specs.declared.fault.Limit.TheVariants.{Delay, Groups, Multicasts, At, Until, Link, Tick}
-use Rattle.convoy_scenario.specs.declared.limits.TheConstants.{GREATEST_AT, LONGEST_WAIT, MOST_GROUPS, MOST_MULTICASTS}
-use Rattle.convoy_scenario.specs.Draft.{Draft, DraftLink, DraftMessage}
-use Rattle.convoy_scenario.specs.WellFormed.{greatest_delay, is_name, is_group_name, is_tick}
+use Rattle.convoy_draft.specs.declared.fault.ScenarioFault.{ScenarioFault}
+use Rattle.convoy_draft.specs.declared.fault.ScenarioFault.TheVariants.{OverLimit, BadName, DoubleName, UnknownGroup, NoDestination, DoubleDestination, UnknownTarget, TargetNotAddressed, LinkToItself, TargetWaits}
+use Rattle.convoy_draft.specs.declared.fault.Limit.TheVariants.{Delay, Groups, Multicasts, At, Until, Link, Tick}
+use Rattle.convoy_draft.specs.declared.limits.TheConstants.{GREATEST_AT, LONGEST_WAIT, MOST_GROUPS, MOST_MULTICASTS}
+use Rattle.convoy_draft.specs.Draft.{Draft, DraftLink, DraftMessage}
+use Rattle.convoy_draft.specs.Limits.{greatest_delay, is_tick}
+use Rattle.convoy_draft.specs.Names.{is_name, is_group_name}
 
 -- a number from the least to the most
 abbrev pub is_within : ℕ → ℕ → ℤ → Bool

@@ -1,6 +1,6 @@
 use Rattle.std.proofs.Common.{◌≡◌, length}
-use Rattle.convoy_scenario.specs.Checks.{all_differ}
-use Rattle.convoy_scenario.proofs.checks.all_differ.Given as goal
+use Rattle.convoy_draft.specs.Checks.{all_differ}
+use Rattle.convoy_draft.proofs.checks.all_differ.Given as goal
 
 abbrev pub invariant-loop-name : goal.invariant-loop-name
 invariant-loop-name l = all_differ l.rest ≡ all_differ l.names

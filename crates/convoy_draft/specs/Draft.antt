@@ -1,6 +1,6 @@
 -- A scenario as it is written, with names in place of numbers: what stands in it before any rule is asked.
 use Rattle.std.specs.Prelude.{ℕ, ℤ, List, Option}
-use Rattle.convoy_scenario.specs.declared.time.Time.{Time}
+use Rattle.convoy_draft.specs.declared.time.Time.{Time}
 
 -- a message as it is written: its name, the group that sends it (none for a client), the groups that it goes to, and the first and the last tick at which it may be issued
 pub record DraftMessage : Type 0 where
