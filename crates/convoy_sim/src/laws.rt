@@ -86,16 +86,11 @@ pub fn order_law()
     ensures { OrderLaw }
 {}
 
-/// A message is issued from the first tick on at which it may be.
-#[tactic(auto, using(crate::proofs::Issues::from_its_tick))]
-pub fn issued_from_its_tick()
-    ensures { IssuedFromItsTick }
-{}
-
-/// A message is issued within its longest wait from that tick.
-#[tactic(auto, using(crate::proofs::Issues::within_its_wait))]
+/// A message is issued from the first tick on at which it may be, and within its longest wait from that tick.
+#[tactic(auto, using(crate::proofs::Issues::from_its_tick, crate::proofs::Issues::within_its_wait))]
 pub fn issued_within_its_wait()
-    ensures { IssuedWithinItsWait }
+    ensures from_tick { IssuedFromItsTick }
+    ensures within { IssuedWithinItsWait }
 {}
 
 /// A message that does not wait is issued at its tick, in every schedule.

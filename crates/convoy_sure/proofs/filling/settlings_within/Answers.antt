@@ -16,8 +16,8 @@ returns-clause-fits c =
     let low = c.committed_within_two_delays.ensures scenario (least_of box) well least c.args.message c.args.group in
     let high = c.committed_within_two_delays.ensures scenario (greatest_of box) well greatest c.args.message c.args.group in
     let message = well.messages c.args.message no_message c.requires.known in
-    let first = c.issued_within_its_wait.ensures scenario (least_of box) least c.args.message in
-    let last = c.issued_within_its_wait.ensures scenario (greatest_of box) greatest c.args.message in (
+    let first = c.issued_within_its_wait.ensures.within scenario (least_of box) least c.args.message in
+    let last = c.issued_within_its_wait.ensures.within scenario (greatest_of box) greatest c.args.message in (
       omega (arith, low, first, message.at, message.wait, well.delay_high, c.settlings.ensures.least),
       omega (arith, high, last, message.at, message.wait, well.delay_high, c.settlings.ensures.greatest),
     )
