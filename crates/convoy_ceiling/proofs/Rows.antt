@@ -10,7 +10,7 @@ use Rattle.convoy_sim.specs.Times.{arrive, settle}
 use Rattle.convoy_sim.specs.Moments.{arrival_rank, commit_rank, moments_of}
 use Rattle.convoy_sim.specs.Stamps.{clocks_of, local_stamp, final_stamp}
 use Rattle.convoy_sim.specs.Delivery.{holds_back, deliver, latency_at}
-use Rattle.convoy_sim.proofs.RowScenarios.{message, base, base_with}
+use Rattle.convoy_scenario.proofs.RowScenarios.{message, base, base_with}
 use Rattle.convoy_ceiling.specs.Ceiling.{IsOfSomeKind, IsTrafficOf, ceiling_at, ceiling_of}
 
 -- t at a takes 6 ticks to its commit, and so does y from its arrival there, which is its issue

@@ -1,10 +1,9 @@
 -- Worked rows of what checking answers, computed from the definitions alone.
-use Rattle.std.specs.Prelude.{Ok, Err, None}
-use Rattle.std.proofs.Common.{◌≡◌, ℕ, List, [], ◌∷◌, replicate, refl, codes}
-use Rattle.convoy_scenario.specs.declared.sender.Sender.{Sender}
-use Rattle.convoy_scenario.specs.declared.sender.Sender.TheVariants.{Client, Group}
-use Rattle.convoy_draft.specs.declared.time.Time.TheVariants.{Ticks, Real}
-use Rattle.convoy_scenario.specs.Scenario.{Message, Scenario}
+use Rattle.std.specs.Prelude.{Ok, Err}
+use Rattle.std.proofs.Common.{◌≡◌, ℕ, List, [], ◌∷◌, replicate, refl}
+use Rattle.convoy_draft.specs.declared.time.Time.TheVariants.{Real}
+use Rattle.convoy_scenario.specs.Scenario.{Scenario}
+use Rattle.convoy_scenario.proofs.RowScenarios.{message, base_with, swapped, tied}
 use Rattle.convoy_packets.specs.Packets.{packets_of}
 use Rattle.convoy_packets.specs.Assignment.{delay_of, in_fixed_order, ranges_of}
 use Rattle.convoy_packets.specs.Order.{no_order}
@@ -22,38 +21,6 @@ use Rattle.convoy_certificate.specs.declared.node.Node.{Node}
 use Rattle.convoy_certificate.specs.declared.node.Node.TheVariants.{Split, Bound, Point, Lead}
 use Rattle.convoy_checker.specs.declared.refused.Refused.TheVariants as refused
 use Rattle.convoy_checker.specs.Checks.{checked}
-
-message : List ℕ → Sender → List ℕ → ℕ → Message
-message name sender destinations at =
-    record { name = name; sender = sender; destinations = destinations; at = at; longest_wait = 0 }
-
--- the base scenario, with its greatest delay and the tick at which y is issued
-base_with : ℕ → ℕ → Scenario
-base_with delay at = record {
-  time = Ticks;
-  tick = None;
-  delay = delay;
-  groups = codes "a" ∷ codes "b" ∷ [];
-  links = [];
-  multicasts = message (codes "x") Client (1 ∷ []) 0 ∷ message (codes "t") Client (0 ∷ 1 ∷ []) 0
-      ∷ message (codes "y") (Group 0) (0 ∷ 1 ∷ []) at ∷ [];
-  target_message = 1;
-  target_group = 0;
-}
-
--- the base with its groups in the order b, a
-swapped : Scenario
-swapped = record {
-  time = Ticks;
-  tick = None;
-  delay = 3;
-  groups = codes "b" ∷ codes "a" ∷ [];
-  links = [];
-  multicasts = message (codes "x") Client (0 ∷ []) 0 ∷ message (codes "t") Client (0 ∷ 1 ∷ []) 0
-      ∷ message (codes "y") (Group 1) (0 ∷ 1 ∷ []) 6 ∷ [];
-  target_message = 1;
-  target_group = 1;
-}
 
 -- the certificate whose schedule gives each of the eight packets its greatest delay
 all_greatest : Scenario → ℕ → List Node → Certificate
@@ -137,34 +104,20 @@ no_real_point : checked (all_greatest (in_real_time (base_with 1 2)) 4 (Point �
 unfolding in_real_time base_with all_greatest message packets_of ranges_of delay_of arrive settle arrival_rank commit_rank no_order moments_of clocks_of local_stamp final_stamp holds_back deliver latency_at latency_of plain_bound checked
 no_real_point = refl
 
--- t and x come to b in one tick, and y comes to a in the tick of t's commit there
-ties : Scenario
-ties = record {
-  time = Real;
-  tick = None;
-  delay = 1;
-  groups = codes "a" ∷ codes "b" ∷ [];
-  links = [];
-  multicasts = message (codes "t") Client (0 ∷ 1 ∷ []) 0 ∷ message (codes "x") Client (1 ∷ []) 0
-      ∷ message (codes "y") (Group 0) (0 ∷ 1 ∷ []) 2 ∷ [];
-  target_message = 0;
-  target_group = 0;
-}
-
 -- the certificate with these ranks and one bound leaf
 with_ranks : List ℕ → ℕ → Certificate
 with_ranks ranks latency = record {
-  scenario = ties;
+  scenario = tied;
   latency = latency;
-  schedule = record { delays = replicate 8 1; order = order_of ties ranks };
+  schedule = record { delays = replicate 8 1; order = order_of tied ranks };
   nodes = Bound ∷ [];
 }
 
 -- where t comes to b after x, y delays it
 late_at_b : checked (with_ranks (0 ∷ 0 ∷ 1 ∷ 0 ∷ 0 ∷ 0 ∷ 0 ∷ 0 ∷ 0 ∷ 0 ∷ []) 4) ≡ Ok 4
-unfolding with_ranks ties message marks_of packets_of ranges_of delay_of arrive settle arrival_rank commit_rank no_order moments_of clocks_of local_stamp final_stamp holds_back deliver latency_at latency_of plain_bound checked
+unfolding with_ranks tied message marks_of packets_of ranges_of delay_of arrive settle arrival_rank commit_rank no_order moments_of clocks_of local_stamp final_stamp holds_back deliver latency_at latency_of plain_bound checked
 late_at_b = refl
 
 first_at_b : checked (with_ranks [] 4) ≡ Err (refused.Latency 2)
-unfolding with_ranks ties message marks_of packets_of ranges_of delay_of arrive settle arrival_rank commit_rank no_order moments_of clocks_of local_stamp final_stamp holds_back deliver latency_at latency_of plain_bound checked
+unfolding with_ranks tied message marks_of packets_of ranges_of delay_of arrive settle arrival_rank commit_rank no_order moments_of clocks_of local_stamp final_stamp holds_back deliver latency_at latency_of plain_bound checked
 first_at_b = refl

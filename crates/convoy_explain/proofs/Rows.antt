@@ -1,8 +1,8 @@
 -- Worked rows, computed from the definitions alone.
-use Rattle.std.proofs.Common.{◌≡◌, [], ◌∷◌, ◌++◌, replicate, slice_set, Some, None, refl, codes}
+use Rattle.std.proofs.Common.{◌≡◌, [], ◌∷◌, ◌++◌, replicate, slice_set, Some, refl, codes}
 use Rattle.std.specs.Fmt.{digits}
 use Rattle.convoy_scenario.specs.declared.sender.Sender.TheVariants.{Client, Group}
-use Rattle.convoy_draft.specs.declared.time.Time.TheVariants.{Ticks, Real}
+use Rattle.convoy_draft.specs.declared.time.Time.TheVariants.{Ticks}
 use Rattle.convoy_scenario.specs.Scenario.{Scenario}
 use Rattle.convoy_packets.specs.Packets.{packets_of}
 use Rattle.convoy_packets.specs.Assignment.{delay_of, in_fixed_order}
@@ -12,7 +12,7 @@ use Rattle.convoy_sim.specs.Times.{arrive, settle}
 use Rattle.convoy_sim.specs.Moments.{arrival_rank, commit_rank, moments_of}
 use Rattle.convoy_sim.specs.Stamps.{clocks_of, local_stamp, final_stamp}
 use Rattle.convoy_sim.specs.Delivery.{holds_back, deliver, latency_at, latency_of}
-use Rattle.convoy_sim.proofs.RowScenarios.{message, base_with, base, swapped}
+use Rattle.convoy_scenario.proofs.RowScenarios.{message, of_two, base_with, base, swapped, tied}
 use Rattle.convoy_explain.specs.Causes.{holder_of, tied_before, last_proposer, explanation_of}
 use Rattle.convoy_explain.specs.Explanations.{answered_text, awaited_text, commit_text, flight_text, holder_text, in_unit_text, issue_text, latency_text, sent_text, stamp_text, text_of, ticks_text, window_text, worst_text}
 use Rattle.convoy_explain.specs.PacketLists.{packet_line, packet_text, packets_text, scheduled_packets_text, taken_text}
@@ -42,16 +42,7 @@ swapped_threes = refl
 
 -- a message that goes to its sender alone, late in the run
 lone : Scenario
-lone = record {
-  time = Ticks;
-  tick = None;
-  delay = 5;
-  groups = codes "a" ∷ [];
-  links = [];
-  multicasts = message (codes "m") (Group 0) (0 ∷ []) 120 ∷ [];
-  target_message = 0;
-  target_group = 0;
-}
+lone = record (of_two Ticks 5 (message (codes "m") (Group 0) (0 ∷ []) 120 ∷ []) 0 0) { groups = codes "a" ∷ [] }
 
 lone_none : text_of lone (explanation_of lone (in_fixed_order [])) 1 ≡
     codes "m at a: at worst 0 ticks, from its issue at tick 120 to its delivery at tick 120" ++ 10 ∷ (
@@ -66,16 +57,7 @@ lone_none = refl
 
 -- a message that comes to a last, so that the last proposal is that of a itself
 late : Scenario
-late = record {
-  time = Ticks;
-  tick = None;
-  delay = 3;
-  groups = codes "a" ∷ codes "b" ∷ [];
-  links = [];
-  multicasts = message (codes "t") Client (0 ∷ 1 ∷ []) 9 ∷ [];
-  target_message = 0;
-  target_group = 0;
-}
+late = of_two Ticks 3 (message (codes "t") Client (0 ∷ 1 ∷ []) 9 ∷ []) 0 0
 
 late_own : text_of late (explanation_of late (in_fixed_order (3 ∷ 1 ∷ 1 ∷ 1 ∷ []))) 2 ≡
     codes "t at a: at worst 3 ticks, from its issue at tick 9 to its delivery at tick 12" ++ 10 ∷ (
@@ -89,19 +71,10 @@ unfolding late message packets_of delay_of arrive settle arrival_rank commit_ran
 late_own = refl
 
 -- in real time, in ticks of 50 microseconds: t comes to b after x, and y to a before t is committed there, both by the order of a tie
-tied : Scenario
-tied = record {
-  time = Real;
-  tick = Some 50_000;
-  delay = 1;
-  groups = codes "a" ∷ codes "b" ∷ [];
-  links = [];
-  multicasts = message (codes "t") Client (0 ∷ 1 ∷ []) 0 ∷ message (codes "x") Client (1 ∷ []) 0 ∷ message (codes "y") (Group 0) (0 ∷ 1 ∷ []) 2 ∷ [];
-  target_message = 0;
-  target_group = 0;
-}
+timed : Scenario
+timed = record tied { tick = Some 50_000 }
 
-tied_ones : text_of tied (explanation_of tied (record { delays = replicate 8 1; order = record { arrivals = slice_set (replicate PLACES 0) 1 1; commits = replicate PLACES 0 } })) 1 ≡
+timed_ones : text_of timed (explanation_of timed (record { delays = replicate 8 1; order = record { arrivals = slice_set (replicate PLACES 0) 1 1; commits = replicate PLACES 0 } })) 1 ≡
     codes "t at a: at worst 4 ticks (200 us), from its issue at tick 0 to its delivery at tick 4" ++ 10 ∷ (
     codes "committed at a at tick 2 with stamp 2.b, given by b at tick 1, after x in a tie" ++ 10 ∷ (
     codes "held back by y, which came to a at tick 2 with stamp 2.a, before 2.b, and before that commit in a tie" ++ 10 ∷ (
@@ -109,22 +82,14 @@ tied_ones : text_of tied (explanation_of tied (record { delays = replicate 8 1; 
     codes "  tick 2   a sends y to b, packet 5, 1 tick" ++ 10 ∷ (
     codes "  tick 3   b proposes 3.b to a, packet 7, 1 tick" ++ 10 ∷ (
     codes "no schedule is worse: 1 node, checked" ++ 10 ∷ ([])))))))
-unfolding tied message packets_of delay_of arrive settle arrival_rank commit_rank no_order moments_of clocks_of local_stamp final_stamp holds_back deliver latency_at latency_of digits holder_of tied_before last_proposer explanation_of stamp_text flight_text in_unit_text ticks_text latency_text commit_text holder_text awaited_text sent_text answered_text worst_text text_of
-tied_ones = refl
+unfolding timed tied message packets_of delay_of arrive settle arrival_rank commit_rank no_order moments_of clocks_of local_stamp final_stamp holds_back deliver latency_at latency_of digits holder_of tied_before last_proposer explanation_of stamp_text flight_text in_unit_text ticks_text latency_text commit_text holder_text awaited_text sent_text answered_text worst_text text_of
+timed_ones = refl
 
 -- y may wait up to eight ticks, and holds t back where it is issued at tick 6
 waiting : Scenario
-waiting = record {
-  time = Ticks;
-  tick = None;
-  delay = 3;
-  groups = codes "a" ∷ codes "b" ∷ [];
-  links = [];
-  multicasts = message (codes "x") Client (1 ∷ []) 0 ∷ message (codes "t") Client (0 ∷ 1 ∷ []) 0
-      ∷ record { name = codes "y"; sender = Group 0; destinations = 0 ∷ 1 ∷ []; at = 2; longest_wait = 8 } ∷ [];
-  target_message = 1;
-  target_group = 0;
-}
+waiting =
+    of_two Ticks 3 (message (codes "x") Client (1 ∷ []) 0 ∷ message (codes "t") Client (0 ∷ 1 ∷ []) 0
+    ∷ record (message (codes "y") (Group 0) (0 ∷ 1 ∷ []) 2) { longest_wait = 8 } ∷ []) 1 0
 
 waits_four : text_of waiting (explanation_of waiting (in_fixed_order (3 ∷ 3 ∷ 3 ∷ 3 ∷ 3 ∷ 4 ∷ 3 ∷ 3 ∷ 3 ∷ []))) 1 ≡
     codes "t at a: at worst 12 ticks, from its issue at tick 0 to its delivery at tick 12" ++ 10 ∷ (

@@ -14,7 +14,7 @@ use Rattle.convoy_sim.specs.Times.{arrive, settle}
 use Rattle.convoy_sim.specs.Moments.{arrival_rank, commit_rank, moments_of}
 use Rattle.convoy_sim.specs.Stamps.{clocks_of, local_stamp, final_stamp}
 use Rattle.convoy_sim.specs.Delivery.{holds_back, deliver, latency_at, latency_of}
-use Rattle.convoy_sim.proofs.RowScenarios.{message, base_with, base}
+use Rattle.convoy_scenario.proofs.RowScenarios.{message, base_with, base}
 use Rattle.convoy_finer.specs.FinerTicks.{AreSameRanges, IsFiner, IsInRange, finer_range}
 use Rattle.convoy_finer.proofs.Lists.{zip_at}
 use Rattle.convoy_finer.proofs.PacketDelays.{in_of_sent}

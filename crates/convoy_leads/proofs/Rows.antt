@@ -11,7 +11,7 @@ use Rattle.convoy_sim.specs.Times.{arrive, settle}
 use Rattle.convoy_sim.specs.Moments.{arrival_rank, commit_rank, moments_of}
 use Rattle.convoy_sim.specs.Stamps.{clocks_of, local_stamp, final_stamp}
 use Rattle.convoy_sim.specs.Delivery.{holds_back, deliver, latency_at, latency_of}
-use Rattle.convoy_sim.proofs.RowScenarios.{message, base_with, base, swapped, raised_twice}
+use Rattle.convoy_scenario.proofs.RowScenarios.{message, of_two, base_with, base, swapped, raised_twice}
 use Rattle.convoy_intervals.specs.Boxes.{root_of}
 use Rattle.convoy_intervals.specs.Bounds.{plain_bound}
 use Rattle.convoy_sure.specs.Windows.{tables_by, windows_of}
@@ -45,16 +45,7 @@ raised_twice_stays_open = refl
 
 -- two messages that b sends to a and b. w is committed at b after t only if it arrives late at a: where it arrives early it may raise the clock there before t arrives, and where it arrives late it may not
 late : List Link → Scenario
-late links = record {
-  time = Ticks;
-  tick = None;
-  delay = 3;
-  groups = codes "a" ∷ codes "b" ∷ [];
-  links = links;
-  multicasts = message (codes "w") (Group 1) (0 ∷ 1 ∷ []) 2 ∷ message (codes "t") (Group 1) (0 ∷ 1 ∷ []) 1 ∷ [];
-  target_message = 1;
-  target_group = 1;
-}
+late links = record (of_two Ticks 3 (message (codes "w") (Group 1) (0 ∷ 1 ∷ []) 2 ∷ message (codes "t") (Group 1) (0 ∷ 1 ∷ []) 1 ∷ []) 1 1) { links = links }
 
 late_plain : plain_bound (late []) (root_of (late [])) ≡ 7
 unfolding late message packets_of ranges_of delay_of arrive settle plain_bound
@@ -92,17 +83,10 @@ slow_stays_open = refl
 
 -- six groups, and four messages of which the last goes to all of them
 six_groups : Scenario
-six_groups = record {
-  time = Ticks;
-  tick = None;
-  delay = 8;
-  groups = codes "a" ∷ codes "b" ∷ codes "c" ∷ codes "d" ∷ codes "e" ∷ codes "f" ∷ [];
-  links = [];
-  multicasts = message (codes "u") Client (4 ∷ 5 ∷ []) 0 ∷ message (codes "v") Client (1 ∷ []) 3
-      ∷ message (codes "t") (Group 3) (0 ∷ 2 ∷ 3 ∷ []) 4 ∷ message (codes "n") (Group 4) (0 ∷ 1 ∷ 2 ∷ 3 ∷ 4 ∷ 5 ∷ []) 5 ∷ [];
-  target_message = 2;
-  target_group = 3;
-}
+six_groups = record (of_two Ticks 8 (message (codes "u") Client (4 ∷ 5 ∷ []) 0 ∷ message (codes "v") Client (1 ∷ []) 3
+    ∷ message (codes "t") (Group 3) (0 ∷ 2 ∷ 3 ∷ []) 4 ∷ message (codes "n") (Group 4) (0 ∷ 1 ∷ 2 ∷ 3 ∷ 4 ∷ 5 ∷ []) 5 ∷ []) 2 3) {
+      groups = codes "a" ∷ codes "b" ∷ codes "c" ∷ codes "d" ∷ codes "e" ∷ codes "f" ∷ [];
+    }
 
 six_groups_closes : closes_by_leads six_groups (root_of six_groups) 16 ≡ true
 unfolding six_groups message packets_of ranges_of delay_of arrive settle leads_of sure_time is_led closes_by_leads
@@ -114,15 +98,9 @@ six_groups_stays_open = refl
 
 -- three groups, and two messages that b sends, w after t, to which a's answers come back at once. w cannot be committed at a before the very tick by which t arrives there
 tied : Time → Scenario
-tied time = record {
-  time = time;
-  tick = None;
-  delay = 5;
+tied time = record (of_two time 5 (message (codes "w") (Group 1) (0 ∷ 1 ∷ 2 ∷ []) 3 ∷ message (codes "t") (Group 1) (0 ∷ 1 ∷ []) 2 ∷ []) 1 1) {
   groups = codes "a" ∷ codes "b" ∷ codes "c" ∷ [];
   links = record { sender = Group 1; to = 0; least = 1; most = 3 } ∷ record { sender = Group 0; to = 1; least = 1; most = 1 } ∷ [];
-  multicasts = message (codes "w") (Group 1) (0 ∷ 1 ∷ 2 ∷ []) 3 ∷ message (codes "t") (Group 1) (0 ∷ 1 ∷ []) 2 ∷ [];
-  target_message = 1;
-  target_group = 1;
 }
 
 -- so in whole ticks t never waits for w, ..

@@ -1,9 +1,9 @@
 -- Worked rows of the machine, computed from the definitions alone: of the base scenario.
-use Rattle.std.proofs.Common.{◌≡◌, ℕ, List, [], ◌∷◌, replicate, refl, codes, None}
+use Rattle.std.proofs.Common.{◌≡◌, ℕ, List, [], ◌∷◌, replicate, refl, codes}
 use Rattle.std.specs.Prelude.{Result, Ok, Err}
-use Rattle.convoy_scenario.specs.declared.sender.Sender.{Sender}
-use Rattle.convoy_scenario.specs.declared.sender.Sender.TheVariants.{Client, Group}
-use Rattle.convoy_scenario.specs.Scenario.{Message, Scenario}
+use Rattle.convoy_scenario.specs.declared.sender.Sender.TheVariants.{Client}
+use Rattle.convoy_scenario.specs.Scenario.{Scenario}
+use Rattle.convoy_scenario.proofs.RowScenarios.{message, of_two, base_with}
 use Rattle.convoy_draft.specs.declared.time.Time.{Time}
 use Rattle.convoy_draft.specs.declared.time.Time.TheVariants.{Ticks, Real}
 use Rattle.convoy_packets.specs.Order.{no_order}
@@ -22,22 +22,8 @@ use Rattle.convoy_machine.specs.declared.replaying.ReplayFault.TheVariants.{Unla
 use Rattle.convoy_machine.specs.Machine.{Core, replayed, worker_at}
 use Rattle.convoy_machine.specs.Replays.{left_of}
 
-message : List ℕ → Sender → List ℕ → Message
-message name sender destinations =
-    record { name = name; sender = sender; destinations = destinations; at = 0; longest_wait = 0 }
-
 base_in : Time → Scenario
-base_in time = record {
-  time = time;
-  tick = None;
-  delay = 3;
-  groups = codes "a" ∷ codes "b" ∷ [];
-  links = [];
-  multicasts = message (codes "x") Client (1 ∷ []) ∷ message (codes "t") Client (0 ∷ 1 ∷ [])
-      ∷ record { name = codes "y"; sender = Group 0; destinations = 0 ∷ 1 ∷ []; at = 6; longest_wait = 0 } ∷ [];
-  target_message = 1;
-  target_group = 0;
-}
+base_in time = record (base_with 3 6) { time = time }
 
 base : Scenario
 base = base_in Ticks
@@ -53,59 +39,49 @@ told (Ok core) =
 told (Err fault) = Err fault
 
 closed_by_what_was_published : told (replayed base (Draw 0 ∷ Publish 0 threes ∷ Close 0 0 ∷ [])) ≡ Ok (12 ∷ 0 ∷ 1 ∷ 0 ∷ [])
-unfolding told threes base base_in message packets_of ranges_of delay_of arrive settle arrival_rank commit_rank no_order moments_of clocks_of local_stamp final_stamp holds_back deliver latency_at latency_of plain_bound replayed
+unfolding told threes base base_in base_with message packets_of ranges_of delay_of arrive settle arrival_rank commit_rank no_order moments_of clocks_of local_stamp final_stamp holds_back deliver latency_at latency_of plain_bound replayed
 closed_by_what_was_published = refl
 
 closed_too_soon : told (replayed base (Draw 0 ∷ Close 0 0 ∷ [])) ≡ Err (Unlawful 1)
-unfolding told threes base base_in message packets_of ranges_of delay_of arrive settle arrival_rank commit_rank no_order moments_of clocks_of local_stamp final_stamp holds_back deliver latency_at latency_of plain_bound replayed
+unfolding told threes base base_in base_with message packets_of ranges_of delay_of arrive settle arrival_rank commit_rank no_order moments_of clocks_of local_stamp final_stamp holds_back deliver latency_at latency_of plain_bound replayed
 closed_too_soon = refl
 
 closed_without_ticket : told (replayed base (Publish 0 threes ∷ Close 0 0 ∷ [])) ≡ Err (Unlawful 1)
-unfolding told threes base base_in message packets_of ranges_of delay_of arrive settle arrival_rank commit_rank no_order moments_of clocks_of local_stamp final_stamp holds_back deliver latency_at latency_of plain_bound replayed
+unfolding told threes base base_in base_with message packets_of ranges_of delay_of arrive settle arrival_rank commit_rank no_order moments_of clocks_of local_stamp final_stamp holds_back deliver latency_at latency_of plain_bound replayed
 closed_without_ticket = refl
 
 closed_unseen : told (replayed base (Publish 1 threes ∷ Draw 0 ∷ Close 0 0 ∷ [])) ≡ Err (Unlawful 2)
-unfolding told threes base base_in message packets_of ranges_of delay_of arrive settle arrival_rank commit_rank no_order moments_of clocks_of local_stamp final_stamp holds_back deliver latency_at latency_of plain_bound replayed
+unfolding told threes base base_in base_with message packets_of ranges_of delay_of arrive settle arrival_rank commit_rank no_order moments_of clocks_of local_stamp final_stamp holds_back deliver latency_at latency_of plain_bound replayed
 closed_unseen = refl
 
 closed_once_seen : told (replayed base (Publish 1 threes ∷ Look 0 ∷ Draw 0 ∷ Close 0 0 ∷ [])) ≡ Ok (12 ∷ 0 ∷ 1 ∷ 0 ∷ [])
-unfolding told threes base base_in message packets_of ranges_of delay_of arrive settle arrival_rank commit_rank no_order moments_of clocks_of local_stamp final_stamp holds_back deliver latency_at latency_of plain_bound replayed
+unfolding told threes base base_in base_with message packets_of ranges_of delay_of arrive settle arrival_rank commit_rank no_order moments_of clocks_of local_stamp final_stamp holds_back deliver latency_at latency_of plain_bound replayed
 closed_once_seen = refl
 
 shared : told (replayed base (Draw 0 ∷ Split 0 0 4 1 ∷ Put 0 1 ∷ Take 1 1 ∷ Publish 0 threes ∷ Look 1 ∷ Draw 1 ∷ Close 1 1 ∷ Draw 0 ∷ Close 0 2 ∷ [])) ≡ Ok (12 ∷ 0 ∷ 2 ∷ 1 ∷ [])
-unfolding told threes base base_in message packets_of ranges_of delay_of arrive settle arrival_rank commit_rank no_order moments_of clocks_of local_stamp final_stamp holds_back deliver latency_at latency_of plain_bound replayed
+unfolding told threes base base_in base_with message packets_of ranges_of delay_of arrive settle arrival_rank commit_rank no_order moments_of clocks_of local_stamp final_stamp holds_back deliver latency_at latency_of plain_bound replayed
 shared = refl
 
 shared_unseen : told (replayed base (Draw 0 ∷ Split 0 0 4 1 ∷ Put 0 1 ∷ Take 1 1 ∷ Publish 0 threes ∷ Draw 1 ∷ Close 1 1 ∷ Draw 0 ∷ Close 0 2 ∷ [])) ≡ Err (Unlawful 6)
-unfolding told threes base base_in message packets_of ranges_of delay_of arrive settle arrival_rank commit_rank no_order moments_of clocks_of local_stamp final_stamp holds_back deliver latency_at latency_of plain_bound replayed
+unfolding told threes base base_in base_with message packets_of ranges_of delay_of arrive settle arrival_rank commit_rank no_order moments_of clocks_of local_stamp final_stamp holds_back deliver latency_at latency_of plain_bound replayed
 shared_unseen = refl
 
 -- a worker past the last one, a branch that is not there, and a branch that was closed
 no_such_worker : told (replayed base (Draw 15 ∷ Draw 16 ∷ [])) ≡ Err (Unlawful 1)
-unfolding told threes base base_in message packets_of ranges_of delay_of arrive settle arrival_rank commit_rank no_order moments_of clocks_of local_stamp final_stamp holds_back deliver latency_at latency_of plain_bound replayed
+unfolding told threes base base_in base_with message packets_of ranges_of delay_of arrive settle arrival_rank commit_rank no_order moments_of clocks_of local_stamp final_stamp holds_back deliver latency_at latency_of plain_bound replayed
 no_such_worker = refl
 
 no_such_branch : told (replayed base (Draw 0 ∷ Put 0 1 ∷ [])) ≡ Err (Unlawful 1)
-unfolding told threes base base_in message packets_of ranges_of delay_of arrive settle arrival_rank commit_rank no_order moments_of clocks_of local_stamp final_stamp holds_back deliver latency_at latency_of plain_bound replayed
+unfolding told threes base base_in base_with message packets_of ranges_of delay_of arrive settle arrival_rank commit_rank no_order moments_of clocks_of local_stamp final_stamp holds_back deliver latency_at latency_of plain_bound replayed
 no_such_branch = refl
 
 closed_twice : told (replayed base (Draw 0 ∷ Draw 0 ∷ Publish 0 threes ∷ Close 0 0 ∷ Close 0 0 ∷ [])) ≡ Err (Unlawful 4)
-unfolding told threes base base_in message packets_of ranges_of delay_of arrive settle arrival_rank commit_rank no_order moments_of clocks_of local_stamp final_stamp holds_back deliver latency_at latency_of plain_bound replayed
+unfolding told threes base base_in base_with message packets_of ranges_of delay_of arrive settle arrival_rank commit_rank no_order moments_of clocks_of local_stamp final_stamp holds_back deliver latency_at latency_of plain_bound replayed
 closed_twice = refl
 
 -- Both messages go from clients to both groups, and each packet takes one tick: so the root is a point. The second comes as the first, the target, is committed: the bound is 3 ticks, and the latency 2.
 met_in : Time → Scenario
-met_in time = record {
-  time = time;
-  tick = None;
-  delay = 1;
-  groups = codes "a" ∷ codes "b" ∷ [];
-  links = [];
-  multicasts = message (codes "t") Client (0 ∷ 1 ∷ [])
-      ∷ record { name = codes "n"; sender = Client; destinations = 0 ∷ 1 ∷ []; at = 1; longest_wait = 0 } ∷ [];
-  target_message = 0;
-  target_group = 0;
-}
+met_in time = of_two time 1 (message (codes "t") Client (0 ∷ 1 ∷ []) 0 ∷ message (codes "n") Client (0 ∷ 1 ∷ []) 1 ∷ []) 0 0
 
 closed_as_point : told (replayed (met_in Ticks) (Draw 0 ∷ Close 0 0 ∷ [])) ≡ Ok (2 ∷ 0 ∷ 1 ∷ 0 ∷ [])
 unfolding told met_in message packets_of ranges_of delay_of arrive settle arrival_rank commit_rank no_order moments_of clocks_of local_stamp final_stamp holds_back deliver latency_at latency_of plain_bound replayed

@@ -9,3 +9,4 @@ pub mod PlaceLemmas
 pub mod NumberedAgain
 pub mod OtherTargets
 pub mod DraftAgain
+pub mod RowScenarios

@@ -7,6 +7,7 @@ use Rattle.convoy_draft.specs.declared.time.Time.TheVariants.{Ticks, Real}
 use Rattle.convoy_scenario.specs.Scenario.{Scenario, range_between}
 use Rattle.convoy_draft.specs.Draft.{Draft, DraftLink}
 use Rattle.convoy_scenario.specs.Numbering.{scenario_of_draft}
+use Rattle.convoy_scenario.proofs.RowScenarios.{of_two}
 
 -- three ticks at most; x to b, t to b and a, y from a to both; t at a
 abbrev base : Draft
@@ -25,21 +26,16 @@ base = record {
   target_group = codes "a";
 }
 
+-- the scenario of it, in which y may wait so long
+abbrev base_scenario_where_y_waits : ℕ → Scenario
+base_scenario_where_y_waits longest_wait =
+    of_two Ticks 3 (record { name = codes "x"; sender = Client; destinations = 1 ∷ []; at = 0; longest_wait = 0 }
+    ∷ record { name = codes "t"; sender = Client; destinations = 0 ∷ 1 ∷ []; at = 0; longest_wait = 0 }
+    ∷ record { name = codes "y"; sender = Group 0; destinations = 0 ∷ 1 ∷ []; at = 6; longest_wait = longest_wait }
+    ∷ []) 1 0
+
 abbrev base_scenario : Scenario
-base_scenario = record {
-  time = Ticks;
-  tick = None;
-  delay = 3;
-  groups = codes "a" ∷ codes "b" ∷ [];
-  links = [];
-  multicasts =
-      record { name = codes "x"; sender = Client; destinations = 1 ∷ []; at = 0; longest_wait = 0 }
-      ∷ record { name = codes "t"; sender = Client; destinations = 0 ∷ 1 ∷ []; at = 0; longest_wait = 0 }
-      ∷ record { name = codes "y"; sender = Group 0; destinations = 0 ∷ 1 ∷ []; at = 6; longest_wait = 0 }
-      ∷ [];
-  target_message = 1;
-  target_group = 0;
-}
+base_scenario = base_scenario_where_y_waits 0
 
 base_numbered : scenario_of_draft base ≡ Ok base_scenario
 base_numbered = refl
@@ -108,13 +104,7 @@ waiting y t = record base {
       ∷ [];
 }
 
-wait_numbered : scenario_of_draft (waiting 9 0) ≡ Ok (record base_scenario {
-  multicasts =
-      record { name = codes "x"; sender = Client; destinations = 1 ∷ []; at = 0; longest_wait = 0 }
-      ∷ record { name = codes "t"; sender = Client; destinations = 0 ∷ 1 ∷ []; at = 0; longest_wait = 0 }
-      ∷ record { name = codes "y"; sender = Group 0; destinations = 0 ∷ 1 ∷ []; at = 6; longest_wait = 3 }
-      ∷ [];
-})
+wait_numbered : scenario_of_draft (waiting 9 0) ≡ Ok (base_scenario_where_y_waits 3)
 wait_numbered = refl
 
 until_before_at : scenario_of_draft (waiting 5 0) ≡ Err (OverLimit limit.Until)

@@ -7,13 +7,14 @@ pub use convoy_draft::{
     GREATEST_UNTIL, GREATEST_WHOLE_DELAY, Key, LONGEST_DURATION, LONGEST_NAME, LONGEST_WAIT, Limit,
     MOST_GROUPS, MOST_LINKS, MOST_MULTICASTS, MOST_UNITS, Name, ScenarioFault, Time, TimeUnit,
 };
-pub use link::Link;
+pub use link::{Link, is_same_sender};
 pub use parts::{LinkParts, MessageParts, ScenarioParts};
 pub use scenario::Scenario;
 pub use sender::Sender;
 
 pub mod laws;
 mod link;
+pub mod naming;
 mod numbering;
 mod parts;
 mod scenario;

@@ -1,7 +1,6 @@
 pub mod Membership
 pub mod Addressed
 pub mod MomentsOrder
-pub mod RowScenarios
 pub mod Rows
 pub mod MomentsInOrder
 pub mod ClocksGrow

@@ -1,56 +1,32 @@
 -- Worked rows, computed from the definitions alone.
-use Rattle.std.proofs.Common.{◌≡◌, ℕ, List, [], ◌∷◌, length, replicate, slice_set, refl, codes, None}
+use Rattle.std.proofs.Common.{◌≡◌, ℕ, List, [], ◌∷◌, length, replicate, slice_set, refl, codes}
 use Rattle.convoy_scenario.specs.declared.sender.Sender.{Sender}
 use Rattle.convoy_scenario.specs.declared.sender.Sender.TheVariants.{Client, Group}
 use Rattle.convoy_draft.specs.declared.time.Time.{Time}
 use Rattle.convoy_draft.specs.declared.time.Time.TheVariants.{Ticks, Real}
 use Rattle.convoy_scenario.specs.Scenario.{Scenario}
 use Rattle.convoy_packets.specs.Packets.{packets_of}
-use Rattle.convoy_packets.specs.Assignment.{delay_of, in_fixed_order}
+use Rattle.convoy_packets.specs.Assignment.{Schedule, delay_of, in_fixed_order}
 use Rattle.convoy_packets.specs.Order.{no_order, place}
 use Rattle.convoy_sim.specs.Times.{arrive, settle}
 use Rattle.convoy_sim.specs.Moments.{arrival_rank, commit_rank, moments_of}
 use Rattle.convoy_sim.specs.Stamps.{clocks_of, local_stamp, final_stamp}
 use Rattle.convoy_sim.specs.Delivery.{holds_back, deliver, latency_at, latency_of}
-use Rattle.convoy_sim.proofs.RowScenarios.{message, base_with, base_with_y_at, base, swapped, raised_twice}
+use Rattle.convoy_scenario.proofs.RowScenarios.{message, of_two, base_with, base_with_y_at, base, swapped, raised_twice}
 
 -- x arrives at b one tick before t, in its tick, or after it, in either kind of time
 raced_in : Time → Scenario
-raced_in time = record {
-  time = time;
-  tick = None;
-  delay = 3;
-  groups = codes "a" ∷ codes "b" ∷ [];
-  links = [];
-  multicasts = message (codes "t") Client (0 ∷ 1 ∷ []) 0 ∷ message (codes "x") Client (1 ∷ []) 1
-      ∷ message (codes "y") (Group 0) (0 ∷ 1 ∷ []) 5 ∷ [];
-  target_message = 0;
-  target_group = 0;
-}
+raced_in time =
+    of_two time 3 (message (codes "t") Client (0 ∷ 1 ∷ []) 0 ∷ message (codes "x") Client (1 ∷ []) 1
+    ∷ message (codes "y") (Group 0) (0 ∷ 1 ∷ []) 5 ∷ []) 0 0
 
 lone : Sender → List ℕ → Scenario
-lone sender destinations = record {
-  time = Ticks;
-  tick = None;
-  delay = 5;
-  groups = codes "a" ∷ codes "b" ∷ [];
-  links = [];
-  multicasts = message (codes "m") sender destinations 0 ∷ [];
-  target_message = 0;
-  target_group = 0;
-}
+lone sender destinations = of_two Ticks 5 (message (codes "m") sender destinations 0 ∷ []) 0 0
 
 -- as many groups and messages as there may be, each message from a client to all groups
 largest : Scenario
-largest = record {
-  time = Ticks;
-  tick = None;
-  delay = 16;
+largest = record (of_two Ticks 16 (replicate 16 (message (codes "m") Client (0 ∷ 1 ∷ 2 ∷ 3 ∷ 4 ∷ 5 ∷ 6 ∷ 7 ∷ []) 0)) 0 0) {
   groups = replicate 8 (codes "g");
-  links = [];
-  multicasts = replicate 16 (message (codes "m") Client (0 ∷ 1 ∷ 2 ∷ 3 ∷ 4 ∷ 5 ∷ 6 ∷ 7 ∷ []) 0);
-  target_message = 0;
-  target_group = 0;
 }
 
 base_has_eight_packets : length (packets_of base) ≡ 8
@@ -79,17 +55,9 @@ y_one_earlier = refl
 
 -- the base in which y is issued at tick 5, 6 or 7: its wait is the first of its places
 abbrev waiting : Scenario
-waiting = record {
-  time = Ticks;
-  tick = None;
-  delay = 3;
-  groups = codes "a" ∷ codes "b" ∷ [];
-  links = [];
-  multicasts = message (codes "x") Client (1 ∷ []) 0 ∷ message (codes "t") Client (0 ∷ 1 ∷ []) 0
-      ∷ record { name = codes "y"; sender = Group 0; destinations = 0 ∷ 1 ∷ []; at = 5; longest_wait = 2 } ∷ [];
-  target_message = 1;
-  target_group = 0;
-}
+waiting =
+    of_two Ticks 3 (message (codes "x") Client (1 ∷ []) 0 ∷ message (codes "t") Client (0 ∷ 1 ∷ []) 0
+    ∷ record (message (codes "y") (Group 0) (0 ∷ 1 ∷ []) 5) { longest_wait = 2 } ∷ []) 1 0
 
 waiting_packets : length (packets_of waiting) ≡ 9
 unfolding message packets_of
@@ -121,20 +89,21 @@ raced_together : latency_of (raced_in Ticks) (in_fixed_order (3 ∷ 3 ∷ 3 ∷ 
 unfolding raced_in message packets_of delay_of arrive settle arrival_rank commit_rank no_order moments_of clocks_of local_stamp final_stamp holds_back deliver latency_at latency_of
 raced_together = refl
 
--- in real time x may be first where both arrive in one tick, the arrival of t there being of a later rank
-raced_either : latency_of (raced_in Real) (record {
+-- both arrive in one tick, the arrival of t being of a later rank
+x_first : Schedule
+x_first = record {
   delays = 3 ∷ 3 ∷ 3 ∷ 3 ∷ 2 ∷ 3 ∷ 3 ∷ 3 ∷ [];
   order = record { arrivals = slice_set (replicate 128 0) (place 0 1) 1; commits = replicate 128 0 };
-}) ≡ 11
-unfolding raced_in message packets_of delay_of arrive settle arrival_rank commit_rank no_order moments_of clocks_of local_stamp final_stamp holds_back deliver latency_at latency_of
+}
+
+-- in real time x may be first then, ..
+raced_either : latency_of (raced_in Real) x_first ≡ 11
+unfolding raced_in x_first message packets_of delay_of arrive settle arrival_rank commit_rank no_order moments_of clocks_of local_stamp final_stamp holds_back deliver latency_at latency_of
 raced_either = refl
 
--- which whole ticks do not know
-raced_fixed : latency_of (raced_in Ticks) (record {
-  delays = 3 ∷ 3 ∷ 3 ∷ 3 ∷ 2 ∷ 3 ∷ 3 ∷ 3 ∷ [];
-  order = record { arrivals = slice_set (replicate 128 0) (place 0 1) 1; commits = replicate 128 0 };
-}) ≡ 6
-unfolding raced_in message packets_of delay_of arrive settle arrival_rank commit_rank no_order moments_of clocks_of local_stamp final_stamp holds_back deliver latency_at latency_of
+-- .. which whole ticks do not know
+raced_fixed : latency_of (raced_in Ticks) x_first ≡ 6
+unfolding raced_in x_first message packets_of delay_of arrive settle arrival_rank commit_rank no_order moments_of clocks_of local_stamp final_stamp holds_back deliver latency_at latency_of
 raced_fixed = refl
 
 raced_late : latency_of (raced_in Ticks) (in_fixed_order (replicate 8 3)) ≡ 6

@@ -1,5 +1,5 @@
 -- Worked rows, computed from the definitions alone.
-use Rattle.std.proofs.Common.{◌≡◌, [], ◌∷◌, ◌++◌, replicate, None, Some, refl, codes}
+use Rattle.std.proofs.Common.{◌≡◌, [], ◌∷◌, ◌++◌, replicate, Some, refl, codes}
 use Rattle.std.specs.Fmt.{digits}
 use Rattle.convoy_scenario.specs.declared.sender.Sender.TheVariants.{Client, Group}
 use Rattle.convoy_draft.specs.declared.time.Time.TheVariants.{Ticks}
@@ -11,7 +11,7 @@ use Rattle.convoy_sim.specs.Times.{arrive, settle}
 use Rattle.convoy_sim.specs.Moments.{arrival_rank, commit_rank, moments_of}
 use Rattle.convoy_sim.specs.Stamps.{clocks_of, local_stamp, final_stamp}
 use Rattle.convoy_sim.specs.Delivery.{holds_back, deliver}
-use Rattle.convoy_sim.proofs.RowScenarios.{message, base_with, base}
+use Rattle.convoy_scenario.proofs.RowScenarios.{message, of_two, base_with, base}
 use Rattle.convoy_timeline.specs.Timeline.{issue_line, line_of, timeline_text}
 
 -- the base with every packet's delay one tick
@@ -31,17 +31,9 @@ timed_ones = refl
 
 -- t waits at a for y, and the two are delivered there in one tick, in the order of their final stamps
 held_back : Scenario
-held_back = record {
-  time = Ticks;
-  tick = None;
-  delay = 1;
-  groups = codes "a" ∷ codes "b" ∷ [];
-  links = [];
-  multicasts = message (codes "x") Client (1 ∷ []) 0 ∷ message (codes "y") (Group 0) (0 ∷ 1 ∷ []) 2
-      ∷ message (codes "t") Client (0 ∷ 1 ∷ []) 0 ∷ [];
-  target_message = 2;
-  target_group = 0;
-}
+held_back =
+    of_two Ticks 1 (message (codes "x") Client (1 ∷ []) 0 ∷ message (codes "y") (Group 0) (0 ∷ 1 ∷ []) 2
+    ∷ message (codes "t") Client (0 ∷ 1 ∷ []) 0 ∷ []) 2 0
 
 held_back_ones : timeline_text held_back (in_fixed_order (replicate 8 1)) ≡
     codes "1 b propose x 1.b" ++ 10 ∷ (codes "1 a propose t 1.a" ++ 10 ∷ (codes "1 b propose t 2.b" ++ 10 ∷
@@ -54,18 +46,10 @@ held_back_ones = refl
 
 -- y may be issued from tick 4 on, and is at tick 6, and z from tick 0 on, and is at tick 1, before what happens then
 waiting : Scenario
-waiting = record {
-  time = Ticks;
-  tick = None;
-  delay = 1;
-  groups = codes "a" ∷ codes "b" ∷ [];
-  links = [];
-  multicasts = message (codes "t") Client (0 ∷ 1 ∷ []) 0
-      ∷ record { name = codes "y"; sender = Group 0; destinations = 0 ∷ 1 ∷ []; at = 4; longest_wait = 3 }
-      ∷ record { name = codes "z"; sender = Client; destinations = 1 ∷ []; at = 0; longest_wait = 9 } ∷ [];
-  target_message = 0;
-  target_group = 0;
-}
+waiting =
+    of_two Ticks 1 (message (codes "t") Client (0 ∷ 1 ∷ []) 0
+    ∷ record (message (codes "y") (Group 0) (0 ∷ 1 ∷ []) 4) { longest_wait = 3 }
+    ∷ record (message (codes "z") Client (1 ∷ []) 0) { longest_wait = 9 } ∷ []) 0 0
 
 waits : timeline_text waiting (in_fixed_order (1 ∷ 1 ∷ 1 ∷ 1 ∷ 2 ∷ 1 ∷ 1 ∷ 1 ∷ 1 ∷ 1 ∷ [])) ≡
     codes "1 client issue z" ++ 10 ∷ (codes "1 a propose t 1.a" ++ 10 ∷ (codes "1 b propose t 1.b" ++ 10 ∷

@@ -10,6 +10,7 @@ use Rattle.convoy_draft.specs.declared.time.Time.{Time}
 use Rattle.convoy_draft.specs.declared.time.Time.TheVariants.{Ticks, Real}
 use Rattle.convoy_draft.specs.Durations.{duration_of}
 use Rattle.convoy_scenario.specs.Scenario.{Scenario, message_at}
+use Rattle.convoy_scenario.proofs.RowScenarios.{of_two}
 use Rattle.convoy_lines.specs.Results.{◌>>=◌}
 use Rattle.convoy_toml.specs.declared.target.TargetKey.TheVariants.{Required, Optional}
 use Rattle.convoy_toml.specs.Reading.{input_of_table, scenario_of_input}
@@ -37,16 +38,14 @@ odd = member (codes "zone") (boolean true) no_members
 abbrev scenario_of_table : Members → Result Scenario ScenarioFault
 scenario_of_table members = scenario_of_input (input_of_table Required members)
 
-table_read : scenario_of_table (top (one (message_table no_members)) (target_table no_members) no_members) ≡ Ok (record {
-  time = Ticks;
-  tick = None;
-  delay = 3;
-  groups = codes "a" ∷ [];
-  links = [];
-  multicasts = record { name = codes "t"; sender = Client; destinations = 0 ∷ []; at = 0; longest_wait = 0 } ∷ [];
-  target_message = 0;
-  target_group = 0;
-})
+-- these groups, and one message of a client to the group of that number, at which its latency is asked
+abbrev lone : List (List ℕ) → ℕ → Scenario
+lone groups group =
+    record (of_two Ticks 3 (record { name = codes "t"; sender = Client; destinations = group ∷ []; at = 0; longest_wait = 0 } ∷ []) 0 group) {
+      groups = groups;
+    }
+
+table_read : scenario_of_table (top (one (message_table no_members)) (target_table no_members) no_members) ≡ Ok (lone (codes "a" ∷ []) 0)
 table_read = refl
 
 empty_table : scenario_of_table no_members ≡ Err (Shape key.Delay)
@@ -75,16 +74,7 @@ abbrev given : Items → Members → Members
 given delays more = member (codes "schedule") (array delays) more
 
 schedule_given : input_of_table Required (top (one (message_table no_members)) (target_table no_members) (given (item (integer (pos 3)) (item (integer (negsuc 4)) no_items)) no_members)) ≡ Ok (record {
-  scenario = record {
-    time = Ticks;
-    tick = None;
-    delay = 3;
-    groups = codes "a" ∷ [];
-    links = [];
-    multicasts = record { name = codes "t"; sender = Client; destinations = 0 ∷ []; at = 0; longest_wait = 0 } ∷ [];
-    target_message = 0;
-    target_group = 0;
-  };
+  scenario = lone (codes "a" ∷ []) 0;
   schedule = Some (pos 3 ∷ negsuc 4 ∷ []);
   order = None;
 })
@@ -167,16 +157,7 @@ abbrev untargeted : Members → Members
 untargeted more = member (codes "delay") (integer (pos 3)) (member (codes "groups") (array (item (string (codes "b")) (item (string (codes "a")) no_items)))
     (member (codes "multicast") (array (one (message_table no_members))) more))
 
-target_left_out : scenario_of_input (input_of_table Optional (untargeted no_members)) ≡ Ok (record {
-  time = Ticks;
-  tick = None;
-  delay = 3;
-  groups = codes "b" ∷ codes "a" ∷ [];
-  links = [];
-  multicasts = record { name = codes "t"; sender = Client; destinations = 1 ∷ []; at = 0; longest_wait = 0 } ∷ [];
-  target_message = 0;
-  target_group = 1;
-})
+target_left_out : scenario_of_input (input_of_table Optional (untargeted no_members)) ≡ Ok (lone (codes "b" ∷ codes "a" ∷ []) 1)
 target_left_out = refl
 
 target_needed : scenario_of_table (untargeted no_members) ≡ Err (Shape key.Target)
