@@ -1,10 +1,8 @@
 -- How many bytes the lines of a certificate have at most, and its text.
-use Rattle.std.proofs.Common.{◌≡◌, ℕ, zero, suc, ◌+◌, ◌*◌, ◌<◌, ◌≤◌, ◌^◌, nat_le, nat_lt, ◌==◌, true, false, cond, ◌&&◌, ◌||◌, not, Option, Some, None, List, [], ◌∷◌, ◌++◌, length, length-append, map, get_or, All, ap, ◌∙◌, add-one, arith, refl, codes, decimal}
+use Rattle.std.proofs.Common.{◌≡◌, ℕ, zero, suc, ◌+◌, ◌*◌, ◌<◌, ◌≤◌, ◌^◌, nat_le, ◌==◌, true, false, cond, ◌&&◌, not, Option, Some, None, List, [], ◌∷◌, ◌++◌, length, length-append, map, get_or, ap, ◌∙◌, arith, refl, codes, decimal}
 use Rattle.std.specs.List.{AllByRecursion, flat_map, list_all}
-use Rattle.std.specs.List.Sorted.{IsStrictlyIncreasing}
 use Rattle.std.specs.Str.{bytes_eq}
 use Rattle.std.proofs.lemmas.Bool.{and_parts, false≢true, leb-true}
-use Rattle.std.proofs.lemmas.Bool.Decides.{nat_tests}
 use Rattle.std.proofs.lemmas.Fmt.{length-decimal-le}
 use Rattle.std.proofs.lemmas.List.{length-map}
 use Rattle.std.proofs.lemmas.List.Concat.{flat_map-append}
@@ -24,10 +22,14 @@ use Rattle.convoy_scenario_lines.specs.declared.version.Version.{Version as Line
 use Rattle.convoy_scenario_lines.specs.declared.version.Version.TheVariants as lines
 use Rattle.convoy_scenario_lines.specs.Lines.{time_lines, issue_word, tick_line, tick_lines, delay_line, groups_line, link_line, multicast_line, target_line, lines_from_delay, scenario_lines}
 use Rattle.convoy_scenario.specs.Scenario.{Link, Message, Scenario, is_timed, message_at, group_name_at, no_message}
-use Rattle.convoy_scenario.specs.WellFormed.{sender_place, is_before, follows, ascend_after, IsSender, IsLink, IsMulticast, IsScenario}
+use Rattle.convoy_scenario.specs.WellFormed.{IsLink, IsMulticast, IsScenario}
 use Rattle.convoy_draft.specs.Names.{is_letter, is_name_byte, is_name, client_word, is_group_name}
 use Rattle.convoy_draft.specs.Limits.{is_tick}
-use Rattle.convoy_packets.specs.Laws.{PacketsAreFew, DelaysAreOneEach, RanksAreFew}
+use Rattle.convoy_packets.proofs.Listed.{length-packets_of-le}
+use Rattle.convoy_packets.proofs.Lists.{length-increasing-le}
+use Rattle.convoy_packets.proofs.OrderLists.{list_few}
+use Rattle.convoy_packets.proofs.Ranges.{length-assignment}
+use Rattle.convoy_scenario.proofs.FewLinks.{few_links}
 use Rattle.convoy_certificate.specs.declared.certificate.TheConstants.{LONGEST_TEXT, MOST_NODES}
 use Rattle.convoy_certificate.specs.declared.node.Node.{Node}
 use Rattle.convoy_certificate.specs.declared.node.Node.TheVariants.{Split, Bound, Point, Stamp, Lead}
@@ -36,7 +38,6 @@ use Rattle.convoy_certificate.specs.declared.version.Version.TheVariants.{One, T
 use Rattle.convoy_certificate.specs.Certificate.{Certificate, IsNode, IsCertificate}
 use Rattle.convoy_certificate.specs.Text.{lines_version, version_of, version_line, latency_line, schedule_line, order_line, order_lines, ranks_written, schedule_lines, node_line, end_line, certificate_text}
 use Rattle.convoy_certificate.proofs.Again.{Small, small_assigned}
-use Rattle.convoy_certificate.proofs.LineLaws.{OrderGrounds}
 use Rattle.convoy_certificate.proofs.NodeLaws.{packet_fits, place_fits}
 use Rattle.convoy_certificate.proofs.Orders.{written}
 
@@ -144,21 +145,6 @@ sender_length : (plan : Scenario) (sender : Sender) → AreShort plan.groups →
 sender_length plan Client short = omega arith
 sender_length plan (Group g) short = word_at plan.groups g short
 
-rises : (xs : List ℕ) → IsStrictlyIncreasing xs → (k : ℕ) → k < length xs → k ≤ get_or xs k 0
-rises xs rising zero within = omega arith
-rises xs rising (suc k) within =
-    let before = rises xs rising k (omega arith) in
-    let step = rw add-one at (rising k (omega arith)) in
-    omega arith
-
--- rising numbers below n are no more than n
-rising_length : (xs : List ℕ) (n : ℕ) → IsStrictlyIncreasing xs → All (λ x. x < n) xs → length xs ≤ n
-rising_length [] n rising below = omega arith
-rising_length (x ∷ xs) n rising below =
-    let last = rises (x ∷ xs) rising (length xs) (omega arith) in
-    let under = below (length xs) 0 (omega arith) in
-    omega arith
-
 -- two ticks of at most seven digits each, and two dots
 issue_length : (at wait : ℕ) → at ≤ GREATEST_AT → wait ≤ LONGEST_WAIT → length (issue_word at wait) ≤ 16
 issue_length at wait low short =
@@ -177,7 +163,7 @@ multicast_length plan message few short is =
     let words : List (List ℕ) = message.name ∷ sender_word plan message.sender ∷ issue_word message.at message.longest_wait ∷ names in
     let line = line_length (codes "multicast") words (name_length message.name is.name, (sender_length plan message.sender short, (issue, names_at plan.groups message.destinations short))) in
     let count = length-map message.destinations (group_name_at plan) in
-    let known = rising_length message.destinations (length plan.groups) is.ascending is.known in
+    let known = length-increasing-le message.destinations (length plan.groups) is.ascending is.known in
     omega arith
 
 multicasts_short : (plan : Scenario) (messages : List Message) → length plan.groups ≤ MOST_GROUPS → AreShort plan.groups → AllByRecursion (IsMulticast (length plan.groups)) messages
@@ -199,36 +185,6 @@ link_length plan link is short known =
 links_short : (plan : Scenario) (links : List Link) → IsScenario plan → AreShort plan.groups → AllByRecursion (IsLink (length plan.groups) plan.delay) links → AreShortLines (map (link_line plan) links)
 links_short plan [] is short are = tt
 links_short plan (link ∷ links) is short are = (link_length plan link is short are.0, links_short plan links is short are.1)
-
--- the number of a link among all that there may be
-abbrev link_number : Link → ℕ
-link_number link = sender_place link.sender * 8 + link.to
-
-place_most : (groups : ℕ) (sender : Sender) → IsSender groups sender → sender_place sender ≤ groups
-place_most groups Client is = omega arith
-place_most groups (Group g) is = omega arith
-
-numbers_rise : (p q s t : ℕ) → s < 8 → (nat_lt p q || ((p == q) && nat_lt s t)) ≡ true → p * 8 + s < q * 8 + t
-numbers_rise p q s t low e = grind (arith, nat_tests)
-
-few_after : (groups delay : ℕ) (before : Link) (links : List Link) → groups ≤ 8 → IsLink groups delay before → AllByRecursion (IsLink groups delay) links → ascend_after (Some before) links ≡ true → length links + link_number before < 72
-few_after groups delay before [] few is are up =
-    let place = place_most groups before.sender is.sender in
-    let to = is.to in
-    omega arith
-few_after groups delay before (link ∷ links) few is are up =
-    let parts = and_parts (is_before before link) (ascend_after (Some link) links) up in
-    let rest = few_after groups delay link links few are.0 are.1 parts.1 in
-    let to = is.to in
-    let more = numbers_rise (sender_place before.sender) (sender_place link.sender) before.to link.to (omega arith) parts.0 in
-    omega arith
-
-few_links : (groups delay : ℕ) (links : List Link) → groups ≤ 8 → AllByRecursion (IsLink groups delay) links → ascend_after None links ≡ true → length links ≤ 72
-few_links groups delay [] few are up = omega arith
-few_links groups delay (link ∷ links) few are up =
-    let parts = and_parts (follows None link) (ascend_after (Some link) links) up in
-    let rest = few_after groups delay link links few are.0 are.1 parts.1 in
-    omega arith
 
 lines_append : (xs ys : List (List ℕ)) → AreShortLines xs → AreShortLines ys → AreShortLines (xs ++ ys)
 lines_append [] ys a b = b
@@ -255,7 +211,7 @@ length_from_delay plan is =
     let are_links = recursion_from_All (IsLink (length plan.groups) plan.delay) plan.links is.links in
     let links = links_short plan plan.links is short are_links in
     let lines = lines_append (map (link_line plan) plan.links) (map (multicast_line plan) plan.multicasts ++ target_line plan ∷ []) links messages_and_target in
-    let few = few_links (length plan.groups) plan.delay plan.links groups_within are_links is.ascending in
+    let few = few_links plan is in
     let all = length-append (map (link_line plan) plan.links) (map (multicast_line plan) plan.multicasts ++ target_line plan ∷ []) in
     let linked = length-map plan.links (link_line plan) in
     let text = text_length (lines_from_delay plan) (delay_short, (groups_short, lines)) in
@@ -320,18 +276,12 @@ order_length Real ranks small few =
     let sum = length-append (ended (order_line ranks)) [] in
     omega arith
 
--- what the length of a text rests on
-pub record ShortGrounds : Type 0 where
-  pub packets : PacketsAreFew
-  pub delays : DelaysAreOneEach
-  pub ranks : RanksAreFew
-
-schedule_length : ShortGrounds → OrderGrounds → (c : Certificate) → IsCertificate c → length (text_of (schedule_lines c.scenario c.schedule)) ≤ 22_047
-schedule_length short grounds c is =
-    let packets = short.packets c.scenario is.scenario in
-    let each = short.delays c.scenario c.schedule is.assigned in
-    let few = short.ranks c.scenario in
-    let order = written grounds c.scenario c.schedule.order is.assigned.order in
+schedule_length : (c : Certificate) → IsCertificate c → length (text_of (schedule_lines c.scenario c.schedule)) ≤ 22_047
+schedule_length c is =
+    let packets = length-packets_of-le c.scenario is.scenario in
+    let each = length-assignment c.scenario c.schedule is.assigned in
+    let few = list_few c.scenario in
+    let order = written c.scenario c.schedule.order is.assigned.order in
     let count = order.few in
     let line = list_length (codes "schedule") c.schedule.delays (small_assigned c.scenario c.schedule is.scenario is.assigned) in
     let here = ended_length (schedule_line c.schedule.delays) in
@@ -347,15 +297,15 @@ version_length Three = refl
 version_length Four = refl
 
 -- the text of a certificate is within the limit
-pub certificate_length : ShortGrounds → OrderGrounds → (c : Certificate) → IsCertificate c → length c.nodes ≤ MOST_NODES → length (certificate_text c) ≤ LONGEST_TEXT
-certificate_length short grounds c is nodes_within =
+pub certificate_length : (c : Certificate) → IsCertificate c → length c.nodes ≤ MOST_NODES → length (certificate_text c) ≤ LONGEST_TEXT
+certificate_length c is nodes_within =
     let version = lines_version (version_of c) in
     let nodes : List (List ℕ) = map node_line c.nodes in
     let foot : List (List ℕ) = end_line ∷ [] in
     let ties : List (List ℕ) = schedule_lines c.scenario c.schedule in
     let tail : List (List ℕ) = latency_line c.latency ∷ (ties ++ (nodes ++ foot)) in
     let latency = line_length (codes "latency") (decimal c.latency ∷ []) (number_length c.latency is.latency, tt) in
-    let schedule = schedule_length short grounds c is in
+    let schedule = schedule_length c is in
     let scenario = scenario_length version c.scenario is.scenario in
     let all_nodes = nodes_length c.scenario c.nodes (recursion_from_All (IsNode c.scenario) c.nodes is.nodes) in
     let s0 : length (certificate_text c) ≡ length (ended (version_line (version_of c))) + length (text_of (scenario_lines version c.scenario ++ tail)) = length-append (ended (version_line (version_of c))) (text_of (scenario_lines version c.scenario ++ tail)) in

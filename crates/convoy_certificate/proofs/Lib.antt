@@ -1,7 +1,6 @@
 pub mod Pieces
 pub mod Nodes
 pub mod Assigned
-pub mod LineLaws
 pub mod Steps
 pub mod Orders
 pub mod Taken

@@ -20,8 +20,8 @@ use Rattle.convoy_certificate.specs.Certificate.{greatest_packet, least_place, g
 use Rattle.convoy_certificate.specs.Forms.{split_in, latency_in, lead_in, in_ticks, stamp_in, leaf_in, node_in}
 use Rattle.convoy_certificate.specs.Reading.{leads_with}
 use Rattle.convoy_certificate.specs.Text.{is_lead, says_time, node_line}
-use Rattle.convoy_certificate.proofs.LineLaws.{ReadGrounds, WrittenGrounds, bind_some, next_takes, same_bytes, decimal_word, number_again, words_again}
-use Rattle.convoy_lines.specs.Laws.{IsWord}
+use Rattle.convoy_lines.proofs.LabelLemmas.{bind_some, next_takes, same_bytes}
+use Rattle.convoy_lines.proofs.Spelling.{number_takes, number_again, decimal_word, words_again, line_takes}
 
 pub and_then_takes : {A B : Type 0} (f : A → Option B) (o : Option A) (y : B) → option_and_then f o ≡ Some y → (x : A) × (o ≡ Some x) × (f x ≡ Some y)
 and_then_takes f None y e = absurd cc
@@ -84,64 +84,64 @@ leaf_takes version time word node e =
           ]
     ]
 
-module _ (grounds : ReadGrounds) where
-  split_takes : (timed : Bool) (words : List (List ℕ)) (node : Node) → split_in timed words ≡ Some node → line_of (codes "s") words ≡ node_line node
-  split_takes timed words node e =
-      let a = bind_some (next_word words) (λ first. number_of (greatest_packet timed) first.0 >>= λ packet. next_word first.1 >>= λ second. number_of (greatest_place timed) second.0 >>= λ at.
-      cond (leb (least_place timed) at && (length second.1 == 0)) (Some (Split packet at)) None) node e in
-      let b = bind_some (number_of (greatest_packet timed) a.0.0) (λ packet. next_word a.0.1 >>= λ second. number_of (greatest_place timed) second.0 >>= λ at.
-      cond (leb (least_place timed) at && (length second.1 == 0)) (Some (Split packet at)) None) node a.2 in
-      let c = bind_some (next_word a.0.1) (λ second. number_of (greatest_place timed) second.0 >>= λ at. cond (leb (least_place timed) at && (length second.1 == 0)) (Some (Split b.0 at)) None) node b.2 in
-      let d = bind_some (number_of (greatest_place timed) c.0.0) (λ at. cond (leb (least_place timed) at && (length c.0.1 == 0)) (Some (Split b.0 at)) None) node c.2 in
-      let g = cond_some (leb (least_place timed) d.0 && (length c.0.1 == 0)) (Split b.0 d.0) node d.2 in
-      let last : c.0.1 ≡ [] = nil_from_length c.0.1 (eqb-true _ _ (and_parts (leb (least_place timed) d.0) (length c.0.1 == 0) g.0).1) in
-      let packet = (grounds.numbers (greatest_packet timed) a.0.0 b.0 (omega (arith, packet_fits timed))).0 b.1 in
-      let at = (grounds.numbers (greatest_place timed) c.0.0 d.0 (omega (arith, place_fits timed))).0 d.1 in
-      let read : words ≡ decimal b.0 ∷ decimal d.0 ∷ [] =
-      next_takes words a.0 a.1 ∙ ap (λ ws. a.0.0 ∷ ws) (next_takes a.0.1 c.0 c.1 ∙ ap (λ ws. c.0.0 ∷ ws) last) ∙ ap (λ w. w ∷ c.0.0 ∷ []) packet.0 ∙ ap (λ w. decimal b.0 ∷ w ∷ []) at.0 in
-      ap (line_of (codes "s")) read ∙ ap node_line g.1
+-- the split of these numbers, if no word is left
+abbrev split_at_end : Bool → List (List ℕ) → ℕ → ℕ → Option Node
+split_at_end timed left packet at = cond (leb (least_place timed) at && (length left == 0)) (Some (Split packet at)) None
 
-  latency_takes : (words : List (List ℕ)) (node : Node) → latency_in words ≡ Some node → line_of (codes "c") words ≡ node_line node
-  latency_takes words node e =
-      let a = bind_some (next_word words) (λ only. number_of greatest_number only.0 >>= λ latency. cond (length only.1 == 0) (Some (Lead latency)) None) node e in
-      let b = bind_some (number_of greatest_number a.0.0) (λ latency. cond (length a.0.1 == 0) (Some (Lead latency)) None) node a.2 in
-      let g = cond_some (length a.0.1 == 0) (Lead b.0) node b.2 in
-      let last : a.0.1 ≡ [] = nil_from_length a.0.1 (eqb-true _ _ g.0) in
-      let latency = (grounds.numbers greatest_number a.0.0 b.0 (omega arith)).0 b.1 in
-      let read : words ≡ decimal b.0 ∷ [] = next_takes words a.0 a.1 ∙ ap (λ ws. a.0.0 ∷ ws) last ∙ ap (λ w. w ∷ []) latency.0 in
-      ap (line_of (codes "c")) read ∙ ap node_line g.1
+split_takes : (timed : Bool) (words : List (List ℕ)) (node : Node) → split_in timed words ≡ Some node → line_of (codes "s") words ≡ node_line node
+split_takes timed [] node e = absurd cc
+split_takes timed (first ∷ []) node e =
+    let a = bind_some (number_of (greatest_packet timed) first) (λ packet. None) node e in
+    let none : None ≡ Some node = a.2 in absurd cc
+split_takes timed (first ∷ second ∷ left) node e =
+    let a = bind_some (number_of (greatest_packet timed) first) (λ packet. number_of (greatest_place timed) second >>= split_at_end timed left packet) node e in
+    let b = bind_some (number_of (greatest_place timed) second) (split_at_end timed left a.0) node a.2 in
+    let c = cond_some (leb (least_place timed) b.0 && (length left == 0)) (Split a.0 b.0) node b.2 in
+    let last : left ≡ [] = nil_from_length left (eqb-true _ _ (and_parts (leb (least_place timed) b.0) (length left == 0) c.0).1) in
+    let packet = number_takes (greatest_packet timed) first a.0 (omega (arith, packet_fits timed)) a.1 in
+    let at = number_takes (greatest_place timed) second b.0 (omega (arith, place_fits timed)) b.1 in
+    ap (λ w. line_of (codes "s") (w ∷ second ∷ left)) packet.0 ∙ ap (λ w. line_of (codes "s") (decimal a.0 ∷ w ∷ left)) at.0 ∙ ap (λ ws. line_of (codes "s") (decimal a.0 ∷ decimal b.0 ∷ ws)) last ∙ ap node_line c.1
 
-  lead_takes : (version : Version) (words : List (List ℕ)) (node : Node) → lead_in version words ≡ Some node → line_of (codes "c") words ≡ node_line node
-  lead_takes One words node e = absurd cc
-  lead_takes Two words node e = absurd cc
-  lead_takes Three words node e = latency_takes words node e
-  lead_takes Four words node e = latency_takes words node e
+latency_takes : (words : List (List ℕ)) (node : Node) → latency_in words ≡ Some node → line_of (codes "c") words ≡ node_line node
+latency_takes [] node e = absurd cc
+latency_takes (only ∷ left) node e =
+    let a = bind_some (number_of greatest_number only) (λ latency. cond (length left == 0) (Some (Lead latency)) None) node e in
+    let b = cond_some (length left == 0) (Lead a.0) node a.2 in
+    let last : left ≡ [] = nil_from_length left (eqb-true _ _ b.0) in
+    let latency = number_takes greatest_number only a.0 (omega arith) a.1 in
+    ap (λ w. line_of (codes "c") (w ∷ left)) latency.0 ∙ ap (λ ws. line_of (codes "c") (decimal a.0 ∷ ws)) last ∙ ap node_line b.1
 
-  pub node_takes : (version : Version) (time : Time) (line : List ℕ) (node : Node) → node_in version time line ≡ Some node → line ≡ node_line node
-  node_takes version time line node e =
-      let a = bind_some (next_word (words_of line)) (λ first. cond (bytes_eq first.0 (codes "s")) (split_in (says_time version) first.1) (cond (bytes_eq first.0 (codes "c")) (lead_in version first.1) (cond (length first.1 == 0) (leaf_in version time first.0) None))) node e in
-      let whole : line ≡ line_of a.0.0 a.0.1 = (grounds.words line a.0.0 a.0.1).0 (next_takes (words_of line) a.0 a.1) in
-      elim (cases_Bool (bytes_eq a.0.0 (codes "s"))) [
-        | inl split ↦
-            let read : split_in (says_time version) a.0.1 ≡ Some node = rw split at a.2 in
-            whole ∙ ap (λ w. line_of w a.0.1) (same_bytes a.0.0 (codes "s") split) ∙ split_takes (says_time version) a.0.1 node read
-        | inr other ↦
-            let read : cond (bytes_eq a.0.0 (codes "c")) (lead_in version a.0.1) (cond (length a.0.1 == 0) (leaf_in version time a.0.0) None) ≡ Some node = rw other at a.2 in
-            elim (cases_Bool (bytes_eq a.0.0 (codes "c"))) [
-              | inl lead ↦
-                  let leaf : lead_in version a.0.1 ≡ Some node = rw lead at read in
-                  whole ∙ ap (λ w. line_of w a.0.1) (same_bytes a.0.0 (codes "c") lead) ∙ lead_takes version a.0.1 node leaf
-              | inr neither ↦
-                  let short : cond (length a.0.1 == 0) (leaf_in version time a.0.0) None ≡ Some node = rw neither at read in
-                  elim (cases_Bool (length a.0.1 == 0)) [
-                    | inl alone ↦
-                        let leaf : leaf_in version time a.0.0 ≡ Some node = rw alone at short in
-                        let last : a.0.1 ≡ [] = nil_from_length a.0.1 (eqb-true _ _ alone) in
-                        whole ∙ ap (line_of a.0.0) last ∙ append-nil a.0.0 ∙ leaf_takes version time a.0.0 node leaf
-                    | inr more ↦ let none : None ≡ Some node = rw more at short in absurd cc
-                  ]
-            ]
-      ]
+lead_takes : (version : Version) (words : List (List ℕ)) (node : Node) → lead_in version words ≡ Some node → line_of (codes "c") words ≡ node_line node
+lead_takes One words node e = absurd cc
+lead_takes Two words node e = absurd cc
+lead_takes Three words node e = latency_takes words node e
+lead_takes Four words node e = latency_takes words node e
+
+pub node_takes : (version : Version) (time : Time) (line : List ℕ) (node : Node) → node_in version time line ≡ Some node → line ≡ node_line node
+node_takes version time line node e =
+    let a = bind_some (next_word (words_of line)) (λ first. cond (bytes_eq first.0 (codes "s")) (split_in (says_time version) first.1) (cond (bytes_eq first.0 (codes "c")) (lead_in version first.1) (cond (length first.1 == 0) (leaf_in version time first.0) None))) node e in
+    let whole : line ≡ line_of a.0.0 a.0.1 = line_takes line a.0.0 a.0.1 (next_takes (words_of line) a.0 a.1) in
+    elim (cases_Bool (bytes_eq a.0.0 (codes "s"))) [
+      | inl split ↦
+          let read : split_in (says_time version) a.0.1 ≡ Some node = rw split at a.2 in
+          whole ∙ ap (λ w. line_of w a.0.1) (same_bytes a.0.0 (codes "s") split) ∙ split_takes (says_time version) a.0.1 node read
+      | inr other ↦
+          let read : cond (bytes_eq a.0.0 (codes "c")) (lead_in version a.0.1) (cond (length a.0.1 == 0) (leaf_in version time a.0.0) None) ≡ Some node = rw other at a.2 in
+          elim (cases_Bool (bytes_eq a.0.0 (codes "c"))) [
+            | inl lead ↦
+                let leaf : lead_in version a.0.1 ≡ Some node = rw lead at read in
+                whole ∙ ap (λ w. line_of w a.0.1) (same_bytes a.0.0 (codes "c") lead) ∙ lead_takes version a.0.1 node leaf
+            | inr neither ↦
+                let short : cond (length a.0.1 == 0) (leaf_in version time a.0.0) None ≡ Some node = rw neither at read in
+                elim (cases_Bool (length a.0.1 == 0)) [
+                  | inl alone ↦
+                      let leaf : leaf_in version time a.0.0 ≡ Some node = rw alone at short in
+                      let last : a.0.1 ≡ [] = nil_from_length a.0.1 (eqb-true _ _ alone) in
+                      whole ∙ ap (line_of a.0.0) last ∙ append-nil a.0.0 ∙ leaf_takes version time a.0.0 node leaf
+                  | inr more ↦ let none : None ≡ Some node = rw more at short in absurd cc
+                ]
+          ]
+    ]
 
 -- the node that the words of a line are
 abbrev node_of_words : Version → Time → List (List ℕ) → Option Node
@@ -150,29 +150,21 @@ node_of_words version time words = do
   if bytes_eq first.0 (codes "s") then split_in (says_time version) first.1 else if bytes_eq first.0 (codes "c") then lead_in version first.1
       else if length first.1 == 0 then leaf_in version time first.0 else None
 
--- the word of a line `s`
-pub split_word : IsWord (codes "s")
-split_word = record { some = omega arith; spaceless = refl; endless = refl }
-
 -- a line `s` is read again
-pub split_again : WrittenGrounds → (version : Version) (time : Time) (packet at : ℕ) → packet ≤ greatest_packet (says_time version) → least_place (says_time version) ≤ at → at ≤ greatest_place (says_time version)
+pub split_again : (version : Version) (time : Time) (packet at : ℕ) → packet ≤ greatest_packet (says_time version) → least_place (says_time version) ≤ at → at ≤ greatest_place (says_time version)
     → node_in version time (node_line (Split packet at)) ≡ Some (Split packet at)
-split_again grounds version time packet at known low high =
+split_again version time packet at known low high =
     let timed = says_time version in
     let words : words_of (node_line (Split packet at)) ≡ codes "s" ∷ decimal packet ∷ decimal at ∷ [] =
-    words_again grounds (codes "s") (decimal packet ∷ decimal at ∷ []) (split_word, (decimal_word grounds packet (omega (arith, known, packet_fits timed)), (decimal_word grounds at (omega (arith, high, place_fits timed)), tt))) in
+    words_again (codes "s") (decimal packet ∷ decimal at ∷ []) refl (decimal_word packet (omega (arith, known, packet_fits timed)), (decimal_word at (omega (arith, high, place_fits timed)), tt)) in
     let read : node_of_words version time (codes "s" ∷ decimal packet ∷ decimal at ∷ []) ≡ Some (Split packet at) =
-    rw (number_again grounds (greatest_packet timed) packet (omega (arith, packet_fits timed)) known, number_again grounds (greatest_place timed) at (omega (arith, place_fits timed)) high, le-leb (least_place timed) at low) refl in
+    rw (number_again (greatest_packet timed) packet (omega (arith, packet_fits timed)) known, number_again (greatest_place timed) at (omega (arith, place_fits timed)) high, le-leb (least_place timed) at low) refl in
     ap (node_of_words version time) words ∙ read
 
--- the word of a line `c`
-pub lead_word : IsWord (codes "c")
-lead_word = record { some = omega arith; spaceless = refl; endless = refl }
-
 -- a line `c` is read again in a version that has such lines
-pub lead_again : WrittenGrounds → (version : Version) (time : Time) (latency : ℕ) → ((words : List (List ℕ)) → lead_in version words ≡ latency_in words) → latency ≤ greatest_number → node_in version time (node_line (Lead latency)) ≡ Some (Lead latency)
-lead_again grounds version time latency known high =
+pub lead_again : (version : Version) (time : Time) (latency : ℕ) → ((words : List (List ℕ)) → lead_in version words ≡ latency_in words) → latency ≤ greatest_number → node_in version time (node_line (Lead latency)) ≡ Some (Lead latency)
+lead_again version time latency known high =
     let words : words_of (node_line (Lead latency)) ≡ codes "c" ∷ decimal latency ∷ [] =
-    words_again grounds (codes "c") (decimal latency ∷ []) (lead_word, (decimal_word grounds latency (omega arith), tt)) in
-    let read : latency_in (decimal latency ∷ []) ≡ Some (Lead latency) = rw (number_again grounds greatest_number latency (omega arith) high) refl in
+    words_again (codes "c") (decimal latency ∷ []) refl (decimal_word latency (omega arith), tt) in
+    let read : latency_in (decimal latency ∷ []) ≡ Some (Lead latency) = rw (number_again greatest_number latency (omega arith) high) refl in
     ap (node_of_words version time) words ∙ known (decimal latency ∷ []) ∙ read

@@ -1,7 +1,9 @@
 -- The text of a certificate, piece by piece.
-use Rattle.std.proofs.Common.{◌≡◌, ℕ, List, [], ◌∷◌, ◌++◌, map, refl, ap, sym, ◌∙◌, append_assoc}
-use Rattle.std.proofs.lemmas.List.{append-nil}
+use Rattle.std.proofs.Common.{◌≡◌, ℕ, ◌≤◌, List, [], ◌∷◌, ◌++◌, length, map, take, refl, ap, sym, ◌∙◌, append_assoc}
+use Rattle.std.specs.List.{flat_map}
+use Rattle.std.proofs.lemmas.List.{append-nil, take_all}
 use Rattle.std.proofs.lemmas.List.Concat.{flat_map-append}
+use Rattle.std.proofs.lemmas.List.Folds.{flat_map-map}
 use Rattle.convoy_lines.specs.Texts.{ended, text_of}
 use Rattle.convoy_scenario_lines.specs.Lines.{scenario_lines, scenario_text}
 use Rattle.convoy_scenario.specs.Scenario.{Scenario}
@@ -46,3 +48,9 @@ in_pieces c plan latency schedule nodes p l d n t1 t2 t3 t4 t5 t6 e1 e2 e3 e4 e5
 -- a line and its end, after a text
 pub in_line : (t s w u v : List ℕ) → u ≡ (t ++ s) ++ w → v ≡ u ++ 10 ∷ [] → v ≡ t ++ ((s ++ w) ++ 10 ∷ [])
 in_line t s w u v e f = f ∙ ap (λ x. x ++ 10 ∷ []) (e ∙ append_assoc t s w) ∙ append_assoc t (s ++ w) (10 ∷ [])
+
+-- pieces that are appended one by one
+pub in_map : {A B C : Type 0} (f : B → List C) (g : A → B) (xs : List A) (i : ℕ) (old new : List C) → length xs ≤ i
+    → new ≡ old ++ flat_map (λ x. f (g x)) (take i xs) → new ≡ old ++ flat_map f (map g xs)
+in_map f g xs i old new le e =
+    e ∙ ap (λ t. old ++ t) (ap (flat_map (λ x. f (g x))) (take_all i xs le) ∙ sym (flat_map-map f g xs))

@@ -1,9 +1,12 @@
 -- Worked rows, computed from the definitions alone.
-use Rattle.std.proofs.Common.{◌≡◌, ℕ, false, List, [], ◌∷◌, ◌++◌, replicate, slice_set, Some, None, Err, refl, codes}
+use Rattle.std.proofs.Common.{◌≡◌, ℕ, false, List, [], ◌∷◌, ◌++◌, replicate, slice_set, Option, Some, None, Err, refl, codes}
 use Rattle.std.specs.Fmt.{digits}
+use Rattle.std.specs.List.{AllByRecursion}
+use Rattle.convoy_scenario_lines.specs.declared.line_fault.Expected.{Expected}
 use Rattle.convoy_scenario_lines.specs.declared.line_fault.Expected.TheVariants as expected
 use Rattle.convoy_scenario.specs.declared.sender.Sender.{Sender}
 use Rattle.convoy_scenario.specs.declared.sender.Sender.TheVariants.{Client, Group}
+use Rattle.convoy_draft.specs.declared.time.Time.{Time}
 use Rattle.convoy_draft.specs.declared.time.Time.TheVariants.{Ticks, Real}
 use Rattle.convoy_scenario_lines.specs.LineReading.{links_in, messages_in, scenario_at}
 use Rattle.convoy_scenario.specs.Scenario.{Message}
@@ -11,8 +14,11 @@ use Rattle.convoy_packets.specs.Assignment.{in_fixed_order, ranges_of}
 use Rattle.convoy_packets.specs.Order.{no_order, place}
 use Rattle.convoy_packets.specs.OrderLists.{marks_of}
 use Rattle.convoy_packets.specs.Packets.{packets_of}
+use Rattle.convoy_certificate.specs.declared.node.Node.{Node}
 use Rattle.convoy_certificate.specs.declared.node.Node.TheVariants.{Split, Bound, Point, Stamp, Lead}
+use Rattle.convoy_certificate.specs.declared.text_fault.TextFault.{TextFault}
 use Rattle.convoy_certificate.specs.declared.text_fault.TextFault.TheVariants as faults
+use Rattle.convoy_certificate.specs.declared.version.Version.{Version}
 use Rattle.convoy_certificate.specs.declared.version.Version.TheVariants.{One, Two, Three, Four}
 use Rattle.convoy_certificate.specs.Certificate.{Certificate}
 use Rattle.convoy_certificate.specs.Forms.{node_or_end}
@@ -58,133 +64,31 @@ lone = record {
   nodes = Bound ∷ [];
 }
 
--- the base up to its last message, and after it
+-- the messages of the base, the base up to them, and after them
+abbrev issued : List ℕ
+issued = codes "multicast x client 0 b\nmulticast t client 0 a b\nmulticast y a 6 a b\n"
+
 abbrev head : List ℕ
-head = codes "convoy 1\ndelay 3\ngroups a b\nmulticast x client 0 b\nmulticast t client 0 a b\nmulticast y a 6 a b\n"
+head = codes "convoy 1\ndelay 3\ngroups a b\n" ++ issued
 
 abbrev foot : List ℕ
 foot = codes "target t a\nlatency 12\nschedule 3 3 3 3 3 3 3 3\n"
 
-text_of_base : certificate_text base ≡ head ++ foot ++ codes "b\nend\n"
-unfolding digits no_order
-text_of_base = refl
-
-text_of_lone : certificate_text lone ≡ codes "convoy 1\ndelay 5\ngroups a\nmulticast m a 0 a\ntarget m a\nlatency 0\nschedule\nb\nend\n"
-unfolding digits no_order
-text_of_lone = refl
-
--- the base with links from clients to b and from b to a, with another schedule
+-- the base with links from clients to b and from b to a
 abbrev linked : Certificate
 linked = record base {
   scenario = record base.scenario { links = record { sender = Client; to = 1; least = 2; most = 3 } ∷ record { sender = Group 1; to = 0; least = 1; most = 1 } ∷ [] };
 }
 
-text_of_linked : certificate_text linked
-    ≡ codes "convoy 2\ndelay 3\ngroups a b\nlink client b 2 3\nlink b a 1 1\nmulticast x client 0 b\nmulticast t client 0 a b\nmulticast y a 6 a b\n" ++ foot ++ codes "b\nend\n"
-unfolding digits no_order
-text_of_linked = refl
-
--- the base with a stamp leaf
-text_of_stamped : certificate_text (record base { nodes = Stamp ∷ [] })
-    ≡ codes "convoy 2\ndelay 3\ngroups a b\nmulticast x client 0 b\nmulticast t client 0 a b\nmulticast y a 6 a b\n" ++ foot ++ codes "t\nend\n"
-unfolding digits no_order
-text_of_stamped = refl
-
--- version 1 has no lines `t`
-stamp_in_version_one : node_or_end One Ticks (codes "t") ≡ None
-stamp_in_version_one = refl
-
-stamp_in_version_two : node_or_end Two Ticks (codes "t") ≡ Some (Some Stamp)
-stamp_in_version_two = refl
-
--- the base with a lead leaf
-text_of_led : certificate_text (record base { nodes = Lead 12 ∷ [] })
-    ≡ codes "convoy 3\ndelay 3\ngroups a b\nmulticast x client 0 b\nmulticast t client 0 a b\nmulticast y a 6 a b\n" ++ foot ++ codes "c 12\nend\n"
-unfolding digits no_order
-text_of_led = refl
-
--- the base in real time: version 4, and a line `order`, which is the word alone where ties fall in the fixed order
+-- the base in real time, with a lead leaf
 abbrev in_real_time : Certificate
 in_real_time = record base { scenario = record base.scenario { time = Real }; nodes = Lead 12 ∷ [] }
 
-text_in_real_time : certificate_text in_real_time
-    ≡ codes "convoy 4\ntime real\ndelay 3\ngroups a b\nmulticast x client 0 b\nmulticast t client 0 a b\nmulticast y a 6 a b\n" ++ foot ++ codes "order\nc 12\nend\n"
-unfolding digits no_order
-text_in_real_time = refl
+-- the same with the arrival of t at b of a later rank
+abbrev tied : Certificate
+tied = record in_real_time { schedule = record in_real_time.schedule { order = record no_order { arrivals = slice_set (replicate 128 0) (place 1 1) 1 } } }
 
--- and with the arrival of t at b of a later rank
-text_of_ties : certificate_text (record in_real_time { schedule = record in_real_time.schedule { order = record no_order { arrivals = slice_set (replicate 128 0) (place 1 1) 1 } } })
-    ≡ codes "convoy 4\ntime real\ndelay 3\ngroups a b\nmulticast x client 0 b\nmulticast t client 0 a b\nmulticast y a 6 a b\n" ++ foot ++ codes "order 0 0 0 0 1 0 0 0 0 0\nc 12\nend\n"
-unfolding digits no_order marks_of
-text_of_ties = refl
-
--- real time has no lines `p` and `t`
-point_in_version_four : node_or_end Four Real (codes "p") ≡ None
-point_in_version_four = refl
-
-stamp_in_version_four : node_or_end Four Real (codes "t") ≡ None
-stamp_in_version_four = refl
-
-lead_in_version_four : node_or_end Four Real (codes "c 12") ≡ Some (Some (Lead 12))
-lead_in_version_four = refl
-
--- lists of ranks that are no order's: one rank too few, one that is too great, and ranks that are all 0 and written out
-order_too_short : is_order_list in_real_time.scenario (0 ∷ 0 ∷ 0 ∷ 0 ∷ 1 ∷ 0 ∷ 0 ∷ 0 ∷ 0 ∷ []) ≡ false
-unfolding marks_of
-order_too_short = refl
-
-order_too_great : is_order_list in_real_time.scenario (0 ∷ 0 ∷ 0 ∷ 0 ∷ 256 ∷ 0 ∷ 0 ∷ 0 ∷ 0 ∷ 0 ∷ []) ≡ false
-unfolding marks_of
-order_too_great = refl
-
-order_written_out : is_order_list in_real_time.scenario (0 ∷ 0 ∷ 0 ∷ 0 ∷ 0 ∷ 0 ∷ 0 ∷ 0 ∷ 0 ∷ 0 ∷ []) ≡ false
-unfolding marks_of
-order_written_out = refl
-
--- in version 4 the line `time` stands second
-no_time : certificate_of (codes "convoy 4\ndelay 3\n") ≡ Err (faults.Line 2 expected.Time)
-unfolding certificate_of scenario_at links_in messages_in nodes_in ranges_of packets_of
-no_time = refl
-
--- and the line of a tick's length third, where it is known: its count is 1 or more, of the greatest unit that divides it
-text_with_tick : certificate_text (record in_real_time { scenario = record in_real_time.scenario { tick = Some 50_000 } })
-    ≡ codes "convoy 4\ntime real\ntick 50 us\ndelay 3\ngroups a b\nmulticast x client 0 b\nmulticast t client 0 a b\nmulticast y a 6 a b\n" ++ foot ++ codes "order\nc 12\nend\n"
-unfolding digits no_order
-text_with_tick = refl
-
-tick_of_less_unit : certificate_of (codes "convoy 4\ntime real\ntick 1000 us\n") ≡ Err (faults.Line 3 expected.Tick)
-unfolding certificate_of scenario_at links_in messages_in nodes_in ranges_of packets_of
-tick_of_less_unit = refl
-
-tick_of_zero : certificate_of (codes "convoy 4\ntime real\ntick 0 s\n") ≡ Err (faults.Line 3 expected.Tick)
-unfolding certificate_of scenario_at links_in messages_in nodes_in ranges_of packets_of
-tick_of_zero = refl
-
-tick_in_whole_ticks : certificate_of (codes "convoy 1\ntick 1 ms\n") ≡ Err (faults.Line 2 expected.Delay)
-unfolding certificate_of scenario_at links_in messages_in nodes_in ranges_of packets_of
-tick_in_whole_ticks = refl
-
--- a split is at 16 at most in versions 1 to 3, and at 65,535 at most in version 4
-split_in_version_three : node_or_end Three Ticks (codes "s 0 17") ≡ None
-split_in_version_three = refl
-
-split_in_version_four : node_or_end Four Real (codes "s 0 65535") ≡ Some (Some (Split 0 65_535))
-split_in_version_four = refl
-
--- and after 1 at least in versions 1 to 3, and after 0 at least in version 4, where a packet has a number up to 1,039
-split_after_none_in_version_three : node_or_end Three Ticks (codes "s 0 0") ≡ None
-split_after_none_in_version_three = refl
-
-split_after_none_in_version_four : node_or_end Four Ticks (codes "s 1039 0") ≡ Some (Some (Split 1_039 0))
-split_after_none_in_version_four = refl
-
-split_of_far_packet_in_version_three : node_or_end Three Ticks (codes "s 1024 1") ≡ None
-split_of_far_packet_in_version_three = refl
-
-split_of_far_packet_in_version_four : node_or_end Four Ticks (codes "s 1040 1") ≡ None
-split_of_far_packet_in_version_four = refl
-
--- the base, in which y may be issued from 6 to 8 on: version 4, a line `time`, and no line `order`; its wait comes first among the delays of y
+-- the base, in which y may be issued from 6 to 8 on; its wait comes first among the delays of y
 abbrev waiting : Certificate
 waiting = record base {
   scenario = record base.scenario {
@@ -194,68 +98,78 @@ waiting = record base {
   nodes = Split 5 0 ∷ Point ∷ Stamp ∷ [];
 }
 
-text_of_waiting : certificate_text waiting
-    ≡ codes "convoy 4\ntime ticks\ndelay 3\ngroups a b\nmulticast x client 0 b\nmulticast t client 0 a b\nmulticast y a 6..8 a b\ntarget t a\nlatency 12\nschedule 3 3 3 3 3 0 3 3 3\ns 5 0\np\nt\nend\n"
+-- ---- what is written
+
+-- each certificate has this text
+abbrev HaveTexts : List (Certificate × List ℕ) → Type 0
+HaveTexts rows = AllByRecursion (λ (row : Certificate × List ℕ). certificate_text row.0 ≡ row.1) rows
+
+-- in whole ticks in which no message may wait: leaves and links decide on the version
+texts_in_ticks : HaveTexts (
+    (base, head ++ foot ++ codes "b\nend\n")
+    ∷ (lone, codes "convoy 1\ndelay 5\ngroups a\nmulticast m a 0 a\ntarget m a\nlatency 0\nschedule\nb\nend\n")
+    ∷ (linked, codes "convoy 2\ndelay 3\ngroups a b\nlink client b 2 3\nlink b a 1 1\n" ++ issued ++ foot ++ codes "b\nend\n")
+    ∷ (record base { nodes = Stamp ∷ [] }, codes "convoy 2\ndelay 3\ngroups a b\n" ++ issued ++ foot ++ codes "t\nend\n")
+    ∷ (record base { nodes = Lead 12 ∷ [] }, codes "convoy 3\ndelay 3\ngroups a b\n" ++ issued ++ foot ++ codes "c 12\nend\n")
+    ∷ [])
 unfolding digits no_order
-text_of_waiting = refl
+texts_in_ticks = (refl, (refl, (refl, (refl, (refl, tt)))))
 
--- no tick has a length there, and older versions have no such line `multicast`
-wait_in_version_three : certificate_of (codes "convoy 3\ndelay 3\ngroups a b\nmulticast y a 6..8 a b\n") ≡ Err (faults.Line 4 expected.Multicast)
-unfolding certificate_of scenario_at links_in messages_in nodes_in ranges_of packets_of
-wait_in_version_three = refl
+-- in version 4: in real time a line `order` stands there, which is the word alone where ties fall in the fixed order, and a line `tick`, where a tick has a length; where a message may wait, its line has two ticks
+texts_with_time : HaveTexts (
+    (in_real_time, codes "convoy 4\ntime real\ndelay 3\ngroups a b\n" ++ issued ++ foot ++ codes "order\nc 12\nend\n")
+    ∷ (tied, codes "convoy 4\ntime real\ndelay 3\ngroups a b\n" ++ issued ++ foot ++ codes "order 0 0 0 0 1 0 0 0 0 0\nc 12\nend\n")
+    ∷ (record in_real_time { scenario = record in_real_time.scenario { tick = Some 50_000 } }, codes "convoy 4\ntime real\ntick 50 us\ndelay 3\ngroups a b\n" ++ issued ++ foot ++ codes "order\nc 12\nend\n")
+    ∷ (waiting, codes "convoy 4\ntime ticks\ndelay 3\ngroups a b\nmulticast x client 0 b\nmulticast t client 0 a b\nmulticast y a 6..8 a b\ntarget t a\nlatency 12\nschedule 3 3 3 3 3 0 3 3 3\ns 5 0\np\nt\nend\n")
+    ∷ [])
+unfolding digits no_order marks_of
+texts_with_time = (refl, (refl, (refl, (refl, tt))))
 
-other_time : certificate_of (codes "convoy 4\ntime whole\n") ≡ Err (faults.Line 2 expected.Time)
-unfolding certificate_of scenario_at links_in messages_in nodes_in ranges_of packets_of
-other_time = refl
+-- ---- what is read
 
--- versions 1 and 2 have no lines `c`
-lead_in_version_one : node_or_end One Ticks (codes "c 12") ≡ None
-lead_in_version_one = refl
+-- each line is read as that node in that version, where time goes so
+abbrev AreNodes : List (Version × Time × List ℕ × Option (Option Node)) → Type 0
+AreNodes rows = AllByRecursion (λ (row : Version × Time × List ℕ × Option (Option Node)). node_or_end row.0 row.1 row.2 ≡ row.3) rows
 
-lead_in_version_two : node_or_end Two Ticks (codes "c 12") ≡ None
-lead_in_version_two = refl
+-- version 1 has no lines `t`, versions 1 and 2 have no lines `c`, and real time has no lines `p` and `t`; a lead has 32 bits
+leaves : AreNodes (
+    (One, Ticks, codes "t", None) ∷ (Two, Ticks, codes "t", Some (Some Stamp)) ∷ (Four, Real, codes "t", None) ∷ (Four, Real, codes "p", None)
+    ∷ (One, Ticks, codes "c 12", None) ∷ (Two, Ticks, codes "c 12", None) ∷ (Three, Ticks, codes "c 12", Some (Some (Lead 12))) ∷ (Four, Real, codes "c 12", Some (Some (Lead 12)))
+    ∷ (Three, Ticks, codes "c 4294967295", Some (Some (Lead 4_294_967_295))) ∷ (Three, Ticks, codes "c 4294967296", None) ∷ [])
+leaves = (refl, (refl, (refl, (refl, (refl, (refl, (refl, (refl, (refl, (refl, tt))))))))))
 
-lead_in_version_three : node_or_end Three Ticks (codes "c 12") ≡ Some (Some (Lead 12))
-lead_in_version_three = refl
+-- a split is after 1 to 16 in versions 1 to 3, of a packet up to 1,023, and after 0 to 65,535 in version 4, of a packet up to 1,039
+splits : AreNodes (
+    (Three, Ticks, codes "s 0 17", None) ∷ (Three, Ticks, codes "s 0 0", None) ∷ (Three, Ticks, codes "s 1024 1", None)
+    ∷ (Four, Real, codes "s 0 65535", Some (Some (Split 0 65_535))) ∷ (Four, Ticks, codes "s 1039 0", Some (Some (Split 1_039 0))) ∷ (Four, Ticks, codes "s 1040 1", None) ∷ [])
+splits = (refl, (refl, (refl, (refl, (refl, (refl, tt))))))
 
-lead_of_32_bits : node_or_end Three Ticks (codes "c 4294967295") ≡ Some (Some (Lead 4_294_967_295))
-lead_of_32_bits = refl
-
-lead_of_33_bits : node_or_end Three Ticks (codes "c 4294967296") ≡ None
-lead_of_33_bits = refl
+-- no order has these lists of ranks: one with a rank too few, one with a rank that is too great, and one of ranks that are all 0 and written out
+no_orders : AllByRecursion (λ (ranks : List ℕ). is_order_list in_real_time.scenario ranks ≡ false) (
+    (0 ∷ 0 ∷ 0 ∷ 0 ∷ 1 ∷ 0 ∷ 0 ∷ 0 ∷ 0 ∷ []) ∷ (0 ∷ 0 ∷ 0 ∷ 0 ∷ 256 ∷ 0 ∷ 0 ∷ 0 ∷ 0 ∷ 0 ∷ []) ∷ (0 ∷ 0 ∷ 0 ∷ 0 ∷ 0 ∷ 0 ∷ 0 ∷ 0 ∷ 0 ∷ 0 ∷ []) ∷ [])
+unfolding marks_of
+no_orders = (refl, (refl, (refl, tt)))
 
 -- where there are as many lead leaves as may be read, the next one is told, and other nodes are read
-a_lead_too_many : nodes_in Three Ticks 100_000 100_000 9 [] (codes "c 9" ∷ []) ≡ Err faults.TreeCount
+past_leads : AllByRecursion (λ (row : List ℕ × TextFault). nodes_in Three Ticks 100_000 100_000 9 [] (row.0 ∷ []) ≡ Err row.1) ((codes "c 9", faults.TreeCount) ∷ (codes "t", faults.Line 10 expected.Node) ∷ [])
 unfolding nodes_in
-a_lead_too_many = refl
+past_leads = (refl, (refl, tt))
 
-a_stamp_after_leads : nodes_in Three Ticks 100_000 100_000 9 [] (codes "t" ∷ []) ≡ Err (faults.Line 10 expected.Node)
-unfolding nodes_in
-a_stamp_after_leads = refl
+-- the first line of each text that has not its form, and what it had to be
+abbrev HaveFaults : List (List ℕ × ℕ × Expected) → Type 0
+HaveFaults rows = AllByRecursion (λ (row : List ℕ × ℕ × Expected). certificate_of row.0 ≡ Err (faults.Line row.1 row.2)) rows
 
--- version 1 has no lines `link`
-link_in_version_one : certificate_of (codes "convoy 1\ndelay 3\ngroups a b\nlink b a 1 1\n") ≡ Err (faults.Line 4 expected.Multicast)
+-- in version 4 the line `time` stands second, and that of a tick's length third, where it is known: its count is 1 or more, of the greatest unit that divides it; no tick has a length in the versions of whole ticks
+times : HaveFaults (
+    (codes "convoy 4\ndelay 3\n", 2, expected.Time) ∷ (codes "convoy 4\ntime whole\n", 2, expected.Time)
+    ∷ (codes "convoy 4\ntime real\ntick 1000 us\n", 3, expected.Tick) ∷ (codes "convoy 4\ntime real\ntick 0 s\n", 3, expected.Tick) ∷ (codes "convoy 1\ntick 1 ms\n", 2, expected.Delay) ∷ [])
 unfolding certificate_of scenario_at links_in messages_in nodes_in ranges_of packets_of
-link_in_version_one = refl
+times = (refl, (refl, (refl, (refl, (refl, tt)))))
 
--- a line `link` that has not its form
-link_without_most : certificate_of (codes "convoy 2\ndelay 3\ngroups a b\nlink b a 1\n") ≡ Err (faults.Line 4 expected.Link)
+-- a text of no bytes; a delay that begins with 0, and one after two spaces; a line `multicast` that is cut off, and one of a message that may wait; a line `link` in version 1, and one that has not its form
+others : HaveFaults (
+    ([], 1, expected.Convoy) ∷ (codes "convoy 1\ndelay 03\n", 2, expected.Delay) ∷ (codes "convoy 1\ndelay  3\n", 2, expected.Delay)
+    ∷ (head ++ codes "multicast", 7, expected.Multicast) ∷ (codes "convoy 3\ndelay 3\ngroups a b\nmulticast y a 6..8 a b\n", 4, expected.Multicast)
+    ∷ (codes "convoy 1\ndelay 3\ngroups a b\nlink b a 1 1\n", 4, expected.Multicast) ∷ (codes "convoy 2\ndelay 3\ngroups a b\nlink b a 1\n", 4, expected.Link) ∷ [])
 unfolding certificate_of scenario_at links_in messages_in nodes_in ranges_of packets_of
-link_without_most = refl
-
--- a line `multicast` that is cut off
-cut_off : certificate_of (head ++ codes "multicast") ≡ Err (faults.Line 7 expected.Multicast)
-unfolding certificate_of scenario_at links_in messages_in nodes_in ranges_of packets_of
-cut_off = refl
-
-no_text : certificate_of [] ≡ Err (faults.Line 1 expected.Convoy)
-unfolding certificate_of scenario_at links_in messages_in nodes_in ranges_of packets_of
-no_text = refl
-
-delay_with_zero : certificate_of (codes "convoy 1\ndelay 03\n") ≡ Err (faults.Line 2 expected.Delay)
-unfolding certificate_of scenario_at links_in messages_in nodes_in ranges_of packets_of
-delay_with_zero = refl
-
-delay_after_two_spaces : certificate_of (codes "convoy 1\ndelay  3\n") ≡ Err (faults.Line 2 expected.Delay)
-unfolding certificate_of scenario_at links_in messages_in nodes_in ranges_of packets_of
-delay_after_two_spaces = refl
+others = (refl, (refl, (refl, (refl, (refl, (refl, (refl, tt)))))))

@@ -3,6 +3,7 @@ use Rattle.std.proofs.Common.{◌≡◌, ℕ, cond, List, Result, Ok, Err, refl,
 use Rattle.convoy_lines.specs.Labels.{number_in}
 use Rattle.convoy_lines.specs.Places.{Place, place_before}
 use Rattle.convoy_lines.specs.Results.{◌>>=◌}
+use Rattle.convoy_packets.specs.Assignment.{Schedule}
 use Rattle.convoy_packets.specs.Order.{Order}
 use Rattle.convoy_scenario.specs.Scenario.{Scenario}
 use Rattle.convoy_scenario_lines.specs.declared.line_fault.Expected.TheVariants as expected
@@ -12,25 +13,28 @@ use Rattle.convoy_certificate.specs.declared.text_fault.TextFault.{TextFault}
 use Rattle.convoy_certificate.specs.declared.text_fault.TextFault.TheVariants as faults
 use Rattle.convoy_certificate.specs.declared.version.Version.{Version}
 use Rattle.convoy_certificate.specs.Certificate.{Certificate}
-use Rattle.convoy_certificate.specs.Forms.{version_in, schedule_in}
-use Rattle.convoy_certificate.specs.Reading.{in_text, is_assignment, order_at, nodes_at, certificate_with, whole, certificate_of}
+use Rattle.convoy_certificate.specs.Forms.{version_in}
+use Rattle.convoy_certificate.specs.Reading.{in_text, is_assignment, order_at, schedule_at, tree_at, certificate_with, certificate_of}
 use Rattle.convoy_certificate.specs.Text.{lines_version}
-
-abbrev pub after_nodes : Version → Scenario → ℕ → List ℕ → Order → List Node × Place → Result Certificate TextFault
-after_nodes version plan latency delays order nodes = whole version (certificate_with plan latency delays order nodes.0) nodes.1
-
-abbrev pub after_order : Version → Scenario → ℕ → List ℕ → Order × Place → Result Certificate TextFault
-after_order version plan latency delays order = nodes_at version plan.time 0 0 order.1 >>= after_nodes version plan latency delays order.0
 
 -- the order of ties, where the delays are one for each packet, each in its range
 abbrev pub order_after : Scenario → List ℕ × Place → Result (Order × Place) TextFault
 order_after plan delays = cond (is_assignment plan delays.0) (order_at plan delays.1) (Err faults.Schedule)
 
-abbrev pub after_delays : Version → Scenario → ℕ → List ℕ × Place → Result Certificate TextFault
-after_delays version plan latency delays = order_after plan delays >>= after_order version plan latency delays.0
+abbrev pub after_order : List ℕ → Order × Place → Result (Schedule × Place) TextFault
+after_order delays order = Ok (record { delays = delays; order = order.0 }, order.1)
+
+abbrev pub after_delays : Scenario → List ℕ × Place → Result (Schedule × Place) TextFault
+after_delays plan delays = order_after plan delays >>= after_order delays.0
+
+abbrev pub after_tree : Scenario → ℕ → Schedule → List Node → Result Certificate TextFault
+after_tree plan latency schedule nodes = Ok (certificate_with plan latency schedule nodes)
+
+abbrev pub after_schedule : Version → Scenario → ℕ → Schedule × Place → Result Certificate TextFault
+after_schedule version plan latency schedule = tree_at version plan schedule.1 >>= after_tree plan latency schedule.0
 
 abbrev pub after_latency : Version → Scenario → ℕ × Place → Result Certificate TextFault
-after_latency version plan latency = in_text (form_at expected.Schedule schedule_in latency.1) >>= after_delays version plan latency.0
+after_latency version plan latency = schedule_at plan latency.1 >>= after_schedule version plan latency.0
 
 abbrev pub after_scenario : Version → Scenario × Place → Result Certificate TextFault
 after_scenario version scenario = in_text (form_at expected.Latency (number_in (codes "latency")) scenario.1) >>= after_latency version scenario.0

@@ -11,9 +11,9 @@ use Rattle.convoy_scenario_lines.specs.LineReading.{form_at, scenario_at}
 use Rattle.convoy_lines.specs.Results.{◌>>=◌}
 use Rattle.convoy_draft.specs.declared.time.Time.{Time}
 use Rattle.convoy_draft.specs.declared.time.Time.TheVariants.{Ticks, Real}
-use Rattle.convoy_scenario.specs.Scenario.{Scenario}
+use Rattle.convoy_scenario.specs.Scenario.{Scenario, is_timed}
 use Rattle.convoy_packets.specs.declared.order.TheConstants.{GREATEST_RANK}
-use Rattle.convoy_packets.specs.Assignment.{ranges_of}
+use Rattle.convoy_packets.specs.Assignment.{Schedule, ranges_of}
 use Rattle.convoy_packets.specs.Order.{Order, no_order}
 use Rattle.convoy_packets.specs.OrderLists.{is_no_order, order_of, rank_count}
 use Rattle.convoy_certificate.specs.declared.certificate.TheConstants.{MOST_LEADS, MOST_NODES}
@@ -23,7 +23,7 @@ use Rattle.convoy_certificate.specs.declared.text_fault.TextFault.TheVariants as
 use Rattle.convoy_certificate.specs.declared.version.Version.{Version}
 use Rattle.convoy_certificate.specs.declared.version.Version.TheVariants.{One, Two, Three, Four}
 use Rattle.convoy_certificate.specs.Certificate.{Certificate}
-use Rattle.convoy_certificate.specs.Text.{is_lead, lines_version, version_of, certificate_text}
+use Rattle.convoy_certificate.specs.Text.{is_lead, lines_version, version_for, certificate_text}
 use Rattle.convoy_certificate.specs.Forms.{version_in, schedule_in, order_in, node_or_end}
 
 -- the fault of a line, told of a text
@@ -94,16 +94,26 @@ is_same_version Three Three = true
 is_same_version Four Four = true
 is_same_version version other = false
 
--- the certificate of these parts
-abbrev pub certificate_with : Scenario → ℕ → List ℕ → Order → List Node → Certificate
-certificate_with scenario latency delays order nodes =
-    record { scenario = scenario; latency = latency; schedule = record { delays = delays; order = order }; nodes = nodes }
+-- the schedule of the next lines: one delay for each packet, each in its packet's range, and the order of ties
+abbrev pub schedule_at : Scenario → Place → Result (Schedule × Place) TextFault
+schedule_at scenario place = do
+  delays ← in_text (form_at expected.Schedule schedule_in place)
+  order ← if is_assignment scenario delays.0 then order_at scenario delays.1 else Err faults.Schedule
+  Ok (record { delays = delays.0; order = order.0 }, order.1)
 
--- the certificate that was read up to a place, if it is written in that version, and nothing follows
-abbrev pub whole : Version → Certificate → Place → Result Certificate TextFault
-whole version certificate past =
-    if is_same_version version (version_of certificate) then (if is_at_end past then Ok certificate else Err faults.AfterEnd)
+-- the nodes that were read up to a place, if a certificate of the scenario with them is written in that version, and nothing follows
+abbrev pub whole : Version → Scenario → List Node × Place → Result (List Node) TextFault
+whole version scenario nodes =
+    if is_same_version version (version_for (is_timed scenario) (length scenario.links) nodes.0) then (if is_at_end nodes.1 then Ok nodes.0 else Err faults.AfterEnd)
     else Err (faults.Line 1 expected.Convoy)
+
+-- the nodes of the next lines, which are the last
+abbrev pub tree_at : Version → Scenario → Place → Result (List Node) TextFault
+tree_at version scenario place = nodes_at version scenario.time 0 0 place >>= whole version scenario
+
+-- the certificate of these parts
+abbrev pub certificate_with : Scenario → ℕ → Schedule → List Node → Certificate
+certificate_with scenario latency schedule nodes = record { scenario = scenario; latency = latency; schedule = schedule; nodes = nodes }
 
 -- the certificate that a text is; else the first fault
 unfoldable pub certificate_of : List ℕ → Result Certificate TextFault
@@ -111,10 +121,9 @@ certificate_of text = do
   version ← in_text (form_at expected.Convoy version_in (place_before text 1))
   scenario ← in_text (scenario_at (lines_version version.0) version.1)
   latency ← in_text (form_at expected.Latency (number_in (codes "latency")) scenario.1)
-  delays ← in_text (form_at expected.Schedule schedule_in latency.1)
-  order ← if is_assignment scenario.0 delays.0 then order_at scenario.0 delays.1 else Err faults.Schedule
-  nodes ← nodes_at version.0 scenario.0.time 0 0 order.1
-  whole version.0 (certificate_with scenario.0 latency.0 delays.0 order.0 nodes.0) nodes.1
+  schedule ← schedule_at scenario.0 latency.1
+  nodes ← tree_at version.0 scenario.0 schedule.1
+  Ok (certificate_with scenario.0 latency.0 schedule.0 nodes)
 
 -- there are no more nodes, and no more lead leaves among them, than may be read
 pub record AreReadable (nodes : List Node) : Type 0 where

@@ -5,13 +5,14 @@ ghost use Rattle.std.specs.Result.{result_map_both};
 ghost use Rattle.convoy_scenario.specs.Memory.{IsUnlessMemory};
 ghost use Rattle.convoy_lines.specs.Labels.{number_in};
 ghost use Rattle.convoy_packets.specs.declared.order.TheConstants.{GREATEST_RANK};
+ghost use Rattle.convoy_packets.specs.Assignment.{IsAssignment};
 ghost use Rattle.convoy_packets.specs.Order.{IsOrder};
 ghost use Rattle.convoy_packets.specs.OrderLists.{AreSmall, order_of};
 ghost use Rattle.convoy_draft.specs.declared.time.Time.TheVariants.{Real};
 ghost use Rattle.convoy_scenario_lines.specs.LineReading.{form_at, scenario_at};
-ghost use Rattle.convoy_certificate.specs.Certificate.{Certificate, IsCertificate, IsNodeWhere};
+ghost use Rattle.convoy_certificate.specs.Certificate.{Certificate, IsCertificate, IsNode, IsNodeWhere};
 ghost use Rattle.convoy_certificate.specs.Forms.{version_in, schedule_in, order_in, node_or_end};
-ghost use Rattle.convoy_certificate.specs.Reading.{in_text, is_same_version, is_within, is_order_list, order_in_time, order_at, are_too_many, leads_with, nodes_at, certificate_of, IsTextOf};
+ghost use Rattle.convoy_certificate.specs.Reading.{in_text, is_same_version, is_within, is_order_list, order_in_time, order_at, are_too_many, leads_with, nodes_at, schedule_at, tree_at, certificate_of, IsTextOf};
 ghost use Rattle.convoy_certificate.specs.Text.{lines_version, says_time};
 
 use super::certificate::{Certificate, MOST_LEADS, MOST_NODES, is_lead, version_for};
@@ -55,24 +56,10 @@ fn read_all(alloc: Global, text: &[u8]) -> Result<Certificate, TextFault>
 {
     let mut reader = LineReader::over(text);
     let version = read_version(&mut reader)?;
-    let scenario = read_scenario(alloc, version, &mut reader)?;
+    let instance = read_instance(alloc, version, &mut reader)?;
     let latency = read_latency(&mut reader)?;
-    let delays = read_delays(alloc, &mut reader)?;
-    let instance = Instance::of(alloc, scenario)?;
-    if !are_within(instance.table().ranges(), &delays) {
-        return Err(TextFault::Schedule);
-    }
-    let scenario = instance.scenario();
-    let order = read_order(alloc, scenario, &mut reader)?;
-    let nodes = read_nodes(alloc, version, scenario.time(), &mut reader)?;
-    let due = version_for(scenario.is_timed(), scenario.link_count(), &nodes);
-    if !is_same_version(version, due) {
-        return Err(TextFault::Line(1, Expected::Convoy));
-    }
-    if !reader.at_end() {
-        return Err(TextFault::AfterEnd);
-    }
-    let schedule = Schedule::with_order(delays, order);
+    let schedule = read_schedule(alloc, &instance, &mut reader)?;
+    let nodes = read_tree(alloc, version, instance.scenario(), &mut reader)?;
     Ok(Certificate::new(instance, latency, schedule, nodes))
 }
 
@@ -97,16 +84,18 @@ fn read_version(reader: &mut LineReader) -> Result<Version, TextFault>
     version_in(line).ok_or(wrong)
 }
 
-fn read_scenario(
+/// The scenario of the next lines, with its packets.
+fn read_instance(
     alloc: Global,
     version: Version,
     reader: &mut LineReader,
-) -> Result<Scenario, TextFault>
+) -> Result<Instance, TextFault>
     ensures { IsUnlessMemory TextFault.Memory
         (in_text (scenario_at (lines_version version) reader.old))
-        (result_map_both (λ scenario. (scenario, reader.new)) (λ fault. fault) result) }
+        (result_map_both (λ instance. (instance, reader.new)) (λ fault. fault) result) }
 {
-    Ok(read_lines(alloc, version.of_lines(), reader)?)
+    let scenario = read_lines(alloc, version.of_lines(), reader)?;
+    Ok(Instance::of(alloc, scenario)?)
 }
 
 fn read_latency(reader: &mut LineReader) -> Result<u32, TextFault>
@@ -116,6 +105,25 @@ fn read_latency(reader: &mut LineReader) -> Result<u32, TextFault>
     let wrong = TextFault::Line(reader.number(), Expected::Latency);
     let line = reader.line().ok_or(wrong)?;
     number_in(line, b"latency").ok_or(wrong)
+}
+
+/// The schedule of the next lines: one delay for each packet, each in its packet's range, and the order
+/// of ties.
+fn read_schedule(
+    alloc: Global,
+    instance: &Instance,
+    reader: &mut LineReader,
+) -> Result<Schedule, TextFault>
+    ensures value { IsUnlessMemory TextFault.Memory (schedule_at instance.now reader.old)
+        (result_map_both (λ schedule. (schedule, reader.new)) (λ fault. fault) result) }
+    ensures lawful { IfOk result (λ schedule. IsAssignment instance.now schedule) }
+{
+    let delays = read_delays(alloc, reader)?;
+    if !are_within(instance.table().ranges(), &delays) {
+        return Err(TextFault::Schedule);
+    }
+    let order = read_order(alloc, instance.scenario(), reader)?;
+    Ok(Schedule::with_order(delays, order))
 }
 
 fn read_delays(alloc: Global, reader: &mut LineReader) -> Result<Vec<u16>, TextFault>
@@ -199,6 +207,29 @@ fn are_small(ranks: &[u16]) -> bool
     ensures lawful { IsTrue result → AreSmall ranks.now }
 {
     ranks.iter().all(|rank| *rank <= u16::from(GREATEST_RANK))
+}
+
+/// The nodes of the next lines, which are the last: those of a certificate of the scenario that is
+/// written in that version.
+fn read_tree(
+    alloc: Global,
+    version: Version,
+    scenario: &Scenario,
+    reader: &mut LineReader,
+) -> Result<Vec<Node>, TextFault>
+    ensures value { IsUnlessMemory TextFault.Memory (tree_at version scenario.now reader.old)
+        (result_map_both (λ nodes. nodes.items) (λ fault. fault) result) }
+    ensures lawful { IfOk result (λ nodes. All (IsNode scenario.now) nodes.items) }
+{
+    let nodes = read_nodes(alloc, version, scenario.time(), reader)?;
+    let due = version_for(scenario.is_timed(), scenario.link_count(), &nodes);
+    if !is_same_version(version, due) {
+        return Err(TextFault::Line(1, Expected::Convoy));
+    }
+    if !reader.at_end() {
+        return Err(TextFault::AfterEnd);
+    }
+    Ok(nodes)
 }
 
 /// The nodes up to the line `end`.

@@ -1,5 +1,5 @@
 -- The words after a label, and the number of a line: what is read was written so, and what is written is read again.
-use Rattle.std.proofs.Common.{◌≡◌, ℕ, ◌<◌, ◌≤◌, ◌==◌, ◌&&◌, not, true, cond, List, [], ◌∷◌, length, Option, Some, None, refl, ap, sym, ◌∙◌, arith, decimal}
+use Rattle.std.proofs.Common.{◌≡◌, ℕ, ◌<◌, ◌≤◌, ◌==◌, ◌&&◌, not, true, cond, List, [], ◌∷◌, length, Option, Some, None, refl, ap, ◌∙◌, arith, decimal}
 use Rattle.std.specs.Str.{bytes_eq}
 use Rattle.std.proofs.lemmas.Bool.{and_parts, and_from, eqb-true, ne_eqb}
 use Rattle.std.proofs.lemmas.List.{nil_from_length}
@@ -10,7 +10,7 @@ use Rattle.convoy_lines.specs.Laws.{IsWord}
 use Rattle.convoy_lines.specs.Chains.{◌>>=◌}
 use Rattle.convoy_lines.specs.Texts.{line_of, number_line}
 use Rattle.convoy_lines.specs.Words.{words_of, next_word, number_of}
-use Rattle.convoy_lines.proofs.Spelling.{AreWords, words_again, line_again, by_words, number_again, number_takes, decimal_word}
+use Rattle.convoy_lines.proofs.Spelling.{AreWords, words_again, line_takes, number_again, number_takes, decimal_word}
 
 pub bind_some : {A B : Type 0} (o : Option A) (f : A → Option B) (y : B) → (o >>= f) ≡ Some y → (x : A) × (o ≡ Some x) × (f x ≡ Some y)
 bind_some None f y e = absurd cc
@@ -33,7 +33,7 @@ label_takes label line words e =
     let a = bind_some (next_word (words_of line)) (λ next. cond (bytes_eq next.0 label && is_spaced (words_of line)) (Some next.1) None) words e in
     let g = cond_some (bytes_eq a.0.0 label && is_spaced (words_of line)) a.0.1 words a.2 in
     let same = same_bytes a.0.0 label (and_parts (bytes_eq a.0.0 label) (is_spaced (words_of line)) g.0).0 in
-    sym (line_again line) ∙ ap by_words (next_takes (words_of line) a.0 a.1) ∙ ap (λ w. line_of w a.0.1) same ∙ ap (line_of label) g.1
+    line_takes line a.0.0 a.0.1 (next_takes (words_of line) a.0 a.1) ∙ ap (λ w. line_of w a.0.1) same ∙ ap (line_of label) g.1
 
 spaced_words : (words : List (List ℕ)) → AreWords words → is_spaced words ≡ true
 spaced_words [] are = refl
@@ -58,4 +58,4 @@ number_line_takes label line n e =
 
 pub number_line_again : (label : List ℕ) (n : ℕ) → IsWord label → n ≤ greatest_number → number_in label (line_of label (decimal n ∷ [])) ≡ Some n
 number_line_again label n is within =
-    rw (label_again label (decimal n ∷ []) is (decimal_word n (omega arith), tt), number_again greatest_number n within (omega arith)) refl
+    rw (label_again label (decimal n ∷ []) is (decimal_word n (omega arith), tt), number_again greatest_number n (omega arith) within) refl

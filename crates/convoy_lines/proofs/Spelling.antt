@@ -1,9 +1,9 @@
 -- Words, lines and texts: what is written is read again, and what is read was written so.
-use Rattle.std.proofs.Common.{◌≡◌, ℕ, ◌<◌, ◌≤◌, ◌^◌, ◌==◌, ◌||◌, ◌&&◌, not, true, false, leb, List, [], ◌∷◌, ◌++◌, length, get_or, Some, inl, inr, refl, ap, sym, subst, ◌∙◌, append_assoc, arith, decimal}
+use Rattle.std.proofs.Common.{◌≡◌, ℕ, ◌<◌, ◌≤◌, ◌^◌, ◌==◌, ◌||◌, ◌&&◌, Bool, not, true, false, leb, List, [], ◌∷◌, ◌++◌, length, get_or, Some, inl, inr, refl, ap, sym, subst, ◌∙◌, append_assoc, arith, decimal}
 use Rattle.std.specs.List.{onto_first, list_any, AllByRecursion}
 use Rattle.std.specs.Str.{all_ascii_digits}
 use Rattle.std.specs.Str.Parse.{digits_value}
-use Rattle.std.proofs.lemmas.Bool.{or_parts, eq-eqb, or_from, and_parts, cases_Bool, cases_lt, eqb-true, ne_eqb, leb-true, le-leb, false≢true}
+use Rattle.std.proofs.lemmas.Bool.{or_parts, eq-eqb, or_from, and_parts, not-true, cases_Bool, cases_lt, eqb-true, ne_eqb, leb-true, le-leb, false≢true}
 use Rattle.std.proofs.lemmas.List.{append-nil}
 use Rattle.std.proofs.lemmas.List.Splits.{length-slice_split}
 use Rattle.std.proofs.lemmas.Option.{cond_some}
@@ -28,6 +28,17 @@ lacks_append byte (x ∷ xs) ys p q =
 
 abbrev pub AreWords : List (List ℕ) → Type 0
 AreWords words = AllByRecursion IsWord words
+
+-- the bytes are those of a word
+abbrev is_word : List ℕ → Bool
+is_word word = leb 1 (length word) && not (list_any (λ b. b == 32) word) && not (list_any (λ b. b == 10) word)
+
+-- bytes that are known are a word: the test tells it
+pub known_word : (word : List ℕ) → is_word word ≡ true → IsWord word
+known_word word e =
+    let parts = and_parts (leb 1 (length word) && not (list_any (λ b. b == 32) word)) (not (list_any (λ b. b == 10) word)) e in
+    let front = and_parts (leb 1 (length word)) (not (list_any (λ b. b == 32) word)) parts.0 in
+    record { some = omega (arith, leb-true 1 (length word) front.0); spaceless = not-true _ front.1; endless = not-true _ parts.1 }
 
 -- the words of a line that was written
 pub words_again : (word : List ℕ) (words : List (List ℕ)) → Lacks 32 word → AreWords words → words_of (line_of word words) ≡ word ∷ words
@@ -64,10 +75,18 @@ line_again (x ∷ xs) =
       | inr other ↦ rw other (glue x (words_of xs) xs some (line_again xs))
     ]
 
+-- the words read from a line make it again
+pub line_takes : (line word : List ℕ) (words : List (List ℕ)) → words_of line ≡ word ∷ words → line ≡ line_of word words
+line_takes line word words read = sym (line_again line) ∙ ap by_words read
+
 -- ---- lines
 
 abbrev pub AreLines : List (List ℕ) → Type 0
 AreLines lines = AllByRecursion IsLine lines
+
+pub lines_append : (xs ys : List (List ℕ)) → AreLines xs → AreLines ys → AreLines (xs ++ ys)
+lines_append [] ys a b = b
+lines_append (x ∷ xs) ys a b = (a.0, lines_append xs ys a.1 b)
 
 -- the lines of a text that was written
 pub lines_again : (lines : List (List ℕ)) → AreLines lines → lines_in (text_of lines) ≡ record { ended = lines; rest = [] }
@@ -91,6 +110,10 @@ text_again (x ∷ xs) =
           rw end (ap (λ t. 10 ∷ t) (text_again xs) ∙ ap (λ b. b ∷ xs) (sym is))
       | inr other ↦ rw other (front_again x (lines_in xs).ended (lines_in xs).rest xs (text_again xs))
     ]
+
+-- a text with nothing after its last line is its lines
+pub text_takes : (text : List ℕ) (lines : List (List ℕ)) → lines_in text ≡ record { ended = lines; rest = [] } → text ≡ text_of lines
+text_takes text lines read = sym (text_again text) ∙ ap (λ (l : Lines). text_of l.ended ++ l.rest) read ∙ append-nil (text_of lines)
 
 front_lines : (byte : ℕ) (lines : List (List ℕ)) (rest : List ℕ) → byte == 10 ≡ false → AreLines lines → AreLines (in_front byte lines rest).ended
 front_lines byte [] rest other are = tt
@@ -134,8 +157,9 @@ decimal_zero n fits first =
     ]
 
 -- a number that was written
-pub number_again : (most n : ℕ) → n ≤ most → n < 2 ^ 64 → number_of most (decimal n) ≡ Some n
-number_again most n within fits =
+pub number_again : (most n : ℕ) → most < 2 ^ 64 → n ≤ most → number_of most (decimal n) ≡ Some n
+number_again most n high within =
+    let fits : n < 2 ^ 64 = omega arith in
     rw (digits_decimal own n fits, no_zero (decimal n) (decimal_nonempty n fits) (decimal_zero n fits), digits_value-decimal own n fits, le-leb n most within) refl
 
 -- a number that was read

@@ -1,7 +1,7 @@
 -- The word for the issue of a message: what is read was written so, and what is written is read again.
 use Rattle.std.proofs.Common.{◌≡◌, ℕ, ◌+◌, ◌-◌, ◌<◌, ◌≤◌, ◌==◌, ◌&&◌, true, false, cond, leb, ltb, List, [], ◌∷◌, ◌++◌, length, length-append, take, drop, Option, Some, None, option_map, refl, ap, sym, subst, ◌∙◌, arith, inl, inr, codes, decimal}
 use Rattle.std.specs.Fmt.{digits}
-use Rattle.std.specs.List.{position, position_or_len}
+use Rattle.std.specs.List.{AllByRecursion, position, position_or_len}
 use Rattle.std.specs.Str.Parse.{digits_value}
 use Rattle.std.specs.Option.{option_or}
 use Rattle.std.specs.Char.{is_ascii_digit}
@@ -21,53 +21,23 @@ use Rattle.convoy_lines.specs.Laws.{IsWord}
 use Rattle.convoy_lines.specs.Words.{Lacks, is_number, number_of}
 use Rattle.convoy_scenario_lines.specs.LineForms.{tick_alone, around_dots, tick_range, issue_in}
 use Rattle.convoy_scenario_lines.specs.Lines.{issue_word}
-use Rattle.convoy_scenario_lines.proofs.LineLaws.{LineLaws, bind_some, number_takes, number_again, decimal_word}
+use Rattle.convoy_lines.proofs.LabelLemmas.{bind_some}
+use Rattle.convoy_lines.proofs.Spelling.{number_takes, number_again, decimal_word}
 
 -- ---- rows
 
-waits : issue_in Three (codes "0..12") ≡ Some (0, 12)
-waits = refl
+-- version 3 has the first and the last tick of a message that may wait, and the others have one tick alone
+read : AllByRecursion (λ (row : Version × List ℕ × Option (ℕ × ℕ)). issue_in row.0 row.1 ≡ row.2) ((Three, codes "0..12", Some (0, 12)) ∷ (Three, codes "12", Some (12, 12)) ∷ (Two, codes "0..12", None) ∷ [])
+read = (refl, (refl, (refl, tt)))
 
-known : issue_in Three (codes "12") ≡ Some (12, 12)
-known = refl
+-- the first is before the last, both are numbers of 32 bits, and two dots stand between them
+not_read : AllByRecursion (λ word. issue_in Three word ≡ None) (
+    codes "5..3" ∷ codes "0..0" ∷ codes "3.." ∷ codes "..3" ∷ codes "1..2..3" ∷ codes "1.2" ∷ codes "1...2" ∷ codes "1..02" ∷ codes "0..4294967296" ∷ [])
+not_read = (refl, (refl, (refl, (refl, (refl, (refl, (refl, (refl, (refl, tt)))))))))
 
-older : issue_in Two (codes "0..12") ≡ None
-older = refl
-
-turned : issue_in Three (codes "5..3") ≡ None
-turned = refl
-
-same : issue_in Three (codes "0..0") ≡ None
-same = refl
-
-no_last : issue_in Three (codes "3..") ≡ None
-no_last = refl
-
-no_first : issue_in Three (codes "..3") ≡ None
-no_first = refl
-
-three_numbers : issue_in Three (codes "1..2..3") ≡ None
-three_numbers = refl
-
-one_dot : issue_in Three (codes "1.2") ≡ None
-one_dot = refl
-
-three_dots : issue_in Three (codes "1...2") ≡ None
-three_dots = refl
-
-leading_zero : issue_in Three (codes "1..02") ≡ None
-leading_zero = refl
-
-greatest : issue_in Three (codes "0..4294967296") ≡ None
-greatest = refl
-
-written_alone : issue_word 7 0 ≡ codes "7"
+written : AllByRecursion (λ (row : ℕ × ℕ × List ℕ). issue_word row.0 row.1 ≡ row.2) ((7, 0, codes "7") ∷ (7, 5, codes "7..12") ∷ [])
 unfolding digits
-written_alone = refl
-
-written_both : issue_word 7 5 ≡ codes "7..12"
-unfolding digits
-written_both = refl
+written = (refl, (refl, tt))
 
 -- ---- what is read was written so
 
@@ -101,40 +71,39 @@ around_takes word parts e =
 both_written : (at wait : ℕ) → 0 < wait → issue_word at wait ≡ decimal at ++ (codes ".." ++ decimal (at + wait))
 both_written at wait some = rw (ne_eqb wait 0 (λ e. omega arith)) refl
 
-module _ (laws : LineLaws) where
-  alone_takes : (version : Version) (word : List ℕ) (issue : ℕ × ℕ) → CanWait version 0 → tick_alone word ≡ Some issue → SaysIssue version word issue
-  alone_takes version word issue can e =
-      let a = map_some (λ (tick : ℕ). (tick, tick)) (number_of greatest_number word) issue e in
-      let number = number_takes laws greatest_number word a.0 (omega arith) a.1 in
-      let first : a.0 ≡ issue.0 = ap (λ (i : ℕ × ℕ). i.0) a.2 in
-      let last : a.0 ≡ issue.1 = ap (λ (i : ℕ × ℕ). i.1) a.2 in
-      record { wait = 0; last = omega arith; written = number.0 ∙ ap decimal first; can = can }
+alone_takes : (version : Version) (word : List ℕ) (issue : ℕ × ℕ) → CanWait version 0 → tick_alone word ≡ Some issue → SaysIssue version word issue
+alone_takes version word issue can e =
+    let a = map_some (λ (tick : ℕ). (tick, tick)) (number_of greatest_number word) issue e in
+    let number = number_takes greatest_number word a.0 (omega arith) a.1 in
+    let first : a.0 ≡ issue.0 = ap (λ (i : ℕ × ℕ). i.0) a.2 in
+    let last : a.0 ≡ issue.1 = ap (λ (i : ℕ × ℕ). i.1) a.2 in
+    record { wait = 0; last = omega arith; written = number.0 ∙ ap decimal first; can = can }
 
-  range_takes : (word : List ℕ) (issue : ℕ × ℕ) → tick_range word ≡ Some issue → SaysIssue Three word issue
-  range_takes word issue e =
-      let a = bind_some (around_dots word) (λ parts. number_of greatest_number parts.0 >>= λ first. number_of greatest_number parts.1 >>= λ last. cond (ltb first last) (Some (first, last)) None) issue e in
-      let b = bind_some (number_of greatest_number a.0.0) (λ first. number_of greatest_number a.0.1 >>= λ last. cond (ltb first last) (Some (first, last)) None) issue a.2 in
-      let c = bind_some (number_of greatest_number a.0.1) (λ last. cond (ltb b.0 last) (Some (b.0, last)) None) issue b.2 in
-      let d = cond_some (ltb b.0 c.0) (b.0, c.0) issue c.2 in
-      let below : b.0 < c.0 = ltb-true b.0 c.0 d.0 in
-      let first = number_takes laws greatest_number a.0.0 b.0 (omega arith) b.1 in
-      let last = number_takes laws greatest_number a.0.1 c.0 (omega arith) c.1 in
-      let wait : ℕ = c.0 - b.0 in
-      let until : c.0 ≡ b.0 + wait = omega arith in
-      let written : word ≡ issue_word b.0 wait =
-      around_takes word a.0 a.1
-      ∙ ap (λ front. front ++ (codes ".." ++ a.0.1)) first.0
-      ∙ ap (λ back. decimal b.0 ++ (codes ".." ++ back)) (last.0 ∙ ap decimal until)
-      ∙ sym (both_written b.0 wait (omega arith)) in
-      subst (SaysIssue Three word) d.1 (record { wait = wait; last = until; written = written; can = tt })
+range_takes : (word : List ℕ) (issue : ℕ × ℕ) → tick_range word ≡ Some issue → SaysIssue Three word issue
+range_takes word issue e =
+    let a = bind_some (around_dots word) (λ parts. number_of greatest_number parts.0 >>= λ first. number_of greatest_number parts.1 >>= λ last. cond (ltb first last) (Some (first, last)) None) issue e in
+    let b = bind_some (number_of greatest_number a.0.0) (λ first. number_of greatest_number a.0.1 >>= λ last. cond (ltb first last) (Some (first, last)) None) issue a.2 in
+    let c = bind_some (number_of greatest_number a.0.1) (λ last. cond (ltb b.0 last) (Some (b.0, last)) None) issue b.2 in
+    let d = cond_some (ltb b.0 c.0) (b.0, c.0) issue c.2 in
+    let below : b.0 < c.0 = ltb-true b.0 c.0 d.0 in
+    let first = number_takes greatest_number a.0.0 b.0 (omega arith) b.1 in
+    let last = number_takes greatest_number a.0.1 c.0 (omega arith) c.1 in
+    let wait : ℕ = c.0 - b.0 in
+    let until : c.0 ≡ b.0 + wait = omega arith in
+    let written : word ≡ issue_word b.0 wait =
+    around_takes word a.0 a.1
+    ∙ ap (λ front. front ++ (codes ".." ++ a.0.1)) first.0
+    ∙ ap (λ back. decimal b.0 ++ (codes ".." ++ back)) (last.0 ∙ ap decimal until)
+    ∙ sym (both_written b.0 wait (omega arith)) in
+    subst (SaysIssue Three word) d.1 (record { wait = wait; last = until; written = written; can = tt })
 
-  pub issue_takes : (version : Version) (word : List ℕ) (issue : ℕ × ℕ) → issue_in version word ≡ Some issue → SaysIssue version word issue
-  issue_takes One word issue e = alone_takes One word issue refl e
-  issue_takes Two word issue e = alone_takes Two word issue refl e
-  issue_takes Three word issue e = either (tick_alone word) refl e where
-    either : (alone : Option (ℕ × ℕ)) → tick_alone word ≡ alone → option_or alone (tick_range word) ≡ Some issue → SaysIssue Three word issue
-    either (Some found) is e = alone_takes Three word issue tt (is ∙ e)
-    either None is e = range_takes word issue e
+pub issue_takes : (version : Version) (word : List ℕ) (issue : ℕ × ℕ) → issue_in version word ≡ Some issue → SaysIssue version word issue
+issue_takes One word issue e = alone_takes One word issue refl e
+issue_takes Two word issue e = alone_takes Two word issue refl e
+issue_takes Three word issue e = either (tick_alone word) refl e where
+  either : (alone : Option (ℕ × ℕ)) → tick_alone word ≡ alone → option_or alone (tick_range word) ≡ Some issue → SaysIssue Three word issue
+  either (Some found) is e = alone_takes Three word issue tt (is ∙ e)
+  either None is e = range_takes word issue e
 
 -- ---- what is written is read again
 
@@ -165,64 +134,63 @@ no_number most word rest = rw (dotted word rest) refl
 lacks_both : (byte : ℕ) (front back : List ℕ) → Lacks byte front → Lacks byte back → Lacks byte (front ++ back)
 lacks_both byte front back first last = list_any-append (λ b. b == byte) front back ∙ or_from _ _ first last
 
-module _ (laws : LineLaws) where
-  digital : (n : ℕ) → n ≤ greatest_number → all_ascii_digits (decimal n) ≡ true
-  digital n within =
-      let read = number_again laws greatest_number n (omega arith) within in
-      let number = cond_some (is_number (decimal n) && leb (digits_value 10 (decimal n)) greatest_number) (digits_value 10 (decimal n)) n read in
-      (and_parts (all_ascii_digits (decimal n)) _ (and_parts (is_number (decimal n)) _ number.0).0).0
+digital : (n : ℕ) → n ≤ greatest_number → all_ascii_digits (decimal n) ≡ true
+digital n within =
+    let read = number_again greatest_number n (omega arith) within in
+    let number = cond_some (is_number (decimal n) && leb (digits_value 10 (decimal n)) greatest_number) (digits_value 10 (decimal n)) n read in
+    (and_parts (all_ascii_digits (decimal n)) _ (and_parts (is_number (decimal n)) _ number.0).0).0
 
-  around_again : (first : ℕ) (last : List ℕ) → first ≤ greatest_number → around_dots (decimal first ++ (codes ".." ++ last)) ≡ Some (decimal first, last)
-  around_again first last within =
-      let word = decimal first in
-      let rest : List ℕ = codes ".." ++ last in
-      rw (first_dot word (digital first within) (46 ∷ last), drop-append_seam word rest, take-append_seam word rest) refl
+around_again : (first : ℕ) (last : List ℕ) → first ≤ greatest_number → around_dots (decimal first ++ (codes ".." ++ last)) ≡ Some (decimal first, last)
+around_again first last within =
+    let word = decimal first in
+    let rest : List ℕ = codes ".." ++ last in
+    rw (first_dot word (digital first within) (46 ∷ last), drop-append_seam word rest, take-append_seam word rest) refl
 
-  alone_again : (at : ℕ) → at ≤ greatest_number → issue_in Three (decimal at) ≡ Some (at, at)
-  alone_again at within = rw (number_again laws greatest_number at (omega arith) within) refl
+alone_again : (at : ℕ) → at ≤ greatest_number → issue_in Three (decimal at) ≡ Some (at, at)
+alone_again at within = rw (number_again greatest_number at (omega arith) within) refl
 
-  range_again : (at wait : ℕ) → 0 < wait → at + wait ≤ greatest_number → issue_in Three (decimal at ++ (codes ".." ++ decimal (at + wait))) ≡ Some (at, at + wait)
-  range_again at wait some within =
-      let none = no_number greatest_number (decimal at) (46 ∷ decimal (at + wait)) in
-      let around = around_again at (decimal (at + wait)) (omega arith) in
-      rw (none, around, number_again laws greatest_number at (omega arith) (omega arith), number_again laws greatest_number (at + wait) (omega arith) within, lt-ltb at (at + wait) (omega arith)) refl
+range_again : (at wait : ℕ) → 0 < wait → at + wait ≤ greatest_number → issue_in Three (decimal at ++ (codes ".." ++ decimal (at + wait))) ≡ Some (at, at + wait)
+range_again at wait some within =
+    let none = no_number greatest_number (decimal at) (46 ∷ decimal (at + wait)) in
+    let around = around_again at (decimal (at + wait)) (omega arith) in
+    rw (none, around, number_again greatest_number at (omega arith) (omega arith), number_again greatest_number (at + wait) (omega arith) within, lt-ltb at (at + wait) (omega arith)) refl
 
-  pub issue_again : (at wait : ℕ) → at + wait ≤ greatest_number → issue_in Three (issue_word at wait) ≡ Some (at, at + wait)
-  issue_again at wait within =
-      elim (cases_Bool (wait == 0)) [
-        | inl none ↦
-            let still : wait ≡ 0 = eqb-true wait 0 none in
-            let last : at + wait ≡ at = omega arith in
-            rw (none, last) (alone_again at (omega arith))
-        | inr some ↦
-            let above : 0 < wait = grind (arith, nat_tests, some) in
-            rw some (range_again at wait above within)
-      ]
+pub issue_again : (at wait : ℕ) → at + wait ≤ greatest_number → issue_in Three (issue_word at wait) ≡ Some (at, at + wait)
+issue_again at wait within =
+    elim (cases_Bool (wait == 0)) [
+      | inl none ↦
+          let still : wait ≡ 0 = eqb-true wait 0 none in
+          let last : at + wait ≡ at = omega arith in
+          rw (none, last) (alone_again at (omega arith))
+      | inr some ↦
+          let above : 0 < wait = grind (arith, nat_tests, some) in
+          rw some (range_again at wait above within)
+    ]
 
-  -- a message that does not wait is read in each version
-  pub known_again : (version : Version) (at wait : ℕ) → at + wait ≤ greatest_number → CanWait version wait → issue_in version (issue_word at wait) ≡ Some (at, at + wait)
-  known_again One at wait within none =
-      let last : at + 0 ≡ at = omega arith in
-      rw (none, last, number_again laws greatest_number at (omega arith) (omega arith)) refl
-  known_again Two at wait within none =
-      let last : at + 0 ≡ at = omega arith in
-      rw (none, last, number_again laws greatest_number at (omega arith) (omega arith)) refl
-  known_again Three at wait within any = issue_again at wait within
+-- a message that does not wait is read in each version
+pub known_again : (version : Version) (at wait : ℕ) → at + wait ≤ greatest_number → CanWait version wait → issue_in version (issue_word at wait) ≡ Some (at, at + wait)
+known_again One at wait within none =
+    let last : at + 0 ≡ at = omega arith in
+    rw (none, last, number_again greatest_number at (omega arith) (omega arith)) refl
+known_again Two at wait within none =
+    let last : at + 0 ≡ at = omega arith in
+    rw (none, last, number_again greatest_number at (omega arith) (omega arith)) refl
+known_again Three at wait within any = issue_again at wait within
 
-  both_are_word : (at last : ℕ) → at ≤ greatest_number → last ≤ greatest_number → IsWord (decimal at ++ (codes ".." ++ decimal last))
-  both_are_word at last low high =
-      let first = decimal_word laws at (omega arith) in
-      let second = decimal_word laws last (omega arith) in
-      let long = length-append (decimal at) (codes ".." ++ decimal last) in
-      record {
-        some = omega (arith, first.some, long);
-        spaceless = lacks_both 32 (decimal at) (codes ".." ++ decimal last) first.spaceless (lacks_both 32 (codes "..") (decimal last) refl second.spaceless);
-        endless = lacks_both 10 (decimal at) (codes ".." ++ decimal last) first.endless (lacks_both 10 (codes "..") (decimal last) refl second.endless);
-      }
+both_are_word : (at last : ℕ) → at ≤ greatest_number → last ≤ greatest_number → IsWord (decimal at ++ (codes ".." ++ decimal last))
+both_are_word at last low high =
+    let first = decimal_word at (omega arith) in
+    let second = decimal_word last (omega arith) in
+    let long = length-append (decimal at) (codes ".." ++ decimal last) in
+    record {
+      some = omega (arith, first.some, long);
+      spaceless = lacks_both 32 (decimal at) (codes ".." ++ decimal last) first.spaceless (lacks_both 32 (codes "..") (decimal last) refl second.spaceless);
+      endless = lacks_both 10 (decimal at) (codes ".." ++ decimal last) first.endless (lacks_both 10 (codes "..") (decimal last) refl second.endless);
+    }
 
-  pub issue_is_word : (at wait : ℕ) → at + wait ≤ greatest_number → IsWord (issue_word at wait)
-  issue_is_word at wait within =
-      elim (wait == 0) as (λ b. IsWord (cond b (decimal at) (decimal at ++ (codes ".." ++ decimal (at + wait))))) [
-        | true ↦ decimal_word laws at (omega arith)
-        | false ↦ both_are_word at (at + wait) (omega arith) within
-      ]
+pub issue_is_word : (at wait : ℕ) → at + wait ≤ greatest_number → IsWord (issue_word at wait)
+issue_is_word at wait within =
+    elim (wait == 0) as (λ b. IsWord (cond b (decimal at) (decimal at ++ (codes ".." ++ decimal (at + wait))))) [
+      | true ↦ decimal_word at (omega arith)
+      | false ↦ both_are_word at (at + wait) (omega arith) within
+    ]

@@ -15,7 +15,7 @@ use Rattle.convoy_lines.specs.Results.{◌>>=◌}
 use Rattle.convoy_draft.specs.Checks.{Check, is_count, all_differ, is_message, messages_differ, knows, is_target_addressed, is_target_fixed, checks, judge}
 use Rattle.convoy_draft.specs.declared.time.Time.{Time}
 use Rattle.convoy_draft.specs.Draft.{Draft, DraftLink, DraftMessage}
-use Rattle.convoy_scenario.specs.Laws.{DifferentNamesAreDistinct, JudgedRulesHold}
+use Rattle.convoy_scenario.proofs.NumberedLemmas.{all_hold}
 use Rattle.convoy_scenario_lines.specs.Keeping.{kept_groups, kept_message, kept_groups_in, kept_multicast_in, kept_messages_at, kept_scenario_at}
 use Rattle.convoy_scenario_lines.specs.LineForms.{groups_in, multicast_in, target_in}
 use Rattle.convoy_scenario_lines.specs.LineReading.{form_at, time_at, tick_at, links_at, messages_at, draft_of, told, first_misplaced_link, first_unordered, where_ordered, scenario_at}
@@ -77,20 +77,20 @@ differ_same groups [] = refl
 differ_same groups (m ∷ ms) = rw (named_same groups m.name ms, differ_same groups ms) refl
 
 -- all that is known and differs is kept
-whole : (distinct : DifferentNamesAreDistinct) (groups : List (List ℕ)) (ms : List DraftMessage) → length groups ≤ 8 → list_all (knows groups) ms ≡ true → list_all (λ m. all_differ m.to) ms ≡ true → map (kept_message groups) ms ≡ ms
-whole distinct groups [] few known differ = refl
-whole distinct groups (m ∷ ms) few known differ =
+whole : (groups : List (List ℕ)) (ms : List DraftMessage) → length groups ≤ 8 → list_all (knows groups) ms ≡ true → list_all (λ m. all_differ m.to) ms ≡ true → map (kept_message groups) ms ≡ ms
+whole groups [] few known differ = refl
+whole groups (m ∷ ms) few known differ =
     let a = and_parts (knows groups m) (list_all (knows groups) ms) known in
     let b = and_parts (all_differ m.to) (list_all (λ x. all_differ x.to) ms) differ in
-    let first = kept_same distinct groups m few a.0 b.0 in
-    let rest = whole distinct groups ms few a.1 b.1 in
+    let first = kept_same groups m few a.0 b.0 in
+    let rest = whole groups ms few a.1 b.1 in
     ap (λ x. x ∷ map (kept_message groups) ms) first ∙ ap (λ xs. m ∷ xs) rest
 
 abbrev with_messages : Draft → List DraftMessage → Draft
 with_messages draft ms = record { time = draft.time; tick = draft.tick; delay = draft.delay; groups = draft.groups; links = draft.links; messages = ms; target_message = draft.target_message; target_group = draft.target_group }
 
-alike_few : (distinct : DifferentNamesAreDistinct) (draft : Draft) → length draft.groups ≤ 8 → Alike (checks (kept_by draft.groups draft)) (checks draft)
-alike_few distinct draft few =
+alike_few : (draft : Draft) → length draft.groups ≤ 8 → Alike (checks (kept_by draft.groups draft)) (checks draft)
+alike_few draft few =
     let keep = kept_message draft.groups in (
       refl,
       refl,
@@ -140,10 +140,10 @@ alike_few distinct draft few =
                                     all_same _ _ keep draft.messages (λ m. some_kept draft.groups m.to),
                                     refl,
                                     λ somewhere. (
-                                      all_same_where (knows draft.groups) _ _ keep draft.messages known (λ m. differ_kept distinct draft.groups m few),
+                                      all_same_where (knows draft.groups) _ _ keep draft.messages known (λ m. differ_kept draft.groups m few),
                                       refl,
                                       λ differ.
-                                          let same = whole distinct draft.groups draft.messages few known differ in (
+                                          let same = whole draft.groups draft.messages few known differ in (
                                             ap (is_message draft.target_message) same,
                                             refl,
                                             λ target. (
@@ -192,25 +192,25 @@ many_kept groups =
     ]
 
 -- the checks tell of what is kept what they tell of the whole
-judged : (distinct : DifferentNamesAreDistinct) (draft : Draft) → judge (checks (kept_draft draft)) ≡ judge (checks draft)
-judged distinct draft =
+judged : (draft : Draft) → judge (checks (kept_draft draft)) ≡ judge (checks draft)
+judged draft =
     elim (cases_Bool (is_count MOST_GROUPS draft.groups)) [
       | inl count ↦
           let few = leb-true (length draft.groups) 8 (and_parts (nat_le 1 (length draft.groups)) _ count).1 in
           let groups : kept_groups draft.groups ≡ draft.groups = take_all 9 draft.groups (omega arith) in
-          ap (λ gs. judge (checks (kept_by gs draft))) groups ∙ same_judged (checks (kept_by draft.groups draft)) (checks draft) (alike_few distinct draft few)
+          ap (λ gs. judge (checks (kept_by gs draft))) groups ∙ same_judged (checks (kept_by draft.groups draft)) (checks draft) (alike_few draft few)
       | inr many ↦
           same_judged (checks (kept_draft draft)) (checks draft) (refl, refl, λ delay. (many_kept draft.groups, refl, λ count. absurd (false≢true (sym many ∙ count))))
     ]
 
 -- where they hold, all is kept
-all_kept : (hold : JudgedRulesHold) (distinct : DifferentNamesAreDistinct) (draft : Draft) → judge (checks draft) ≡ Ok tt → kept_draft draft ≡ draft
-all_kept hold distinct draft holds =
-    let a = hold (checks draft) holds in
+all_kept : (draft : Draft) → judge (checks draft) ≡ Ok tt → kept_draft draft ≡ draft
+all_kept draft holds =
+    let a = all_hold (checks draft) holds in
     let few = leb-true (length draft.groups) 8 (and_parts (nat_le 1 (length draft.groups)) _ a.1.0).1 in
     let groups : kept_groups draft.groups ≡ draft.groups = take_all 9 draft.groups (omega arith) in
     let c = a.1.1.1.1.1.1.1.1.1.1.1.1 in
-    let messages = whole distinct draft.groups draft.messages few c.0 c.1.1.1.1.0 in
+    let messages = whole draft.groups draft.messages few c.0 c.1.1.1.1.0 in
     ap (λ gs. kept_by gs draft) groups ∙ ap (with_messages draft) messages
 
 -- ---- the lines
@@ -225,12 +225,12 @@ cases_judge : (judged : Result (Unit {0}) ScenarioFault) → (judged ≡ Ok tt) 
 cases_judge (Ok x) = inl refl
 cases_judge (Err fault) = inr (fault, refl)
 
-said_same : (hold : JudgedRulesHold) (distinct : DifferentNamesAreDistinct) (first_link first : ℕ) (past : Place) (draft : Draft) → said first_link first past (kept_draft draft) ≡ said first_link first past draft
-said_same hold distinct first_link first past draft =
+said_same : (first_link first : ℕ) (past : Place) (draft : Draft) → said first_link first past (kept_draft draft) ≡ said first_link first past draft
+said_same first_link first past draft =
     elim (cases_judge (judge (checks draft))) [
-      | inl holds ↦ ap (said first_link first past) (all_kept hold distinct draft holds)
+      | inl holds ↦ ap (said first_link first past) (all_kept draft holds)
       | inr faulty ↦
-          let kept : judge (checks (kept_draft draft)) ≡ Err faulty.0 = judged distinct draft ∙ faulty.1 in
+          let kept : judge (checks (kept_draft draft)) ≡ Err faulty.0 = judged draft ∙ faulty.1 in
           let left : said first_link first past (kept_draft draft) ≡ Err (faults.Scenario faulty.0) = rw kept refl in
           let right : said first_link first past draft ≡ Err (faults.Scenario faulty.0) = rw faulty.1 refl in
           left ∙ sym right
@@ -268,14 +268,14 @@ abbrev from_messages : Time → Option ℕ → ℕ → List (List ℕ) → ℕ �
 from_messages time tick delay groups first_link links first messages =
     form_at Target target_in messages.1 >>= λ target. said first_link first target.1 (draft_of time tick delay groups links messages.0 target.0)
 
-messages_kept : (hold : JudgedRulesHold) (distinct : DifferentNamesAreDistinct) (time : Time) (tick : Option ℕ) (delay : ℕ) (groups : List (List ℕ)) (first_link : ℕ) (links : List DraftLink) (first : ℕ) (read : Result (List DraftMessage × Place) LineFault)
+messages_kept : (time : Time) (tick : Option ℕ) (delay : ℕ) (groups : List (List ℕ)) (first_link : ℕ) (links : List DraftLink) (first : ℕ) (read : Result (List DraftMessage × Place) LineFault)
     → ((read >>= λ messages. Ok (map (kept_message (kept_groups groups)) messages.0, messages.1)) >>= from_messages time tick delay (kept_groups groups) first_link links first) ≡ (read >>= from_messages time tick delay groups first_link links first)
-messages_kept hold distinct time tick delay groups first_link links first (Err fault) = refl
-messages_kept hold distinct time tick delay groups first_link links first (Ok messages) =
+messages_kept time tick delay groups first_link links first (Err fault) = refl
+messages_kept time tick delay groups first_link links first (Ok messages) =
     then_same (form_at Target target_in messages.1)
     (λ target. said first_link first target.1 (draft_of time tick delay (kept_groups groups) links (map (kept_message (kept_groups groups)) messages.0) target.0))
     (λ target. said first_link first target.1 (draft_of time tick delay groups links messages.0 target.0))
-    (λ target. said_same hold distinct first_link first target.1 (draft_of time tick delay groups links messages.0 target.0))
+    (λ target. said_same first_link first target.1 (draft_of time tick delay groups links messages.0 target.0))
 
 abbrev from_groups : Version → Time → Option ℕ → ℕ → List (List ℕ) × Place → Result (Scenario × Place) LineFault
 from_groups version time tick delay groups =
@@ -285,20 +285,20 @@ abbrev from_kept : Version → Time → Option ℕ → ℕ → List (List ℕ) �
 from_kept version time tick delay groups =
     links_at version 0 groups.1 >>= λ links. kept_messages_at version groups.0 0 links.1 >>= from_messages time tick delay groups.0 groups.1.number links.0 links.1.number
 
-groups_kept : (hold : JudgedRulesHold) (distinct : DifferentNamesAreDistinct) (version : Version) (time : Time) (tick : Option ℕ) (delay : ℕ) (place : Place) → (form_at Groups kept_groups_in place >>= from_kept version time tick delay) ≡ (form_at Groups groups_in place >>= from_groups version time tick delay)
-groups_kept hold distinct version time tick delay place =
+groups_kept : (version : Version) (time : Time) (tick : Option ℕ) (delay : ℕ) (place : Place) → (form_at Groups kept_groups_in place >>= from_kept version time tick delay) ≡ (form_at Groups groups_in place >>= from_groups version time tick delay)
+groups_kept version time tick delay place =
     ap (λ r. r >>= from_kept version time tick delay) (form_kept (line_at place) (faults.Line place.number Groups) (past_line place) groups_in kept_groups)
     ∙ then_kept (form_at Groups groups_in place) (kept kept_groups) (from_kept version time tick delay)
     ∙ then_same (form_at Groups groups_in place) (λ groups. from_kept version time tick delay (kept kept_groups groups)) (from_groups version time tick delay)
     (λ groups. then_same (links_at version 0 groups.1)
     (λ links. kept_messages_at version (kept_groups groups.0) 0 links.1 >>= from_messages time tick delay (kept_groups groups.0) groups.1.number links.0 links.1.number)
     (λ links. messages_at version 0 links.1 >>= from_messages time tick delay groups.0 groups.1.number links.0 links.1.number)
-    (λ links. messages_kept hold distinct time tick delay groups.0 groups.1.number links.0 links.1.number (messages_at version 0 links.1)))
+    (λ links. messages_kept time tick delay groups.0 groups.1.number links.0 links.1.number (messages_at version 0 links.1)))
 
 -- what the lines give with what is kept of them is what they give whole
-pub kept_scenario : (hold : JudgedRulesHold) (distinct : DifferentNamesAreDistinct) (version : Version) (place : Place) → kept_scenario_at version place ≡ scenario_at version place
+pub kept_scenario : (version : Version) (place : Place) → kept_scenario_at version place ≡ scenario_at version place
 unfolding kept_scenario_at scenario_at
-kept_scenario hold distinct version place =
+kept_scenario version place =
     then_same (time_at version place)
     (λ time. tick_at version time.1 >>= λ tick. form_at Delay (number_in (codes "delay")) tick.1 >>= λ delay. form_at Groups kept_groups_in delay.1 >>= from_kept version time.0 tick.0 delay.0)
     (λ time. tick_at version time.1 >>= λ tick. form_at Delay (number_in (codes "delay")) tick.1 >>= λ delay. form_at Groups groups_in delay.1 >>= from_groups version time.0 tick.0 delay.0)
@@ -308,7 +308,7 @@ kept_scenario hold distinct version place =
     (λ tick. then_same (form_at Delay (number_in (codes "delay")) tick.1)
     (λ delay. form_at Groups kept_groups_in delay.1 >>= from_kept version time.0 tick.0 delay.0)
     (λ delay. form_at Groups groups_in delay.1 >>= from_groups version time.0 tick.0 delay.0)
-    (λ delay. groups_kept hold distinct version time.0 tick.0 delay.0 delay.1)))
+    (λ delay. groups_kept version time.0 tick.0 delay.0 delay.1)))
 
 pub multicast_kept : (version : Version) (groups : List (List ℕ)) (place : Place)
     → form_at Multicast (kept_multicast_in version groups) place ≡ (form_at Multicast (multicast_in version) place >>= λ next. Ok (kept_message groups next.0, next.1))

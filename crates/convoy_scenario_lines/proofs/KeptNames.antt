@@ -9,7 +9,7 @@ use Rattle.std.proofs.lemmas.Map.Made.{length-le_from_is_member}
 use Rattle.std.proofs.lemmas.Slice.Eq.{bytes_eq-Decides}
 use Rattle.convoy_draft.specs.Checks.{is_among, all_differ, is_known_sender, knows}
 use Rattle.convoy_draft.specs.Draft.{DraftMessage}
-use Rattle.convoy_scenario.specs.Laws.{DifferentNamesAreDistinct}
+use Rattle.convoy_scenario.proofs.NumberedLemmas.{groups_distinct}
 use Rattle.convoy_scenario_lines.specs.Keeping.{first_unknown, alone_or_first, kept_destinations, kept_message}
 
 -- all the names are among the groups
@@ -88,30 +88,30 @@ among_one groups (name ∷ names) q known found =
       | inr other ↦ let later : is_among q names ≡ true = rw other at found in among_one groups names q parts.1 later
     ]
 
-few_differ : (distinct : DifferentNamesAreDistinct) (groups names : List (List ℕ)) → all_among groups names ≡ true → all_differ names ≡ true → length names ≤ length groups
-few_differ distinct groups names known differ =
-    length-le_from_is_member nat_list_eq_equiv names groups (distinct names differ) (λ q. among_one groups names q known)
+few_differ : (groups names : List (List ℕ)) → all_among groups names ≡ true → all_differ names ≡ true → length names ≤ length groups
+few_differ groups names known differ =
+    length-le_from_is_member nat_list_eq_equiv names groups (groups_distinct names differ) (λ q. among_one groups names q known)
 
-differ_take : (distinct : DifferentNamesAreDistinct) (groups to : List (List ℕ)) → length groups ≤ 8 → all_among groups to ≡ true → all_differ (take 9 to) ≡ all_differ to
-differ_take distinct groups to few known =
+differ_take : (groups to : List (List ℕ)) → length groups ≤ 8 → all_among groups to ≡ true → all_differ (take 9 to) ≡ all_differ to
+differ_take groups to few known =
     elim (cases_lt 9 (length to)) [
       | inl long ↦
-          let whole : all_differ to ≡ false = false_from_ne_true (all_differ to) (λ e. let most = few_differ distinct groups to known e in absurd (omega arith)) in
+          let whole : all_differ to ≡ false = false_from_ne_true (all_differ to) (λ e. let most = few_differ groups to known e in absurd (omega arith)) in
           let nine : length (take 9 to) ≡ 9 = length-take-le 9 to (omega arith) in
-          let front : all_differ (take 9 to) ≡ false = false_from_ne_true (all_differ (take 9 to)) (λ e. let most = few_differ distinct groups (take 9 to) (take_known groups to 9 known) e in absurd (omega arith)) in
+          let front : all_differ (take 9 to) ≡ false = false_from_ne_true (all_differ (take 9 to)) (λ e. let most = few_differ groups (take 9 to) (take_known groups to 9 known) e in absurd (omega arith)) in
           front ∙ sym whole
       | inr short ↦ ap all_differ (take_all 9 to short)
     ]
 
-pub differ_kept : (distinct : DifferentNamesAreDistinct) (groups : List (List ℕ)) (message : DraftMessage) → length groups ≤ 8 → knows groups message ≡ true → all_differ (kept_destinations groups message.to) ≡ all_differ message.to
-differ_kept distinct groups message few known =
+pub differ_kept : (groups : List (List ℕ)) (message : DraftMessage) → length groups ≤ 8 → knows groups message ≡ true → all_differ (kept_destinations groups message.to) ≡ all_differ message.to
+differ_kept groups message few known =
     let to = (and_parts _ (all_among groups message.to) known).1 in
-    ap all_differ (kept_first groups message.to to) ∙ differ_take distinct groups message.to few to
+    ap all_differ (kept_first groups message.to to) ∙ differ_take groups message.to few to
 
-pub kept_same : (distinct : DifferentNamesAreDistinct) (groups : List (List ℕ)) (message : DraftMessage) → length groups ≤ 8 → knows groups message ≡ true → all_differ message.to ≡ true → kept_message groups message ≡ message
-kept_same distinct groups message few known differ =
+pub kept_same : (groups : List (List ℕ)) (message : DraftMessage) → length groups ≤ 8 → knows groups message ≡ true → all_differ message.to ≡ true → kept_message groups message ≡ message
+kept_same groups message few known differ =
     let to = (and_parts _ (all_among groups message.to) known).1 in
-    let most = few_differ distinct groups message.to to differ in
+    let most = few_differ groups message.to to differ in
     let same : kept_destinations groups message.to ≡ message.to = kept_first groups message.to to ∙ take_all 9 message.to (omega arith) in
     let sent_to : List (List ℕ) → DraftMessage = λ names. record { name = message.name; sender = message.sender; to = names; at = message.at; until = message.until } in
     ap sent_to same

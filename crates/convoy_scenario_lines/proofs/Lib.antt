@@ -5,9 +5,7 @@ pub mod KeptLines
 pub mod Messages
 pub mod Texts
 pub mod FormLaws
-pub mod LineLaws
 pub mod TickLines
 pub mod Issues
-pub mod DraftLaws
 pub mod ScenarioTakes
 pub mod ScenarioAgain

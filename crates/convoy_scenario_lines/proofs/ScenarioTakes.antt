@@ -21,7 +21,6 @@ use Rattle.convoy_draft.specs.declared.time.Time.TheVariants.{Ticks, Real}
 use Rattle.convoy_draft.specs.declared.fault.ScenarioFault.TheVariants.{OverLimit}
 use Rattle.convoy_draft.specs.declared.fault.Limit.TheVariants as limit
 use Rattle.convoy_draft.specs.Draft.{Draft, DraftLink, DraftMessage}
-use Rattle.convoy_scenario.specs.Laws.{NamesHavePlaces}
 use Rattle.convoy_scenario.specs.Naming.{sender_word}
 use Rattle.convoy_scenario.specs.Scenario.{Scenario, message_at, may_wait}
 use Rattle.convoy_scenario.specs.WellFormed.{IsScenario}
@@ -39,9 +38,12 @@ use Rattle.convoy_lines.specs.Results.{◌>>=◌}
 use Rattle.convoy_lines.specs.Places.{Place, upcoming}
 use Rattle.convoy_scenario_lines.specs.LineReading.{form_at, time_at, is_tick_due, tick_at, is_link_due, links_in, links_at, first_misplaced_link, messages_in, messages_at, is_multicast_due, draft_of, told, is_ordered, first_unordered, where_ordered, scenario_at}
 use Rattle.convoy_scenario_lines.proofs.FormLaws.{Says, SaysLink, link_takes, message_takes, name_takes, names_take, groups_take, target_takes}
-use Rattle.convoy_scenario_lines.proofs.DraftLaws.{DraftLaws}
+use Rattle.convoy_scenario.proofs.GivenScenarios as given
+use Rattle.convoy_scenario.proofs.LinkLemmas.{stay}
+use Rattle.convoy_scenario.proofs.NumberedLemmas.{all_hold}
+use Rattle.convoy_scenario.proofs.PlaceLemmas.{name_at_place}
 use Rattle.convoy_scenario_lines.proofs.Issues.{CanWait}
-use Rattle.convoy_scenario_lines.proofs.LineLaws.{LineLaws, delay_word, number_line_takes}
+use Rattle.convoy_lines.proofs.LabelLemmas.{number_line_takes}
 use Rattle.convoy_scenario_lines.proofs.LinkOrder.{placed}
 use Rattle.convoy_scenario_lines.proofs.TickLines.{tick_takes}
 
@@ -91,14 +93,14 @@ among_some name (g ∷ gs) e some =
 
 -- ---- a message
 
-sender_is : (places : NamesHavePlaces) (draft : Draft) (from : List ℕ) → AllByRecursion (λ name. 0 < length name) draft.groups → is_known_sender draft.groups (named_sender from) ≡ true
+sender_is : (draft : Draft) (from : List ℕ) → AllByRecursion (λ name. 0 < length name) draft.groups → is_known_sender draft.groups (named_sender from) ≡ true
     → from ≡ sender_word (scenario_of draft) (numbering.sender_of draft.groups (named_sender from))
-sender_is places draft from some known =
+sender_is draft from some known =
     elim (cases_Bool (bytes_eq from client_word)) [
       | inl client ↦ rw client ((bytes_eq-Decides from client_word).0 client)
       | inr group ↦
           let among : is_among (name_of from) draft.groups ≡ true = rw group at known in
-          rw group (name_takes from (among_some (name_of from) draft.groups among some) ∙ sym (places (name_of from) draft.groups among))
+          rw group (name_takes from (among_some (name_of from) draft.groups among some) ∙ sym (name_at_place (name_of from) draft.groups among))
     ]
 
 tick_is : (most t : ℕ) → is_within 0 most (pos t) ≡ true → decimal t ≡ decimal (ticks most (pos t))
@@ -136,9 +138,9 @@ issue_said version line m within waits s =
 abbrev four : List ℕ → List ℕ → List ℕ → List (List ℕ) → List ℕ
 four name from tick to = line_of (codes "multicast") (name ∷ from ∷ tick ∷ to)
 
-message_is : (version : Version) (places : NamesHavePlaces) (draft : Draft) (line : List ℕ) (m : DraftMessage) → AllByRecursion (λ name. 0 < length name) draft.groups → is_name m.name ≡ true → knows draft.groups m ≡ true
+message_is : (version : Version) (draft : Draft) (line : List ℕ) (m : DraftMessage) → AllByRecursion (λ name. 0 < length name) draft.groups → is_name m.name ≡ true → knows draft.groups m ≡ true
     → is_within 0 GREATEST_AT m.at ≡ true → has_wait m ≡ true → is_ordered draft.groups m ≡ true → Says version line m → line ≡ multicast_line (scenario_of draft) (message_of draft.groups m)
-message_is version places draft line m some name known within waits ordered s =
+message_is version draft line m some name known within waits ordered s =
     let name-said : m.name ≡ name_of s.name = ap (λ (d : DraftMessage). d.name) s.said in
     let sender-said : m.sender ≡ named_sender s.from = ap (λ (d : DraftMessage). d.sender) s.said in
     let to-said : m.to ≡ map name_of s.to = ap (λ (d : DraftMessage). d.to) s.said in
@@ -146,7 +148,7 @@ message_is version places draft line m some name known within waits ordered s =
     let name-is : s.name ≡ m.name = name_takes s.name (subst (λ (n : List ℕ). 0 < length n) name-said (name_some m.name name)) ∙ sym name-said in
     let known-sender : is_known_sender draft.groups (named_sender s.from) ≡ true = subst (λ (o : Option (List ℕ)). is_known_sender draft.groups o ≡ true) sender-said (and_parts (is_known_sender draft.groups m.sender) _ known).0 in
     let from-is : s.from ≡ sender_word (scenario_of draft) (numbering.sender_of draft.groups m.sender) =
-    sender_is places draft s.from some known-sender ∙ ap (λ o. sender_word (scenario_of draft) (numbering.sender_of draft.groups o)) (sym sender-said) in
+    sender_is draft s.from some known-sender ∙ ap (λ o. sender_word (scenario_of draft) (numbering.sender_of draft.groups o)) (sym sender-said) in
     let issue-is : issue_word s.tick s.wait ≡ issue_word (message_of draft.groups m).at (message_of draft.groups m).longest_wait =
     ap (λ n. issue_word n s.wait) (sym issue.0) ∙ ap (issue_word (ticks GREATEST_AT m.at)) (sym issue.1) in
     let to-is : s.to ≡ map (λ g. get_or draft.groups g []) (numbers_of draft.groups m.to) = to_is draft.groups m s.to some ordered to-said in
@@ -174,9 +176,9 @@ low_and_high low high (negsuc d) within h = absurd (false≢true within)
 abbrev four_words : List ℕ → List ℕ → List ℕ → List ℕ → List ℕ
 four_words from to low high = line_of (codes "link") (from ∷ to ∷ low ∷ high ∷ [])
 
-link_is : (places : NamesHavePlaces) (draft : Draft) (line : List ℕ) (l : DraftLink) → AllByRecursion (λ name. 0 < length name) draft.groups → is_within 1 GREATEST_DELAY draft.delay ≡ true → has_range draft.delay l ≡ true → knows_link draft.groups l ≡ true
+link_is : (draft : Draft) (line : List ℕ) (l : DraftLink) → AllByRecursion (λ name. 0 < length name) draft.groups → is_within 1 GREATEST_DELAY draft.delay ≡ true → has_range draft.delay l ≡ true → knows_link draft.groups l ≡ true
     → SaysLink line l → line ≡ link_line (scenario_of draft) (link_of draft.groups l)
-link_is places draft line l some within range known s =
+link_is draft line l some within range known s =
     let sender-said : l.sender ≡ named_sender s.from = ap (λ (d : DraftLink). d.sender) s.said in
     let to-said : l.to ≡ name_of s.to = ap (λ (d : DraftLink). d.to) s.said in
     let least-said : l.least ≡ pos s.low = ap (λ (d : DraftLink). d.least) s.said in
@@ -184,9 +186,9 @@ link_is places draft line l some within range known s =
     let parts = and_parts (is_known_sender draft.groups l.sender) (is_among l.to draft.groups) known in
     let known-sender : is_known_sender draft.groups (named_sender s.from) ≡ true = subst (λ (o : Option (List ℕ)). is_known_sender draft.groups o ≡ true) sender-said parts.0 in
     let from-is : s.from ≡ sender_word (scenario_of draft) (numbering.sender_of draft.groups l.sender) =
-    sender_is places draft s.from some known-sender ∙ ap (λ o. sender_word (scenario_of draft) (numbering.sender_of draft.groups o)) (sym sender-said) in
+    sender_is draft s.from some known-sender ∙ ap (λ o. sender_word (scenario_of draft) (numbering.sender_of draft.groups o)) (sym sender-said) in
     let to-is : s.to ≡ get_or draft.groups (place l.to draft.groups) [] =
-    name_takes s.to (subst (λ (n : List ℕ). 0 < length n) to-said (among_some l.to draft.groups parts.1 some)) ∙ sym to-said ∙ sym (places l.to draft.groups parts.1) in
+    name_takes s.to (subst (λ (n : List ℕ). 0 < length n) to-said (among_some l.to draft.groups parts.1 some)) ∙ sym to-said ∙ sym (name_at_place l.to draft.groups parts.1) in
     let ticks-are = low_and_high s.low s.high draft.delay within (subst (λ (z : ℤ). (int_le (pos 1) (pos s.low) && int_le (pos s.low) z && int_le z draft.delay) ≡ true) most-said (subst (λ (z : ℤ). (int_le (pos 1) z && int_le z l.most && int_le l.most draft.delay) ≡ true) least-said range)) in
     let low-is : decimal s.low ≡ decimal (ticks GREATEST_DELAY l.least) = ticks-are.0 ∙ ap (λ z. decimal (ticks GREATEST_DELAY z)) (sym least-said) in
     let high-is : decimal s.high ≡ decimal (ticks GREATEST_DELAY l.most) = ticks-are.1 ∙ ap (λ z. decimal (ticks GREATEST_DELAY z)) (sym most-said) in
@@ -195,16 +197,16 @@ link_is places draft line l some within range known s =
     ∙ ap (λ w. four_words (sender_word (scenario_of draft) (numbering.sender_of draft.groups l.sender)) (get_or draft.groups (place l.to draft.groups) []) w (decimal s.high)) low-is
     ∙ ap (λ w. four_words (sender_word (scenario_of draft) (numbering.sender_of draft.groups l.sender)) (get_or draft.groups (place l.to draft.groups) []) (decimal (ticks GREATEST_DELAY l.least)) w) high-is
 
-link_lines_are : (places : NamesHavePlaces) (draft : Draft) (lines : List (List ℕ)) (ls : List DraftLink) → AllByRecursion (λ name. 0 < length name) draft.groups → is_within 1 GREATEST_DELAY draft.delay ≡ true
+link_lines_are : (draft : Draft) (lines : List (List ℕ)) (ls : List DraftLink) → AllByRecursion (λ name. 0 < length name) draft.groups → is_within 1 GREATEST_DELAY draft.delay ≡ true
     → list_all (has_range draft.delay) ls ≡ true → list_all (knows_link draft.groups) ls ≡ true → AllZip SaysLink lines ls → lines ≡ map (link_line (scenario_of draft)) (map (link_of draft.groups) ls)
-link_lines_are places draft [] [] some within ranges known say = refl
-link_lines_are places draft [] (l ∷ ls) some within ranges known say = absurd say
-link_lines_are places draft (w ∷ ws) [] some within ranges known say = absurd say
-link_lines_are places draft (w ∷ ws) (l ∷ ls) some within ranges known say =
+link_lines_are draft [] [] some within ranges known say = refl
+link_lines_are draft [] (l ∷ ls) some within ranges known say = absurd say
+link_lines_are draft (w ∷ ws) [] some within ranges known say = absurd say
+link_lines_are draft (w ∷ ws) (l ∷ ls) some within ranges known say =
     let a = and_parts (has_range draft.delay l) (list_all (has_range draft.delay) ls) ranges in
     let b = and_parts (knows_link draft.groups l) (list_all (knows_link draft.groups) ls) known in
-    let one = link_is places draft w l some within a.0 b.0 say.0 in
-    ap (λ x. x ∷ ws) one ∙ ap (λ t. link_line (scenario_of draft) (link_of draft.groups l) ∷ t) (link_lines_are places draft ws ls some within a.1 b.1 say.1)
+    let one = link_is draft w l some within a.0 b.0 say.0 in
+    ap (λ x. x ∷ ws) one ∙ ap (λ t. link_line (scenario_of draft) (link_of draft.groups l) ∷ t) (link_lines_are draft ws ls some within a.1 b.1 say.1)
 
 -- ---- lines, one after another
 
@@ -281,14 +283,14 @@ record TookTick (p : Place) (x : Option ℕ × Place) : Type 0 where
   rest : p.rest ≡ x.1.rest
   number : p.number + length (tick_lines x.0) ≡ x.1.number
 
-tick_takes_line : (laws : LineLaws) (version : Version) (p : Place) (x : Option ℕ × Place) → tick_at version p ≡ Ok x → TookTick p x
-tick_takes_line laws version p x e =
+tick_takes_line : (version : Version) (p : Place) (x : Option ℕ × Place) → tick_at version p ≡ Ok x → TookTick p x
+tick_takes_line version p x e =
     elim (cases_Bool (is_tick_due version (upcoming p))) [
       | inl due ↦
           let read : (form_at Tick tick_in p >>= λ tick. Ok (Some tick.0, tick.1)) ≡ Ok x = rw due at e in
           let a = bind_ok (form_at Tick tick_in p) (λ tick. Ok (Some tick.0, tick.1)) x read in
           let t = took Tick tick_in p a.0 a.1 in
-          let line = tick_takes laws t.line a.0.0 t.has in
+          let line = tick_takes t.line a.0.0 t.has in
           let same : (Some a.0.0, a.0.1) ≡ x = same_ok (Some a.0.0, a.0.1) x a.2 in
           subst (TookTick p) same (record { ended = t.ended ∙ ap (λ l. l ∷ a.0.1.ended) line; rest = t.rest; number = t.number })
       | inr other ↦
@@ -312,20 +314,20 @@ unless : {A : Type 0} (b : Bool) (fault : LineFault) (r : Result A LineFault) (x
 unless true fault r x e = absurd cc
 unless false fault r x e = e
 
-pub links_take : (laws : LineLaws) (version : Version) (count number : ℕ) (rest : List ℕ) (ended : List (List ℕ)) (x : List DraftLink × Place) → links_in version count number rest ended ≡ Ok x → TookLines SaysLink number rest ended x
+pub links_take : (version : Version) (count number : ℕ) (rest : List ℕ) (ended : List (List ℕ)) (x : List DraftLink × Place) → links_in version count number rest ended ≡ Ok x → TookLines SaysLink number rest ended x
 unfolding links_in
-links_take laws version count number rest [] x e =
+links_take version count number rest [] x e =
     let same = stop (is_link_due version rest) (faults.Line number Link) ([], record { ended = []; rest = rest; number = number }) x e in
     subst (TookLines SaysLink number rest []) same (record { lines = []; before = refl; after = refl; past = omega arith; say = tt })
-links_take laws version count number rest (line ∷ lines) x e =
+links_take version count number rest (line ∷ lines) x e =
     elim (cases_Bool (is_link_due version line)) [
       | inl due ↦
           let read : (ok_or (link_in line) (faults.Line number Link) >>= λ link. (if count == MOST_LINKS then Err (faults.Scenario (OverLimit limit.Link)) else links_in version (count + 1) (number + 1) rest lines) >>= λ more. Ok (link ∷ more.0, more.1)) ≡ Ok x = rw due at e in
           let a = bind_ok (ok_or (link_in line) (faults.Line number Link)) (λ link. (if count == MOST_LINKS then Err (faults.Scenario (OverLimit limit.Link)) else links_in version (count + 1) (number + 1) rest lines) >>= λ more. Ok (link ∷ more.0, more.1)) x read in
           let b = bind_ok (if count == MOST_LINKS then Err (faults.Scenario (OverLimit limit.Link)) else links_in version (count + 1) (number + 1) rest lines) (λ more. Ok (a.0 ∷ more.0, more.1)) x a.2 in
           let same : (a.0 ∷ b.0.0, b.0.1) ≡ x = same_ok (a.0 ∷ b.0.0, b.0.1) x b.2 in
-          let more = links_take laws version (count + 1) (number + 1) rest lines b.0 (unless (count == MOST_LINKS) (faults.Scenario (OverLimit limit.Link)) _ b.0 b.1) in
-          let says = link_takes laws line a.0 (ok_or_takes (link_in line) (faults.Line number Link) a.0 a.1) in
+          let more = links_take version (count + 1) (number + 1) rest lines b.0 (unless (count == MOST_LINKS) (faults.Scenario (OverLimit limit.Link)) _ b.0 b.1) in
+          let says = link_takes line a.0 (ok_or_takes (link_in line) (faults.Line number Link) a.0 a.1) in
           subst (TookLines SaysLink number rest (line ∷ lines)) same (record { lines = line ∷ more.lines; before = ap (λ t. line ∷ t) more.before; after = more.after; past = omega (arith, more.past); say = (says, more.say) })
       | inr other ↦
           let read : Ok ([], record { ended = line ∷ lines; rest = rest; number = number }) ≡ Ok x = rw other at e in
@@ -343,20 +345,20 @@ can_say_links One draft count number rest ended x are e = ap (λ (ls : List Draf
 can_say_links Two draft count number rest ended x are e = tt
 can_say_links Three draft count number rest ended x are e = tt
 
-pub messages_take : (laws : LineLaws) (version : Version) (count number : ℕ) (rest : List ℕ) (ended : List (List ℕ)) (x : List DraftMessage × Place) → messages_in version count number rest ended ≡ Ok x → TookLines (Says version) number rest ended x
+pub messages_take : (version : Version) (count number : ℕ) (rest : List ℕ) (ended : List (List ℕ)) (x : List DraftMessage × Place) → messages_in version count number rest ended ≡ Ok x → TookLines (Says version) number rest ended x
 unfolding messages_in
-messages_take laws version count number rest [] x e =
+messages_take version count number rest [] x e =
     let same = stop (is_multicast_due count rest) (faults.Line number Multicast) ([], record { ended = []; rest = rest; number = number }) x e in
     subst (TookLines (Says version) number rest []) same (record { lines = []; before = refl; after = refl; past = omega arith; say = tt })
-messages_take laws version count number rest (line ∷ lines) x e =
+messages_take version count number rest (line ∷ lines) x e =
     elim (cases_Bool (is_multicast_due count line)) [
       | inl due ↦
           let read : (ok_or (multicast_in version line) (faults.Line number Multicast) >>= λ message. (if count == MOST_MULTICASTS then Err (faults.Scenario (OverLimit limit.Multicasts)) else messages_in version (count + 1) (number + 1) rest lines) >>= λ more. Ok (message ∷ more.0, more.1)) ≡ Ok x = rw due at e in
           let a = bind_ok (ok_or (multicast_in version line) (faults.Line number Multicast)) (λ message. (if count == MOST_MULTICASTS then Err (faults.Scenario (OverLimit limit.Multicasts)) else messages_in version (count + 1) (number + 1) rest lines) >>= λ more. Ok (message ∷ more.0, more.1)) x read in
           let b = bind_ok (if count == MOST_MULTICASTS then Err (faults.Scenario (OverLimit limit.Multicasts)) else messages_in version (count + 1) (number + 1) rest lines) (λ more. Ok (a.0 ∷ more.0, more.1)) x a.2 in
           let same : (a.0 ∷ b.0.0, b.0.1) ≡ x = same_ok (a.0 ∷ b.0.0, b.0.1) x b.2 in
-          let more = messages_take laws version (count + 1) (number + 1) rest lines b.0 (unless (count == MOST_MULTICASTS) (faults.Scenario (OverLimit limit.Multicasts)) _ b.0 b.1) in
-          let says = message_takes laws version line a.0 (ok_or_takes (multicast_in version line) (faults.Line number Multicast) a.0 a.1) in
+          let more = messages_take version (count + 1) (number + 1) rest lines b.0 (unless (count == MOST_MULTICASTS) (faults.Scenario (OverLimit limit.Multicasts)) _ b.0 b.1) in
+          let says = message_takes version line a.0 (ok_or_takes (multicast_in version line) (faults.Line number Multicast) a.0 a.1) in
           subst (TookLines (Says version) number rest (line ∷ lines)) same (record { lines = line ∷ more.lines; before = ap (λ t. line ∷ t) more.before; after = more.after; past = omega (arith, more.past); say = (says, more.say) })
       | inr other ↦
           let read : Ok ([], record { ended = line ∷ lines; rest = rest; number = number }) ≡ Ok x = rw other at e in
@@ -398,14 +400,14 @@ can_say_time One draft lines whole say fine = rw whole (none_waits One (λ wait 
 can_say_time Two draft lines whole say fine = rw whole (none_waits Two (λ wait e. e) draft lines draft.messages say fine)
 can_say_time Three draft lines said say fine = tt
 
-lines_are : (version : Version) (places : NamesHavePlaces) (draft : Draft) (lines : List (List ℕ)) (ms : List DraftMessage) → AllByRecursion (λ name. 0 < length name) draft.groups → AllZip (Says version) lines ms → AllByRecursion (Fine draft) ms
+lines_are : (version : Version) (draft : Draft) (lines : List (List ℕ)) (ms : List DraftMessage) → AllByRecursion (λ name. 0 < length name) draft.groups → AllZip (Says version) lines ms → AllByRecursion (Fine draft) ms
     → lines ≡ map (multicast_line (scenario_of draft)) (map (message_of draft.groups) ms)
-lines_are version places draft [] [] some say fine = refl
-lines_are version places draft [] (m ∷ ms) some say fine = absurd say
-lines_are version places draft (l ∷ ls) [] some say fine = absurd say
-lines_are version places draft (l ∷ ls) (m ∷ ms) some say fine =
-    let one = message_is version places draft l m some fine.0.name fine.0.known fine.0.within fine.0.waits fine.0.ordered say.0 in
-    ap (λ x. x ∷ ls) one ∙ ap (λ t. multicast_line (scenario_of draft) (message_of draft.groups m) ∷ t) (lines_are version places draft ls ms some say.1 fine.1)
+lines_are version draft [] [] some say fine = refl
+lines_are version draft [] (m ∷ ms) some say fine = absurd say
+lines_are version draft (l ∷ ls) [] some say fine = absurd say
+lines_are version draft (l ∷ ls) (m ∷ ms) some say fine =
+    let one = message_is version draft l m some fine.0.name fine.0.known fine.0.within fine.0.waits fine.0.ordered say.0 in
+    ap (λ x. x ∷ ls) one ∙ ap (λ t. multicast_line (scenario_of draft) (message_of draft.groups m) ∷ t) (lines_are version draft ls ms some say.1 fine.1)
 
 all_ordered : (groups : List (List ℕ)) (number : ℕ) (ms : List DraftMessage) → first_unordered groups number ms ≡ None → list_all (is_ordered groups) ms ≡ true
 all_ordered groups number [] e = refl
@@ -528,39 +530,39 @@ counted : (first all time tick from links messages ls ms z y a b k c last : ℕ)
 counted first all time tick from links messages ls ms z y a b k c last e0 e1 e2 e3 e4 e5 e6 e7 e8 e9 e10 = omega arith
 
 -- what was read, step by step, is the scenario of the lines that were taken
-taken : (laws : LineLaws) (drafts : DraftLaws) (version : Version) (p : Place) (x : Scenario × Place)
+taken : (version : Version) (p : Place) (x : Scenario × Place)
     (z : Time × Place) (y : Option ℕ × Place) (a : ℕ × Place) (b : List (List ℕ) × Place) (k : List DraftLink × Place) (c : List DraftMessage × Place) (d : (List ℕ × List ℕ) × Place)
     → time_at version p ≡ Ok z → tick_at version z.1 ≡ Ok y → form_at Delay (number_in (codes "delay")) y.1 ≡ Ok a → form_at Groups groups_in a.1 ≡ Ok b
     → links_at version 0 b.1 ≡ Ok k → messages_at version 0 k.1 ≡ Ok c → form_at Target target_in c.1 ≡ Ok d
     → after_target z.0 y.0 a.0 b.1.number b.0 k.0 k.1.number c.0 d ≡ Ok x → IsScenario x.0 × CanSay version x.0 × IsBetween version x.0 p x.1
-taken laws drafts version p x z y a b k c d z-is y-is a-is b-is k-is c-is d-is after =
+taken version p x z y a b k c d z-is y-is a-is b-is k-is c-is d-is after =
     let draft = draft_of z.0 y.0 a.0 b.0 k.0 c.0 d.0 in
     let misplaced = first_misplaced_link b.1.number draft in
     let unordered = first_unordered b.0 k.1.number c.0 in
     let last = last_takes draft misplaced unordered d.1 x after in
     let made-is : scenario_of_draft draft ≡ Ok (scenario_of draft) = rw last.0 refl in
-    let all = drafts.hold (checks draft) last.0 in
+    let all = all_hold (checks draft) last.0 in
     let delay-within = within_any z.0 (pos a.0) all.0 in
     let names = all.1.1.1.1.1.1.1 in
     let references = names.1.1.1.1.1 in
     let some = groups_some b.0 names.0 in
     let fine = each draft c.0 names.1.0 references.0 all.1.1.1.0 all.1.1.1.1.0 (all_ordered b.0 k.1.number c.0 last.2) in
     let t-time = time_takes version p z z-is in
-    let t-tick = tick_takes_line laws version z.1 y y-is in
+    let t-tick = tick_takes_line version z.1 y y-is in
     let t-delay = took Delay (number_in (codes "delay")) y.1 a a-is in
     let t-groups = took Groups groups_in a.1 b b-is in
-    let t-links = links_take laws version 0 b.1.number b.1.rest b.1.ended k k-is in
-    let t-messages = messages_take laws version 0 k.1.number k.1.rest k.1.ended c c-is in
+    let t-links = links_take version 0 b.1.number b.1.rest b.1.ended k k-is in
+    let t-messages = messages_take version 0 k.1.number k.1.rest k.1.ended c c-is in
     let t-target = took Target target_in c.1 d d-is in
-    let delay = number_line_takes laws (codes "delay") t-delay.line a.0 delay_word t-delay.has in
-    let groups = groups_take laws t-groups.line b.0 t-groups.has some in
+    let delay = (number_line_takes (codes "delay") t-delay.line a.0 t-delay.has).0 in
+    let groups = groups_take t-groups.line b.0 t-groups.has some in
     let stand = placed (delay_of_draft draft) None b.1.number (links_of_draft draft) last.1 in
-    let kept : in_order (delay_of_draft draft) (links_of_draft draft) ≡ links_of_draft draft = drafts.stay (delay_of_draft draft) (links_of_draft draft) stand.0 stand.1 in
+    let kept : in_order (delay_of_draft draft) (links_of_draft draft) ≡ links_of_draft draft = stay (delay_of_draft draft) None (links_of_draft draft) stand.0 stand.1 in
     let links : t-links.lines ≡ map (link_line (scenario_of draft)) (scenario_of draft).links =
-    link_lines_are drafts.places draft t-links.lines k.0 some delay-within all.1.1.1.1.1.0 references.1.1.0 t-links.say ∙ ap (map (link_line (scenario_of draft))) (sym kept) in
-    let lines = lines_are version drafts.places draft t-messages.lines c.0 some t-messages.say fine in
-    let target = target_takes laws t-target.line d.0 t-target.has (name_among d.0.0 c.0 references.1.1.1.1.1.0 names.1.0) (among_some d.0.1 b.0 references.1.0 some) in
-    let named = drafts.named draft (scenario_of draft) made-is in
+    link_lines_are draft t-links.lines k.0 some delay-within all.1.1.1.1.1.0 references.1.1.0 t-links.say ∙ ap (map (link_line (scenario_of draft))) (sym kept) in
+    let lines = lines_are version draft t-messages.lines c.0 some t-messages.say fine in
+    let target = target_takes t-target.line d.0 t-target.has (name_among d.0.0 c.0 references.1.1.1.1.1.0 names.1.0) (among_some d.0.1 b.0 references.1.0 some) in
+    let named = given.named_target draft (scenario_of draft) made-is in
     let target-is : t-target.line ≡ target_line (scenario_of draft) =
     target ∙ ap (λ w. line_of (codes "target") (w ∷ d.0.1 ∷ [])) (sym named.message)
     ∙ ap (λ w. line_of (codes "target") ((message_at (scenario_of draft) (scenario_of draft).target_message).name ∷ w ∷ [])) (sym named.group) in
@@ -577,11 +579,11 @@ taken laws drafts version p x z y a b k c d z-is y-is a-is b-is k-is c-is d-is a
     (length (scenario_of draft).links) (length (scenario_of draft).multicasts) (length k.0) (length c.0) z.1.number y.1.number a.1.number b.1.number k.1.number c.1.number d.1.number (count_all version (scenario_of draft)) (count_lines (scenario_of draft)) messages linked
     t-time.number t-tick.number t-delay.number t-groups.number t-links.past t-messages.past t-target.number in
     subst (λ (read : Scenario × Place). IsScenario read.0 × CanSay version read.0 × IsBetween version read.0 p read.1) last.3
-    (drafts.formed draft (scenario_of draft) made-is, record { time = can_say_time version draft t-messages.lines t-time.said t-messages.say fine; links = can_say_links version draft 0 b.1.number b.1.rest b.1.ended k refl k-is }, record { ended = timed; rest = t-time.rest ∙ t-tick.rest ∙ t-delay.rest ∙ t-groups.rest ∙ t-links.after ∙ t-messages.after ∙ t-target.rest; number = past })
+    (given.of_draft draft (scenario_of draft) made-is, record { time = can_say_time version draft t-messages.lines t-time.said t-messages.say fine; links = can_say_links version draft 0 b.1.number b.1.rest b.1.ended k refl k-is }, record { ended = timed; rest = t-time.rest ∙ t-tick.rest ∙ t-delay.rest ∙ t-groups.rest ∙ t-links.after ∙ t-messages.after ∙ t-target.rest; number = past })
 
-pub scenario_takes : (laws : LineLaws) (drafts : DraftLaws) (version : Version) (p : Place) (x : Scenario × Place) → scenario_at version p ≡ Ok x → IsScenario x.0 × CanSay version x.0 × IsBetween version x.0 p x.1
+pub scenario_takes : (version : Version) (p : Place) (x : Scenario × Place) → scenario_at version p ≡ Ok x → IsScenario x.0 × CanSay version x.0 × IsBetween version x.0 p x.1
 unfolding scenario_at
-scenario_takes laws drafts version p x e =
+scenario_takes version p x e =
     let z = bind_ok (time_at version p) (after_time version) x e in
     let y = bind_ok (tick_at version z.0.1) (after_tick version z.0.0) x z.2 in
     let a = bind_ok (form_at Delay (number_in (codes "delay")) y.0.1) (after_delay version z.0.0 y.0.0) x y.2 in
@@ -589,4 +591,4 @@ scenario_takes laws drafts version p x e =
     let k = bind_ok (links_at version 0 b.0.1) (after_links version z.0.0 y.0.0 a.0.0 b.0.1.number b.0.0) x b.2 in
     let c = bind_ok (messages_at version 0 k.0.1) (after_messages z.0.0 y.0.0 a.0.0 b.0.1.number b.0.0 k.0.0 k.0.1.number) x k.2 in
     let d = bind_ok (form_at Target target_in c.0.1) (after_target z.0.0 y.0.0 a.0.0 b.0.1.number b.0.0 k.0.0 k.0.1.number c.0.0) x c.2 in
-    taken laws drafts version p x z.0 y.0 a.0 b.0 k.0 c.0 d.0 z.1 y.1 a.1 b.1 k.1 c.1 d.1 d.2
+    taken version p x z.0 y.0 a.0 b.0 k.0 c.0 d.0 z.1 y.1 a.1 b.1 k.1 c.1 d.1 d.2

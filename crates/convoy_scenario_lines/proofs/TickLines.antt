@@ -1,5 +1,5 @@
 -- The line `tick`: what is read was written so, and what is written is read again.
-use Rattle.std.proofs.Common.{◌≡◌, ℕ, ◌*◌, ◌/◌, ◌%◌, ◌≤◌, ◌==◌, ◌&&◌, true, cond, nat_le, List, [], ◌∷◌, length, Some, None, refl, ap, sym, ◌∙◌, arith, inl, inr, codes, decimal}
+use Rattle.std.proofs.Common.{◌≡◌, ℕ, ◌*◌, ◌/◌, ◌%◌, ◌≤◌, ◌==◌, ◌&&◌, true, cond, nat_le, List, [], ◌∷◌, length, Option, Some, None, refl, ap, sym, ◌∙◌, arith, inl, inr, codes, decimal}
 use Rattle.std.specs.Str.{bytes_eq}
 use Rattle.std.proofs.lemmas.Bool.{and_parts, cases_Bool, eqb-true, le-leb, leb-true}
 use Rattle.std.proofs.lemmas.Bool.Decides.{nat_tests}
@@ -17,7 +17,8 @@ use Rattle.convoy_lines.specs.Texts.{line_of}
 use Rattle.convoy_lines.specs.Words.{next_word, number_of}
 use Rattle.convoy_scenario_lines.specs.LineForms.{tick_in}
 use Rattle.convoy_scenario_lines.specs.Lines.{tick_line}
-use Rattle.convoy_scenario_lines.proofs.LineLaws.{LineLaws, AreWords, tick_word, bind_some, next_takes, number_takes, number_again, decimal_word, label_takes, label_again}
+use Rattle.convoy_lines.proofs.LabelLemmas.{bind_some, label_takes, label_again}
+use Rattle.convoy_lines.proofs.Spelling.{AreWords, number_takes, number_again, decimal_word, known_word}
 
 -- ---- units
 
@@ -32,42 +33,6 @@ named_again Seconds = refl
 named_again Milliseconds = refl
 named_again Microseconds = refl
 named_again Nanoseconds = refl
-
--- units of one word have one length
-same_length : (u v : TimeUnit) → bytes_eq (unit_word u) (unit_word v) ≡ true → unit_length u ≡ unit_length v
-same_length Seconds Seconds e = refl
-same_length Milliseconds Milliseconds e = refl
-same_length Microseconds Microseconds e = refl
-same_length Nanoseconds Nanoseconds e = refl
-same_length Seconds Milliseconds e = absurd cc
-same_length Seconds Microseconds e = absurd cc
-same_length Seconds Nanoseconds e = absurd cc
-same_length Milliseconds Seconds e = absurd cc
-same_length Milliseconds Microseconds e = absurd cc
-same_length Milliseconds Nanoseconds e = absurd cc
-same_length Microseconds Seconds e = absurd cc
-same_length Microseconds Milliseconds e = absurd cc
-same_length Microseconds Nanoseconds e = absurd cc
-same_length Nanoseconds Seconds e = absurd cc
-same_length Nanoseconds Milliseconds e = absurd cc
-same_length Nanoseconds Microseconds e = absurd cc
-
--- the word of a unit that is named
-word_of : (word : List ℕ) (unit : TimeUnit) → unit_named word ≡ Some unit → word ≡ unit_word unit
-word_of word unit e =
-    elim (cases_Bool (bytes_eq word (unit_word Seconds))) [
-      | inl s ↦ let is : Some Seconds ≡ Some unit = rw s at e in (bytes_eq-Decides word (unit_word Seconds)).0 s ∙ ap unit_word (same_Some Seconds unit is)
-      | inr no-s ↦ elim (cases_Bool (bytes_eq word (unit_word Milliseconds))) [
-        | inl s ↦ let is : Some Milliseconds ≡ Some unit = rw (no-s, s) at e in (bytes_eq-Decides word (unit_word Milliseconds)).0 s ∙ ap unit_word (same_Some Milliseconds unit is)
-        | inr no-m ↦ elim (cases_Bool (bytes_eq word (unit_word Microseconds))) [
-          | inl s ↦ let is : Some Microseconds ≡ Some unit = rw (no-s, no-m, s) at e in (bytes_eq-Decides word (unit_word Microseconds)).0 s ∙ ap unit_word (same_Some Microseconds unit is)
-          | inr no-u ↦ elim (cases_Bool (bytes_eq word (unit_word Nanoseconds))) [
-            | inl s ↦ let is : Some Nanoseconds ≡ Some unit = rw (no-s, no-m, no-u, s) at e in (bytes_eq-Decides word (unit_word Nanoseconds)).0 s ∙ ap unit_word (same_Some Nanoseconds unit is)
-            | inr none ↦ let is : None ≡ Some unit = rw (no-s, no-m, no-u, none) at e in absurd cc
-          ]
-        ]
-      ]
-    ]
 
 times_over : (unit : TimeUnit) (n : ℕ) → n * unit_length unit / unit_length unit ≡ n
 times_over Seconds n = omega arith
@@ -108,41 +73,45 @@ some_counted tick some =
 
 -- ---- the line
 
-module _ (laws : LineLaws) where
-  pub tick_takes : (line : List ℕ) (tick : ℕ) → tick_in line ≡ Some tick → line ≡ tick_line tick
-  tick_takes line tick e =
-      let a = bind_some (words_after (codes "tick") line) (λ words. next_word words >>= λ count. next_word count.1 >>= λ unit. number_of greatest_number count.0 >>= λ number. unit_named unit.0 >>= λ named. within_longest (number * unit_length named) >>= λ long.
-      cond (nat_le 1 number && bytes_eq unit.0 (unit_word (unit_of long)) && length unit.1 == 0) (Some long) None) tick e in
-      let b = bind_some (next_word a.0) (λ count. next_word count.1 >>= λ unit. number_of greatest_number count.0 >>= λ number. unit_named unit.0 >>= λ named. within_longest (number * unit_length named) >>= λ long.
-      cond (nat_le 1 number && bytes_eq unit.0 (unit_word (unit_of long)) && length unit.1 == 0) (Some long) None) tick a.2 in
-      let c = bind_some (next_word b.0.1) (λ unit. number_of greatest_number b.0.0 >>= λ number. unit_named unit.0 >>= λ named. within_longest (number * unit_length named) >>= λ long.
-      cond (nat_le 1 number && bytes_eq unit.0 (unit_word (unit_of long)) && length unit.1 == 0) (Some long) None) tick b.2 in
-      let d = bind_some (number_of greatest_number b.0.0) (λ number. unit_named c.0.0 >>= λ named. within_longest (number * unit_length named) >>= λ long.
-      cond (nat_le 1 number && bytes_eq c.0.0 (unit_word (unit_of long)) && length c.0.1 == 0) (Some long) None) tick c.2 in
-      let f = bind_some (unit_named c.0.0) (λ named. within_longest (d.0 * unit_length named) >>= λ long.
-      cond (nat_le 1 d.0 && bytes_eq c.0.0 (unit_word (unit_of long)) && length c.0.1 == 0) (Some long) None) tick d.2 in
-      let g = bind_some (within_longest (d.0 * unit_length f.0)) (λ long. cond (nat_le 1 d.0 && bytes_eq c.0.0 (unit_word (unit_of long)) && length c.0.1 == 0) (Some long) None) tick f.2 in
-      let h = cond_some (nat_le 1 d.0 && bytes_eq c.0.0 (unit_word (unit_of g.0)) && length c.0.1 == 0) g.0 tick g.2 in
-      let parts = and_parts (nat_le 1 d.0 && bytes_eq c.0.0 (unit_word (unit_of g.0))) (length c.0.1 == 0) h.0 in
-      let last : c.0.1 ≡ [] = nil_from_length c.0.1 (eqb-true _ _ parts.1) in
-      let count = number_takes laws greatest_number b.0.0 d.0 (omega arith) d.1 in
-      let long = cond_some (nat_le (d.0 * unit_length f.0) LONGEST_DURATION) (d.0 * unit_length f.0) g.0 g.1 in
-      let is : d.0 * unit_length f.0 ≡ tick = long.1 ∙ h.1 in
-      let greatest : c.0.0 ≡ unit_word (unit_of tick) = (bytes_eq-Decides c.0.0 (unit_word (unit_of g.0))).0 (and_parts (nat_le 1 d.0) _ parts.0).1 ∙ ap (λ t. unit_word (unit_of t)) h.1 in
-      let same : unit_length f.0 ≡ unit_length (unit_of tick) = same_length f.0 (unit_of tick) ((bytes_eq-Decides (unit_word f.0) (unit_word (unit_of tick))).1 (sym (word_of c.0.0 f.0 f.1) ∙ greatest)) in
-      let counted : d.0 ≡ count_of tick =
-      sym (times_over (unit_of tick) d.0) ∙ ap (λ l. d.0 * l / unit_length (unit_of tick)) (sym same) ∙ ap (λ t. t / unit_length (unit_of tick)) is in
-      let words : a.0 ≡ decimal (count_of tick) ∷ unit_word (unit_of tick) ∷ [] =
-      next_takes a.0 b.0 b.1 ∙ ap (λ w. w ∷ b.0.1) (count.0 ∙ ap decimal counted) ∙ ap (λ ws. decimal (count_of tick) ∷ ws) (next_takes b.0.1 c.0 c.1 ∙ ap (λ w. w ∷ c.0.1) greatest ∙ ap (λ ws. unit_word (unit_of tick) ∷ ws) last) in
-      label_takes laws (codes "tick") line a.0 a.1 ∙ ap (line_of (codes "tick")) words
+-- the length of these words, if no word is left
+abbrev tick_at_end : List ℕ → List (List ℕ) → ℕ → ℕ → Option ℕ
+tick_at_end unit left number long = cond (nat_le 1 number && bytes_eq unit (unit_word (unit_of long)) && length left == 0) (Some long) None
 
-  pub tick_words : (tick : ℕ) → count_of tick ≤ MOST_UNITS → AreWords (decimal (count_of tick) ∷ unit_word (unit_of tick) ∷ [])
-  tick_words tick few = (decimal_word laws (count_of tick) (omega (arith, few)), (unit_is_word (unit_of tick), tt))
+abbrev words_tick : List (List ℕ) → Option ℕ
+words_tick words = next_word words >>= λ count. next_word count.1 >>= λ unit. number_of greatest_number count.0 >>= λ number. unit_named unit.0 >>= λ named.
+    within_longest (number * unit_length named) >>= tick_at_end unit.0 unit.1 number
 
-  pub tick_again : (tick : ℕ) → 1 ≤ tick → tick ≤ LONGEST_DURATION → count_of tick ≤ MOST_UNITS → tick_in (tick_line tick) ≡ Some tick
-  tick_again tick some short few =
-      let words = label_again laws (codes "tick") (decimal (count_of tick) ∷ unit_word (unit_of tick) ∷ []) tick_word (tick_words tick few) in
-      let within : within_longest tick ≡ Some tick = rw (le-leb tick LONGEST_DURATION short) refl in
-      let greatest : bytes_eq (unit_word (unit_of tick)) (unit_word (unit_of tick)) ≡ true = (bytes_eq-Decides (unit_word (unit_of tick)) (unit_word (unit_of tick))).1 refl in
-      let one : nat_le 1 (count_of tick) ≡ true = le-leb 1 (count_of tick) (some_counted tick some) in
-      rw (words, number_again laws greatest_number (count_of tick) (omega arith) (omega (arith, few)), named_again (unit_of tick), count_again tick, within, one, greatest) refl
+tick_said : (words : List (List ℕ)) (tick : ℕ) → words_tick words ≡ Some tick → words ≡ decimal (count_of tick) ∷ unit_word (unit_of tick) ∷ []
+tick_said [] tick e = absurd cc
+tick_said (count ∷ []) tick e = absurd cc
+tick_said (count ∷ unit ∷ left) tick e =
+    let a = bind_some (number_of greatest_number count) (λ number. unit_named unit >>= λ named. within_longest (number * unit_length named) >>= tick_at_end unit left number) tick e in
+    let b = bind_some (unit_named unit) (λ named. within_longest (a.0 * unit_length named) >>= tick_at_end unit left a.0) tick a.2 in
+    let c = bind_some (within_longest (a.0 * unit_length b.0)) (tick_at_end unit left a.0) tick b.2 in
+    let d = cond_some (nat_le 1 a.0 && bytes_eq unit (unit_word (unit_of c.0)) && length left == 0) c.0 tick c.2 in
+    let parts = and_parts (nat_le 1 a.0 && bytes_eq unit (unit_word (unit_of c.0))) (length left == 0) d.0 in
+    let last : left ≡ [] = nil_from_length left (eqb-true _ _ parts.1) in
+    let number = number_takes greatest_number count a.0 (omega arith) a.1 in
+    let long = cond_some (nat_le (a.0 * unit_length b.0) LONGEST_DURATION) (a.0 * unit_length b.0) c.0 c.1 in
+    let is : a.0 * unit_length b.0 ≡ tick = long.1 ∙ d.1 in
+    let greatest : unit ≡ unit_word (unit_of tick) = (bytes_eq-Decides unit (unit_word (unit_of c.0))).0 (and_parts (nat_le 1 a.0) _ parts.0).1 ∙ ap (λ t. unit_word (unit_of t)) d.1 in
+    let same : b.0 ≡ unit_of tick = same_Some b.0 (unit_of tick) (sym b.1 ∙ ap unit_named greatest ∙ named_again (unit_of tick)) in
+    let counted : a.0 ≡ count_of tick =
+    sym (times_over (unit_of tick) a.0) ∙ ap (λ u. a.0 * unit_length u / unit_length (unit_of tick)) (sym same) ∙ ap (λ t. t / unit_length (unit_of tick)) is in
+    ap (λ w. w ∷ unit ∷ left) (number.0 ∙ ap decimal counted) ∙ ap (λ w. decimal (count_of tick) ∷ w ∷ left) greatest ∙ ap (λ ws. decimal (count_of tick) ∷ unit_word (unit_of tick) ∷ ws) last
+
+pub tick_takes : (line : List ℕ) (tick : ℕ) → tick_in line ≡ Some tick → line ≡ tick_line tick
+tick_takes line tick e =
+    let a = bind_some (words_after (codes "tick") line) words_tick tick e in
+    label_takes (codes "tick") line a.0 a.1 ∙ ap (line_of (codes "tick")) (tick_said a.0 tick a.2)
+
+pub tick_words : (tick : ℕ) → count_of tick ≤ MOST_UNITS → AreWords (decimal (count_of tick) ∷ unit_word (unit_of tick) ∷ [])
+tick_words tick few = (decimal_word (count_of tick) (omega (arith, few)), (unit_is_word (unit_of tick), tt))
+
+pub tick_again : (tick : ℕ) → 1 ≤ tick → tick ≤ LONGEST_DURATION → count_of tick ≤ MOST_UNITS → tick_in (tick_line tick) ≡ Some tick
+tick_again tick some short few =
+    let words = label_again (codes "tick") (decimal (count_of tick) ∷ unit_word (unit_of tick) ∷ []) (known_word (codes "tick") refl) (tick_words tick few) in
+    let within : within_longest tick ≡ Some tick = rw (le-leb tick LONGEST_DURATION short) refl in
+    let greatest : bytes_eq (unit_word (unit_of tick)) (unit_word (unit_of tick)) ≡ true = (bytes_eq-Decides (unit_word (unit_of tick)) (unit_word (unit_of tick))).1 refl in
+    let one : nat_le 1 (count_of tick) ≡ true = le-leb 1 (count_of tick) (some_counted tick some) in
+    rw (words, number_again greatest_number (count_of tick) (omega arith) (omega (arith, few)), named_again (unit_of tick), count_again tick, within, one, greatest) refl

@@ -13,7 +13,6 @@ use super::line_fault::{Expected, LineFault};
 use super::line_forms::{groups_in, link_in, multicast_in, target_in, tick_in, time_in};
 use super::version::Version;
 use convoy_lines::{LineReader, number_in};
-use convoy_scenario::laws::{different_names_are_distinct, judged_rules_hold};
 use convoy_scenario::{
     DraftLink, DraftMulticast, DraftScenario, Duration, Limit, Link, MOST_LINKS, MOST_MULTICASTS,
     Name, Scenario, ScenarioFault, Time,
@@ -52,8 +51,6 @@ fn read_scenario(
     ensures { IsUnlessMemory LineFault.Memory (scenario_at version reader.old)
         (result_map_both (λ scenario. (scenario, reader.new)) (λ fault. fault) result) }
 {
-    judged_rules_hold();
-    different_names_are_distinct();
     read_kept(alloc, version, reader)
 }
 

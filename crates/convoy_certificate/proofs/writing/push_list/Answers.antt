@@ -1,8 +1,7 @@
 use Rattle.std.proofs.Common.{◌≡◌, ◌++◌, decimal, map}
 use Rattle.std.specs.List.{flat_map}
-use Rattle.convoy_certificate.proofs.LineLaws.{in_map}
 use Rattle.convoy_lines.specs.Texts.{spaced}
-use Rattle.convoy_certificate.proofs.Pieces.{in_line}
+use Rattle.convoy_certificate.proofs.Pieces.{in_line, in_map}
 use Rattle.convoy_certificate.proofs.writing.push_list.Goals as goal
 
 pub returns : goal.returns

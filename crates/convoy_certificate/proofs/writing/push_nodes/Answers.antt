@@ -1,4 +1,4 @@
-use Rattle.convoy_certificate.proofs.LineLaws.{in_map}
+use Rattle.convoy_certificate.proofs.Pieces.{in_map}
 use Rattle.convoy_lines.specs.Texts.{ended}
 use Rattle.convoy_certificate.specs.Text.{node_line}
 use Rattle.convoy_certificate.proofs.writing.push_nodes.Goals as goal

@@ -1,16 +1,14 @@
-use Rattle.std.proofs.Common.{ap, sym, subst, ◌∙◌, ◌++◌, All}
-use Rattle.std.proofs.lemmas.List.{append-nil}
+use Rattle.std.proofs.Common.{ap, subst, ◌∙◌, All}
 use Rattle.std.proofs.lemmas.List.Elements.{All-from_recursion, recursion_from_All}
 use Rattle.convoy_lines.specs.Laws.{IsLine}
 use Rattle.convoy_lines.specs.Places.{Lines, lines_in}
-use Rattle.convoy_lines.specs.Texts.{text_of}
-use Rattle.convoy_lines.proofs.Spelling.{text_again, lines_are, lines_again}
+use Rattle.convoy_lines.proofs.Spelling.{text_takes, lines_are, lines_again}
 use Rattle.convoy_lines.proofs.laws.lines_of_texts.Goals as goal
 
 pub returns : goal.returns
 returns c text lines = (
   λ read. (
-    sym (text_again text) ∙ ap (λ (l : Lines). text_of l.ended ++ l.rest) read ∙ append-nil (text_of lines),
+    text_takes text lines read,
     subst (λ (l : Lines). All IsLine l.ended) read (All-from_recursion IsLine (lines_in text).ended (lines_are text)),
   ),
   λ written. ap lines_in written.0 ∙ lines_again lines (recursion_from_All IsLine lines written.1),

@@ -2,7 +2,7 @@ use Rattle.std.proofs.Common.{◌≡◌, true, map, sym, ap, ◌∙◌, arith}
 use Rattle.convoy_draft.specs.Checks.{is_among}
 use Rattle.convoy_scenario_lines.specs.LineForms.{name_of}
 use Rattle.convoy_scenario_lines.proofs.KeptNames.{keeps, keeps_enough}
-use Rattle.convoy_scenario_lines.proofs.LineLaws.{next_takes}
+use Rattle.convoy_lines.proofs.LabelLemmas.{next_takes}
 use Rattle.convoy_scenario_lines.proofs.line_forms.destinations_of.Goals as goal
 
 pub loop-word-preserved : goal.loop-word-preserved
