@@ -17,3 +17,4 @@ pub mod SureLeads
 pub mod Laws
 -- Words of the crate's own parts: no promise rests on them.
 pub mod Below
+pub mod Filling

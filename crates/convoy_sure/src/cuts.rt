@@ -1,9 +1,10 @@
-ghost use Rattle.std.specs.Prelude.{◌≡◌, ℕ, ◌+◌, ◌<◌, ◌≤◌, max, length, slice_set, All, IfOk};
+ghost use Rattle.std.specs.Prelude.{◌≡◌, ℕ, ◌*◌, ◌+◌, ◌<◌, ◌≤◌, max, length, slice_set, All, IfOk};
 ghost use Rattle.std.specs.List.{fold};
 ghost use Rattle.convoy_scenario.specs.Scenario.{message_at};
 ghost use Rattle.convoy_packets.specs.Order.{place};
 ghost use Rattle.convoy_sure.specs.Windows.{entry_at, issued_since, raised, with_arrival, with_issue, with_settling};
 
+use super::ends::Ends;
 use super::messages::destinations;
 use super::windows::{LAST_ARRIVAL, LAST_SETTLING, Windows, entry_at};
 use convoy_scenario::{GREATEST_UNTIL, MOST_GROUPS, MOST_MULTICASTS, Scenario};
@@ -22,6 +23,32 @@ fn raise_entry(entries: &mut [u32], message: usize, group: usize, least: u32)
     let place = message * MOST_GROUPS + group;
     if place < entries.len() {
         entries[place] = least.max(entry);
+    }
+}
+
+/// Raises the entries for a message at each of its destinations to that tick and the delay to there
+/// that stands in a row of the delays, if they are less.
+fn raise_row(
+    entries: &mut [u32],
+    scenario: &Scenario,
+    message: usize,
+    tick: u32,
+    delays: &[u32],
+    row: usize,
+)
+    requires message { message < length scenario.now.multicasts }
+    requires tick { tick ≤ LAST_ARRIVAL }
+    requires delays { All (λ delay. delay ≤ u16.MAX) delays.now }
+    requires row { row < MOST_MULTICASTS * MOST_GROUPS }
+    ensures value { entries.new ≡ fold
+        (λ raising to. raised raising message to (tick + entry_at delays.now row to)) entries.old
+        (message_at scenario.now message).destinations }
+    ensures limit { (last : ℕ) → tick + u16.MAX ≤ last → All (λ entry. entry ≤ last) entries.old
+        → All (λ entry. entry ≤ last) entries.new }
+{
+    for to in destinations(scenario, message) {
+        let delay = entry_at(delays, row, *to);
+        raise_entry(entries, message, *to, tick + delay);
     }
 }
 
@@ -59,14 +86,18 @@ impl Windows {
         ensures limit { All (λ entry. entry ≤ LAST_ARRIVAL) arrivals.new }
     {
         let issued = self.issued_since(message, group, tick);
-        for to in destinations(scenario, message) {
-            let least = issued + self.least_multicast(message, *to);
-            raise_entry(arrivals, message, *to, least);
-        }
+        raise_row(
+            arrivals,
+            scenario,
+            message,
+            issued,
+            &self.multicasts.least,
+            message,
+        );
         raise_entry(arrivals, message, group, tick);
     }
 
-    /// The least arrivals where a message arrives at a group at that tick or later.
+    /// The arrivals where a message arrives at a group at that tick or later.
     fn arrivals_after(
         &self,
         alloc: Global,
@@ -74,48 +105,27 @@ impl Windows {
         message: usize,
         group: usize,
         tick: u32,
-    ) -> Result<Vec<u32>, AllocError>
+    ) -> Result<Ends, AllocError>
         requires message { message < length scenario.now.multicasts }
         requires known { message < MOST_MULTICASTS }
         requires group { group < MOST_GROUPS }
         requires tick { tick ≤ LAST_ARRIVAL }
-        ensures value { IfOk result (λ arrivals. arrivals.items
+        ensures least { IfOk result (λ arrivals. arrivals.least.items
             ≡ raised (fold (with_issue self.now message group tick) self.now.least_arrivals
             (message_at scenario.now message).destinations) message group tick) }
+        ensures greatest { IfOk result
+            (λ arrivals. arrivals.greatest.items ≡ self.now.greatest_arrivals) }
         ensures limit { IfOk result
-            (λ arrivals. All (λ entry. entry ≤ LAST_ARRIVAL) arrivals.items) }
+            (λ arrivals. All (λ entry. entry ≤ LAST_ARRIVAL) arrivals.least.items) }
     {
-        let mut arrivals = Vec::from_slice(alloc, &self.least_arrivals)?;
-        self.raise_arrivals(arrivals.as_mut_slice(), scenario, message, group, tick);
+        let mut arrivals = self.arrivals.copy(alloc)?;
+        let least = arrivals.least.as_mut_slice();
+        self.raise_arrivals(least, scenario, message, group, tick);
         Ok(arrivals)
     }
 
-    /// Raises least settlings to what they are where a message arrives at a group at that tick or
-    /// later: it is committed at each group no earlier than its stamp of that group may come from
-    /// there.
-    fn raise_settlings(
-        &self,
-        settlings: &mut [u32],
-        scenario: &Scenario,
-        message: usize,
-        group: usize,
-        tick: u32,
-    )
-        requires message { message < length scenario.now.multicasts }
-        requires group { group < MOST_GROUPS }
-        requires tick { tick ≤ LAST_ARRIVAL }
-        requires limit { All (λ entry. entry ≤ LAST_SETTLING) settlings.old }
-        ensures value { settlings.new ≡ fold (with_settling self.now message group tick) settlings.old
-            (message_at scenario.now message).destinations }
-        ensures limit { All (λ entry. entry ≤ LAST_SETTLING) settlings.new }
-    {
-        for to in destinations(scenario, message) {
-            let least = tick + self.least_proposal(message, group, *to);
-            raise_entry(settlings, message, *to, least);
-        }
-    }
-
-    /// The least settlings where a message arrives at a group at that tick or later.
+    /// The settlings where a message arrives at a group at that tick or later: it is committed at each
+    /// group no earlier than its stamp of that group may come from there.
     fn settlings_after(
         &self,
         alloc: Global,
@@ -123,18 +133,23 @@ impl Windows {
         message: usize,
         group: usize,
         tick: u32,
-    ) -> Result<Vec<u32>, AllocError>
+    ) -> Result<Ends, AllocError>
         requires message { message < length scenario.now.multicasts }
+        requires known { message < MOST_MULTICASTS }
         requires group { group < MOST_GROUPS }
         requires tick { tick ≤ LAST_ARRIVAL }
-        ensures value { IfOk result (λ settlings. settlings.items
+        ensures least { IfOk result (λ settlings. settlings.least.items
             ≡ fold (with_settling self.now message group tick) self.now.least_settlings
             (message_at scenario.now message).destinations) }
+        ensures greatest { IfOk result
+            (λ settlings. settlings.greatest.items ≡ self.now.greatest_settlings) }
         ensures limit { IfOk result
-            (λ settlings. All (λ entry. entry ≤ LAST_SETTLING) settlings.items) }
+            (λ settlings. All (λ entry. entry ≤ LAST_SETTLING) settlings.least.items) }
     {
-        let mut settlings = Vec::from_slice(alloc, &self.least_settlings)?;
-        self.raise_settlings(settlings.as_mut_slice(), scenario, message, group, tick);
+        let row = message * MOST_GROUPS + group;
+        let mut settlings = self.settlings.copy(alloc)?;
+        let least = settlings.least.as_mut_slice();
+        raise_row(least, scenario, message, tick, &self.proposals.least, row);
         Ok(settlings)
     }
 
@@ -155,23 +170,15 @@ impl Windows {
         ensures { IfOk result
             (λ windows. windows ≡ with_arrival scenario.now self.now message group tick) }
     {
-        let least_arrivals = self.arrivals_after(alloc, scenario, message, group, tick)?;
-        let least_settlings = self.settlings_after(alloc, scenario, message, group, tick)?;
-        let greatest_arrivals = Vec::from_slice(alloc, &self.greatest_arrivals)?;
-        let greatest_settlings = Vec::from_slice(alloc, &self.greatest_settlings)?;
-        let least_multicasts = Vec::from_slice(alloc, &self.least_multicasts)?;
-        let greatest_multicasts = Vec::from_slice(alloc, &self.greatest_multicasts)?;
-        let least_proposals = Vec::from_slice(alloc, &self.least_proposals)?;
-        let greatest_proposals = Vec::from_slice(alloc, &self.greatest_proposals)?;
+        let arrivals = self.arrivals_after(alloc, scenario, message, group, tick)?;
+        let settlings = self.settlings_after(alloc, scenario, message, group, tick)?;
+        let multicasts = self.multicasts.copy(alloc)?;
+        let proposals = self.proposals.copy(alloc)?;
         Ok(Windows {
-            least_arrivals,
-            greatest_arrivals,
-            least_settlings,
-            greatest_settlings,
-            least_multicasts,
-            greatest_multicasts,
-            least_proposals,
-            greatest_proposals,
+            arrivals,
+            settlings,
+            multicasts,
+            proposals,
         })
     }
 }

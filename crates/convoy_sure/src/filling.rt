@@ -1,13 +1,16 @@
-ghost use Rattle.std.specs.Prelude.{◌≡◌, ℕ, ◌*◌, ◌+◌, ◌≤◌, ◌<◌, length, All, IfOk};
+ghost use Rattle.std.specs.Prelude.{◌≡◌, ℕ, ◌*◌, ◌+◌, ◌≤◌, ◌<◌, length, map, All, IfOk};
+ghost use Rattle.std.specs.List.{range_with_len};
 ghost use Rattle.convoy_packets.specs.Assignment.{delay_of};
 ghost use Rattle.convoy_packets.specs.Table.{least_of};
 ghost use Rattle.convoy_packets.specs.declared.packet.Packet.TheVariants.{Multicast};
 ghost use Rattle.convoy_sim.specs.Times.{settle};
 ghost use Rattle.convoy_intervals.specs.Boxes.{IsBox, greatest_of};
 ghost use Rattle.convoy_intervals.specs.Bounds.{tables_of};
-ghost use Rattle.convoy_sure.specs.Windows.{entry_of, entries_of, multicasts_of, proposal_entry, proposals_of};
+ghost use Rattle.convoy_sure.specs.Filling.{place_count, least_entry, greatest_entry, last_entry};
+ghost use Rattle.convoy_sure.specs.Windows.{entry_of, proposal_entry};
 ghost use Rattle.convoy_sure.specs.Windows.{windows_of};
 
+use super::ends::Ends;
 use super::messages::is_addressed;
 use super::windows::{LAST_ARRIVAL, LAST_SETTLING, Windows};
 use convoy_intervals::laws::{greatest_is_member, least_is_member, members_are_assignments};
@@ -28,46 +31,85 @@ impl Windows {
         requires inside { IsBox instance.now delay_box.now }
         ensures { IfOk result (λ windows. windows ≡ windows_of instance.now delay_box.now) }
     {
-        let (least_arrivals, greatest_arrivals) = all_arrivals(alloc, instance, delay_box)?;
-        let (least_settlings, greatest_settlings) = all_settlings(alloc, instance, delay_box)?;
-        let (least_multicasts, greatest_multicasts) = all_multicasts(alloc, instance, delay_box)?;
-        let (least_proposals, greatest_proposals) = all_proposals(alloc, instance, delay_box)?;
+        let places = instance.message_count() * MOST_GROUPS;
+        let arrivals = ends_of(alloc, instance, delay_box, Kind::Arrivals, places)?;
+        let settlings = ends_of(alloc, instance, delay_box, Kind::Settlings, places)?;
+        let multicasts = ends_of(alloc, instance, delay_box, Kind::Multicasts, places)?;
+        let proposals = ends_of(
+            alloc,
+            instance,
+            delay_box,
+            Kind::Proposals,
+            places * MOST_GROUPS,
+        )?;
         Ok(Windows {
-            least_arrivals,
-            greatest_arrivals,
-            least_settlings,
-            greatest_settlings,
-            least_multicasts,
-            greatest_multicasts,
-            least_proposals,
-            greatest_proposals,
+            arrivals,
+            settlings,
+            multicasts,
+            proposals,
         })
     }
 }
 
-/// The least and the greatest arrivals of all messages at all groups, message by message.
-fn all_arrivals(
+/// What windows have lists of: ticks or delays of messages at groups, or the delays of proposals from
+/// groups to others.
+#[derive(Clone, Copy)]
+pub(crate) enum Kind {
+    /// When a message arrives at a group.
+    Arrivals,
+    /// When it is committed there.
+    Settlings,
+    /// How long it takes to there.
+    Multicasts,
+    /// How long a proposal takes.
+    Proposals,
+}
+
+/// The least and the greatest entries of a kind, at so many places.
+fn ends_of(
     alloc: Global,
     instance: &Instance,
     delay_box: &DelayBox,
-) -> Result<(Vec<u32>, Vec<u32>), AllocError>
+    kind: Kind,
+    places: usize,
+) -> Result<Ends, AllocError>
+    requires places { places ≡ place_count instance.now kind }
     requires inside { IsBox instance.now delay_box.now }
-    ensures least { IfOk result (λ lists. lists.0.items
-        ≡ entries_of instance.now (tables_of instance.now delay_box.now).least_arrival) }
-    ensures greatest { IfOk result (λ lists. lists.1.items
-        ≡ entries_of instance.now (tables_of instance.now delay_box.now).greatest_arrival) }
-    ensures least_fit { IfOk result (λ lists. All (λ tick. tick ≤ LAST_ARRIVAL) lists.0.items) }
-    ensures greatest_fit { IfOk result (λ lists. All (λ tick. tick ≤ LAST_ARRIVAL) lists.1.items) }
+    ensures least { IfOk result
+        (λ ends. ends.least.items ≡ map (least_entry instance.now delay_box.now kind)
+        (range_with_len 0 (place_count instance.now kind))) }
+    ensures greatest { IfOk result
+        (λ ends. ends.greatest.items ≡ map (greatest_entry instance.now delay_box.now kind)
+        (range_with_len 0 (place_count instance.now kind))) }
+    ensures least_fit { IfOk result
+        (λ ends. All (λ entry. entry ≤ last_entry kind) ends.least.items) }
+    ensures greatest_fit { IfOk result
+        (λ ends. All (λ entry. entry ≤ last_entry kind) ends.greatest.items) }
 {
-    let places = instance.message_count() * MOST_GROUPS;
     let mut least = Vec::with_capacity(alloc, places)?;
     let mut greatest = Vec::with_capacity(alloc, places)?;
     for place in 0..places {
-        let (first, last) = arrivals_at(instance, delay_box, place);
-        least.push(first)?;
-        greatest.push(last)?;
+        let (low, high) = ends_at(instance, delay_box, kind, place);
+        least.push(low)?;
+        greatest.push(high)?;
     }
-    Ok((least, greatest))
+    Ok(Ends { least, greatest })
+}
+
+/// The least and the greatest entry of a kind at a place.
+fn ends_at(instance: &Instance, delay_box: &DelayBox, kind: Kind, place: usize) -> (u32, u32)
+    requires known { place < place_count instance.now kind }
+    requires inside { IsBox instance.now delay_box.now }
+    ensures least { result.0 ≡ least_entry instance.now delay_box.now kind place }
+    ensures greatest { result.1 ≡ greatest_entry instance.now delay_box.now kind place }
+    ensures fits { (result.0 ≤ last_entry kind) × (result.1 ≤ last_entry kind) }
+{
+    match kind {
+        Kind::Arrivals => arrivals_at(instance, delay_box, place),
+        Kind::Settlings => settlings_at(instance, delay_box, place),
+        Kind::Multicasts => multicasts_at(instance, delay_box, place),
+        Kind::Proposals => proposals_at(instance, delay_box, place),
+    }
 }
 
 /// The least and the greatest arrival at a place of their tables.
@@ -86,31 +128,6 @@ fn arrivals_at(instance: &Instance, delay_box: &DelayBox, place: usize) -> (u32,
     } else {
         (0, 0)
     }
-}
-
-/// The least and the greatest settlings of all messages at all groups, message by message.
-fn all_settlings(
-    alloc: Global,
-    instance: &Instance,
-    delay_box: &DelayBox,
-) -> Result<(Vec<u32>, Vec<u32>), AllocError>
-    requires inside { IsBox instance.now delay_box.now }
-    ensures least { IfOk result (λ lists. lists.0.items
-        ≡ entries_of instance.now (tables_of instance.now delay_box.now).least_settling) }
-    ensures greatest { IfOk result (λ lists. lists.1.items
-        ≡ entries_of instance.now (tables_of instance.now delay_box.now).greatest_settling) }
-    ensures least_fit { IfOk result (λ lists. All (λ tick. tick ≤ LAST_SETTLING) lists.0.items) }
-    ensures greatest_fit { IfOk result (λ lists. All (λ tick. tick ≤ LAST_SETTLING) lists.1.items) }
-{
-    let places = instance.message_count() * MOST_GROUPS;
-    let mut least = Vec::with_capacity(alloc, places)?;
-    let mut greatest = Vec::with_capacity(alloc, places)?;
-    for place in 0..places {
-        let (first, last) = settlings_at(instance, delay_box, place);
-        least.push(first)?;
-        greatest.push(last)?;
-    }
-    Ok((least, greatest))
 }
 
 /// The least and the greatest settling at a place of their tables.
@@ -155,31 +172,6 @@ fn settlings_within(
     settlings(instance, delay_box, message, group)
 }
 
-/// The least and the greatest delays of all messages on their way to all groups, message by message.
-fn all_multicasts(
-    alloc: Global,
-    instance: &Instance,
-    delay_box: &DelayBox,
-) -> Result<(Vec<u32>, Vec<u32>), AllocError>
-    requires inside { IsBox instance.now delay_box.now }
-    ensures least { IfOk result
-        (λ lists. lists.0.items ≡ multicasts_of instance.now (least_of delay_box.now)) }
-    ensures greatest { IfOk result
-        (λ lists. lists.1.items ≡ multicasts_of instance.now (greatest_of delay_box.now)) }
-    ensures least_fit { IfOk result (λ lists. All (λ delay. delay ≤ u16.MAX) lists.0.items) }
-    ensures greatest_fit { IfOk result (λ lists. All (λ delay. delay ≤ u16.MAX) lists.1.items) }
-{
-    let places = instance.message_count() * MOST_GROUPS;
-    let mut least = Vec::with_capacity(alloc, places)?;
-    let mut greatest = Vec::with_capacity(alloc, places)?;
-    for place in 0..places {
-        let (shortest, longest) = multicasts_at(instance, delay_box, place);
-        least.push(shortest)?;
-        greatest.push(longest)?;
-    }
-    Ok((least, greatest))
-}
-
 /// The least and the greatest delay of a message to a group, at a place of their tables.
 fn multicasts_at(instance: &Instance, delay_box: &DelayBox, place: usize) -> (u32, u32)
     requires known { place < length instance.now.multicasts * MOST_GROUPS }
@@ -197,31 +189,6 @@ fn multicasts_at(instance: &Instance, delay_box: &DelayBox, place: usize) -> (u3
     } else {
         (0, 0)
     }
-}
-
-/// The least and the greatest delays of all proposals, message by message, from group to group.
-fn all_proposals(
-    alloc: Global,
-    instance: &Instance,
-    delay_box: &DelayBox,
-) -> Result<(Vec<u32>, Vec<u32>), AllocError>
-    requires inside { IsBox instance.now delay_box.now }
-    ensures least { IfOk result
-        (λ lists. lists.0.items ≡ proposals_of instance.now (least_of delay_box.now)) }
-    ensures greatest { IfOk result
-        (λ lists. lists.1.items ≡ proposals_of instance.now (greatest_of delay_box.now)) }
-    ensures least_fit { IfOk result (λ lists. All (λ delay. delay ≤ u16.MAX) lists.0.items) }
-    ensures greatest_fit { IfOk result (λ lists. All (λ delay. delay ≤ u16.MAX) lists.1.items) }
-{
-    let places = instance.message_count() * MOST_GROUPS * MOST_GROUPS;
-    let mut least = Vec::with_capacity(alloc, places)?;
-    let mut greatest = Vec::with_capacity(alloc, places)?;
-    for place in 0..places {
-        let (shortest, longest) = proposals_at(instance, delay_box, place);
-        least.push(shortest)?;
-        greatest.push(longest)?;
-    }
-    Ok((least, greatest))
 }
 
 /// The least and the greatest delay of a proposal at a place of their tables.

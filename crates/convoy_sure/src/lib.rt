@@ -11,6 +11,7 @@ pub use sure_leads::sure_of;
 pub use windows::{LAST_ARRIVAL, LAST_SETTLING, Windows};
 
 mod cuts;
+mod ends;
 mod filling;
 pub mod laws;
 mod messages;

@@ -1,6 +1,7 @@
 ghost use Rattle.std.specs.Prelude.{◌≡◌, ℕ, ◌*◌, ◌+◌, ◌≤◌, ◌<◌, All};
 ghost use Rattle.convoy_sure.specs.Windows.{entry_at, tables_by};
 
+use super::ends::Ends;
 use convoy_scenario::{GREATEST_UNTIL, MOST_GROUPS, MOST_MULTICASTS};
 use std::marker::Model;
 
@@ -14,14 +15,10 @@ pub const LAST_SETTLING: u32 = GREATEST_UNTIL + 131_070;
 /// the least and the greatest delay of each of its packets, in ticks (docs/LEADS.md).
 #[derive(Drop)]
 pub struct Windows {
-    pub(crate) least_arrivals: Vec<u32>,
-    pub(crate) greatest_arrivals: Vec<u32>,
-    pub(crate) least_settlings: Vec<u32>,
-    pub(crate) greatest_settlings: Vec<u32>,
-    pub(crate) least_multicasts: Vec<u32>,
-    pub(crate) greatest_multicasts: Vec<u32>,
-    pub(crate) least_proposals: Vec<u32>,
-    pub(crate) greatest_proposals: Vec<u32>,
+    pub(crate) arrivals: Ends,
+    pub(crate) settlings: Ends,
+    pub(crate) multicasts: Ends,
+    pub(crate) proposals: Ends,
 }
 
 impl Model for Windows {
@@ -30,39 +27,36 @@ impl Model for Windows {
     ghost Value = { Windows };
 
     ghost view = { λ w. record {
-      least_arrivals = w.least_arrivals.items;
-      greatest_arrivals = w.greatest_arrivals.items;
-      least_settlings = w.least_settlings.items;
-      greatest_settlings = w.greatest_settlings.items;
-      least_multicasts = w.least_multicasts.items;
-      greatest_multicasts = w.greatest_multicasts.items;
-      least_proposals = w.least_proposals.items;
-      greatest_proposals = w.greatest_proposals.items;
+      least_arrivals = w.arrivals.least.items;
+      greatest_arrivals = w.arrivals.greatest.items;
+      least_settlings = w.settlings.least.items;
+      greatest_settlings = w.settlings.greatest.items;
+      least_multicasts = w.multicasts.least.items;
+      greatest_multicasts = w.multicasts.greatest.items;
+      least_proposals = w.proposals.least.items;
+      greatest_proposals = w.proposals.greatest.items;
     } };
 
     ghost invariant = { λ w. AreWithinLimits (record {
-      least_arrivals = w.least_arrivals.items;
-      greatest_arrivals = w.greatest_arrivals.items;
-      least_settlings = w.least_settlings.items;
-      greatest_settlings = w.greatest_settlings.items;
-      least_multicasts = w.least_multicasts.items;
-      greatest_multicasts = w.greatest_multicasts.items;
-      least_proposals = w.least_proposals.items;
-      greatest_proposals = w.greatest_proposals.items;
+      least_arrivals = w.arrivals.least.items;
+      greatest_arrivals = w.arrivals.greatest.items;
+      least_settlings = w.settlings.least.items;
+      greatest_settlings = w.settlings.greatest.items;
+      least_multicasts = w.multicasts.least.items;
+      greatest_multicasts = w.multicasts.greatest.items;
+      least_proposals = w.proposals.least.items;
+      greatest_proposals = w.proposals.greatest.items;
     }) };
 }
 
-/// The entry for a message at a group, 0 where there is none.
-pub(crate) fn entry_at(entries: &[u32], message: usize, group: usize) -> u32
-    requires message { message < MOST_MULTICASTS }
+/// The entry of a row at a group, 0 where there is none. The row is a message, or a message at a group.
+pub(crate) fn entry_at(entries: &[u32], row: usize, group: usize) -> u32
+    requires row { row < MOST_MULTICASTS * MOST_GROUPS }
     requires group { group < MOST_GROUPS }
-    ensures value { result ≡ entry_at entries.now message group }
+    ensures value { result ≡ entry_at entries.now row group }
     ensures fits { (most : ℕ) → All (λ entry. entry ≤ most) entries.now → result ≤ most }
 {
-    entries
-        .get(message * MOST_GROUPS + group)
-        .copied()
-        .unwrap_or(0)
+    entries.get(row * MOST_GROUPS + group).copied().unwrap_or(0)
 }
 
 impl Windows {
@@ -73,7 +67,7 @@ impl Windows {
         ensures value { result ≡ (tables_by self.now).times.least_arrival message group }
         ensures fits { result ≤ LAST_ARRIVAL }
     {
-        entry_at(&self.least_arrivals, message, group)
+        entry_at(&self.arrivals.least, message, group)
     }
 
     /// The greatest tick at which a message may arrive at a group, 0 where it does not go there.
@@ -83,7 +77,7 @@ impl Windows {
         ensures value { result ≡ (tables_by self.now).times.greatest_arrival message group }
         ensures fits { result ≤ LAST_ARRIVAL }
     {
-        entry_at(&self.greatest_arrivals, message, group)
+        entry_at(&self.arrivals.greatest, message, group)
     }
 
     /// The least tick at which a message may be committed at a group, 0 where it does not go there.
@@ -93,7 +87,7 @@ impl Windows {
         ensures value { result ≡ (tables_by self.now).times.least_settling message group }
         ensures fits { result ≤ LAST_SETTLING }
     {
-        entry_at(&self.least_settlings, message, group)
+        entry_at(&self.settlings.least, message, group)
     }
 
     /// The greatest tick at which a message may be committed at a group, 0 where it does not go there.
@@ -103,7 +97,7 @@ impl Windows {
         ensures value { result ≡ (tables_by self.now).times.greatest_settling message group }
         ensures fits { result ≤ LAST_SETTLING }
     {
-        entry_at(&self.greatest_settlings, message, group)
+        entry_at(&self.settlings.greatest, message, group)
     }
 
     /// The least delay, in ticks, of a message on its way to a group, 0 where it does not go there.
@@ -113,7 +107,7 @@ impl Windows {
         ensures value { result ≡ (tables_by self.now).least_multicast message group }
         ensures fits { result ≤ 65535 }
     {
-        entry_at(&self.least_multicasts, message, group)
+        entry_at(&self.multicasts.least, message, group)
     }
 
     /// The greatest delay, in ticks, of a message on its way to a group, 0 where it does not go there.
@@ -123,7 +117,7 @@ impl Windows {
         ensures value { result ≡ (tables_by self.now).greatest_multicast message group }
         ensures fits { result ≤ 65535 }
     {
-        entry_at(&self.greatest_multicasts, message, group)
+        entry_at(&self.multicasts.greatest, message, group)
     }
 
     /// The least delay, in ticks, of the proposal of a message from a group to another, 0 where one of
@@ -135,7 +129,7 @@ impl Windows {
         ensures value { result ≡ (tables_by self.now).least_proposal message from to }
         ensures fits { result ≤ 65535 }
     {
-        proposal_at(&self.least_proposals, message, from, to)
+        entry_at(&self.proposals.least, message * MOST_GROUPS + from, to)
     }
 
     /// The greatest delay, in ticks, of the proposal of a message from a group to another, 0 where one
@@ -147,20 +141,6 @@ impl Windows {
         ensures value { result ≡ (tables_by self.now).greatest_proposal message from to }
         ensures fits { result ≤ 65535 }
     {
-        proposal_at(&self.greatest_proposals, message, from, to)
+        entry_at(&self.proposals.greatest, message * MOST_GROUPS + from, to)
     }
-}
-
-/// The entry for the proposal of a message from a group to another, 0 where there is none.
-fn proposal_at(entries: &[u32], message: usize, from: usize, to: usize) -> u32
-    requires message { message < MOST_MULTICASTS }
-    requires from { from < MOST_GROUPS }
-    requires to { to < MOST_GROUPS }
-    ensures value { result ≡ entry_at entries.now (message * MOST_GROUPS + from) to }
-    ensures fits { (most : ℕ) → All (λ entry. entry ≤ most) entries.now → result ≤ most }
-{
-    entries
-        .get((message * MOST_GROUPS + from) * MOST_GROUPS + to)
-        .copied()
-        .unwrap_or(0)
 }
