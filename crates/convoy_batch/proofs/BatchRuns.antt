@@ -1,5 +1,5 @@
 -- How the run of a batch ends, from what was read so far and the blocks that went out.
-use Rattle.std.proofs.Common.{◌≡◌, inl, inr, ℕ, ◌+◌, ◌<◌, ◌≤◌, List, [], ◌∷◌, ◌++◌, length, get_or, take, drop, Result, Ok, Err, refl, ap, sym, ◌∙◌, append_assoc, arith, length-append, take-append-drop}
+use Rattle.std.proofs.Common.{◌≡◌, inl, inr, ℕ, ◌+◌, ◌<◌, List, [], ◌∷◌, ◌++◌, length, get_or, take, drop, Result, Ok, Err, refl, ap, sym, ◌∙◌, append_assoc, arith, length-append, take-append-drop}
 use Rattle.std.specs.List.{FoldsTo}
 use Rattle.std.proofs.lemmas.List.{take_more}
 use Rattle.std.proofs.lemmas.List.Elements.{All-nil}
@@ -14,7 +14,7 @@ use Rattle.convoy_commands.specs.declared.fault.Fault.{Fault}
 use Rattle.convoy_commands.specs.declared.fault.Fault.TheVariants.{Reading, Write, TooManyJobs}
 use Rattle.convoy_commands.specs.declared.search_end.SearchEnd.{SearchEnd}
 use Rattle.convoy_commands.specs.declared.search_end.SearchEnd.TheVariants.{Exact}
-use Rattle.convoy_batch.specs.Batches.{EndsSo, IsBatchRun, ReadsAll, ReadsOn}
+use Rattle.convoy_batch.specs.Batches.{BatchRunsTo, EndsSo, IsBatchRun, ReadsOn, ReadsThen}
 use Rattle.convoy_batch.specs.BatchSteps.{EndsBatch, IsUnderWay, StopsAnswering}
 use Rattle.convoy_batch.proofs.Blocks.{stops_among}
 
@@ -73,99 +73,56 @@ no_blocks settings may_write start end is = record {
 
 module _ {S K : Type 0} (reads : S → Answer → S → Type 0) (writes : K → Answer → K → Type 0) (settings : Settings) (most count : ℕ) (source mid new : S) (sink now : K)
     (bytes : List ℕ) (batch : Batch) (p : HasReadOn reads source bytes count mid) (u : IsUnderWay settings writes sink now bytes batch) (below : count < most) where
-  few : (answer : Answer) → length (p.answers ++ answer ∷ []) ≤ most
-  few answer = omega (arith, length-append p.answers (answer ∷ []), p.made)
+  then_so : (answer : Answer) → ReadsThen answer (p.answers ++ answer ∷ []) bytes
+  then_so answer = record { pieces = p.answers; last = refl; given = p.given }
 
-  calls : (answer : Answer) → reads mid answer new → FoldsTo reads source (p.answers ++ answer ∷ []) new
-  calls answer moved = FoldsTo-push reads source p.answers mid answer new p.calls moved
+  -- one more read answered so, and these are the writes
+  by_last : (answer : Answer) (answers : List Answer) (last : K) (result : Result SearchEnd Fault) → reads mid answer new → FoldsTo writes sink answers last →
+      BatchRunsTo settings most (p.answers ++ answer ∷ []) answers result → IsBatchRun settings most reads writes source new sink last result
+  by_last answer answers last result moved wrote outcome = record {
+    reads = p.answers ++ answer ∷ [];
+    writes = answers;
+    read = FoldsTo-push reads source p.answers mid answer new p.calls moved;
+    few = omega (arith, length-append p.answers (answer ∷ []), p.made, below);
+    wrote = wrote;
+    outcome = outcome;
+  }
 
   -- a read failed
   pub by_failure : reads mid Failed new → IsBatchRun settings most reads writes source new sink now (Err (Reading Read))
-  by_failure failed = record {
-    reads = p.answers ++ Failed ∷ [];
-    writes = u.ready.wrote.answers;
-    read = calls Failed failed;
-    few = few Failed;
-    wrote = u.ready.wrote.calls;
-    outcome = (bytes, record { pieces = p.answers; last = refl; given = p.given }, u.ready.few, u.ready.wrote.says.answered);
-  }
-
-  to_end : ReadsAll (p.answers ++ Moved [] ∷ []) bytes
-  to_end = record { pieces = p.answers; last = refl; given = p.given }
-
-  -- the text ended, and all went out
-  by_end : (more : List ℕ) (last : K) (end : SearchEnd) → reads mid (Moved more) new → length more ≡ 0 → EndsBatch settings writes sink last bytes (Ok end) →
-      IsBatchRun settings most reads writes source new sink last (Ok end)
-  by_end (b ∷ more) last end moved none ends = absurd (omega arith)
-  by_end [] last end moved none ends = record {
-    reads = p.answers ++ Moved [] ∷ [];
-    writes = ends.1.answers;
-    read = calls (Moved []) moved;
-    few = few (Moved []);
-    wrote = ends.1.calls;
-    outcome = (bytes, to_end, omega (arith, ends.0), ends.1.says);
-  }
-
-  -- the text ended, and not all went out
-  by_fault : (more : List ℕ) (last : K) (fault : Fault) → reads mid (Moved more) new → length more ≡ 0 → EndsBatch settings writes sink last bytes (Err fault) →
-      IsBatchRun settings most reads writes source new sink last (Err fault)
-  by_fault (b ∷ more) last fault moved none ends = absurd (omega arith)
-  by_fault [] last Write moved none ends = record {
-    reads = p.answers ++ Moved [] ∷ [];
-    writes = ends.answers;
-    read = calls (Moved []) moved;
-    few = few (Moved []);
-    wrote = ends.calls;
-    outcome = (bytes, inr (to_end, ends.says));
-  }
-  by_fault [] last TooManyJobs moved none ends = record {
-    reads = p.answers ++ Moved [] ∷ [];
-    writes = ends.1.answers;
-    read = calls (Moved []) moved;
-    few = few (Moved []);
-    wrote = ends.1.calls;
-    outcome = record {
-      bytes = [];
-      before = bytes;
-      last = to_end;
-      few = u.ready.few;
-      outcome = inr (bytes, to_end, ends.0, ends.1.says);
-    };
-  }
-  by_fault [] last other moved none ends = absurd ends
+  by_failure failed =
+      by_last Failed u.ready.wrote.answers now (Err (Reading Read)) failed u.ready.wrote.calls
+      (bytes, then_so Failed, u.ready.few, u.ready.wrote.says.answered)
 
   -- the text ended
   pub by_finish : (more : List ℕ) (last : K) (result : Result SearchEnd Fault) → reads mid (Moved more) new → length more ≡ 0 → EndsBatch settings writes sink last bytes result →
       IsBatchRun settings most reads writes source new sink last result
-  by_finish more last (Ok end) moved none ends = by_end more last end moved none ends
-  by_finish more last (Err fault) moved none ends = by_fault more last fault moved none ends
+  by_finish (b ∷ more) last result moved none ends = absurd (omega arith)
+  by_finish [] last (Ok end) moved none ends =
+      by_last (Moved []) ends.1.answers last (Ok end) moved ends.1.calls (bytes, then_so (Moved []), omega (arith, ends.0), ends.1.says)
+  by_finish [] last (Err Write) moved none ends =
+      by_last (Moved []) ends.answers last (Err Write) moved ends.calls (bytes, inr (then_so (Moved []), ends.says))
+  by_finish [] last (Err TooManyJobs) moved none ends =
+      by_last (Moved []) ends.1.answers last (Err TooManyJobs) moved ends.1.calls
+      (record { bytes = []; before = bytes; last = then_so (Moved []); few = u.ready.few; outcome = inr (bytes, then_so (Moved []), ends.0, ends.1.says) })
+  by_finish [] last (Err other) moved none ends = absurd ends
 
   -- answering stopped in a piece
   pub in_piece : PiecesGoOn → (more : List ℕ) (last : K) (fault : Fault) → reads mid (Moved more) new → 0 < length more →
       StopsAnswering settings writes sink last (ended_jobs (bytes ++ more)) fault →
       IsBatchRun settings most reads writes source new sink last (Err fault)
-  in_piece go_on more last Write moved some stop = record {
-    reads = p.answers ++ Moved more ∷ [];
-    writes = stop.answers;
-    read = calls (Moved more) moved;
-    few = few (Moved more);
-    wrote = stop.calls;
-    outcome = (bytes ++ more, inl (more_given go_on p.answers bytes more p.given some, stop.says));
-  }
-  in_piece go_on more last TooManyJobs moved some stop = record {
-    reads = p.answers ++ Moved more ∷ [];
-    writes = stop.answers;
-    read = calls (Moved more) moved;
-    few = few (Moved more);
-    wrote = stop.calls;
-    outcome = record {
-      bytes = more;
-      before = bytes;
-      last = record { pieces = p.answers; last = refl; given = p.given };
-      few = u.ready.few;
-      outcome = inl (bytes ++ more, more_given go_on p.answers bytes more p.given some, stop.says);
-    };
-  }
+  in_piece go_on more last Write moved some stop =
+      by_last (Moved more) stop.answers last (Err Write) moved stop.calls
+      (bytes ++ more, inl (more_given go_on p.answers bytes more p.given some, stop.says))
+  in_piece go_on more last TooManyJobs moved some stop =
+      by_last (Moved more) stop.answers last (Err TooManyJobs) moved stop.calls
+      (record {
+        bytes = more;
+        before = bytes;
+        last = then_so (Moved more);
+        few = u.ready.few;
+        outcome = inl (bytes ++ more, more_given go_on p.answers bytes more p.given some, stop.says);
+      })
   in_piece go_on more last other moved some stop = absurd stop
 
 -- as many reads as there may be gave no end

@@ -271,33 +271,44 @@ job_ended settings may_write start new jobs label read batch (Ok u) ended is fre
 job_ended settings may_write start new jobs label read batch (Err fault) ended is fresh =
     subst (λ (all : List Job). StopsAnswering settings may_write start new all fault) (sym is) ended
 
+-- a run of which less is said
+runs_weaker : {K : Type 0} (may_write : K → Answer → K → Type 0) (start new : K) (P Q : List Answer → Type 0) → ((answers : List Answer) → P answers → Q answers) →
+    HasRun may_write start new P → HasRun may_write start new Q
+runs_weaker may_write start new P Q weaker run = record { answers = run.answers; calls = run.calls; says = weaker run.answers run.says }
+
+-- a front of some jobs is one of more
+front_among : (first others jobs more all : List Job) → first ++ others ≡ jobs → all ≡ jobs ++ more → first ++ (others ++ more) ≡ all
+front_among first others jobs more all front is = sym (append_assoc first others more) ∙ ap (λ x. x ++ more) front ∙ sym is
+
+fails_among : (settings : Settings) (jobs more all : List Job) (writes : List Answer) → all ≡ jobs ++ more → FailsAnswering settings jobs writes → FailsAnswering settings all writes
+fails_among settings jobs more all writes is failed =
+    record {
+      first = failed.first;
+      others = failed.others ++ more;
+      front = front_among failed.first failed.others jobs more all failed.front is;
+      few = failed.few;
+      replies = failed.replies;
+      allowed = failed.allowed;
+      written = failed.written;
+    }
+
+most_among : (settings : Settings) (jobs more all : List Job) (writes : List Answer) → all ≡ jobs ++ more → AnswersMost settings jobs writes → AnswersMost settings all writes
+most_among settings jobs more all writes is answers =
+    record {
+      first = answers.first;
+      others = answers.others ++ more;
+      front = front_among answers.first answers.others jobs more all answers.front is;
+      most = answers.most;
+      answered = answers.answered;
+    }
+
 -- to stop among some jobs is to stop among more
 pub stops_among : {K : Type 0} (settings : Settings) (may_write : K → Answer → K → Type 0) (start new : K) (jobs more all : List Job) (fault : Fault) →
     StopsAnswering settings may_write start new jobs fault → all ≡ jobs ++ more → StopsAnswering settings may_write start new all fault
-stops_among settings may_write start new jobs more all Write stop is = record {
-  answers = stop.answers;
-  calls = stop.calls;
-  says = record {
-    first = stop.says.first;
-    others = stop.says.others ++ more;
-    front = sym (append_assoc stop.says.first stop.says.others more) ∙ ap (λ x. x ++ more) stop.says.front ∙ sym is;
-    few = stop.says.few;
-    replies = stop.says.replies;
-    allowed = stop.says.allowed;
-    written = stop.says.written;
-  };
-}
-stops_among settings may_write start new jobs more all TooManyJobs stop is = record {
-  answers = stop.answers;
-  calls = stop.calls;
-  says = record {
-    first = stop.says.first;
-    others = stop.says.others ++ more;
-    front = sym (append_assoc stop.says.first stop.says.others more) ∙ ap (λ x. x ++ more) stop.says.front ∙ sym is;
-    most = stop.says.most;
-    answered = stop.says.answered;
-  };
-}
+stops_among settings may_write start new jobs more all Write stop is =
+    runs_weaker may_write start new (FailsAnswering settings jobs) (FailsAnswering settings all) (λ writes. fails_among settings jobs more all writes is) stop
+stops_among settings may_write start new jobs more all TooManyJobs stop is =
+    runs_weaker may_write start new (AnswersMost settings jobs) (AnswersMost settings all) (λ writes. most_among settings jobs more all writes is) stop
 stops_among settings may_write start new jobs more all other stop is = absurd stop
 
 -- the last job of the text is answered

@@ -1,6 +1,4 @@
 ghost use Rattle.std.specs.Prelude.{◌≡◌, length};
-ghost use Rattle.std.specs.List.{list_any};
-ghost use Rattle.std.specs.Result.{is_err};
 ghost use Rattle.convoy_streams.specs.Jobs.{jobs_of};
 ghost use Rattle.convoy_commands.specs.Replies.{SaysUnlessMemory, reply_of};
 ghost use Rattle.convoy_commands.specs.Runs.{IsRun};
@@ -10,17 +8,17 @@ ghost use Rattle.convoy_batch.specs.JobRows.{is_open_row};
 
 use super::batch::MOST_JOBS;
 use super::job_row::{JobRow, rows_of};
-use super::job_table::table_of;
+use super::job_table::text_of;
 use convoy_branch::Options;
-use convoy_commands::{Fault, LONGEST_JOB, SearchEnd, write_reply};
+use convoy_commands::{Fault, LONGEST_CERTIFICATE, LONGEST_JOB, SearchEnd, write_reply};
 use convoy_streams::{Sink, Source, Splitter, read_to_end};
-use convoy_tables::{Format, write_table};
+use convoy_tables::Format;
 use std::alloc::Global;
 use std::sync::Wait;
 use std::thread::Threads;
 
-/// How many bytes the input of a batch that is answered as a table has at most.
-pub const LONGEST_BATCH: usize = 67_108_864;
+/// How many bytes the input of a batch that is answered as a table has at most: as many as a certificate's text.
+pub const LONGEST_BATCH: usize = LONGEST_CERTIFICATE;
 
 /// The command `batch` with a format: reads a text to the end of the source, in at most
 /// `options.most_reads()` reads, and writes a table with a row for each of its jobs (docs/FORMATS.md,
@@ -63,10 +61,8 @@ fn table_answer<R: Threads + Wait + Sync>(
         return Err(Fault::TooManyJobs);
     }
     let rows = rows_of(rt, alloc, text, options)?;
-    let table = table_of(alloc, &rows)?;
-    let mut written = Vec::new(alloc);
-    write_table(&table, format, &mut written)?;
-    Ok((end_of_rows(&rows), written))
+    let table = text_of(alloc, format, &rows)?;
+    Ok((end_of_rows(&rows), table))
 }
 
 /// How many jobs a text has.
@@ -88,19 +84,12 @@ fn count_jobs(alloc: Global, text: &[u8]) -> usize
 fn end_of_rows(rows: &[JobRow]) -> SearchEnd
     ensures { result ≡ end_of_rows rows.now }
 {
-    SearchEnd::by(has_fault(rows), has_open(rows))
-}
-
-fn has_fault(rows: &[JobRow]) -> bool
-    ensures { result ≡ list_any (λ row. is_err row.found) rows.now }
-{
-    rows.iter().any(|row| row.found.is_err())
-}
-
-fn has_open(rows: &[JobRow]) -> bool
-    ensures { result ≡ list_any is_open_row rows.now }
-{
-    rows.iter().any(is_open_row)
+    let (mut any_fault, mut any_open) = (false, false);
+    for row in rows {
+        any_fault |= row.found.is_err();
+        any_open |= is_open_row(row);
+    }
+    SearchEnd::by(any_fault, any_open)
 }
 
 /// Whether the search for a job did not end.

@@ -1,19 +1,29 @@
 //! The table of a batch: a row for each job.
 
-ghost use Rattle.std.specs.Prelude.{◌≡◌, ◌++◌, OnOk, IfOk, string_bytes};
+ghost use Rattle.std.specs.Prelude.{◌≡◌, ◌∷◌, [], ◌++◌, OnOk, IfOk, string_bytes};
 ghost use Rattle.std.specs.List.{All};
 ghost use Rattle.std.specs.Str.{IsUtf8};
+ghost use Rattle.convoy_tables.specs.Formats.{table_text};
 ghost use Rattle.convoy_batch.specs.JobTables.{cells_of, column_names, fault_cells, fault_words, found_cells, label_cell, searched_cells, table_of, tick_cell, tick_words};
 
 use super::job_row::{JobFinding, JobRow};
 use convoy_commands::{Fault, FaultEnding, fault_row};
 use convoy_scenario::Duration;
-use convoy_survey::{push_cause, push_ticks, push_words};
-use convoy_tables::{Cell, Row, Table};
+use convoy_survey::{push_cause, push_ticks};
+use convoy_tables::{Format, Row, Table, table_text};
 use std::alloc::{AllocError, Global};
 
+/// The table of the rows of jobs, whose labels are texts, as it is written in a format.
+pub(crate) fn text_of(alloc: Global, format: Format, rows: &[JobRow]) -> Result<Vec<u8>, AllocError>
+    requires labels { All (λ row. IsUtf8 row.label.items) rows.now }
+    ensures { IfOk result (λ text. text.items ≡ table_text format (table_of rows.now)) }
+{
+    let table = table_of(alloc, rows)?;
+    table_text(alloc, &table, format)
+}
+
 /// The table of the rows of jobs, whose labels are texts.
-pub(crate) fn table_of(alloc: Global, rows: &[JobRow]) -> Result<Table, AllocError>
+fn table_of(alloc: Global, rows: &[JobRow]) -> Result<Table, AllocError>
     requires labels { All (λ row. IsUtf8 row.label.items) rows.now }
     ensures { IfOk result (λ table. table ≡ table_of rows.now) }
 {
@@ -29,13 +39,9 @@ fn column_names(alloc: Global) -> Result<Row, AllocError>
     ensures { IfOk result (λ names. names ≡ column_names) }
 {
     let mut names = Row::new(alloc);
-    push_words(
-        alloc,
-        &[
-            "job", "label", "answer", "least", "most", "tick", "rival", "tied", "nodes",
-        ],
-        &mut names,
-    )?;
+    names.push_words(&[
+        "job", "label", "answer", "least", "most", "tick", "rival", "tied", "nodes",
+    ])?;
     Ok(names)
 }
 
@@ -45,20 +51,20 @@ fn cells_of(alloc: Global, number: u64, row: &JobRow) -> Result<Row, AllocError>
     ensures { IfOk result (λ cells. cells ≡ cells_of number row.now) }
 {
     let mut cells = Row::new(alloc);
-    cells.push(Cell::number(alloc, number)?)?;
-    cells.push(label_cell(alloc, &row.label)?)?;
+    cells.push_number(number)?;
+    push_label(&row.label, &mut cells)?;
     push_found(alloc, &row.found, &mut cells)?;
     Ok(cells)
 }
 
-/// The label of a job, or nothing where the job has none.
-fn label_cell(alloc: Global, label: &[u8]) -> Result<Cell, AllocError>
+/// Puts the label of a job at the end of a row, or nothing where the job has none.
+fn push_label(label: &[u8], cells: &mut Row) -> Result<(), AllocError>
     requires { IsUtf8 label.now }
-    ensures { IfOk result (λ cell. cell ≡ label_cell label.now) }
+    ensures { OnOk result (cells.new ≡ cells.old ++ label_cell label.now ∷ []) }
 {
     match str::from_utf8(label) {
-        Ok("") | Err(_) => Ok(Cell::nothing(alloc)),
-        Ok(text) => Cell::word(alloc, text),
+        Ok("") | Err(_) => cells.push_nothing(),
+        Ok(text) => cells.push_word(text),
     }
 }
 
@@ -81,19 +87,19 @@ fn push_searched(alloc: Global, found: &JobFinding, cells: &mut Row) -> Result<(
     ensures { OnOk result (cells.new ≡ cells.old ++ searched_cells found.now) }
 {
     let scenario = found.instance.scenario();
-    cells.push(Cell::word(alloc, found.finding.answer())?)?;
-    push_ticks(alloc, found.finding, cells)?;
-    cells.push(tick_cell(alloc, scenario.tick())?)?;
-    push_cause(alloc, scenario, found.finding, cells)
+    cells.push_word(found.finding.answer())?;
+    push_ticks(found.finding, cells)?;
+    push_tick(alloc, scenario.tick(), cells)?;
+    push_cause(scenario, found.finding, cells)
 }
 
-/// The length of a tick, or nothing where it is not known.
-fn tick_cell(alloc: Global, tick: Option<Duration>) -> Result<Cell, AllocError>
-    ensures { IfOk result (λ cell. cell ≡ tick_cell tick) }
+/// Puts the length of a tick at the end of a row, or nothing where it is not known.
+fn push_tick(alloc: Global, tick: Option<Duration>, cells: &mut Row) -> Result<(), AllocError>
+    ensures { OnOk result (cells.new ≡ cells.old ++ tick_cell tick ∷ []) }
 {
     match tick {
-        Some(tick) => Cell::word(alloc, &tick_words(alloc, tick)?),
-        None => Ok(Cell::nothing(alloc)),
+        Some(tick) => cells.push_word(&tick_words(alloc, tick)?),
+        None => cells.push_nothing(),
     }
 }
 
@@ -109,9 +115,9 @@ fn tick_words(alloc: Global, tick: Duration) -> Result<String, AllocError>
 fn push_fault(alloc: Global, fault: &Fault, cells: &mut Row) -> Result<(), AllocError>
     ensures { OnOk result (cells.new ≡ cells.old ++ fault_cells fault.now) }
 {
-    cells.push(Cell::word(alloc, &fault_words(alloc, fault)?)?)?;
+    cells.push_word(&fault_words(alloc, fault)?)?;
     for _ in 0..6_usize {
-        cells.push(Cell::nothing(alloc))?;
+        cells.push_nothing()?;
     }
     Ok(())
 }

@@ -1,9 +1,14 @@
--- The numbers of a row, and those that `latency` answers.
-use Rattle.std.proofs.Common.{◌≡◌, ◌≤◌, ℕ, Result, Ok, ap, sym, ◌∙◌, arith}
+-- The numbers of a row, and those that `latency` answers. This file is open to the crates above.
+use Rattle.std.proofs.Common.{◌≡◌, ◌≤◌, ℕ, List, Result, Ok, ap, sym, ◌∙◌, arith}
 use Rattle.convoy_scenario.specs.Scenario.{Scenario}
 use Rattle.convoy_draft.specs.declared.fault.ScenarioFault.{ScenarioFault}
+use Rattle.convoy_scenario.specs.Targets.{with_target}
 use Rattle.convoy_sim.specs.Greatest.{IsGreatest}
+use Rattle.convoy_toml.specs.Reading.{scenario_of_text}
+use Rattle.convoy_branch.specs.Options.{Settings}
+use Rattle.convoy_commands.specs.declared.done.Done.TheVariants.{Fine}
 use Rattle.convoy_commands.specs.Lines.{greatest_line}
+use Rattle.convoy_commands.specs.Searches.{LatencySays}
 use Rattle.convoy_survey.specs.Laws.{RowsAreLatencies, RowsEnclose}
 
 -- what is reached is no more than what is an upper bound
@@ -17,14 +22,20 @@ same_greatest scenario a b one other =
     let above : b ≤ a = no_more scenario b a other one in
     omega arith
 
-same_scenario : (a b : Scenario) → ◌≡◌ {A = Result Scenario ScenarioFault} (Ok a) (Ok b) → a ≡ b
+pub same_scenario : (a b : Scenario) → ◌≡◌ {A = Result Scenario ScenarioFault} (Ok a) (Ok b) → a ≡ b
 same_scenario a b is = cc
+
+-- what `latency` answers for a text is the greatest latency of the text's scenario
+pub latency_told : (settings : Settings) (scenario : Scenario) (latency : ℕ) (text out : List ℕ) → IsGreatest scenario latency → scenario_of_text text ≡ Ok scenario →
+    LatencySays settings text (Ok (Fine, out)) → out ≡ greatest_line scenario.tick latency
+latency_told settings scenario latency text out greatest read told =
+    let same : told.scenario ≡ scenario = same_scenario told.scenario scenario (sym told.read ∙ read) in
+    let number : told.latency ≡ latency = same_greatest scenario told.latency latency (rw same at told.greatest) greatest in
+    rw (← number) (told.written ∙ ap (λ (s : Scenario). greatest_line s.tick told.latency) same)
 
 pub rows_are_latencies : RowsAreLatencies
 rows_are_latencies settings other scenario m g latency nodes cause text out found read told =
-    let same = same_scenario told.scenario _ (sym told.read ∙ read) in
-    let number : told.latency ≡ latency = same_greatest _ told.latency latency (rw same at told.greatest) found.greatest in
-    rw (← number) (told.written ∙ ap (λ (s : Scenario). greatest_line s.tick told.latency) same)
+    latency_told other (with_target scenario m g) latency text out found.greatest read told
 
 pub rows_enclose : RowsEnclose
 rows_enclose settings scenario m g least most latency cause found greatest = (

@@ -1,20 +1,19 @@
 ghost use Rattle.std.specs.Prelude.{◌≡◌, option_map};
-ghost use Rattle.std.specs.List.{list_any};
 ghost use Rattle.convoy_draft.specs.Checks.{is_among};
 ghost use Rattle.convoy_commands.specs.declared.limits.TheConstants.{LONGEST_JOB};
 ghost use Rattle.convoy_commands.specs.Replies.{SaysUnlessMemory, reply_of};
 ghost use Rattle.convoy_commands.specs.Runs.{IsRun};
-ghost use Rattle.convoy_survey.specs.Ceilings.{falls_short, has_group, is_unsought};
+ghost use Rattle.convoy_survey.specs.Ceilings.{has_group};
 ghost use Rattle.convoy_survey.specs.CeilingTables.{CeilingsSay, end_of_ceilings};
 
 use super::ceiled::Ceiled;
-use super::ceiling_table::table_of_ceilings;
+use super::ceiling_table::ceilings_text;
 use super::ceilings::ceilings_of;
 use super::running::read_scenario;
 use convoy_commands::{Fault, LONGEST_JOB, SearchEnd, write_reply};
 use convoy_scenario::{Scenario, ScenarioFault};
 use convoy_streams::{Sink, Source, read_to_end};
-use convoy_tables::{Format, write_table};
+use convoy_tables::Format;
 use std::alloc::Global;
 
 /// The command `ceiling` for more than one target: reads a scenario to the end of the source, in at most
@@ -70,10 +69,8 @@ fn ceilings_answer(
         return Err(Fault::Scenario(ScenarioFault::UnknownGroup));
     }
     let rows = ceilings_of(alloc, &scenario, group, simulations)?;
-    let table = table_of_ceilings(alloc, &scenario, &rows)?;
-    let mut written = Vec::new(alloc);
-    write_table(&table, format, &mut written)?;
-    Ok((end_of(&rows), written))
+    let text = ceilings_text(alloc, format, &scenario, &rows)?;
+    Ok((end_of(&rows), text))
 }
 
 /// Whether a scenario has the group that is named, if one is.
@@ -102,17 +99,10 @@ fn is_group(scenario: &Scenario, name: &str) -> bool
 fn end_of(rows: &[Ceiled]) -> SearchEnd
     ensures { result ≡ end_of_ceilings rows.now }
 {
-    SearchEnd::by(has_unsought(rows), has_short(rows))
-}
-
-fn has_unsought(rows: &[Ceiled]) -> bool
-    ensures { result ≡ list_any is_unsought rows.now }
-{
-    rows.iter().any(|row| row.is_unsought())
-}
-
-fn has_short(rows: &[Ceiled]) -> bool
-    ensures { result ≡ list_any falls_short rows.now }
-{
-    rows.iter().any(|row| row.falls_short())
+    let (mut any_unsought, mut any_short) = (false, false);
+    for row in rows {
+        any_unsought |= row.is_unsought();
+        any_short |= row.falls_short();
+    }
+    SearchEnd::by(any_unsought, any_short)
 }

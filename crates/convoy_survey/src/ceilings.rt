@@ -6,9 +6,9 @@ ghost use Rattle.convoy_ceiling.specs.Ceiling.{ceiling_at};
 ghost use Rattle.convoy_survey.specs.Ceilings.{AreCeiled, IsAttainedInTraffic, IsCeilingFound, ceiled_target, is_asked};
 
 use super::ceiled::Ceiled;
-use super::cells::group_name;
 use convoy_ceiling::ceiling;
 use convoy_scenario::Scenario;
+use convoy_scenario::naming::group_name;
 use convoy_traffic::seek_traffic;
 use std::alloc::{AllocError, Global};
 

@@ -2,15 +2,15 @@
 
 ghost use Rattle.std.specs.Prelude.{◌≡◌, ◌<◌, ◌≤◌, ◌∷◌, [], ◌++◌, length, OnOk, IfOk, option_and_then};
 ghost use Rattle.convoy_draft.specs.Durations.{count_of};
-ghost use Rattle.convoy_scenario.specs.Scenario.{group_name_at, message_at};
 ghost use Rattle.convoy_draft.specs.declared.duration.TheConstants.{MOST_UNITS};
 ghost use Rattle.convoy_survey.specs.Findings.{cause_of, nodes_of};
 ghost use Rattle.convoy_survey.specs.Cells.{cause_cells, ceiling_cells_if, cells_of, count_cell, duration_cells, finding_cells, name_cell, target_cells, tick_cells, time_cell, time_cells, unit_cells};
 
 use super::finding::{Finding, Surveyed};
 use convoy_ceiling::ceiling;
+use convoy_scenario::naming::{group_name, message_name};
 use convoy_scenario::{Duration, Scenario};
-use convoy_tables::{Cell, Row};
+use convoy_tables::Row;
 use std::alloc::{AllocError, Global};
 
 /// The cells of a row, with its ceiling where it is asked for.
@@ -24,15 +24,14 @@ pub(crate) fn cells_of(
     ensures { IfOk result (λ cells. cells ≡ cells_of with_ceilings scenario.now row.now) }
 {
     let mut cells = Row::new(alloc);
-    push_target(alloc, scenario, row.message, row.group, &mut cells)?;
-    push_finding(alloc, scenario, row.finding, &mut cells)?;
-    push_ceiling(alloc, with_ceilings, scenario, row, &mut cells)?;
+    push_target(scenario, row.message, row.group, &mut cells)?;
+    push_finding(scenario, row.finding, &mut cells)?;
+    push_ceiling(with_ceilings, scenario, row, &mut cells)?;
     Ok(cells)
 }
 
 /// Puts the ceiling of a row's message at its group at the end of the row, where it is asked for.
 fn push_ceiling(
-    alloc: Global,
     with_ceilings: bool,
     scenario: &Scenario,
     row: &Surveyed,
@@ -44,7 +43,7 @@ fn push_ceiling(
 {
     if with_ceilings {
         let ceiling = ceiling(scenario, row.message, row.group);
-        push_duration(alloc, scenario, Some(ceiling), cells)
+        push_duration(scenario, Some(ceiling), cells)
     } else {
         Ok(())
     }
@@ -52,7 +51,6 @@ fn push_ceiling(
 
 /// Puts a message and a group at the end of a row, by their names.
 pub(crate) fn push_target(
-    alloc: Global,
     scenario: &Scenario,
     message: usize,
     group: usize,
@@ -60,83 +58,70 @@ pub(crate) fn push_target(
 ) -> Result<(), AllocError>
     ensures { OnOk result (cells.new ≡ cells.old ++ target_cells scenario.now message group) }
 {
-    cells.push(Cell::word(alloc, message_name(scenario, message))?)?;
-    cells.push(Cell::word(alloc, group_name(scenario, group))?)
+    cells.push_word(message_name(scenario, message))?;
+    cells.push_word(group_name(scenario, group))
 }
 
 /// Puts what was found at the end of a row: the cells of the columns that [`push_finding_columns`](crate::push_finding_columns) names. The
 /// messages of its cause are those of the scenario. Fails where memory runs out, and else never.
 pub fn push_finding(
-    alloc: Global,
     scenario: &Scenario,
     finding: Finding,
     cells: &mut Row,
 ) -> Result<(), AllocError>
     ensures { OnOk result (cells.new ≡ cells.old ++ finding_cells scenario.now finding) }
 {
-    cells.push(Cell::word(alloc, finding.answer())?)?;
-    push_ticks(alloc, finding, cells)?;
-    push_times(alloc, scenario, finding, cells)?;
-    push_cause(alloc, scenario, finding, cells)
+    cells.push_word(finding.answer())?;
+    push_ticks(finding, cells)?;
+    push_times(scenario, finding, cells)?;
+    push_cause(scenario, finding, cells)
 }
 
 /// Puts the least and the most that the greatest latency may be, in ticks, at the end of a row: two cells,
 /// with nothing where memory ran out. Fails where memory runs out, and else never.
-pub fn push_ticks(alloc: Global, finding: Finding, cells: &mut Row) -> Result<(), AllocError>
+pub fn push_ticks(finding: Finding, cells: &mut Row) -> Result<(), AllocError>
     ensures { OnOk result (cells.new ≡ cells.old ++ tick_cells finding) }
 {
-    push_count(alloc, finding.least().map(u64::from), cells)?;
-    push_count(alloc, finding.most().map(u64::from), cells)
+    push_count(finding.least().map(u64::from), cells)?;
+    push_count(finding.most().map(u64::from), cells)
 }
 
 /// Puts the same in the unit of a tick, where its length is known, at the end of a row.
-fn push_times(
-    alloc: Global,
-    scenario: &Scenario,
-    finding: Finding,
-    cells: &mut Row,
-) -> Result<(), AllocError>
+fn push_times(scenario: &Scenario, finding: Finding, cells: &mut Row) -> Result<(), AllocError>
     ensures { OnOk result (cells.new ≡ cells.old ++ time_cells scenario.now.tick finding) }
 {
     let Some(tick) = scenario.tick() else {
         return Ok(());
     };
-    push_time(alloc, tick, finding.least(), cells)?;
-    push_time(alloc, tick, finding.most(), cells)
+    push_time(tick, finding.least(), cells)?;
+    push_time(tick, finding.most(), cells)
 }
 
 /// Puts ticks that may not be known at the end of a row, and after them the same in the unit of a tick, where
 /// its length is known.
 pub(crate) fn push_duration(
-    alloc: Global,
     scenario: &Scenario,
     ticks: Option<u32>,
     cells: &mut Row,
 ) -> Result<(), AllocError>
     ensures { OnOk result (cells.new ≡ cells.old ++ duration_cells scenario.now.tick ticks) }
 {
-    push_count(alloc, ticks.map(u64::from), cells)?;
-    push_in_unit(alloc, scenario, ticks, cells)
+    push_count(ticks.map(u64::from), cells)?;
+    push_in_unit(scenario, ticks, cells)
 }
 
 /// Puts ticks in the unit of a tick at the end of a row, where its length is known.
-fn push_in_unit(
-    alloc: Global,
-    scenario: &Scenario,
-    ticks: Option<u32>,
-    cells: &mut Row,
-) -> Result<(), AllocError>
+fn push_in_unit(scenario: &Scenario, ticks: Option<u32>, cells: &mut Row) -> Result<(), AllocError>
     ensures { OnOk result (cells.new ≡ cells.old ++ unit_cells scenario.now.tick ticks) }
 {
     let Some(tick) = scenario.tick() else {
         return Ok(());
     };
-    push_time(alloc, tick, ticks, cells)
+    push_time(tick, ticks, cells)
 }
 
 /// Puts ticks of that length in their unit at the end of a row.
 pub(crate) fn push_time(
-    alloc: Global,
     tick: Duration,
     ticks: Option<u32>,
     cells: &mut Row,
@@ -145,25 +130,20 @@ pub(crate) fn push_time(
     ensures { OnOk result (cells.new ≡ cells.old ++ time_cell tick ticks ∷ []) }
 {
     match ticks {
-        Some(ticks) => push_count(alloc, Some(u64::from(ticks) * tick.count()), cells),
-        None => push_count(alloc, None, cells),
+        Some(ticks) => cells.push_number(u64::from(ticks) * tick.count()),
+        None => cells.push_nothing(),
     }
 }
 
 /// Puts the message that holds the target back, the one after which it gets its stamp in a tie, and the
 /// number of nodes at the end of a row: three cells, each with nothing where there is none. The messages are
 /// those of the scenario. Fails where memory runs out, and else never.
-pub fn push_cause(
-    alloc: Global,
-    scenario: &Scenario,
-    finding: Finding,
-    cells: &mut Row,
-) -> Result<(), AllocError>
+pub fn push_cause(scenario: &Scenario, finding: Finding, cells: &mut Row) -> Result<(), AllocError>
     ensures { OnOk result (cells.new ≡ cells.old ++ cause_cells scenario.now finding) }
 {
-    push_name(alloc, scenario, rival_of(finding), cells)?;
-    push_name(alloc, scenario, tied_of(finding), cells)?;
-    push_count(alloc, nodes_of(finding), cells)
+    push_name(scenario, rival_of(finding), cells)?;
+    push_name(scenario, tied_of(finding), cells)?;
+    push_count(nodes_of(finding), cells)
 }
 
 fn rival_of(finding: Finding) -> Option<usize>
@@ -194,23 +174,18 @@ fn nodes_of(finding: Finding) -> Option<u64>
 }
 
 /// Puts a number that may not be known at the end of a row.
-pub(crate) fn push_count(
-    alloc: Global,
-    count: Option<u64>,
-    cells: &mut Row,
-) -> Result<(), AllocError>
+pub(crate) fn push_count(count: Option<u64>, cells: &mut Row) -> Result<(), AllocError>
     ensures { OnOk result (cells.new ≡ cells.old ++ count_cell count ∷ []) }
 {
     match count {
-        Some(count) => cells.push(Cell::number(alloc, count)?),
-        None => cells.push(Cell::nothing(alloc)),
+        Some(count) => cells.push_number(count),
+        None => cells.push_nothing(),
     }
 }
 
 /// Puts the name of a message that there may not be at the end of a row: nothing where there is none. Fails
 /// where memory runs out, and else never.
 pub fn push_name(
-    alloc: Global,
     scenario: &Scenario,
     message: Option<usize>,
     cells: &mut Row,
@@ -218,29 +193,7 @@ pub fn push_name(
     ensures { OnOk result (cells.new ≡ cells.old ++ name_cell scenario.now message ∷ []) }
 {
     match message {
-        Some(message) => cells.push(Cell::word(alloc, message_name(scenario, message))?),
-        None => cells.push(Cell::nothing(alloc)),
-    }
-}
-
-/// The name of a message, and none for a message that the scenario has not.
-fn message_name(scenario: &Scenario, message: usize) -> &str
-    ensures { result.now ≡ (message_at scenario.now message).name }
-{
-    if message < scenario.message_count() {
-        scenario.message_name(message)
-    } else {
-        ""
-    }
-}
-
-/// The name of a group, and none for a group that the scenario has not.
-pub fn group_name(scenario: &Scenario, group: usize) -> &str
-    ensures { result.now ≡ group_name_at scenario.now group }
-{
-    if group < scenario.group_count() {
-        scenario.group_name(group)
-    } else {
-        ""
+        Some(message) => cells.push_word(message_name(scenario, message)),
+        None => cells.push_nothing(),
     }
 }

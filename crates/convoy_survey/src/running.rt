@@ -1,22 +1,20 @@
 ghost use Rattle.std.specs.Prelude.{◌≡◌, IfOk, Ok};
-ghost use Rattle.std.specs.List.{list_any};
 ghost use Rattle.convoy_scenario.specs.Memory.{IsUnlessMemory};
 ghost use Rattle.convoy_toml.specs.declared.target.TargetKey.TheVariants.{Optional};
 ghost use Rattle.convoy_toml.specs.Reading.{scenario_of_text_by};
 ghost use Rattle.convoy_commands.specs.declared.limits.TheConstants.{LONGEST_JOB};
 ghost use Rattle.convoy_commands.specs.Replies.{SaysUnlessMemory, reply_of};
 ghost use Rattle.convoy_commands.specs.Runs.{IsRun};
-ghost use Rattle.convoy_survey.specs.Findings.{is_fault, is_open};
 ghost use Rattle.convoy_survey.specs.Surveys.{SurveySays, end_of};
 
 use super::finding::Surveyed;
 use super::rows::survey;
-use super::table::table_of;
+use super::table::survey_text;
 use convoy_branch::Options;
 use convoy_commands::{Fault, LONGEST_JOB, SearchEnd, Watch, write_reply};
 use convoy_scenario::{Scenario, ScenarioFault};
 use convoy_streams::{Sink, Source, read_to_end};
-use convoy_tables::{Format, write_table};
+use convoy_tables::Format;
 use convoy_toml::read_toml_any_target;
 use std::alloc::Global;
 use std::sync::Wait;
@@ -72,10 +70,8 @@ fn survey_answer<R: Threads + Wait + Sync, W: Watch + Sync>(
     // A scenario is well formed.
     let _count = scenario.message_count();
     let rows = survey(rt, alloc, &scenario, options, watch)?;
-    let table = table_of(alloc, with_ceilings, &scenario, &rows)?;
-    let mut written = Vec::new(alloc);
-    write_table(&table, format, &mut written)?;
-    Ok((end_of(&rows), written))
+    let text = survey_text(alloc, format, with_ceilings, &scenario, &rows)?;
+    Ok((end_of(&rows), text))
 }
 
 /// The scenario of a text in which the target may be left out.
@@ -90,17 +86,10 @@ pub(crate) fn read_scenario(alloc: Global, text: &[u8]) -> Result<Scenario, Scen
 fn end_of(rows: &[Surveyed]) -> SearchEnd
     ensures { result ≡ end_of rows.now }
 {
-    SearchEnd::by(has_fault(rows), has_open(rows))
-}
-
-fn has_fault(rows: &[Surveyed]) -> bool
-    ensures { result ≡ list_any (λ row. is_fault row.finding) rows.now }
-{
-    rows.iter().any(|row| row.finding.is_fault())
-}
-
-fn has_open(rows: &[Surveyed]) -> bool
-    ensures { result ≡ list_any (λ row. is_open row.finding) rows.now }
-{
-    rows.iter().any(|row| row.finding.is_open())
+    let (mut any_fault, mut any_open) = (false, false);
+    for row in rows {
+        any_fault |= row.finding.is_fault();
+        any_open |= row.finding.is_open();
+    }
+    SearchEnd::by(any_fault, any_open)
 }

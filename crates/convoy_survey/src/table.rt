@@ -1,16 +1,33 @@
-ghost use Rattle.std.specs.Prelude.{◌≡◌, ◌<◌, ◌++◌, length, map, OnOk, IfOk};
+ghost use Rattle.std.specs.Prelude.{◌≡◌, ◌<◌, ◌∷◌, [], ◌++◌, codes, length, OnOk, IfOk};
 ghost use Rattle.std.specs.List.{All};
+ghost use Rattle.convoy_draft.specs.Durations.{unit_word};
 ghost use Rattle.convoy_survey.specs.Cells.{ceiling_columns_if, columns_of, duration_columns, finding_columns, table_of, time_columns, unit_columns};
+ghost use Rattle.convoy_tables.specs.Formats.{table_text};
 ghost use Rattle.convoy_tables.specs.Tables.{word};
 
 use super::cells::cells_of;
 use super::finding::Surveyed;
-use convoy_scenario::Scenario;
-use convoy_tables::{Cell, Row, Table};
+use convoy_scenario::{Scenario, TimeUnit};
+use convoy_tables::{Format, Row, Table, table_text};
 use std::alloc::{AllocError, Global};
 
+/// The table of a survey as it is written in a format, with ceilings where they are asked for.
+pub(crate) fn survey_text(
+    alloc: Global,
+    format: Format,
+    with_ceilings: bool,
+    scenario: &Scenario,
+    rows: &[Surveyed],
+) -> Result<Vec<u8>, AllocError>
+    requires { All (λ row. row.message < length scenario.now.multicasts) rows.now }
+    ensures { IfOk result (λ text. text.items ≡ table_text format (table_of with_ceilings scenario.now rows.now)) }
+{
+    let table = table_of(alloc, with_ceilings, scenario, rows)?;
+    table_text(alloc, &table, format)
+}
+
 /// The table of a survey, with ceilings where they are asked for.
-pub(crate) fn table_of(
+fn table_of(
     alloc: Global,
     with_ceilings: bool,
     scenario: &Scenario,
@@ -31,7 +48,7 @@ fn columns_of(alloc: Global, with_ceilings: bool, scenario: &Scenario) -> Result
     ensures { IfOk result (λ columns. columns ≡ columns_of with_ceilings scenario.now.tick) }
 {
     let mut columns = Row::new(alloc);
-    push_words(alloc, &["message", "group"], &mut columns)?;
+    columns.push_words(&["message", "group"])?;
     push_finding_columns(alloc, scenario, &mut columns)?;
     push_ceiling_columns(alloc, with_ceilings, scenario, &mut columns)?;
     Ok(columns)
@@ -63,9 +80,9 @@ pub fn push_finding_columns(
 ) -> Result<(), AllocError>
     ensures { OnOk result (columns.new ≡ columns.old ++ finding_columns scenario.now.tick) }
 {
-    push_words(alloc, &["answer", "least", "most"], columns)?;
+    columns.push_words(&["answer", "least", "most"])?;
     push_time_columns(alloc, scenario, columns)?;
-    push_words(alloc, &["rival", "tied", "nodes"], columns)
+    columns.push_words(&["rival", "tied", "nodes"])
 }
 
 /// Puts the names of the columns for the unit of a tick, where its length is known, at the end of a row.
@@ -79,11 +96,8 @@ fn push_time_columns(
     let Some(tick) = scenario.tick() else {
         return Ok(());
     };
-    let unit = tick.unit().word();
-    let least = format!(in alloc; "least_{unit}")?;
-    let most = format!(in alloc; "most_{unit}")?;
-    columns.push(Cell::word(alloc, &least)?)?;
-    columns.push(Cell::word(alloc, &most)?)
+    push_column_in(alloc, tick.unit(), "least", columns)?;
+    push_column_in(alloc, tick.unit(), "most", columns)
 }
 
 /// Puts the name of a column in ticks at the end of a row, and after it that of the same in the unit of a
@@ -97,7 +111,7 @@ pub(crate) fn push_duration_columns(
     ensures { OnOk result
         (columns.new ≡ columns.old ++ duration_columns name.now scenario.now.tick) }
 {
-    columns.push(Cell::word(alloc, name)?)?;
+    columns.push_word(name)?;
     push_unit_column(alloc, scenario, name, columns)
 }
 
@@ -114,17 +128,20 @@ fn push_unit_column(
     let Some(tick) = scenario.tick() else {
         return Ok(());
     };
-    let unit = tick.unit().word();
-    let column = format!(in alloc; "{name}_{unit}")?;
-    columns.push(Cell::word(alloc, &column)?)
+    push_column_in(alloc, tick.unit(), name, columns)
 }
 
-/// Puts words at the end of a row. Fails where memory runs out, and else never.
-pub fn push_words(alloc: Global, words: &[&str], row: &mut Row) -> Result<(), AllocError>
-    ensures { OnOk result (row.new ≡ row.old ++ map (λ text. word text.now) words.now) }
+/// Puts the name of a column in this unit at the end of a row.
+fn push_column_in(
+    alloc: Global,
+    unit: TimeUnit,
+    name: &str,
+    columns: &mut Row,
+) -> Result<(), AllocError>
+    ensures { OnOk result (columns.new
+        ≡ columns.old ++ word (name.now ++ (codes "_" ++ unit_word unit)) ∷ []) }
 {
-    for text in words {
-        row.push(Cell::word(alloc, text)?)?;
-    }
-    Ok(())
+    let unit = unit.word();
+    let column = format!(in alloc; "{name}_{unit}")?;
+    columns.push_word(&column)
 }

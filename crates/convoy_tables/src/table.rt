@@ -18,7 +18,8 @@ impl Model for Row {
 }
 
 impl Row {
-    ghost use Rattle.std.specs.Prelude.{◌≡◌, ◌∷◌, [], ◌++◌, OnOk};
+    ghost use Rattle.std.specs.Prelude.{◌≡◌, ◌∷◌, [], ◌++◌, map, OnOk};
+    ghost use Rattle.convoy_tables.specs.Tables.{nothing, number, word};
 
     /// A row without cells yet.
     pub fn new(alloc: Global) -> Row
@@ -34,6 +35,41 @@ impl Row {
         ensures { OnOk result (self.new ≡ self.old ++ cell ∷ []) }
     {
         Ok(self.cells.push(cell)?)
+    }
+
+    /// Puts a cell with a word, or with several, at the end of the row. Fails where memory runs out, and else
+    /// never.
+    pub fn push_word(&mut self, text: &str) -> Result<(), AllocError>
+        ensures { OnOk result (self.new ≡ self.old ++ word text.now ∷ []) }
+    {
+        let cell = Cell::word(*self.cells.allocator(), text)?;
+        self.push(cell)
+    }
+
+    /// Puts cells with words at the end of the row. Fails where memory runs out, and else never.
+    pub fn push_words(&mut self, words: &[&str]) -> Result<(), AllocError>
+        ensures { OnOk result (self.new ≡ self.old ++ map (λ text. word text.now) words.now) }
+    {
+        for text in words {
+            self.push_word(text)?;
+        }
+        Ok(())
+    }
+
+    /// Puts a cell with a number at the end of the row. Fails where memory runs out, and else never.
+    pub fn push_number(&mut self, value: u64) -> Result<(), AllocError>
+        ensures { OnOk result (self.new ≡ self.old ++ number value ∷ []) }
+    {
+        let cell = Cell::number(*self.cells.allocator(), value)?;
+        self.push(cell)
+    }
+
+    /// Puts a cell with nothing in it at the end of the row. Fails where memory runs out, and else never.
+    pub fn push_nothing(&mut self) -> Result<(), AllocError>
+        ensures { OnOk result (self.new ≡ self.old ++ nothing ∷ []) }
+    {
+        let cell = Cell::nothing(*self.cells.allocator());
+        self.push(cell)
     }
 
     /// The cells.

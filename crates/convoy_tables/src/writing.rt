@@ -16,12 +16,12 @@ pub fn write_table(table: &Table, format: Format, out: &mut Vec<u8>) -> Result<(
     ensures ok { OnOk result (out.new.items ≡ out.old.items ++ table_text format table.now) }
     ensures err { OnErr result (out.new.items ≡ out.old.items) }
 {
-    let text = text_of(*out.allocator(), table, format)?;
+    let text = table_text(*out.allocator(), table, format)?;
     out.extend_from_slice(&text)
 }
 
-/// The text of a table.
-fn text_of(alloc: Global, table: &Table, format: Format) -> Result<Vec<u8>, AllocError>
+/// The text of a table in a format (docs/FORMATS.md, "Tables"). Fails where memory runs out, and else never.
+pub fn table_text(alloc: Global, table: &Table, format: Format) -> Result<Vec<u8>, AllocError>
     ensures { IfOk result (λ text. text.items ≡ table_text format table.now) }
 {
     match format {

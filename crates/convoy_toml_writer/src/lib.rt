@@ -1,7 +1,8 @@
-//! Scenarios as text: the document in TOML of a scenario with a schedule, which `convoy_toml` reads.
+//! Scenarios as text: the document in TOML of a scenario with a schedule, which `convoy_toml` reads as both again.
 #![tactic(auto)]
 
 pub use writing::write_toml;
 
+pub mod laws;
 mod lists;
 mod writing;

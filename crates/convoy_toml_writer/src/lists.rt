@@ -6,6 +6,7 @@ ghost use Rattle.convoy_scenario.specs.Scenario.{group_name_at};
 ghost use Rattle.convoy_toml_writer.specs.Text.{further, listed, names_text, numbers_text, quoted};
 
 use convoy_scenario::Scenario;
+use convoy_scenario::naming::group_name;
 use std::alloc::{AllocError, Global};
 
 /// Numbers, with commas between them.
@@ -81,15 +82,4 @@ pub(crate) fn all_names_text(alloc: Global, scenario: &Scenario) -> Result<Strin
         text.push_str(word.as_str())?;
     }
     Ok(text)
-}
-
-/// The name of a group, and none for a group that the scenario has not.
-pub(crate) fn group_name(scenario: &Scenario, group: usize) -> &str
-    ensures { result.now ≡ group_name_at scenario.now group }
-{
-    if group < scenario.group_count() {
-        scenario.group_name(group)
-    } else {
-        ""
-    }
 }

@@ -14,8 +14,9 @@ ghost use Rattle.convoy_toml_writer.specs.Text.{
   until_text,
 };
 
-use super::lists::{all_names_text, group_name, names_text, numbers_text};
+use super::lists::{all_names_text, names_text, numbers_text};
 use convoy_packets::{Order, Schedule};
+use convoy_scenario::naming::group_name;
 use convoy_scenario::{Duration, Link, Scenario, Sender, Time};
 use std::alloc::{AllocError, Global};
 

@@ -5,8 +5,10 @@ use super::naming::name_for;
 use super::ticks::IssueTicks;
 use convoy_packets::laws::fixed_order_is_order;
 use convoy_packets::{Instance, Packet, Schedule};
-use convoy_scenario::laws::targets_are_groups;
-use convoy_scenario::{DraftLink, DraftMulticast, DraftScenario, Link, Name, Scenario, Sender};
+use convoy_scenario::naming::{
+    draft_destinations, draft_group, draft_groups, draft_link, draft_sender,
+};
+use convoy_scenario::{DraftLink, DraftMulticast, DraftScenario, Name, Scenario};
 use std::alloc::{AllocError, Global};
 
 /// How copies push the clock of a group before the target comes there, and that of the target's group no
@@ -48,17 +50,16 @@ impl Plan {
         requires rival { self.now.rival < length scenario.now.multicasts }
         requires pusher { self.now.pusher < length scenario.now.multicasts }
     {
-        targets_are_groups();
         let target = scenario.target_message();
         Ok(DraftScenario {
             time: scenario.time(),
             tick: scenario.tick(),
             delay: i64::from(scenario.delay()),
-            groups: groups_of(alloc, scenario)?,
+            groups: draft_groups(alloc, scenario)?,
             links: links_of(alloc, scenario)?,
             multicasts: self.messages(alloc, scenario)?,
             target_message: Name::new(alloc, scenario.message_name(target))?,
-            target_group: Name::new(alloc, scenario.group_name(scenario.target_group()))?,
+            target_group: draft_group(alloc, scenario, scenario.target_group())?,
         })
     }
 
@@ -128,32 +129,13 @@ fn slowest(alloc: Global, traffic: &Instance) -> Result<Schedule, AllocError>
     Ok(schedule)
 }
 
-/// The names of all groups.
-fn groups_of(alloc: Global, scenario: &Scenario) -> Result<Vec<Name>, AllocError> {
-    let mut groups = Vec::new(alloc);
-    for group in 0..scenario.group_count() {
-        groups.push(Name::new(alloc, scenario.group_name(group))?)?;
-    }
-    Ok(groups)
-}
-
 /// All links, with names.
 fn links_of(alloc: Global, scenario: &Scenario) -> Result<Vec<DraftLink>, AllocError> {
     let mut links = Vec::new(alloc);
     for link in scenario.links() {
-        links.push(link_of(alloc, scenario, *link)?)?;
+        links.push(draft_link(alloc, scenario, *link)?)?;
     }
     Ok(links)
-}
-
-/// A link, with names.
-fn link_of(alloc: Global, scenario: &Scenario, link: Link) -> Result<DraftLink, AllocError> {
-    Ok(DraftLink {
-        sender: sender_name(alloc, scenario, link.sender)?,
-        to: group_name(alloc, scenario, link.to)?,
-        least: i64::from(link.least),
-        most: i64::from(link.most),
-    })
 }
 
 /// Adds a message of a kind, with a name that none before it has.
@@ -181,36 +163,11 @@ fn message_of(
 ) -> Result<DraftMulticast, AllocError>
     requires { kind < length scenario.now.multicasts }
 {
-    let mut to = Vec::new(alloc);
-    for group in scenario.destinations(kind) {
-        to.push(group_name(alloc, scenario, *group)?)?;
-    }
     Ok(DraftMulticast {
         name,
-        sender: sender_name(alloc, scenario, scenario.sender(kind))?,
-        to,
+        sender: draft_sender(alloc, scenario, scenario.sender(kind))?,
+        to: draft_destinations(alloc, scenario, scenario.destinations(kind))?,
         at: i64::from(at),
         until: i64::from(at),
     })
-}
-
-/// The name of a sender, where it is a group.
-fn sender_name(
-    alloc: Global,
-    scenario: &Scenario,
-    sender: Sender,
-) -> Result<Option<Name>, AllocError> {
-    match sender {
-        Sender::Client => Ok(None),
-        Sender::Group(group) => Ok(Some(group_name(alloc, scenario, group)?)),
-    }
-}
-
-/// The name of a group, and none for a group that the scenario has not.
-fn group_name(alloc: Global, scenario: &Scenario, group: usize) -> Result<Name, AllocError> {
-    if group < scenario.group_count() {
-        Name::new(alloc, scenario.group_name(group))
-    } else {
-        Name::new(alloc, "")
-    }
 }

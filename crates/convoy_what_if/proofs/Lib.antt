@@ -1,4 +1,4 @@
-pub mod Places
+pub mod Loops
 pub mod Savings
 pub mod Tries
 pub mod Texts

@@ -7,7 +7,7 @@ use Rattle.convoy_scenario.specs.Scenario.{Scenario}
 use Rattle.convoy_branch.specs.Options.{Settings}
 use Rattle.convoy_commands.specs.declared.fault.Fault.{Fault}
 use Rattle.convoy_commands.specs.declared.fault.Fault.TheVariants.{Memory}
-use Rattle.convoy_changes.specs.declared.kinds.Change.{Change}
+use Rattle.convoy_what_if.specs.declared.kinds.Change.{Change}
 use Rattle.convoy_what_if.specs.declared.tried.Tried.{Tried}
 use Rattle.convoy_what_if.specs.Orders.{AreTried, place_row}
 use Rattle.convoy_what_if.specs.Tries.{HasBroken, IsTried, MakesNone}

@@ -3,10 +3,10 @@ use Rattle.std.specs.Prelude.{ℕ, List, [], ◌∷◌, ◌++◌, map, Option, S
 use Rattle.convoy_scenario.specs.Naming.{sender_word}
 use Rattle.convoy_scenario.specs.Scenario.{Scenario, group_name_at}
 use Rattle.convoy_tables.specs.Tables.{Cell, Table, nothing, word}
-use Rattle.convoy_changes.specs.declared.kinds.Change.{Change}
-use Rattle.convoy_changes.specs.declared.kinds.Change.TheVariants.{Nothing, Without, AtLeast, AtMost}
 use Rattle.convoy_survey.specs.declared.finding.Finding.{Finding}
 use Rattle.convoy_survey.specs.Cells.{finding_columns, finding_cells, name_cell}
+use Rattle.convoy_what_if.specs.declared.kinds.Change.{Change}
+use Rattle.convoy_what_if.specs.declared.kinds.Change.TheVariants.{Nothing, Without, AtLeast, AtMost}
 use Rattle.convoy_what_if.specs.declared.tried.Tried.{Tried}
 
 -- the word for what is changed

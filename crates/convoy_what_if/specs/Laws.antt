@@ -8,10 +8,10 @@ use Rattle.convoy_branch.specs.Options.{Settings}
 use Rattle.convoy_commands.specs.declared.done.Done.TheVariants.{Fine}
 use Rattle.convoy_commands.specs.Lines.{greatest_line}
 use Rattle.convoy_commands.specs.Searches.{LatencySays}
-use Rattle.convoy_changes.specs.declared.kinds.Change.{Change}
-use Rattle.convoy_changes.specs.Changes.{changed}
 use Rattle.convoy_survey.specs.declared.finding.Cause.{Cause}
 use Rattle.convoy_survey.specs.declared.finding.Finding.TheVariants.{Greatest}
+use Rattle.convoy_what_if.specs.declared.kinds.Change.{Change}
+use Rattle.convoy_what_if.specs.Changes.{changed}
 use Rattle.convoy_what_if.specs.declared.tried.Tried.{Tried}
 use Rattle.convoy_what_if.specs.Orders.{AreTried, saves_more}
 use Rattle.convoy_what_if.specs.Tries.{IsTried}

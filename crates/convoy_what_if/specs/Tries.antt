@@ -6,10 +6,10 @@ use Rattle.convoy_scenario.specs.Scenario.{Scenario}
 use Rattle.convoy_branch.specs.Options.{Settings}
 use Rattle.convoy_commands.specs.declared.fault.Fault.{Fault}
 use Rattle.convoy_commands.specs.declared.fault.Fault.TheVariants as faults
-use Rattle.convoy_changes.specs.declared.kinds.Change.{Change}
-use Rattle.convoy_changes.specs.Changes.{changed}
 use Rattle.convoy_survey.specs.declared.finding.Finding.TheVariants.{OutOfMemory}
 use Rattle.convoy_survey.specs.Findings.{IsFinding}
+use Rattle.convoy_what_if.specs.declared.kinds.Change.{Change}
+use Rattle.convoy_what_if.specs.Changes.{changed}
 use Rattle.convoy_what_if.specs.declared.tried.Tried.{Tried}
 use Rattle.convoy_what_if.specs.Cells.{row_cells}
 

@@ -12,8 +12,8 @@ use Rattle.convoy_commands.specs.declared.search_end.SearchEnd.{SearchEnd}
 use Rattle.convoy_commands.specs.Replies.{RuleOf}
 use Rattle.convoy_commands.specs.SearchEnds.{end_by}
 use Rattle.convoy_commands.specs.Searches.{IsFaulty}
-use Rattle.convoy_changes.specs.Changes.{changes_of}
 use Rattle.convoy_survey.specs.Findings.{is_fault, is_open}
+use Rattle.convoy_what_if.specs.Changes.{changes_of}
 use Rattle.convoy_what_if.specs.declared.tried.Tried.{Tried}
 use Rattle.convoy_what_if.specs.Cells.{table_of}
 use Rattle.convoy_what_if.specs.Orders.{AreTried}

@@ -6,10 +6,11 @@ ghost use Rattle.convoy_scenario.specs.Scenario.{group_name_at};
 ghost use Rattle.convoy_tables.specs.Tables.{word};
 ghost use Rattle.convoy_what_if.specs.Cells.{change_cells, change_word, left_out, link_cells, row_cells};
 
-use convoy_changes::Change;
+use super::kinds::Change;
+use convoy_scenario::naming::{group_name, sender_word};
 use convoy_scenario::{Scenario, Sender};
-use convoy_survey::{Finding, group_name, push_finding, push_name};
-use convoy_tables::{Cell, Row};
+use convoy_survey::{Finding, push_finding, push_name};
+use convoy_tables::Row;
 use std::alloc::{AllocError, Global};
 
 /// The cells of a row: the change by the names of the scenario, and what was found by those of the other.
@@ -23,23 +24,18 @@ pub(crate) fn row_cells(
     ensures { IfOk result (λ cells. cells ≡ row_cells scenario.now change other.now finding) }
 {
     let mut cells = Row::new(alloc);
-    push_change(alloc, scenario, change, &mut cells)?;
-    push_finding(alloc, other, finding, &mut cells)?;
+    push_change(scenario, change, &mut cells)?;
+    push_finding(other, finding, &mut cells)?;
     Ok(cells)
 }
 
 /// Puts a change at the end of a row.
-fn push_change(
-    alloc: Global,
-    scenario: &Scenario,
-    change: Change,
-    cells: &mut Row,
-) -> Result<(), AllocError>
+fn push_change(scenario: &Scenario, change: Change, cells: &mut Row) -> Result<(), AllocError>
     ensures { OnOk result (cells.new ≡ cells.old ++ change_cells scenario.now change) }
 {
-    cells.push(Cell::word(alloc, change_word(change))?)?;
-    push_name(alloc, scenario, left_out(change), cells)?;
-    push_link(alloc, scenario, change, cells)
+    cells.push_word(change_word(change))?;
+    push_name(scenario, left_out(change), cells)?;
+    push_link(scenario, change, cells)
 }
 
 fn change_word(change: Change) -> &'static str
@@ -64,28 +60,22 @@ fn left_out(change: Change) -> Option<usize>
 }
 
 /// Puts the two ends of the link that a change narrows at the end of a row.
-fn push_link(
-    alloc: Global,
-    scenario: &Scenario,
-    change: Change,
-    cells: &mut Row,
-) -> Result<(), AllocError>
+fn push_link(scenario: &Scenario, change: Change, cells: &mut Row) -> Result<(), AllocError>
     ensures { OnOk result (cells.new ≡ cells.old ++ link_cells scenario.now change) }
 {
     match change {
         Change::Nothing | Change::Without { .. } => {
-            cells.push(Cell::nothing(alloc))?;
-            cells.push(Cell::nothing(alloc))
+            cells.push_nothing()?;
+            cells.push_nothing()
         }
         Change::AtLeast { sender, to } | Change::AtMost { sender, to } => {
-            push_ends(alloc, scenario, sender, to, cells)
+            push_ends(scenario, sender, to, cells)
         }
     }
 }
 
 /// Puts the two ends of a link at the end of a row.
 fn push_ends(
-    alloc: Global,
     scenario: &Scenario,
     sender: Sender,
     to: usize,
@@ -94,16 +84,6 @@ fn push_ends(
     ensures { OnOk result (cells.new
         ≡ cells.old ++ (word (sender_word scenario.now sender) ∷ word (group_name_at scenario.now to) ∷ [])) }
 {
-    cells.push(Cell::word(alloc, sender_word(scenario, sender))?)?;
-    cells.push(Cell::word(alloc, group_name(scenario, to))?)
-}
-
-/// The word for a sender.
-fn sender_word(scenario: &Scenario, sender: Sender) -> &str
-    ensures { result.now ≡ sender_word scenario.now sender }
-{
-    match sender {
-        Sender::Client => "client",
-        Sender::Group(group) => group_name(scenario, group),
-    }
+    cells.push_word(sender_word(scenario, sender))?;
+    cells.push_word(group_name(scenario, to))
 }

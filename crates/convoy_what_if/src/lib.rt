@@ -3,12 +3,18 @@
 #![tactic(auto)]
 
 pub use convoy_tables::Format;
+pub use drafting::change;
+pub use kinds::Change;
+pub use listing::changes_of;
 pub use rows::what_if;
 pub use running::run_what_if;
 pub use tried::Tried;
 
 mod cells;
+mod drafting;
+mod kinds;
 pub mod laws;
+mod listing;
 mod placing;
 mod rows;
 mod running;

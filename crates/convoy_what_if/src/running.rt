@@ -1,22 +1,20 @@
 ghost use Rattle.std.specs.Prelude.{◌≡◌, IfOk, Ok};
-ghost use Rattle.std.specs.List.{list_any};
 ghost use Rattle.convoy_scenario.specs.Memory.{IsUnlessMemory};
 ghost use Rattle.convoy_toml.specs.Reading.{scenario_of_text};
 ghost use Rattle.convoy_commands.specs.declared.limits.TheConstants.{LONGEST_JOB};
 ghost use Rattle.convoy_commands.specs.Replies.{SaysUnlessMemory, reply_of};
 ghost use Rattle.convoy_commands.specs.Runs.{IsRun};
-ghost use Rattle.convoy_survey.specs.Findings.{is_fault, is_open};
 ghost use Rattle.convoy_what_if.specs.WhatIf.{WhatIfSays, end_of};
 
 use super::rows::what_if;
-use super::table::table_of;
+use super::table::text_of;
 use super::tried::Tried;
 use convoy_branch::Options;
 use convoy_commands::{Fault, LONGEST_JOB, SearchEnd, Watch, write_reply};
 use convoy_packets::Instance;
 use convoy_scenario::{Scenario, ScenarioFault};
 use convoy_streams::{Sink, Source, read_to_end};
-use convoy_tables::{Format, write_table};
+use convoy_tables::Format;
 use convoy_toml::read_toml;
 use std::alloc::Global;
 use std::sync::Wait;
@@ -69,10 +67,7 @@ fn what_if_answer<R: Threads + Wait + Sync, W: Watch + Sync>(
     let _count = instance.message_count();
     let rows = what_if(rt, alloc, &instance, options, watch)?;
     let end = end_of(&rows);
-    let table = table_of(alloc, instance.scenario(), rows)?;
-    let mut written = Vec::new(alloc);
-    write_table(&table, format, &mut written)?;
-    Ok((end, written))
+    Ok((end, text_of(alloc, format, instance.scenario(), rows)?))
 }
 
 /// The scenario of a text.
@@ -87,17 +82,10 @@ fn read_scenario(alloc: Global, text: &[u8]) -> Result<Scenario, ScenarioFault>
 fn end_of(rows: &[Tried]) -> SearchEnd
     ensures { result ≡ end_of rows.now }
 {
-    SearchEnd::by(has_fault(rows), has_open(rows))
-}
-
-fn has_fault(rows: &[Tried]) -> bool
-    ensures { result ≡ list_any (λ row. is_fault row.finding) rows.now }
-{
-    rows.iter().any(|row| row.finding.is_fault())
-}
-
-fn has_open(rows: &[Tried]) -> bool
-    ensures { result ≡ list_any (λ row. is_open row.finding) rows.now }
-{
-    rows.iter().any(|row| row.finding.is_open())
+    let (mut any_fault, mut any_open) = (false, false);
+    for row in rows {
+        any_fault |= row.finding.is_fault();
+        any_open |= row.finding.is_open();
+    }
+    SearchEnd::by(any_fault, any_open)
 }

@@ -1,4 +1,4 @@
-use convoy_changes::Change;
+use super::kinds::Change;
 use convoy_survey::Finding;
 use convoy_tables::Row;
 

@@ -2,13 +2,14 @@
 
 ghost use Rattle.std.specs.Prelude.{◌≡◌, ◌⊎◌, IfOk, IfErr, Ok};
 ghost use Rattle.convoy_scenario.specs.Memory.{IsUnlessMemory};
-ghost use Rattle.convoy_changes.specs.Changes.{changed};
+ghost use Rattle.convoy_what_if.specs.Changes.{changed};
 ghost use Rattle.convoy_what_if.specs.Tries.{IsSearched, IsTried, IsUnsearched, MakesNone};
 
 use super::cells::row_cells;
+use super::drafting;
+use super::kinds::Change;
 use super::tried::Tried;
 use convoy_branch::Options;
-use convoy_changes::Change;
 use convoy_commands::{Fault, Watch};
 use convoy_packets::Instance;
 use convoy_scenario::{Scenario, ScenarioFault};
@@ -46,7 +47,7 @@ fn changed_instance(
 ) -> Result<Instance, ScenarioFault>
     ensures { IsUnlessMemory ScenarioFault.Memory (changed scenario.now change) result }
 {
-    let other = convoy_changes::change(alloc, scenario, change)?;
+    let other = drafting::change(alloc, scenario, change)?;
     Ok(Instance::of(alloc, other)?)
 }
 

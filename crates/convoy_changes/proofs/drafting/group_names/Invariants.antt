@@ -1,6 +1,0 @@
-use Rattle.std.proofs.Common.{◌≡◌, map, take}
-use Rattle.convoy_scenario.specs.Scenario.{group_name_at}
-use Rattle.convoy_changes.proofs.drafting.group_names.Given as goal
-
-abbrev pub invariant-loop-group : goal.invariant-loop-group
-invariant-loop-group l = l.names.items ≡ map (group_name_at l.scenario) (take l.group-index l.groups)

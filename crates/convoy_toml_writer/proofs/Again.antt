@@ -1,0 +1,40 @@
+-- What is written of a scenario with a schedule is read as both.
+use Rattle.std.proofs.Common.{◌≡◌, List, [], ◌∷◌, length, map, pos, Some, Ok, refl, ap, ◌∙◌, arith}
+use Rattle.convoy_lines.specs.Results.{◌>>=◌}
+use Rattle.convoy_scenario.specs.Laws.{LinksAreFew, ScenariosHaveDrafts}
+use Rattle.convoy_scenario.specs.Numbering.{scenario_of_draft}
+use Rattle.convoy_scenario.specs.Scenario.{Message}
+use Rattle.convoy_packets.specs.Laws.{RanksAreOneEach}
+use Rattle.convoy_toml.specs.declared.target.TargetKey.TheVariants.{Required}
+use Rattle.convoy_toml.specs.Reading.{input_of_text, input_of_table, input_of_written}
+use Rattle.convoy_toml.specs.Shape.{Written}
+use Rattle.convoy_toml_writer.specs.Text.{toml_text}
+use Rattle.convoy_toml_writer.specs.Laws.{TextsAreRead, input_for, ranks_for}
+use Rattle.convoy_toml_writer.proofs.Drafted.{draft_same}
+use Rattle.convoy_toml_writer.proofs.Parsed.{text_read}
+use Rattle.convoy_toml_writer.proofs.Shaped.{document_shaped, written_scenario}
+use Rattle.convoy_toml_writer.proofs.Writable.{tick_readable, tick_short, writable}
+
+-- the laws of the crates below that it takes
+pub record Grounds : Type 0 where
+  pub drafts : ScenariosHaveDrafts
+  pub links : LinksAreFew
+  pub ranks : RanksAreOneEach
+
+pub texts_again : Grounds → TextsAreRead
+texts_again grounds scenario schedule is assigned =
+    by_messages scenario.multicasts refl
+  where
+    written : Written
+    written = record { scenario = written_scenario scenario; schedule = Some (map pos schedule.delays); order = ranks_for scenario schedule.order }
+
+    by_messages : (messages : List Message) → scenario.multicasts ≡ messages → input_of_text (toml_text scenario schedule) ≡ Ok (input_for scenario schedule)
+    by_messages [] none = absurd (omega (arith, is.multicasts_low, ap length none))
+    by_messages (message ∷ messages) some =
+        let read = text_read scenario schedule (writable scenario schedule is assigned (grounds.ranks scenario schedule.order assigned.order).1) (tick_short scenario is) in
+        let shaped = document_shaped scenario schedule message messages some (tick_readable scenario is) in
+        let drafted = draft_same scenario (grounds.links scenario is) in
+        let numbered = grounds.drafts scenario is in
+        ap (λ r. r >>= input_of_table Required) read ∙ ap (λ r. r >>= input_of_written) shaped
+        ∙ ap (λ r. r >>= (λ draft. scenario_of_draft draft >>= (λ s. Ok (record { scenario = s; schedule = Some (map pos schedule.delays); order = ranks_for scenario schedule.order })))) drafted
+        ∙ ap (λ r. r >>= (λ s. Ok (record { scenario = s; schedule = Some (map pos schedule.delays); order = ranks_for scenario schedule.order }))) numbered

@@ -1,0 +1,164 @@
+-- The document of a scenario with a schedule: its lines as they are written, and the table that they are.
+use Rattle.std.proofs.Common.{ℕ, ◌+◌, if◌then◌else◌, List, [], ◌∷◌, ◌++◌, map, codes, pos, Option, Some, None}
+use Rattle.std.specs.List.{flat_map}
+use Rattle.toml.specs.Data.{Data, string, integer, array, table, Members, no_members, member}
+use Rattle.toml.specs.Tables.{Expression, key_value, std_table, array_table}
+use Rattle.toml.specs.View.{items_of}
+use Rattle.convoy_scenario.specs.declared.sender.Sender.{Sender}
+use Rattle.convoy_scenario.specs.declared.sender.Sender.TheVariants.{Client, Group}
+use Rattle.convoy_draft.specs.declared.time.Time.{Time}
+use Rattle.convoy_draft.specs.declared.time.Time.TheVariants.{Ticks, Real}
+use Rattle.convoy_scenario.specs.Scenario.{Link, Message, Scenario, group_name_at, may_wait, message_at}
+use Rattle.convoy_packets.specs.Assignment.{Schedule}
+use Rattle.convoy_packets.specs.Order.{Order}
+use Rattle.convoy_packets.specs.OrderLists.{is_no_order, ranks_of}
+use Rattle.convoy_toml_writer.proofs.Durations.{duration_text}
+
+-- ---- values
+
+abbrev pub number : ℕ → Data
+number n = integer (pos n)
+
+abbrev pub numbers : List ℕ → Data
+numbers ns = array (items_of (map number ns))
+
+abbrev pub strings : List (List ℕ) → Data
+strings names = array (items_of (map string names))
+
+abbrev pub tables : List Members → Data
+tables rows = array (items_of (map table rows))
+
+-- a member that may be left out, before others
+abbrev pub with_member : List ℕ → Option Data → Members → Members
+with_member key None rest = rest
+with_member key (Some d) rest = member key d rest
+
+-- tables under one key, if there are any
+abbrev pub some_tables : List Members → Option Data
+some_tables [] = None
+some_tables (row ∷ rows) = Some (tables (row ∷ rows))
+
+-- ---- lines
+
+-- the line of a key and its value
+abbrev pub pair : List ℕ → Data → Expression
+pair key d = (([], key), key_value d)
+
+-- a line that may be left out, before others
+abbrev pub with_pair : List ℕ → Option Data → List Expression → List Expression
+with_pair key None rest = rest
+with_pair key (Some d) rest = pair key d ∷ rest
+
+-- the lines of pairs, some of which may be left out
+abbrev pub Pairs : Type 0
+Pairs = List (List ℕ × Option Data)
+
+abbrev pub pair_lines : Pairs → List Expression
+pair_lines [] = []
+pair_lines (p ∷ ps) = with_pair p.0 p.1 (pair_lines ps)
+
+-- the lines of one of several tables under a key
+abbrev pub array_lines : List ℕ → Pairs → List Expression
+array_lines key ps = (([], key), array_table) ∷ pair_lines ps
+
+-- ---- a scenario's values
+
+abbrev pub time_data : Time → Option Data
+time_data Ticks = None
+time_data Real = Some (string (codes "real"))
+
+abbrev pub tick_data : Option ℕ → Option Data
+tick_data None = None
+tick_data (Some tick) = Some (string (duration_text tick))
+
+abbrev pub order_data : Scenario → Order → Option Data
+order_data scenario order = if is_no_order order then None else Some (numbers (ranks_of scenario order))
+
+abbrev pub sender_data : Scenario → Sender → Option Data
+sender_data scenario Client = None
+sender_data scenario (Group g) = Some (string (group_name_at scenario g))
+
+abbrev pub until_data : Message → Option Data
+until_data message = if may_wait message then Some (number (message.at + message.longest_wait)) else None
+
+abbrev pub names_data : Scenario → List ℕ → Data
+names_data scenario groups = array (items_of (map (λ g. string (group_name_at scenario g)) groups))
+
+-- the values of the keys above all tables
+pub record Head : Type 0 where
+  pub time : Option Data
+  pub tick : Option Data
+  pub delay : Data
+  pub groups : Data
+  pub schedule : Data
+  pub order : Option Data
+
+abbrev pub head_of : Scenario → Schedule → Head
+head_of scenario schedule = record {
+  time = time_data scenario.time;
+  tick = tick_data scenario.tick;
+  delay = number scenario.delay;
+  groups = strings scenario.groups;
+  schedule = numbers schedule.delays;
+  order = order_data scenario schedule.order;
+}
+
+-- ---- in the order in which they are written
+
+abbrev pub head_pairs : Head → Pairs
+head_pairs head =
+    (codes "time", head.time) ∷ (codes "tick", head.tick) ∷ (codes "delay", Some head.delay) ∷ (codes "groups", Some head.groups)
+    ∷ (codes "schedule", Some head.schedule) ∷ (codes "order", head.order) ∷ []
+
+abbrev pub link_pairs : Scenario → Link → Pairs
+link_pairs scenario link =
+    (codes "from", sender_data scenario link.sender) ∷ (codes "to", Some (string (group_name_at scenario link.to)))
+    ∷ (codes "least", Some (number link.least)) ∷ (codes "most", Some (number link.most)) ∷ []
+
+abbrev pub message_pairs : Scenario → Message → Pairs
+message_pairs scenario message =
+    (codes "name", Some (string message.name)) ∷ (codes "from", sender_data scenario message.sender)
+    ∷ (codes "to", Some (names_data scenario message.destinations)) ∷ (codes "at", Some (number message.at))
+    ∷ (codes "until", until_data message) ∷ []
+
+abbrev pub target_pairs : Scenario → Pairs
+target_pairs scenario =
+    (codes "message", Some (string (message_at scenario scenario.target_message).name))
+    ∷ (codes "group", Some (string (group_name_at scenario scenario.target_group))) ∷ []
+
+-- all lines
+abbrev pub document_lines : Scenario → Schedule → List Expression
+document_lines scenario schedule =
+    pair_lines (head_pairs (head_of scenario schedule))
+    ++ (flat_map (λ link. array_lines (codes "link") (link_pairs scenario link)) scenario.links
+    ++ (flat_map (λ message. array_lines (codes "multicast") (message_pairs scenario message)) scenario.multicasts
+    ++ (([], codes "target"), std_table) ∷ pair_lines (target_pairs scenario)))
+
+-- ---- in the order of tables
+
+abbrev pub link_table : Scenario → Link → Members
+link_table scenario link =
+    with_member (codes "from") (sender_data scenario link.sender)
+    (member (codes "least") (number link.least) (member (codes "most") (number link.most) (member (codes "to") (string (group_name_at scenario link.to)) no_members)))
+
+abbrev pub message_table : Scenario → Message → Members
+message_table scenario message =
+    member (codes "at") (number message.at)
+    (with_member (codes "from") (sender_data scenario message.sender)
+    (member (codes "name") (string message.name) (member (codes "to") (names_data scenario message.destinations) (with_member (codes "until") (until_data message) no_members))))
+
+abbrev pub target_table : Scenario → Members
+target_table scenario =
+    member (codes "group") (string (group_name_at scenario scenario.target_group))
+    (member (codes "message") (string (message_at scenario scenario.target_message).name) no_members)
+
+-- the whole table, where the tables of links, of messages and of the target are these
+abbrev pub whole_table : Head → List Members → List Members → Members → Members
+whole_table head links messages target =
+    member (codes "delay") head.delay (member (codes "groups") head.groups (with_member (codes "link") (some_tables links)
+    (with_member (codes "multicast") (some_tables messages) (with_member (codes "order") head.order (member (codes "schedule") head.schedule
+    (member (codes "target") (table target) (with_member (codes "tick") head.tick (with_member (codes "time") head.time no_members))))))))
+
+abbrev pub document_table : Scenario → Schedule → Members
+document_table scenario schedule =
+    whole_table (head_of scenario schedule) (map (link_table scenario) scenario.links) (map (message_table scenario) scenario.multicasts) (target_table scenario)

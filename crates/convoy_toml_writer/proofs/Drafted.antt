@@ -1,0 +1,126 @@
+-- The draft of what is written of a scenario is the scenario by names.
+use Rattle.std.proofs.Common.{◌≡◌, ℕ, ◌+◌, ◌≤◌, leb, true, List, [], ◌∷◌, ◌++◌, map, flat_map, length, pos, Option, Some, None, Ok, refl, ap, ◌∙◌, arith, inl, inr}
+use Rattle.std.specs.List.{list_all, sum_by}
+use Rattle.std.proofs.lemmas.Bool.{cases_Bool, le-leb, ltb-false, false≢true}
+use Rattle.std.proofs.lemmas.List.Sums.{sum_by-cons}
+use Rattle.convoy_draft.specs.declared.limits.TheConstants.{MOST_LINKS}
+use Rattle.convoy_scenario.specs.declared.sender.Sender.{Sender}
+use Rattle.convoy_scenario.specs.declared.sender.Sender.TheVariants.{Client, Group}
+use Rattle.convoy_draft.specs.Checks.{leads_elsewhere}
+use Rattle.convoy_draft.specs.Draft.{DraftLink, DraftMessage}
+use Rattle.convoy_scenario.specs.Naming.{draft_for, draft_link, draft_message}
+use Rattle.convoy_scenario.specs.Scenario.{Link, Message, Scenario, may_wait}
+use Rattle.convoy_toml.specs.declared.links.TheConstants.{MOST_WRITTEN_LINKS}
+use Rattle.convoy_toml.specs.declared.written.WrittenTime.{WrittenTime}
+use Rattle.convoy_toml.specs.declared.written.WrittenTime.TheVariants.{Count}
+use Rattle.convoy_toml.specs.Links.{Bundle, apart, ways_of, count_of, links_of_bundle, links_of_bundles}
+use Rattle.convoy_toml.specs.Shape.{WrittenScenario}
+use Rattle.convoy_toml.specs.Times.{is_count, times_of_message, times_of_links, times_of, tick_of, last_tick, draft_messages_of, bundles_of, draft_of_written}
+use Rattle.convoy_toml_writer.proofs.Shaped.{written_link, written_until, written_message, written_scenario}
+
+-- ---- times
+
+counts_append : (xs ys : List WrittenTime) → list_all is_count xs ≡ true → list_all is_count ys ≡ true → list_all is_count (xs ++ ys) ≡ true
+counts_append [] ys a b = b
+counts_append (Count z ∷ xs) ys a b = counts_append xs ys a b
+counts_append (t ∷ xs) ys a b = absurd (false≢true a)
+
+message_counts : (scenario : Scenario) (messages : List Message) → list_all is_count (flat_map times_of_message (map (written_message scenario) messages)) ≡ true
+message_counts scenario [] = refl
+message_counts scenario (m ∷ ms) =
+    let others = message_counts scenario ms in
+    elim (cases_Bool (may_wait m)) [
+      | inl waits ↦ rw waits others
+      | inr known ↦ rw known others
+    ]
+
+link_counts : (scenario : Scenario) (links : List Link) → list_all is_count (times_of_links (map (written_link scenario) links)) ≡ true
+link_counts scenario [] = refl
+link_counts scenario (link ∷ links) = link_counts scenario links
+
+-- all times are numbers of ticks, so that a tick's length is known only where it is written
+tick_same : (scenario : Scenario) → tick_of (written_scenario scenario) ≡ Ok scenario.tick
+tick_same scenario = by_tick scenario.tick where
+  times : List WrittenTime
+  times = times_of (written_scenario scenario)
+
+  all : list_all is_count (times_of (written_scenario scenario)) ≡ true
+  all = counts_append (flat_map times_of_message (map (written_message scenario) scenario.multicasts)) (times_of_links (map (written_link scenario) scenario.links)) (message_counts scenario scenario.multicasts) (link_counts scenario scenario.links)
+
+  by_tick : (tick : Option ℕ) → tick_of (record (written_scenario scenario) { tick = tick }) ≡ Ok tick
+  by_tick (Some tick) = refl
+  by_tick None = rw all refl
+
+-- where no last tick is written, it is the first
+last_same : (tick : Option ℕ) (message : Message) → last_tick tick (pos message.at) (written_until message) ≡ Ok (pos (message.at + message.longest_wait))
+last_same tick message =
+    elim (cases_Bool (may_wait message)) [
+      | inl waits ↦ rw waits refl
+      | inr known ↦
+          let none : message.longest_wait ≡ 0 = omega (arith, ltb-false 0 message.longest_wait known) in
+          let same : message.at ≡ message.at + message.longest_wait = omega (arith, none) in
+          rw known (ap (λ n. Ok (pos n)) same)
+    ]
+
+messages_same : (tick : Option ℕ) (scenario : Scenario) (messages : List Message) → draft_messages_of tick (map (written_message scenario) messages) ≡ Ok (map (draft_message scenario) messages)
+messages_same tick scenario [] = refl
+messages_same tick scenario (m ∷ ms) = rw (last_same tick m, messages_same tick scenario ms) refl
+
+-- ---- links
+
+-- a table of one link
+abbrev bundle : Scenario → Link → Bundle
+bundle scenario link = record { ends = (written_link scenario link).ends; least = pos link.least; most = pos link.most }
+
+bundles_same : (tick : Option ℕ) (scenario : Scenario) (links : List Link) → bundles_of tick (map (written_link scenario) links) ≡ Ok (map (bundle scenario) links)
+bundles_same tick scenario [] = refl
+bundles_same tick scenario (link ∷ links) = rw (bundles_same tick scenario links) refl
+
+apart_one : (link : DraftLink) → apart (link ∷ []) ≡ link ∷ []
+apart_one link =
+    elim (cases_Bool (leads_elsewhere link)) [
+      | inl elsewhere ↦ rw elsewhere refl
+      | inr itself ↦ rw itself refl
+    ]
+
+one_way : (scenario : Scenario) (link : Link) → ways_of (bundle scenario link) ≡ draft_link scenario link ∷ []
+one_way scenario link = by_sender link.sender where
+  by_sender : (sender : Sender) → ways_of (bundle scenario (record link { sender = sender })) ≡ draft_link scenario (record link { sender = sender }) ∷ []
+  by_sender Client = refl
+  by_sender (Group g) = refl
+
+one_link : (scenario : Scenario) (link : Link) → links_of_bundle (bundle scenario link) ≡ draft_link scenario link ∷ []
+one_link scenario link = ap apart (one_way scenario link) ∙ apart_one (draft_link scenario link)
+
+one_counts : (scenario : Scenario) (link : Link) → count_of (bundle scenario link) ≡ 1
+one_counts scenario link = by_sender link.sender where
+  by_sender : (sender : Sender) → count_of (bundle scenario (record link { sender = sender })) ≡ 1
+  by_sender Client = refl
+  by_sender (Group g) = refl
+
+counted : (scenario : Scenario) (links : List Link) → sum_by count_of (map (bundle scenario) links) ≡ length links
+counted scenario [] = refl
+counted scenario (link ∷ links) =
+    let more = sum_by-cons count_of (bundle scenario link) (map (bundle scenario) links) in
+    omega (arith, more, one_counts scenario link, counted scenario links)
+
+each_way : (scenario : Scenario) (links : List Link) → flat_map links_of_bundle (map (bundle scenario) links) ≡ map (draft_link scenario) links
+each_way scenario [] = refl
+each_way scenario (link ∷ links) = rw (one_link scenario link, each_way scenario links) refl
+
+links_same : (scenario : Scenario) (links : List Link) → length links ≤ MOST_LINKS → links_of_bundles (map (bundle scenario) links) ≡ Ok (map (draft_link scenario) links)
+links_same scenario links few =
+    let small : leb (sum_by count_of (map (bundle scenario) links)) MOST_WRITTEN_LINKS ≡ true = le-leb _ _ (omega (arith, counted scenario links, few)) in
+    rw (small, each_way scenario links) refl
+
+-- step by step
+in_steps : (scenario : WrittenScenario) (tick : Option ℕ) (delay : ℕ) (messages : List DraftMessage) (bundles : List Bundle) (links : List DraftLink) → tick_of scenario ≡ Ok tick → scenario.delay ≡ Count (pos delay)
+    → draft_messages_of tick scenario.messages ≡ Ok messages → bundles_of tick scenario.links ≡ Ok bundles → links_of_bundles bundles ≡ Ok links
+    → draft_of_written scenario ≡ Ok (record { time = scenario.time; tick = tick; delay = pos delay; groups = scenario.groups; links = links; messages = messages; target_message = scenario.target_message; target_group = scenario.target_group })
+in_steps scenario tick delay messages bundles links has_tick has_delay has_messages has_bundles has_links = rw (has_tick, has_delay, has_messages, has_bundles, has_links) refl
+
+-- the draft of what is written
+pub draft_same : (scenario : Scenario) → length scenario.links ≤ MOST_LINKS → draft_of_written (written_scenario scenario) ≡ Ok (draft_for scenario)
+draft_same scenario few =
+    in_steps (written_scenario scenario) scenario.tick scenario.delay (map (draft_message scenario) scenario.multicasts) (map (bundle scenario) scenario.links) (map (draft_link scenario) scenario.links)
+    (tick_same scenario) refl (messages_same scenario.tick scenario scenario.multicasts) (bundles_same scenario.tick scenario scenario.links) (links_same scenario scenario.links few)
