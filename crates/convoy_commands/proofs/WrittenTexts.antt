@@ -8,7 +8,7 @@ use Rattle.convoy_packets.specs.Assignment.{Schedule}
 use Rattle.convoy_packets.specs.Order.{Order, no_order}
 use Rattle.convoy_packets.specs.OrderLists.{order_given}
 use Rattle.convoy_toml.specs.Reading.{InputView}
-use Rattle.convoy_toml_laws.specs.Laws.{GivesSchedule, SchedulesAreGiven, TextsAreRead, input_for}
+use Rattle.convoy_toml_writer.specs.Laws.{GivesSchedule, SchedulesAreGiven, TextsAreRead, input_for}
 use Rattle.convoy_commands.specs.Faults.{told_of_order}
 use Rattle.convoy_commands.specs.Laws.{WrittenTextsAreTold}
 use Rattle.convoy_commands.specs.Schedules.{chosen_order, order_in, scheduled_by, scheduled_of_input}

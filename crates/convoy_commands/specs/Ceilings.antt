@@ -1,6 +1,5 @@
 -- What the command `ceiling` writes.
-use Rattle.std.specs.Prelude.{◌≡◌, ℕ, ◌≤◌, ◌==◌, if◌then◌else◌, List, [], ◌∷◌, ◌++◌, Option, Ok, Err, codes, decimal}
-use Rattle.convoy_lines.specs.Texts.{ended, line_of}
+use Rattle.std.specs.Prelude.{◌≡◌, ℕ, ◌≤◌, ◌==◌, if◌then◌else◌, List, ◌++◌, Option, Ok, Err, codes}
 use Rattle.convoy_scenario.specs.Scenario.{Scenario}
 use Rattle.convoy_scenario.specs.WellFormed.{IsScenario}
 use Rattle.convoy_toml.specs.Reading.{scenario_of_text}
@@ -10,13 +9,13 @@ use Rattle.convoy_ceiling.specs.Ceiling.{IsUpperInTraffic, ceiling_of}
 use Rattle.convoy_traffic.specs.Finding.{IsFound}
 use Rattle.convoy_commands.specs.declared.done.Done.{Done}
 use Rattle.convoy_commands.specs.declared.done.Done.TheVariants.{Fine, Open}
-use Rattle.convoy_commands.specs.Lines.{attained_line, in_unit}
+use Rattle.convoy_commands.specs.Lines.{attained_line, ticks_line}
 use Rattle.convoy_commands.specs.Replies.{Rule}
 use Rattle.convoy_commands.specs.Searches.{IsFaulty}
 
--- a ceiling, in ticks and in the unit of a tick
+-- a ceiling
 abbrev pub ceiling_line : Option ℕ → ℕ → List ℕ
-ceiling_line tick ceiling = ended (line_of (codes "ceiling") (decimal ceiling ∷ in_unit tick (ceiling ∷ [])))
+ceiling_line tick ceiling = ticks_line (codes "ceiling") tick ceiling
 
 -- the ceiling of a scenario, the latency that was found in traffic, and that traffic with its schedule as a scenario's text
 abbrev pub ceiling_text : Scenario → Record → List ℕ

@@ -19,9 +19,13 @@ abbrev pub in_unit : Option ℕ → List ℕ → List (List ℕ)
 in_unit None ticks = []
 in_unit (Some tick) ticks = map (λ n. decimal (n * count_of tick)) ticks ++ unit_word (unit_of tick) ∷ []
 
--- the greatest latency, in ticks and in the unit of a tick
+-- a word and a number of ticks, which is told in the unit of a tick as well
+abbrev pub ticks_line : List ℕ → Option ℕ → ℕ → List ℕ
+ticks_line word tick ticks = ended (line_of word (decimal ticks ∷ in_unit tick (ticks ∷ [])))
+
+-- the greatest latency
 abbrev pub greatest_line : Option ℕ → ℕ → List ℕ
-greatest_line tick latency = ended (line_of (codes "greatest") (decimal latency ∷ in_unit tick (latency ∷ [])))
+greatest_line tick latency = ticks_line (codes "greatest") tick latency
 
 -- a schedule: the line of its delays, and in real time that of the order of its ties
 abbrev pub schedule_text : Scenario → Schedule → List ℕ

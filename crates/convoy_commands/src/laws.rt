@@ -4,7 +4,7 @@ ghost use Rattle.convoy_commands.specs.declared.command.Command.{Command};
 ghost use Rattle.convoy_commands.specs.Commands.{longest_for, says_for};
 ghost use Rattle.convoy_commands.specs.Laws.{FailuresAreTold, WrittenTextsAreTold};
 
-use convoy_toml_laws::laws::{schedules_are_given, texts_are_read};
+use convoy_toml_writer::laws::{schedules_are_given, texts_are_read};
 
 /// In every run of each command but `batch`, each failure of the source is told as `ReadFault::Read` and
 /// each failure of the sink as `Fault::Write`, and neither is told where the device did not fail.

@@ -3,7 +3,7 @@ ghost use Rattle.std.specs.List.{flat_map};
 ghost use Rattle.convoy_lines.specs.Texts.{spaced};
 ghost use Rattle.convoy_draft.specs.Durations.{count_of};
 ghost use Rattle.convoy_commands.specs.Ceilings.{ceiling_line};
-ghost use Rattle.convoy_commands.specs.Lines.{greatest_line, in_unit, open_line};
+ghost use Rattle.convoy_commands.specs.Lines.{greatest_line, in_unit, open_line, ticks_line};
 
 use convoy_lines::{push_further_word, push_number};
 use convoy_scenario::Duration;
@@ -12,7 +12,6 @@ use std::alloc::AllocError;
 
 /// Appends the line of the greatest latency, in ticks and, where the length of a tick is known, in its
 /// unit.
-#[tactic(auto, using(std::proofs::lemmas::List::append_assoc))]
 pub(crate) fn push_greatest(
     tick: Option<Duration>,
     latency: u32,
@@ -20,17 +19,12 @@ pub(crate) fn push_greatest(
 ) -> Result<(), AllocError>
     ensures { OnOk result (out.new.items ≡ out.old.items ++ greatest_line tick latency) }
 {
-    out.extend_from_slice(b"greatest ")?;
-    push_number(out, latency)?;
-    push_one_in_unit(tick, latency, out)?;
-    out.push(b'\n')?;
-    Ok(())
+    push_ticks_line("greatest", tick, latency, out)
 }
 
 /// Appends the line of a ceiling, in ticks and, where the length of a tick is known, in its unit
 /// (docs/FORMATS.md, "What `ceiling` writes"). Fails where memory runs out, and else never; a front of the
 /// line may have been appended then.
-#[tactic(auto, using(std::proofs::lemmas::List::append_assoc))]
 pub fn push_ceiling(
     tick: Option<Duration>,
     ceiling: u32,
@@ -38,9 +32,24 @@ pub fn push_ceiling(
 ) -> Result<(), AllocError>
     ensures { OnOk result (out.new.items ≡ out.old.items ++ ceiling_line tick ceiling) }
 {
-    out.extend_from_slice(b"ceiling ")?;
-    push_number(out, ceiling)?;
-    push_one_in_unit(tick, ceiling, out)?;
+    push_ticks_line("ceiling", tick, ceiling, out)
+}
+
+/// Appends a line of a word and a number of ticks, which is told in the unit of a tick as well where the length
+/// of a tick is known.
+#[tactic(auto, using(std::proofs::lemmas::List::append_assoc))]
+fn push_ticks_line(
+    word: &str,
+    tick: Option<Duration>,
+    ticks: u32,
+    out: &mut Vec<u8>,
+) -> Result<(), AllocError>
+    ensures { OnOk result (out.new.items ≡ out.old.items ++ ticks_line word.now tick ticks) }
+{
+    out.extend_from_slice(word.as_bytes())?;
+    out.push(b' ')?;
+    push_number(out, ticks)?;
+    push_one_in_unit(tick, ticks, out)?;
     out.push(b'\n')?;
     Ok(())
 }

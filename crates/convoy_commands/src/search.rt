@@ -2,7 +2,7 @@ ghost use Rattle.std.specs.Prelude.{◌≡◌, ◌≤◌, IfOk};
 ghost use Rattle.convoy_packets.specs.Assignment.{ranges_of};
 ghost use Rattle.convoy_packets.specs.Table.{least_of};
 ghost use Rattle.convoy_sim.specs.Delivery.{latency_of};
-ghost use Rattle.convoy_commands.specs.Searches.{IsEnd, IsOutcomeBy, SearchGives};
+ghost use Rattle.convoy_commands.specs.Searches.{IsEnd, SearchGives};
 
 use super::fault::Fault;
 use super::watch::Watch;
@@ -109,7 +109,7 @@ fn tell_begin<W: Watch>(
     watch.begins(tick, options.ways().first_bounds(), limit, least, most);
 }
 
-/// The search from an opening record of the scenario, with one worker or in several threads.
+/// The search from an opening record of the scenario, by one worker or in several threads.
 #[tactic(auto, using(crate::proofs::Starts::by_all))]
 fn search_opened<R: Threads + Wait + Sync, W: Watch + Sync>(
     rt: &R,
@@ -121,48 +121,6 @@ fn search_opened<R: Threads + Wait + Sync, W: Watch + Sync>(
 ) -> Result<Outcome, AllocError>
     requires of_scenario { opening.scenario ≡ instance.now }
     requires least { latency_of instance.now (least_of (ranges_of instance.now)) ≤ opening.latency }
-    ensures { IfOk result (IsEnd options.now instance.now) }
-{
-    if options.workers() > 1 {
-        return search_together(rt, alloc, instance, opening, options, watch);
-    }
-    search_by_one(alloc, instance, opening, options, watch)
-}
-
-/// The search from an opening record of the scenario, with one worker.
-fn search_by_one<W: Watch>(
-    alloc: Global,
-    instance: &Instance,
-    opening: Record,
-    options: &Options,
-    watch: &W,
-) -> Result<Outcome, AllocError>
-    requires of_scenario { opening.scenario ≡ instance.now }
-    requires least { latency_of instance.now (least_of (ranges_of instance.now)) ≤ opening.latency }
-    ensures { IfOk result (IsOutcomeBy options.now.ways instance.now 1 options.now.limit) }
-{
-    let limit = options.limit();
-    match options.ways() {
-        Ways::One(bounds) => convoy_branch::search_alone_from(
-            alloc, instance, opening, limit, bounds, watch,
-        ),
-        Ways::Both => convoy_branch::search_both_ways(alloc, instance, opening, limit, watch),
-    }
-}
-
-/// The search from an opening record of the scenario, in several threads.
-#[tactic(auto, using(crate::proofs::Starts::by_all))]
-fn search_together<R: Threads + Wait + Sync, W: Watch + Sync>(
-    rt: &R,
-    alloc: Global,
-    instance: &Instance,
-    opening: Record,
-    options: &Options,
-    watch: &W,
-) -> Result<Outcome, AllocError>
-    requires of_scenario { opening.scenario ≡ instance.now }
-    requires least { latency_of instance.now (least_of (ranges_of instance.now)) ≤ opening.latency }
-    requires several { 2 ≤ options.now.workers }
     ensures { IfOk result (IsEnd options.now instance.now) }
 {
     let (workers, limit) = (options.workers(), options.limit());

@@ -5,6 +5,7 @@ ghost use Rattle.convoy_picture.specs.Words.{answer_text};
 use super::ground::ground;
 use super::legend::legend;
 use super::packets::packets;
+use super::scene::Scene;
 use super::signs::{labels, signs};
 use super::windows::windows;
 use convoy_picture::{Picture, answer_words, message_name, sender_name};
@@ -36,80 +37,71 @@ fn drawing(alloc: Global, scenario: &Scenario, picture: &Picture) -> Result<Stri
     ensures { IfOk result (λ text. IsDrawing scenario.now picture.now (string_bytes text)) }
 {
     let sheet = Sheet::of(alloc, scenario, picture)?;
-    let head = head(alloc, scenario, picture, &sheet)?;
-    let ground = ground(alloc, scenario, picture, &sheet)?;
-    let windows = windows(alloc, scenario, picture, &sheet)?;
-    let packets = packets(alloc, scenario, picture, &sheet)?;
-    let signs = signs(alloc, scenario, picture, &sheet)?;
-    let labels = labels(alloc, scenario, picture, &sheet)?;
-    let foot = foot(alloc, scenario, picture, &sheet)?;
+    let scene = Scene {
+        alloc,
+        scenario,
+        picture,
+        sheet: &sheet,
+    };
+    let head = head(&scene)?;
+    let ground = ground(&scene)?;
+    let windows = windows(&scene)?;
+    let packets = packets(&scene)?;
+    let signs = signs(&scene)?;
+    let labels = labels(&scene)?;
+    let foot = foot(&scene)?;
     format!(in alloc; "{head}{ground}{windows}{packets}{signs}{labels}{foot}")
 }
 
 /// The head of the image: its size, the answer, and why the target is so late.
-fn head(
-    alloc: Global,
-    scenario: &Scenario,
-    picture: &Picture,
-    sheet: &Sheet,
-) -> Result<String, AllocError>
-    ensures { IfOk result (λ text. Tells (answer_text scenario.now picture.now.why) (string_bytes text)) }
+fn head(scene: &Scene) -> Result<String, AllocError>
+    ensures { IfOk result (λ text. Tells (answer_text scene.now.scenario.now scene.now.picture.now.why) (string_bytes text)) }
 {
-    let answer = answer_words(alloc, scenario, picture.why())?;
-    let start = start(alloc, sheet)?;
-    let heading = heading(alloc, scenario, picture, &answer)?;
-    format!(in alloc; "{start}<title>{answer}</title>{heading}")
+    let answer = answer_words(scene.alloc, scene.scenario, scene.picture.why())?;
+    let start = start(scene)?;
+    let heading = heading(scene, &answer)?;
+    format!(in scene.alloc; "{start}<title>{answer}</title>{heading}")
 }
 
 /// The answer, and why the target is so late, above all else.
-fn heading(
-    alloc: Global,
-    scenario: &Scenario,
-    picture: &Picture,
-    answer: &str,
-) -> Result<String, AllocError> {
-    let reason = reason(alloc, scenario, picture)?;
-    format!(in alloc;
+fn heading(scene: &Scene, answer: &str) -> Result<String, AllocError> {
+    let reason = reason(scene)?;
+    format!(in scene.alloc;
         "\n<text x=\"{MARGIN}\" y=\"360\" font-size=\"200\" font-weight=\"bold\">{answer}</text>\n<text x=\"{MARGIN}\" y=\"570\" font-size=\"130\">{reason}</text>\n"
     )
 }
 
 /// The foot of the image: the legend, and the end.
-fn foot(
-    alloc: Global,
-    scenario: &Scenario,
-    picture: &Picture,
-    sheet: &Sheet,
-) -> Result<String, AllocError> {
-    let legend = legend(alloc, scenario, picture, sheet)?;
-    format!(in alloc; "{legend}</svg>\n")
+fn foot(scene: &Scene) -> Result<String, AllocError> {
+    let legend = legend(scene)?;
+    format!(in scene.alloc; "{legend}</svg>\n")
 }
 
 /// The start of the image: its size, and a white ground.
-fn start(alloc: Global, sheet: &Sheet) -> Result<String, AllocError> {
-    let height = sheet.height();
+fn start(scene: &Scene) -> Result<String, AllocError> {
+    let height = scene.sheet.height();
     let (width, high) = (WIDTH / 10, height / 10);
-    format!(in alloc;
+    format!(in scene.alloc;
         "<svg xmlns=\"http://www.w3.org/2000/svg\" width=\"{width}\" height=\"{high}\" viewBox=\"0 0 {WIDTH} {height}\" font-family=\"sans-serif\" font-size=\"110\">\n<rect width=\"{WIDTH}\" height=\"{height}\" fill=\"#ffffff\"/>\n"
     )
 }
 
 /// Why the target is so late, in a line.
-fn reason(alloc: Global, scenario: &Scenario, picture: &Picture) -> Result<String, AllocError> {
-    let why = picture.why();
-    let message = message_name(scenario, scenario.target_message());
-    let (sender, at) = issue_of(scenario, scenario.target_message());
-    let sender = sender_name(scenario, sender);
+fn reason(scene: &Scene) -> Result<String, AllocError> {
+    let why = scene.picture.why();
+    let message = message_name(scene.scenario, scene.scenario.target_message());
+    let (sender, at) = issue_of(scene.scenario, scene.scenario.target_message());
+    let sender = sender_name(scene.scenario, sender);
     match &why.holder {
         Some(holder) => {
-            let holder = message_name(scenario, holder.message);
-            format!(in alloc;
+            let holder = message_name(scene.scenario, holder.message);
+            format!(in scene.alloc;
                 "{sender} issues {message} at tick {at}; committed at tick {}, it waits for {holder}, and is delivered at tick {}",
                 why.committed, why.delivered,
             )
         }
         None => {
-            format!(in alloc;
+            format!(in scene.alloc;
                 "{sender} issues {message} at tick {at}; it is delivered as it is committed, at tick {}",
                 why.delivered,
             )

@@ -1,5 +1,6 @@
+use super::scene::Scene;
 use super::signs::WAIT_COLOR;
-use convoy_picture::{Picture, group_name};
+use convoy_picture::group_name;
 use convoy_scenario::{Scenario, Sender};
 use convoy_sheet::{AXIS, LEFT, Scale, Sheet, Stretch, lane_of, wait_mark, width_of};
 use std::alloc::{AllocError, Global};
@@ -20,16 +21,11 @@ const WIDEST_NAME: u32 = 1_250;
 const SQUEEZED: &str = r#" textLength="1450" lengthAdjust="spacingAndGlyphs""#;
 
 /// What all else is drawn on: the ticks, the lanes, and the time that the target waits at its group.
-pub(crate) fn ground(
-    alloc: Global,
-    scenario: &Scenario,
-    picture: &Picture,
-    sheet: &Sheet,
-) -> Result<String, AllocError> {
-    let mut text = String::new(alloc);
-    write_ticks(sheet, &mut text)?;
-    write_lanes(scenario, sheet, &mut text)?;
-    write_wait(scenario, picture, sheet, &mut text)?;
+pub(crate) fn ground(scene: &Scene) -> Result<String, AllocError> {
+    let mut text = String::new(scene.alloc);
+    write_ticks(scene.sheet, &mut text)?;
+    write_lanes(scene, &mut text)?;
+    write_wait(scene, &mut text)?;
     Ok(text)
 }
 
@@ -110,25 +106,20 @@ fn number_width(number: u32) -> u32 {
 }
 
 /// The lanes.
-fn write_lanes(scenario: &Scenario, sheet: &Sheet, text: &mut String) -> Result<(), AllocError> {
+fn write_lanes(scene: &Scene, text: &mut String) -> Result<(), AllocError> {
     text.push_str("<g stroke=\"#444444\" stroke-width=\"12\">\n")?;
-    for lane in 0..sheet.lane_count() {
-        write_name(scenario, sheet, lane, text)?;
-        write_lane(sheet, sheet.y_of(lane), text)?;
+    for lane in 0..scene.sheet.lane_count() {
+        write_name(scene, lane, text)?;
+        write_lane(scene.sheet, scene.sheet.y_of(lane), text)?;
     }
     text.push_str("</g>\n")
 }
 
 /// The name of a lane; bold where it is that of the target's group.
-fn write_name(
-    scenario: &Scenario,
-    sheet: &Sheet,
-    lane: usize,
-    text: &mut String,
-) -> Result<(), AllocError> {
-    let (x, y) = (LEFT - ASIDE, sheet.y_of(lane).saturating_add(40));
-    let name = lane_name(scenario, lane);
-    let weight = if lane == lane_of(Sender::Group(scenario.target_group())) {
+fn write_name(scene: &Scene, lane: usize, text: &mut String) -> Result<(), AllocError> {
+    let (x, y) = (LEFT - ASIDE, scene.sheet.y_of(lane).saturating_add(40));
+    let name = lane_name(scene.scenario, lane);
+    let weight = if lane == lane_of(Sender::Group(scene.scenario.target_group())) {
         "bold"
     } else {
         "normal"
@@ -179,19 +170,17 @@ fn write_cut(end: u32, left: u32, down: u32, text: &mut String) -> Result<(), Al
 }
 
 /// The time from the commit of the target to its delivery, at its group.
-fn write_wait(
-    scenario: &Scenario,
-    picture: &Picture,
-    sheet: &Sheet,
-    text: &mut String,
-) -> Result<(), AllocError> {
-    let Some(mark) = wait_mark(scenario, picture) else {
+fn write_wait(scene: &Scene, text: &mut String) -> Result<(), AllocError> {
+    let Some(mark) = wait_mark(scene.scenario, scene.picture) else {
         return Ok(());
     };
-    let left = sheet.x_of(&mark);
-    let right = sheet.scale.place(picture.why().delivered, mark.message);
+    let left = scene.sheet.x_of(&mark);
+    let right = scene
+        .sheet
+        .scale
+        .place(scene.picture.why().delivered, mark.message);
     let (top, width) = (
-        sheet.y_of(mark.lane).saturating_sub(50),
+        scene.sheet.y_of(mark.lane).saturating_sub(50),
         right.saturating_sub(left),
     );
     write!(

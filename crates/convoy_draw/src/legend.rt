@@ -1,9 +1,10 @@
+use super::scene::Scene;
 use super::signs::sign;
 use super::style::{BAR, color_of};
 use convoy_explain::may_wait;
-use convoy_picture::{Picture, Role, message_name};
+use convoy_picture::{Role, message_name};
 use convoy_scenario::Scenario;
-use convoy_sheet::{MARGIN, MarkKind, Sheet, width_of};
+use convoy_sheet::{MARGIN, MarkKind, width_of};
 use std::alloc::{AllocError, Global};
 
 /// How wide a sample is, with the gap after it.
@@ -26,48 +27,31 @@ const NOTE: &str =
     "2.b is the stamp that group b gives at time 2 of its clock; of several messages the later ones have their signs a little to the right of their tick";
 
 /// The legend: the colours of messages, the lines of packets, the signs of what happens, and a note.
-pub(crate) fn legend(
-    alloc: Global,
-    scenario: &Scenario,
-    picture: &Picture,
-    sheet: &Sheet,
-) -> Result<String, AllocError> {
-    let mut text = String::new(alloc);
-    write_legend(alloc, scenario, picture, sheet, &mut text)?;
+pub(crate) fn legend(scene: &Scene) -> Result<String, AllocError> {
+    let mut text = String::new(scene.alloc);
+    write_legend(scene, &mut text)?;
     Ok(text)
 }
 
 /// The parts of the legend, one below the other.
-fn write_legend(
-    alloc: Global,
-    scenario: &Scenario,
-    picture: &Picture,
-    sheet: &Sheet,
-    text: &mut String,
-) -> Result<(), AllocError> {
-    let y = sheet.bottom.saturating_add(400);
-    write_colors(alloc, scenario, picture, y, text)?;
-    write_lines(scenario, sheet, y.saturating_add(LINE), text)?;
-    let waits = picture.why().holder.is_some();
-    write_signs(alloc, waits, y.saturating_add(LINE + LINE), text)?;
+fn write_legend(scene: &Scene, text: &mut String) -> Result<(), AllocError> {
+    let y = scene.sheet.bottom.saturating_add(400);
+    write_colors(scene, y, text)?;
+    write_lines(scene, y.saturating_add(LINE), text)?;
+    let waits = scene.picture.why().holder.is_some();
+    write_signs(scene.alloc, waits, y.saturating_add(LINE + LINE), text)?;
     let y = y.saturating_add(LINE + LINE + LINE);
     write!(text, "<text x=\"{MARGIN}\" y=\"{y}\">{NOTE}</text>\n")
 }
 
 /// The colours of the messages.
-fn write_colors(
-    alloc: Global,
-    scenario: &Scenario,
-    picture: &Picture,
-    down: u32,
-    text: &mut String,
-) -> Result<(), AllocError> {
-    let name = message_name(scenario, scenario.target_message());
-    let words = format!(in alloc; "{name}, whose delivery it is about")?;
+fn write_colors(scene: &Scene, down: u32, text: &mut String) -> Result<(), AllocError> {
+    let name = message_name(scene.scenario, scene.scenario.target_message());
+    let words = format!(in scene.alloc; "{name}, whose delivery it is about")?;
     let mut x = write_color(MARGIN, down, Role::Target, &words, text)?;
-    if let Some(holder) = &picture.why().holder {
-        let name = message_name(scenario, holder.message);
-        let words = format!(in alloc; "{name}, which holds it back")?;
+    if let Some(holder) = &scene.picture.why().holder {
+        let name = message_name(scene.scenario, holder.message);
+        let words = format!(in scene.alloc; "{name}, which holds it back")?;
         x = write_color(x, down, Role::Holder, &words, text)?;
     }
     let _ = write_color(x, down, Role::Other, "other messages", text)?;
@@ -86,15 +70,10 @@ fn write_color(
 }
 
 /// The lines of packets, the bar of a message that may wait, and how many signs have no words.
-fn write_lines(
-    scenario: &Scenario,
-    sheet: &Sheet,
-    down: u32,
-    text: &mut String,
-) -> Result<(), AllocError> {
+fn write_lines(scene: &Scene, down: u32, text: &mut String) -> Result<(), AllocError> {
     let x = write_samples(down, text)?;
-    let x = write_bar(scenario, x, down, text)?;
-    let wordless = sheet.wordless();
+    let x = write_bar(scene.scenario, x, down, text)?;
+    let wordless = scene.sheet.wordless();
     if wordless == 0 {
         return Ok(());
     }

@@ -9,6 +9,7 @@ mod ground;
 mod layers;
 mod legend;
 mod packets;
+mod scene;
 mod signs;
 mod style;
 mod windows;

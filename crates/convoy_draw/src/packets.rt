@@ -5,33 +5,29 @@ ghost use Rattle.convoy_draw.specs.Layers.{IsToldIn};
 ghost use Rattle.convoy_picture.specs.Words.{flight_text};
 
 use super::layers::Layers;
+use super::scene::Scene;
 use super::style::{color_of, stroke_of};
 use convoy_explain::LastProposal;
 use convoy_packets::Packet;
-use convoy_picture::{Flight, Picture, Role, flight_words, receiver_of};
-use convoy_scenario::{Scenario, Sender};
-use convoy_sheet::{Sheet, lane_of};
+use convoy_picture::{Flight, Role, flight_words, receiver_of};
+use convoy_scenario::Sender;
+use convoy_sheet::lane_of;
 use std::alloc::{AllocError, Global};
 
 /// How a packet is drawn for which the delivery of the target waits.
 const THICK: &str = r#" stroke-width="40""#;
 
 /// The packets on their way from lane to lane: messages straight and solid, proposals bent and dashed.
-pub(crate) fn packets(
-    alloc: Global,
-    scenario: &Scenario,
-    picture: &Picture,
-    sheet: &Sheet,
-) -> Result<String, AllocError>
+pub(crate) fn packets(scene: &Scene) -> Result<String, AllocError>
     ensures { IfOk result (λ text.
-        All (λ flight. Tells (flight_text scenario.now flight) (string_bytes text)) picture.now.flights) }
+        All (λ flight. Tells (flight_text scene.now.scenario.now flight) (string_bytes text)) scene.now.picture.now.flights) }
 {
-    let layers = flight_layers(alloc, scenario, picture, sheet)?;
-    let count = picture.flights().len();
-    let others = attributes(alloc, Role::Other, count)?;
-    let holder = attributes(alloc, Role::Holder, count)?;
-    let target = attributes(alloc, Role::Target, count)?;
-    layers.joined(alloc, &others, &holder, &target)
+    let layers = flight_layers(scene)?;
+    let count = scene.picture.flights().len();
+    let others = attributes(scene.alloc, Role::Other, count)?;
+    let holder = attributes(scene.alloc, Role::Holder, count)?;
+    let target = attributes(scene.alloc, Role::Target, count)?;
+    layers.joined(scene.alloc, &others, &holder, &target)
 }
 
 /// How the packets of a role are drawn among so many.
@@ -41,64 +37,49 @@ fn attributes(alloc: Global, role: Role, count: usize) -> Result<String, AllocEr
 }
 
 /// The packets, those of each role in a layer.
-fn flight_layers(
-    alloc: Global,
-    scenario: &Scenario,
-    picture: &Picture,
-    sheet: &Sheet,
-) -> Result<Layers, AllocError>
+fn flight_layers(scene: &Scene) -> Result<Layers, AllocError>
     ensures { IfOk result (λ layers.
-        All (λ flight. IsToldIn layers (flight_text scenario.now flight)) picture.now.flights) }
+        All (λ flight. IsToldIn layers (flight_text scene.now.scenario.now flight)) scene.now.picture.now.flights) }
 {
-    let mut layers = Layers::new(alloc);
-    for flight in picture.flights() {
-        push_flight(&mut layers, alloc, scenario, picture, sheet, flight)?;
+    let mut layers = Layers::new(scene.alloc);
+    for flight in scene.picture.flights() {
+        push_flight(&mut layers, scene, flight)?;
     }
     Ok(layers)
 }
 
 /// Puts a packet into the layer of its message.
-fn push_flight(
-    layers: &mut Layers,
-    alloc: Global,
-    scenario: &Scenario,
-    picture: &Picture,
-    sheet: &Sheet,
-    flight: &Flight,
-) -> Result<(), AllocError>
-    ensures told { OnOk result (IsToldIn layers.new (flight_text scenario.now flight.now)) }
+fn push_flight(layers: &mut Layers, scene: &Scene, flight: &Flight) -> Result<(), AllocError>
+    ensures told { OnOk result (IsToldIn layers.new (flight_text scene.now.scenario.now flight.now)) }
     ensures still { OnOk result ((piece : List ℕ) → IsToldIn layers.old piece → IsToldIn layers.new piece) }
 {
-    let told = flight_words(alloc, scenario, flight)?;
-    let drawn = line(alloc, sheet, &picture.why().last, flight)?;
-    let role = Role::of(scenario, picture, message_of(flight.packet));
+    let told = flight_words(scene.alloc, scene.scenario, flight)?;
+    let drawn = line(scene, &scene.picture.why().last, flight)?;
+    let role = scene.role_of(message_of(flight.packet));
     layers.push_telling(role, &told, &drawn)
 }
 
 /// The line of a packet; thick where the delivery of the target waits for it.
-fn line(
-    alloc: Global,
-    sheet: &Sheet,
-    last: &LastProposal,
-    flight: &Flight,
-) -> Result<String, AllocError> {
+fn line(scene: &Scene, last: &LastProposal, flight: &Flight) -> Result<String, AllocError> {
     let message = message_of(flight.packet);
     let (left, from) = (
-        sheet.scale.place(flight.sent, message),
-        sheet.y_of(lane_of(flight.from)),
+        scene.sheet.scale.place(flight.sent, message),
+        scene.sheet.y_of(lane_of(flight.from)),
     );
     let (right, to) = (
-        sheet.scale.place(flight.arrival, message),
-        sheet.y_of(lane_of(Sender::Group(receiver_of(flight.packet)))),
+        scene.sheet.scale.place(flight.arrival, message),
+        scene
+            .sheet
+            .y_of(lane_of(Sender::Group(receiver_of(flight.packet)))),
     );
     let width = width_for(last, flight.number);
     match flight.packet {
         // A wait goes nowhere, and no picture has a flight of one.
-        Packet::Wait { .. } => Ok(String::new(alloc)),
+        Packet::Wait { .. } => Ok(String::new(scene.alloc)),
         Packet::Multicast { .. } => {
-            format!(in alloc; r#"<path d="M{left} {from}L{right} {to}"{width}/>"#)
+            format!(in scene.alloc; r#"<path d="M{left} {from}L{right} {to}"{width}/>"#)
         }
-        Packet::Propose { .. } => bent_line(alloc, (left, from), (right, to), width),
+        Packet::Propose { .. } => bent_line(scene.alloc, (left, from), (right, to), width),
     }
 }
 

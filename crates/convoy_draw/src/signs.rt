@@ -5,11 +5,11 @@ ghost use Rattle.convoy_draw.specs.Layers.{IsToldIn};
 ghost use Rattle.convoy_picture.specs.Words.{entry_text};
 
 use super::layers::Layers;
-use convoy_picture::{Picture, Role, entry_words};
-use convoy_scenario::Scenario;
+use super::scene::Scene;
+use convoy_picture::{Role, entry_words};
 use convoy_sheet::{
-    GAP, Mark, MarkKind, Sheet, entry_label, entry_mark, is_turned, issue_label, issue_mark,
-    wait_label, wait_mark,
+    GAP, Mark, MarkKind, entry_label, entry_mark, is_turned, issue_label, issue_mark, wait_label,
+    wait_mark,
 };
 use convoy_timeline::Entry;
 use std::alloc::{AllocError, Global};
@@ -18,21 +18,16 @@ use std::alloc::{AllocError, Global};
 pub(crate) const WAIT_COLOR: &str = "#f0c000";
 
 /// The signs of all marks, each with a line to its words.
-pub(crate) fn signs(
-    alloc: Global,
-    scenario: &Scenario,
-    picture: &Picture,
-    sheet: &Sheet,
-) -> Result<String, AllocError>
+pub(crate) fn signs(scene: &Scene) -> Result<String, AllocError>
     ensures { IfOk result (λ text.
-        All (λ entry. Tells (entry_text scenario.now entry) (string_bytes text)) picture.now.entries) }
+        All (λ entry. Tells (entry_text scene.now.scenario.now entry) (string_bytes text)) scene.now.picture.now.entries) }
 {
-    let mut layers = Layers::new(alloc);
-    push_issue_signs(&mut layers, alloc, scenario, picture, sheet)?;
-    push_wait_sign(&mut layers, alloc, scenario, picture, sheet)?;
-    push_entry_signs(&mut layers, alloc, scenario, picture, sheet)?;
+    let mut layers = Layers::new(scene.alloc);
+    push_issue_signs(&mut layers, scene)?;
+    push_wait_sign(&mut layers, scene)?;
+    push_entry_signs(&mut layers, scene)?;
     layers.joined(
-        alloc,
+        scene.alloc,
         r##"fill="#767676" stroke="#767676" stroke-width="6""##,
         r##"fill="#d55e00" stroke="#d55e00" stroke-width="6""##,
         r##"fill="#0072b2" stroke="#0072b2" stroke-width="6""##,
@@ -40,18 +35,12 @@ pub(crate) fn signs(
 }
 
 /// The signs of what happens at groups.
-fn push_entry_signs(
-    layers: &mut Layers,
-    alloc: Global,
-    scenario: &Scenario,
-    picture: &Picture,
-    sheet: &Sheet,
-) -> Result<(), AllocError>
+fn push_entry_signs(layers: &mut Layers, scene: &Scene) -> Result<(), AllocError>
     ensures { OnOk result
-        (All (λ entry. IsToldIn layers.new (entry_text scenario.now entry)) picture.now.entries) }
+        (All (λ entry. IsToldIn layers.new (entry_text scene.now.scenario.now entry)) scene.now.picture.now.entries) }
 {
-    for (i, entry) in picture.entries().iter().enumerate() {
-        push_entry_sign(layers, alloc, scenario, picture, sheet, i, entry)?;
+    for (i, entry) in scene.picture.entries().iter().enumerate() {
+        push_entry_sign(layers, scene, i, entry)?;
     }
     Ok(())
 }
@@ -59,49 +48,34 @@ fn push_entry_signs(
 /// The sign of what happens at a group, the entry of that number in the picture.
 fn push_entry_sign(
     layers: &mut Layers,
-    alloc: Global,
-    scenario: &Scenario,
-    picture: &Picture,
-    sheet: &Sheet,
+    scene: &Scene,
     number: usize,
     entry: &Entry,
 ) -> Result<(), AllocError>
-    ensures told { OnOk result (IsToldIn layers.new (entry_text scenario.now entry.now)) }
+    ensures told { OnOk result (IsToldIn layers.new (entry_text scene.now.scenario.now entry.now)) }
     ensures still { OnOk result ((piece : List ℕ) → IsToldIn layers.old piece → IsToldIn layers.new piece) }
 {
-    let told = entry_words(alloc, scenario, entry)?;
-    let drawn = sign_at(alloc, sheet, &entry_mark(entry), sheet.entry_row(number))?;
-    let role = Role::of(scenario, picture, entry.message);
+    let told = entry_words(scene.alloc, scene.scenario, entry)?;
+    let drawn = sign_at(scene, &entry_mark(entry), scene.sheet.entry_row(number))?;
+    let role = scene.role_of(entry.message);
     layers.push_telling(role, &told, &drawn)
 }
 
 /// The signs of messages where they are issued.
-fn push_issue_signs(
-    layers: &mut Layers,
-    alloc: Global,
-    scenario: &Scenario,
-    picture: &Picture,
-    sheet: &Sheet,
-) -> Result<(), AllocError> {
-    for message in 0..scenario.message_count() {
-        let mark = issue_mark(scenario, picture, message);
-        let drawn = sign_at(alloc, sheet, &mark, sheet.issue_row(message))?;
-        layers.push(Role::of(scenario, picture, message), &drawn)?;
+fn push_issue_signs(layers: &mut Layers, scene: &Scene) -> Result<(), AllocError> {
+    for message in 0..scene.scenario.message_count() {
+        let mark = issue_mark(scene.scenario, scene.picture, message);
+        let drawn = sign_at(scene, &mark, scene.sheet.issue_row(message))?;
+        layers.push(scene.role_of(message), &drawn)?;
     }
     Ok(())
 }
 
 /// The sign at the words that tell how long the target waits.
-fn push_wait_sign(
-    layers: &mut Layers,
-    alloc: Global,
-    scenario: &Scenario,
-    picture: &Picture,
-    sheet: &Sheet,
-) -> Result<(), AllocError> {
-    match wait_mark(scenario, picture) {
+fn push_wait_sign(layers: &mut Layers, scene: &Scene) -> Result<(), AllocError> {
+    match wait_mark(scene.scenario, scene.picture) {
         Some(mark) => {
-            let drawn = sign_at(alloc, sheet, &mark, sheet.wait_row())?;
+            let drawn = sign_at(scene, &mark, scene.sheet.wait_row())?;
             layers.push(Role::Target, &drawn)
         }
         None => Ok(()),
@@ -109,20 +83,15 @@ fn push_wait_sign(
 }
 
 /// The sign of a mark: at its words below the lane, or else on the lane, with a line to its words.
-fn sign_at(
-    alloc: Global,
-    sheet: &Sheet,
-    mark: &Mark,
-    row: Option<usize>,
-) -> Result<String, AllocError> {
-    let (x, lane) = (sheet.x_of(mark), sheet.y_of(mark.lane));
+fn sign_at(scene: &Scene, mark: &Mark, row: Option<usize>) -> Result<String, AllocError> {
+    let (x, lane) = (scene.sheet.x_of(mark), scene.sheet.y_of(mark.lane));
     let Some(row) = row else {
-        return sign(alloc, mark.kind, x, lane);
+        return sign(scene.alloc, mark.kind, x, lane);
     };
-    let end = sheet.row_of(mark, row).saturating_sub(40);
+    let end = scene.sheet.row_of(mark, row).saturating_sub(40);
     let y = if mark.kind.is_above() { lane } else { end };
-    let sign = sign(alloc, mark.kind, x, y)?;
-    format!(in alloc; r#"<path d="M{x} {lane}V{end}" stroke-opacity="0.5"/>{sign}"#)
+    let sign = sign(scene.alloc, mark.kind, x, y)?;
+    format!(in scene.alloc; r#"<path d="M{x} {lane}V{end}" stroke-opacity="0.5"/>{sign}"#)
 }
 
 /// The sign of a kind of mark.
@@ -156,93 +125,69 @@ pub(crate) fn sign(
 }
 
 /// The words beside all marks.
-pub(crate) fn labels(
-    alloc: Global,
-    scenario: &Scenario,
-    picture: &Picture,
-    sheet: &Sheet,
-) -> Result<String, AllocError> {
-    let mut layers = Layers::new(alloc);
-    push_issue_labels(&mut layers, alloc, scenario, picture, sheet)?;
-    push_entry_labels(&mut layers, alloc, scenario, picture, sheet)?;
-    push_wait_label(&mut layers, alloc, scenario, picture, sheet)?;
+pub(crate) fn labels(scene: &Scene) -> Result<String, AllocError> {
+    let mut layers = Layers::new(scene.alloc);
+    push_issue_labels(&mut layers, scene)?;
+    push_entry_labels(&mut layers, scene)?;
+    push_wait_label(&mut layers, scene)?;
     let text = layers.joined(
-        alloc,
+        scene.alloc,
         r##"fill="#767676""##,
         r##"fill="#d55e00""##,
         r##"fill="#0072b2""##,
     )?;
-    format!(in alloc;
+    format!(in scene.alloc;
         r##"<g stroke="#ffffff" stroke-width="36" stroke-linejoin="round" paint-order="stroke">{text}</g>"##
     )
 }
 
 /// The words on messages where they are issued.
-fn push_issue_labels(
-    layers: &mut Layers,
-    alloc: Global,
-    scenario: &Scenario,
-    picture: &Picture,
-    sheet: &Sheet,
-) -> Result<(), AllocError> {
-    for message in 0..scenario.message_count() {
-        let label = issue_label(alloc, scenario, message)?;
-        let mark = issue_mark(scenario, picture, message);
-        let words = words_at(alloc, sheet, &mark, sheet.issue_row(message), &label)?;
-        layers.push(Role::of(scenario, picture, message), &words)?;
+fn push_issue_labels(layers: &mut Layers, scene: &Scene) -> Result<(), AllocError> {
+    for message in 0..scene.scenario.message_count() {
+        let label = issue_label(scene.alloc, scene.scenario, message)?;
+        let mark = issue_mark(scene.scenario, scene.picture, message);
+        let words = words_at(scene, &mark, scene.sheet.issue_row(message), &label)?;
+        layers.push(scene.role_of(message), &words)?;
     }
     Ok(())
 }
 
 /// The words that tell how long the target waits.
-fn push_wait_label(
-    layers: &mut Layers,
-    alloc: Global,
-    scenario: &Scenario,
-    picture: &Picture,
-    sheet: &Sheet,
-) -> Result<(), AllocError> {
-    let Some(mark) = wait_mark(scenario, picture) else {
+fn push_wait_label(layers: &mut Layers, scene: &Scene) -> Result<(), AllocError> {
+    let Some(mark) = wait_mark(scene.scenario, scene.picture) else {
         return Ok(());
     };
-    let label = wait_label(alloc, scenario, picture)?;
-    let words = words_at(alloc, sheet, &mark, sheet.wait_row(), &label)?;
+    let label = wait_label(scene.alloc, scene.scenario, scene.picture)?;
+    let words = words_at(scene, &mark, scene.sheet.wait_row(), &label)?;
     layers.push(Role::Target, &words)
 }
 
 /// The words on what happens at groups.
-fn push_entry_labels(
-    layers: &mut Layers,
-    alloc: Global,
-    scenario: &Scenario,
-    picture: &Picture,
-    sheet: &Sheet,
-) -> Result<(), AllocError> {
-    for (i, entry) in picture.entries().iter().enumerate() {
-        let label = entry_label(alloc, scenario, entry)?;
-        let words = words_at(alloc, sheet, &entry_mark(entry), sheet.entry_row(i), &label)?;
-        layers.push(Role::of(scenario, picture, entry.message), &words)?;
+fn push_entry_labels(layers: &mut Layers, scene: &Scene) -> Result<(), AllocError> {
+    for (i, entry) in scene.picture.entries().iter().enumerate() {
+        let label = entry_label(scene.alloc, scene.scenario, entry)?;
+        let words = words_at(scene, &entry_mark(entry), scene.sheet.entry_row(i), &label)?;
+        layers.push(scene.role_of(entry.message), &words)?;
     }
     Ok(())
 }
 
 /// The words beside a mark in a row, if they have one.
 fn words_at(
-    alloc: Global,
-    sheet: &Sheet,
+    scene: &Scene,
     mark: &Mark,
     row: Option<usize>,
     label: &str,
 ) -> Result<String, AllocError> {
     let Some(row) = row else {
-        return Ok(String::new(alloc));
+        return Ok(String::new(scene.alloc));
     };
-    let (x, y) = (sheet.x_of(mark), sheet.row_of(mark, row));
+    let (x, y) = (scene.sheet.x_of(mark), scene.sheet.row_of(mark, row));
     if is_turned(x, label) {
         let end = x.saturating_sub(GAP);
-        format!(in alloc; "<text x=\"{end}\" y=\"{y}\" text-anchor=\"end\">{label}</text>\n")
+        format!(in scene.alloc; "<text x=\"{end}\" y=\"{y}\" text-anchor=\"end\">{label}</text>\n")
     } else {
         let start = x.saturating_add(GAP);
-        format!(in alloc; "<text x=\"{start}\" y=\"{y}\">{label}</text>\n")
+        format!(in scene.alloc; "<text x=\"{start}\" y=\"{y}\">{label}</text>\n")
     }
 }

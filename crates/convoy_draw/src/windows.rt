@@ -4,61 +4,45 @@ ghost use Rattle.convoy_explain.specs.Explanations.{window_text};
 ghost use Rattle.convoy_draw.specs.Drawings.{Tells, TellsWindows};
 
 use super::layers::element;
+use super::scene::Scene;
 use super::style::{BAR, color_of};
 use convoy_explain::{may_wait, window, window_text};
-use convoy_picture::{Picture, Role};
-use convoy_scenario::Scenario;
-use convoy_sheet::{Sheet, issue_mark};
+use convoy_sheet::issue_mark;
 use std::alloc::{AllocError, Global};
 
 /// The bars of messages that may wait, from the first to the last tick at which each may be issued.
-pub(crate) fn windows(
-    alloc: Global,
-    scenario: &Scenario,
-    picture: &Picture,
-    sheet: &Sheet,
-) -> Result<String, AllocError>
-    ensures { IfOk result (λ text. TellsWindows scenario.now (string_bytes text)) }
+pub(crate) fn windows(scene: &Scene) -> Result<String, AllocError>
+    ensures { IfOk result (λ text. TellsWindows scene.now.scenario.now (string_bytes text)) }
 {
-    let mut text = String::new(alloc);
-    for message in 0..scenario.message_count() {
-        let bar = bar_of(alloc, scenario, picture, sheet, message)?;
+    let mut text = String::new(scene.alloc);
+    for message in 0..scene.scenario.message_count() {
+        let bar = bar_of(scene, message)?;
         text.push_str(&bar)?;
     }
     Ok(text)
 }
 
 /// The bar of a message, with its words; nothing where the message does not wait.
-fn bar_of(
-    alloc: Global,
-    scenario: &Scenario,
-    picture: &Picture,
-    sheet: &Sheet,
-    message: usize,
-) -> Result<String, AllocError>
-    ensures { IfOk result (λ text. IsTrue (may_wait (message_at scenario.now message))
-        → Tells (window_text scenario.now message) (string_bytes text)) }
+fn bar_of(scene: &Scene, message: usize) -> Result<String, AllocError>
+    ensures { IfOk result (λ text. IsTrue (may_wait (message_at scene.now.scenario.now message))
+        → Tells (window_text scene.now.scenario.now message) (string_bytes text)) }
 {
-    if !may_wait(scenario, message) {
-        return Ok(String::new(alloc));
+    if !may_wait(scene.scenario, message) {
+        return Ok(String::new(scene.alloc));
     }
-    let told = window_text(alloc, scenario, message)?;
-    let drawn = bar(alloc, scenario, picture, sheet, message)?;
-    element(alloc, &told, &drawn)
+    let told = window_text(scene.alloc, scene.scenario, message)?;
+    let drawn = bar(scene, message)?;
+    element(scene.alloc, &told, &drawn)
 }
 
 /// A bar on the lane of the place that issues a message.
-fn bar(
-    alloc: Global,
-    scenario: &Scenario,
-    picture: &Picture,
-    sheet: &Sheet,
-    message: usize,
-) -> Result<String, AllocError> {
-    let (first, last) = window(scenario, message);
-    let left = sheet.scale.place(first, message);
-    let right = sheet.scale.place(last, message);
-    let down = sheet.y_of(issue_mark(scenario, picture, message).lane);
-    let color = color_of(Role::of(scenario, picture, message));
-    format!(in alloc; r#"<path d="M{left} {down}H{right}" stroke="{color}" {BAR}/>"#)
+fn bar(scene: &Scene, message: usize) -> Result<String, AllocError> {
+    let (first, last) = window(scene.scenario, message);
+    let left = scene.sheet.scale.place(first, message);
+    let right = scene.sheet.scale.place(last, message);
+    let down = scene
+        .sheet
+        .y_of(issue_mark(scene.scenario, scene.picture, message).lane);
+    let color = color_of(scene.role_of(message));
+    format!(in scene.alloc; r#"<path d="M{left} {down}H{right}" stroke="{color}" {BAR}/>"#)
 }

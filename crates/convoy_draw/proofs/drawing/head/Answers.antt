@@ -7,7 +7,7 @@ use Rattle.convoy_draw.proofs.drawing.head.Goals as goal
 
 pub returns : goal.returns
 returns c =
-    let answer = answer_text c.args.scenario.now c.args.picture.now.why in
+    let answer = answer_text c.args.scene.now.scenario.now c.args.scene.now.picture.now.why in
     let start = string_bytes c.in_ok-start.start in
     let heading = string_bytes c.in_ok-heading.heading in
     let whole : IfOk c.format.result (λ text. string_bytes text ≡ start ++ (codes "<title>" ++ (answer ++ (codes "</title>" ++ heading)))) = search rules in

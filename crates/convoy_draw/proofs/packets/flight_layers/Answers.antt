@@ -10,10 +10,10 @@ loop-flight-preserved c =
     let flights = c.flights-flight-items.result.now in
     let i = c.loop-flight.flight-index in
     let within : i < length flights = omega arith in
-    All-more (λ flight. IsToldIn c.push_flight.new.layers (flight_text c.args.scenario.now flight)) flights i _ within
-    (All-weaker (λ flight. IsToldIn c.loop-flight.layers (flight_text c.args.scenario.now flight))
-    (λ flight. IsToldIn c.push_flight.new.layers (flight_text c.args.scenario.now flight))
-    (λ flight told. c.in_ok-push_flight.ensures.still (flight_text c.args.scenario.now flight) told) (take i flights) c.loop-flight.invariant)
+    All-more (λ flight. IsToldIn c.push_flight.new.layers (flight_text c.args.scene.now.scenario.now flight)) flights i _ within
+    (All-weaker (λ flight. IsToldIn c.loop-flight.layers (flight_text c.args.scene.now.scenario.now flight))
+    (λ flight. IsToldIn c.push_flight.new.layers (flight_text c.args.scene.now.scenario.now flight))
+    (λ flight told. c.in_ok-push_flight.ensures.still (flight_text c.args.scene.now.scenario.now flight) told) (take i flights) c.loop-flight.invariant)
     c.in_ok-push_flight.ensures.told
 
 pub returns : goal.returns

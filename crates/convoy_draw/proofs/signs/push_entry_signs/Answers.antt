@@ -10,10 +10,10 @@ loop-i-preserved c =
     let entries = c.entries-entry-items.result.now in
     let i = c.loop-i.i in
     let within : i < length entries = omega arith in
-    All-more (λ entry. IsToldIn c.push_entry_sign.new.layers (entry_text c.args.scenario.now entry)) entries i _ within
-    (All-weaker (λ entry. IsToldIn c.loop-i.layers (entry_text c.args.scenario.now entry))
-    (λ entry. IsToldIn c.push_entry_sign.new.layers (entry_text c.args.scenario.now entry))
-    (λ entry told. c.in_ok-push_entry_sign.ensures.still (entry_text c.args.scenario.now entry) told) (take i entries) c.loop-i.invariant)
+    All-more (λ entry. IsToldIn c.push_entry_sign.new.layers (entry_text c.args.scene.now.scenario.now entry)) entries i _ within
+    (All-weaker (λ entry. IsToldIn c.loop-i.layers (entry_text c.args.scene.now.scenario.now entry))
+    (λ entry. IsToldIn c.push_entry_sign.new.layers (entry_text c.args.scene.now.scenario.now entry))
+    (λ entry told. c.in_ok-push_entry_sign.ensures.still (entry_text c.args.scene.now.scenario.now entry) told) (take i entries) c.loop-i.invariant)
     c.in_ok-push_entry_sign.ensures.told
 
 pub returns : goal.returns

@@ -6,4 +6,4 @@ use Rattle.convoy_draw.proofs.signs.push_entry_signs.Given as goal
 
 -- the layers tell the entries so far
 abbrev pub invariant-loop-i : goal.invariant-loop-i
-invariant-loop-i l = All (λ entry. IsToldIn l.layers (entry_text l.scenario entry)) (take l.i l.entry-items)
+invariant-loop-i l = All (λ entry. IsToldIn l.layers (entry_text l.scene.scenario.now entry)) (take l.i l.entry-items)

@@ -17,7 +17,7 @@ one_more P n below here k less =
 
 pub loop-message-preserved : goal.loop-message-preserved
 loop-message-preserved c =
-    let plan = c.args.scenario.now in
+    let plan = c.args.scene.now.scenario.now in
     one_more (λ (m : ℕ). IsTrue (may_wait (message_at plan m)) → Tells (window_text plan m) (string_bytes c.push_str.new.self)) c.loop-message.message
     (λ m less waits. rw (c.in_ok-push_str.ensures.bytes) (tells_before _ (string_bytes c.loop-message.text) c.deref.result.now (c.loop-message.invariant m less waits)))
     (λ waits. rw (c.in_ok-push_str.ensures.bytes, c.deref.ensures) (tells_after _ (string_bytes c.loop-message.text) (string_bytes c.in_ok-bar.bar) (c.in_ok-bar.ensures waits)))

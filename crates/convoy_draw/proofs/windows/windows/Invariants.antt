@@ -7,4 +7,4 @@ use Rattle.convoy_draw.proofs.windows.windows.Given as goal
 -- the text tells of the messages so far
 abbrev pub invariant-loop-message : goal.invariant-loop-message
 invariant-loop-message l =
-    (m : ℕ) → m < l.message → IsTrue (may_wait (message_at l.scenario m)) → Tells (window_text l.scenario m) (string_bytes l.text)
+    (m : ℕ) → m < l.message → IsTrue (may_wait (message_at l.scene.scenario.now m)) → Tells (window_text l.scene.scenario.now m) (string_bytes l.text)
