@@ -1,12 +1,13 @@
 //! Each command but `batch`, with a text, and what it answers.
 
+use super::failing::{FailingSink, FailingSource};
 use super::texts::{
     BASE, CEILING_OF_BASE, CERTIFICATE_OF_BASE, CERTIFICATE_OF_SWAPPED, FIRST_OF_BASE,
     PACKETS_OF_BASE, TIED_IN_ORDER, TIMELINE_OF_BASE, WHY_BASE,
 };
 use convoy_commands::{
-    Asking, Command, DEFAULT_LIMIT, Direct, Done, Fault, Goal, MOST_TICKETS, NoGate, Options, Sink,
-    Source, Telling, run_search,
+    Asking, DEFAULT_LIMIT, Direct, Done, Fault, Goal, MOST_SIMULATIONS, MOST_TICKETS, MOST_WORKERS,
+    NoGate, Options, Telling, run_search,
 };
 use std::alloc::Global;
 use std::sync::Wait;
@@ -15,125 +16,124 @@ use std::thread::Threads;
 /// As many reads as each run here may make, unless a test says otherwise.
 pub(crate) const READS: u64 = 100_000;
 
-/// A command, with one worker where it searches.
-#[derive(Clone, Copy, Debug)]
+/// A command.
 pub(crate) enum Asked {
-    First,
-    Simulate,
-    Timeline,
-    Packets,
-    Check,
-    Explain,
-    Draw,
-    Analyse,
-    Latency,
-    Ceiling,
+    Direct(Direct),
+    /// A search by one worker, after so many simulations.
+    Search(Goal, u64),
 }
 
-/// A command is asked of a text, and answers this.
+/// A command is asked of a text, and answers this, or an image where that is empty.
 pub(crate) struct Case {
+    pub(crate) name: &'static str,
     pub(crate) asked: Asked,
     pub(crate) text: &'static str,
     pub(crate) told: &'static str,
 }
 
-pub(crate) const CASES: [Case; 11] = [
+pub(crate) const CASES: [Case; 12] = [
     Case {
-        asked: Asked::First,
+        name: "first",
+        asked: Asked::Direct(Direct::First),
         text: BASE,
         told: FIRST_OF_BASE,
     },
     Case {
-        asked: Asked::Simulate,
+        name: "simulate",
+        asked: Asked::Direct(Direct::Tell(Telling::Simulate)),
         text: BASE,
         told: "latency 2\nschedule 1 1 1 1 1 1 1 1\n",
     },
     Case {
-        asked: Asked::Simulate,
+        name: "simulate in an order",
+        asked: Asked::Direct(Direct::Tell(Telling::Simulate)),
         text: TIED_IN_ORDER,
         told: "latency 4\nschedule 1 1 1 1 1 1 1 1\norder 0 0 1 0 0 0 0 0 0 0\n",
     },
     Case {
-        asked: Asked::Timeline,
+        name: "timeline",
+        asked: Asked::Direct(Direct::Tell(Telling::Timeline)),
         text: BASE,
         told: TIMELINE_OF_BASE,
     },
     Case {
-        asked: Asked::Packets,
+        name: "packets",
+        asked: Asked::Direct(Direct::Tell(Telling::Packets)),
         text: BASE,
         told: PACKETS_OF_BASE,
     },
     Case {
-        asked: Asked::Latency,
+        name: "latency",
+        asked: Asked::Search(Goal::Latency, 100),
         text: BASE,
         told: "greatest 12\n",
     },
     Case {
-        asked: Asked::Ceiling,
+        name: "ceiling",
+        asked: Asked::Direct(Direct::Ceiling(100)),
         text: BASE,
         told: CEILING_OF_BASE,
     },
     Case {
-        asked: Asked::Analyse,
+        name: "analyse",
+        asked: Asked::Search(Goal::Certificate, 0),
         text: BASE,
         told: CERTIFICATE_OF_BASE,
     },
     Case {
-        asked: Asked::Check,
+        name: "check",
+        asked: Asked::Direct(Direct::Ask(Asking::Check)),
         text: CERTIFICATE_OF_BASE,
         told: "accepted 12\n",
     },
     Case {
-        asked: Asked::Check,
+        name: "check and refuse",
+        asked: Asked::Direct(Direct::Ask(Asking::Check)),
         text: CERTIFICATE_OF_SWAPPED,
         told: "refused 26 bound leaf 0 bound 12\n",
     },
     Case {
-        asked: Asked::Explain,
+        name: "explain",
+        asked: Asked::Direct(Direct::Ask(Asking::Explain)),
         text: CERTIFICATE_OF_BASE,
         told: WHY_BASE,
     },
+    Case {
+        name: "draw",
+        asked: Asked::Direct(Direct::Ask(Asking::Draw)),
+        text: CERTIFICATE_OF_BASE,
+        told: "",
+    },
 ];
 
-/// Options of one worker, with at least one ticket and no more than there may be.
-pub(crate) fn options(limit: u64, reads: u64) -> Options {
-    match Options::new(1, limit.clamp(1, MOST_TICKETS), reads) {
+/// Options of so many workers and tickets, at least one of each and no more than there may be.
+pub(crate) fn options(workers: u32, limit: u64, reads: u64) -> Options {
+    match Options::new(
+        workers.clamp(1, MOST_WORKERS),
+        limit.clamp(1, MOST_TICKETS),
+        reads,
+    ) {
         Some(options) => options,
         None => unreachable!(),
     }
 }
 
-/// The command, where a search makes so many reads at most.
-fn command_of(asked: Asked, reads: u64) -> Command {
-    match asked {
-        Asked::First => Command::Direct(Direct::First),
-        Asked::Simulate => Command::Direct(Direct::Tell(Telling::Simulate)),
-        Asked::Timeline => Command::Direct(Direct::Tell(Telling::Timeline)),
-        Asked::Packets => Command::Direct(Direct::Tell(Telling::Packets)),
-        Asked::Check => Command::Direct(Direct::Ask(Asking::Check)),
-        Asked::Explain => Command::Direct(Direct::Ask(Asking::Explain)),
-        Asked::Draw => Command::Direct(Direct::Ask(Asking::Draw)),
-        Asked::Ceiling => Command::Direct(Direct::Ceiling(100)),
-        Asked::Analyse => Command::Search(Goal::Certificate, options(DEFAULT_LIMIT, reads)),
-        Asked::Latency => {
-            Command::Search(Goal::Latency, options(DEFAULT_LIMIT, reads).seeking(100))
-        }
-    }
-}
-
-/// A run of a command.
-pub(crate) fn run<R: Threads + Wait + Sync, S: Source, K: Sink>(
+/// A run of a command in at most so many reads.
+pub(crate) fn run<R: Threads + Wait + Sync>(
     rt: &R,
     alloc: Global,
-    asked: Asked,
-    source: &mut S,
-    sink: &mut K,
+    asked: &Asked,
     reads: u64,
+    source: FailingSource,
+    sink: &mut FailingSink,
 ) -> Result<Done, Fault> {
-    match command_of(asked, reads) {
-        Command::Direct(command) => convoy_commands::run(alloc, command, source, sink, reads),
-        Command::Search(goal, options) => {
-            run_search(rt, alloc, goal, &options, source, sink, &NoGate)
+    let mut source = source;
+    match *asked {
+        Asked::Direct(command) => convoy_commands::run(alloc, command, &mut source, sink, reads),
+        Asked::Search(goal, simulations) => {
+            let options = options(1, DEFAULT_LIMIT, reads);
+            let options = options.seeking(simulations.min(MOST_SIMULATIONS));
+            run_search(rt, alloc, goal, &options, &mut source, sink, &NoGate)
         }
     }
 }

@@ -2,11 +2,14 @@
 
 use convoy_commands::{DeviceFailed, Sink, SliceSource, Source, VecSink};
 
+/// More reads or writes than are made.
+pub(crate) const ALL: usize = usize::MAX;
+
 /// A source in memory that fails once, after some reads; a further read would be good again.
 #[derive(Drop)]
 pub(crate) struct FailingSource<'a> {
     pub(crate) inner: SliceSource<'a>,
-    pub(crate) good: u64,
+    pub(crate) good: usize,
 }
 
 impl<'a> Source for FailingSource<'a> {
@@ -14,7 +17,7 @@ impl<'a> Source for FailingSource<'a> {
 
     fn read(&mut self, buffer: &mut [u8]) -> Result<usize, DeviceFailed> {
         if self.good == 0 {
-            self.good = u64::MAX;
+            self.good = usize::MAX;
             return Err(DeviceFailed);
         }
         self.good -= 1;

@@ -14,8 +14,6 @@ mod failing;
 #[cfg(test)]
 mod faults;
 #[cfg(test)]
-mod lengths;
-#[cfg(test)]
 mod texts;
 #[cfg(test)]
 mod watches;

@@ -1,114 +1,32 @@
 //! Texts, and what commands answer for them.
 
-/// x goes to b, t to both groups, and a sends y to both while t is on its way.
-pub(crate) const BASE: &str = "\
-delay = 3
-groups = [\"a\", \"b\"]
+pub(crate) use convoy_samples::BASE_TEXT as BASE;
+use convoy_samples::{certificate_text, scenario_text};
 
-[[multicast]]
-name = \"x\"
-to = [\"b\"]
-at = 0
-
-[[multicast]]
-name = \"t\"
-to = [\"a\", \"b\"]
-at = 0
-
-[[multicast]]
-name = \"y\"
-from = \"a\"
-to = [\"a\", \"b\"]
-at = 6
-
-[target]
-message = \"t\"
-group = \"a\"
-";
-
-/// The same with its groups the other way round.
-pub(crate) const SWAPPED: &str = "\
-delay = 3
-groups = [\"b\", \"a\"]
-
-[[multicast]]
-name = \"x\"
-to = [\"b\"]
-at = 0
-
-[[multicast]]
-name = \"t\"
-to = [\"a\", \"b\"]
-at = 0
-
-[[multicast]]
-name = \"y\"
-from = \"a\"
-to = [\"a\", \"b\"]
-at = 6
-
-[target]
-message = \"t\"
-group = \"a\"
-";
+/// The base with its groups the other way round.
+pub(crate) const SWAPPED: &str = scenario_text!(
+    "delay = 3\ngroups = [\"b\", \"a\"]\n",
+    "x" "" "[\"b\"]" 0,
+    "t" "" "[\"a\", \"b\"]" 0,
+    "y" "from = \"a\"\n" "[\"a\", \"b\"]" 6
+);
 
 /// In real time, where each packet takes a tick: t and x come to b at once, and x is first by the order.
-pub(crate) const TIED_IN_ORDER: &str = "\
-time = \"real\"
-order = [0, 0, 1, 0, 0, 0, 0, 0, 0, 0]
-delay = 1
-groups = [\"a\", \"b\"]
-
-[[multicast]]
-name = \"t\"
-to = [\"a\", \"b\"]
-at = 0
-
-[[multicast]]
-name = \"x\"
-to = [\"b\"]
-at = 0
-
-[[multicast]]
-name = \"y\"
-from = \"a\"
-to = [\"a\", \"b\"]
-at = 2
-
-[target]
-message = \"t\"
-group = \"a\"
-";
+pub(crate) const TIED_IN_ORDER: &str = scenario_text!(
+    "time = \"real\"\norder = [0, 0, 1, 0, 0, 0, 0, 0, 0, 0]\ndelay = 1\ngroups = [\"a\", \"b\"]\n",
+    "t" "" "[\"a\", \"b\"]" 0,
+    "x" "" "[\"b\"]" 0,
+    "y" "from = \"a\"\n" "[\"a\", \"b\"]" 2
+);
 
 /// The ceiling of the base scenario, and traffic that attains it: y comes to a as t is committed there, and x
 /// comes to b before t does.
-pub(crate) const CEILING_OF_BASE: &str = "\
-ceiling 12
-attained 12
-delay = 3
-groups = [\"a\", \"b\"]
-schedule = [3, 3, 3, 1, 3, 3, 3, 3]
-
-[[multicast]]
-name = \"y\"
-from = \"a\"
-to = [\"a\", \"b\"]
-at = 6
-
-[[multicast]]
-name = \"x\"
-to = [\"b\"]
-at = 2
-
-[[multicast]]
-name = \"t\"
-to = [\"a\", \"b\"]
-at = 0
-
-[target]
-message = \"t\"
-group = \"a\"
-";
+pub(crate) const CEILING_OF_BASE: &str = scenario_text!(
+    "ceiling 12\nattained 12\ndelay = 3\ngroups = [\"a\", \"b\"]\nschedule = [3, 3, 3, 1, 3, 3, 3, 3]\n",
+    "y" "from = \"a\"\n" "[\"a\", \"b\"]" 6,
+    "x" "" "[\"b\"]" 2,
+    "t" "" "[\"a\", \"b\"]" 0
+);
 
 /// What `first` writes for the base scenario.
 pub(crate) const FIRST_OF_BASE: &str = "attained 2\nschedule 1 1 1 1 1 1 1 1\n";
@@ -145,21 +63,25 @@ packet 7: proposal of y from b to a, 1 to 3 ticks
 ";
 
 /// What `analyse` writes for the base scenario.
-pub(crate) const CERTIFICATE_OF_BASE: &str = "\
-convoy 1
-delay 3
-groups a b
-multicast x client 0 b
-multicast t client 0 a b
-multicast y a 6 a b
-target t a
-latency 12
-schedule 3 3 3 3 3 3 3 3
-b
-end
-";
+pub(crate) const CERTIFICATE_OF_BASE: &str = certificate_text!(
+    "convoy 1\ndelay 3\n",
+    "a b",
+    "",
+    6,
+    "latency 12\nschedule 3 3 3 3 3 3 3 3\nb\nend\n"
+);
 
-/// What `explain` writes for that certificate.
+/// With the groups the other way round the greatest latency is less, and the bound of the root box is
+/// above it.
+pub(crate) const CERTIFICATE_OF_SWAPPED: &str = certificate_text!(
+    "convoy 1\ndelay 3\n",
+    "b a",
+    "",
+    6,
+    "latency 6\nschedule 3 3 3 3 3 3 3 3\nb\nend\n"
+);
+
+/// What `explain` writes for the certificate of the base.
 pub(crate) const WHY_BASE: &str = "\
 t at a: at worst 12 ticks, from its issue at tick 0 to its delivery at tick 12
 committed at a at tick 6 with stamp 2.b, given by b at tick 3, after x in a tie
@@ -168,68 +90,6 @@ y is committed at a at tick 12, when the last proposal comes:
   tick 6   a sends y to b, packet 5, 3 ticks
   tick 9   b proposes 3.b to a, packet 7, 3 ticks
 no schedule is worse: 1 node, checked
-";
-
-/// The base's certificate where b answers a in one tick.
-pub(crate) const CERTIFICATE_OF_LINKED: &str = "\
-convoy 2
-delay 3
-groups a b
-link b a 1 1
-multicast x client 0 b
-multicast t client 0 a b
-multicast y a 6 a b
-target t a
-latency 4
-schedule 3 3 3 3 1 3 3 1
-b
-end
-";
-
-/// With the groups the other way round the greatest latency is less, and the bound of the root box is
-/// above it.
-pub(crate) const CERTIFICATE_OF_SWAPPED: &str = "\
-convoy 1
-delay 3
-groups b a
-multicast x client 0 b
-multicast t client 0 b a
-multicast y a 6 b a
-target t a
-latency 6
-schedule 3 3 3 3 3 3 3 3
-b
-end
-";
-
-/// The same box, closed by its stamp bound.
-pub(crate) const STAMPS_OF_SWAPPED: &str = "\
-convoy 2
-delay 3
-groups b a
-multicast x client 0 b
-multicast t client 0 b a
-multicast y a 6 b a
-target t a
-latency 6
-schedule 3 3 3 3 3 3 3 3
-t
-end
-";
-
-/// The base, whose root box leads close for 12.
-pub(crate) const LEADS_OF_BASE: &str = "\
-convoy 3
-delay 3
-groups a b
-multicast x client 0 b
-multicast t client 0 a b
-multicast y a 6 a b
-target t a
-latency 12
-schedule 3 3 3 3 3 3 3 3
-c 12
-end
 ";
 
 /// A message that its one destination sends itself.
@@ -246,17 +106,4 @@ at = 0
 [target]
 message = \"m\"
 group = \"a\"
-";
-
-/// What `analyse` writes for the lone message.
-pub(crate) const CERTIFICATE_OF_LONE: &str = "\
-convoy 1
-delay 5
-groups a
-multicast m a 0 a
-target m a
-latency 0
-schedule
-b
-end
 ";

@@ -1,15 +1,11 @@
 //! What a search tells of itself to who watches it.
 
+use super::cases::options;
 use super::texts::{BASE, SWAPPED};
 use convoy_commands::{
-    Bounds, DEFAULT_LIMIT, Done, Duration, Gate, Goal, Options, SliceSource, VecSink, Watch,
-    run_search,
+    Bounds, DEFAULT_LIMIT, Done, Duration, Gate, Goal, SliceSource, VecSink, Watch, run_search,
 };
-use std::alloc::Global;
-use std::sync::Wait;
 use std::sync::atomic::{AtomicU32, AtomicU64, Ordering};
-use std::test::Fail;
-use std::thread::Threads;
 
 /// Keeps what it is told.
 #[derive(Drop)]
@@ -65,62 +61,55 @@ impl Watch for Seen {
     }
 }
 
-/// Asks for the latency of a scenario with so many workers and simulations, and answers how the
-/// command ended.
-fn watched<R: Threads + Wait + Sync>(
-    rt: &R,
-    alloc: Global,
-    text: &[u8],
-    options: Options,
-    seen: &Seen,
-) -> Option<Done> {
-    let mut sink = VecSink::new(alloc, 100);
-    run_search(
-        rt,
-        alloc,
-        Goal::Latency,
-        &options,
-        &mut SliceSource::new(text, 4_096),
-        &mut sink,
-        seen,
-    )
-    .ok()
-}
-
+/// Searches for a latency, and what is told of each: how often it began, its limit and bounds, how many branches it
+/// made, from and to, how often it ended, and the greatest latency. One that its first ticket ends does not begin.
 #[test]
-fn a_search_is_watched(rt: HostRuntime) -> Result<(), Fail> {
-    let alloc = rt.alloc();
-    for workers in 1..3 {
-        let Some(options) = Options::new(workers, 10, 100) else {
-            return Err("the options are lawful".into());
-        };
+fn searches(rt: HostRuntime) {
+    for (text, workers, limit, want, begun, told, branches, greatest) in [
+        (
+            SWAPPED,
+            1,
+            10,
+            Done::Open,
+            1,
+            (10, 6, 12),
+            (10, u64::MAX),
+            0,
+        ),
+        (
+            SWAPPED,
+            2,
+            10,
+            Done::Open,
+            1,
+            (10, 6, 12),
+            (10, u64::MAX),
+            0,
+        ),
+        (BASE, 1, DEFAULT_LIMIT, Done::Fine, 0, (0, 0, 0), (0, 0), 12),
+    ] {
         let seen = Seen::nothing();
-        let done = watched(&rt, alloc, SWAPPED.as_bytes(), options.seeking(100), &seen);
-        assert!(rt; done == Some(Done::Open));
-        assert!(rt; seen.begun.load(Ordering::Relaxed) == 1);
-        assert!(rt; seen.limit.load(Ordering::Relaxed) == 10);
-        assert!(rt; seen.least.load(Ordering::Relaxed) == 6);
-        assert!(rt; seen.most.load(Ordering::Relaxed) == 12);
-        assert!(rt; seen.branches.load(Ordering::Relaxed) >= 10);
+        let options = options(workers, limit, 100).seeking(100);
+        let mut source = SliceSource::new(text.as_bytes(), 4_096);
+        let mut sink = VecSink::new(rt.alloc(), 100);
+        let goal = Goal::Latency;
+        let done = run_search(
+            &rt,
+            rt.alloc(),
+            goal,
+            &options,
+            &mut source,
+            &mut sink,
+            &seen,
+        );
+        assert!(rt; done.ok() == Some(want));
+        assert!(rt; seen.begun.load(Ordering::Relaxed) == begun);
+        assert!(rt; seen.limit.load(Ordering::Relaxed) == told.0);
+        assert!(rt; seen.least.load(Ordering::Relaxed) == told.1);
+        assert!(rt; seen.most.load(Ordering::Relaxed) == told.2);
+        assert!(rt; seen.branches.load(Ordering::Relaxed) >= branches.0);
+        assert!(rt; seen.branches.load(Ordering::Relaxed) <= branches.1);
         assert!(rt; seen.ended.load(Ordering::Relaxed) == 1);
-        assert!(rt; seen.greatest.load(Ordering::Relaxed) == 0);
+        assert!(rt; seen.greatest.load(Ordering::Relaxed) == greatest);
     }
-    Ok(())
-}
-
-/// A search that its first ticket ends does not begin.
-#[test]
-fn one_ticket_is_not_watched(rt: HostRuntime) -> Result<(), Fail> {
-    let alloc = rt.alloc();
-    let Some(options) = Options::new(1, DEFAULT_LIMIT, 100) else {
-        return Err("the options are lawful".into());
-    };
-    let seen = Seen::nothing();
-    let done = watched(&rt, alloc, BASE.as_bytes(), options.seeking(100), &seen);
-    assert!(rt; done == Some(Done::Fine));
-    assert!(rt; seen.begun.load(Ordering::Relaxed) == 0);
-    assert!(rt; seen.branches.load(Ordering::Relaxed) == 0);
-    assert!(rt; seen.ended.load(Ordering::Relaxed) == 1);
-    assert!(rt; seen.greatest.load(Ordering::Relaxed) == 12);
-    Ok(())
 }

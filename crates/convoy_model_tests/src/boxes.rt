@@ -1,21 +1,13 @@
 //! Boxes of delays, and their plain bounds.
 
-ghost use Rattle.std.specs.Prelude.{◌≡◌, ◌<◌, length, IfOk};
-ghost use Rattle.convoy_scenario.specs.Scenario.{Scenario};
-ghost use Rattle.convoy_intervals.specs.Boxes.{IsBox};
+ghost use Rattle.std.specs.Prelude.{◌≡◌, IfOk};
 
-use super::scenarios::{base, base_at, swapped};
-use convoy_intervals::{DelayBox, Span, Tracked, bound};
+use convoy_intervals::{Span, Tracked, bound};
 use convoy_packets::Instance;
-use std::alloc::{AllocError, Global};
+use convoy_samples::{base, swapped};
+use std::alloc::Global;
 use std::process::Abort;
 use std::test::Fail;
-
-/// The bound of the whole box.
-fn root_bound(alloc: Global, instance: &Instance) -> Result<u32, AllocError> {
-    let root = DelayBox::root(alloc, instance)?;
-    Ok(bound(instance, &root))
-}
 
 /// The bounds of the halves of the whole box at a packet, which are those that a tracked box has.
 fn half_bounds(
@@ -26,9 +18,7 @@ fn half_bounds(
     at: u16,
 ) -> Result<(u32, u32), Fail> {
     let root = Tracked::root(alloc, instance)?;
-    assert!(rt; packet < root.delay_box().len());
-    let (least, most) = root.delay_box().range(packet);
-    assert!(rt; least <= at && at < most);
+    assert!(rt; root.delay_box().can_split(packet, at));
     match root.halves(instance, packet, at) {
         Ok((lower, upper)) => {
             assert!(rt; bound(instance, lower.delay_box()) == lower.bound());
@@ -40,88 +30,57 @@ fn half_bounds(
 }
 
 #[test]
-fn bounds_of_the_base(rt: HostRuntime) -> Result<(), Fail> {
-    let alloc = rt.alloc();
-    for (at, want) in [(5, 11), (6, 12), (7, 6)] {
-        let instance = base_at(alloc, at)?;
-        assert!(rt; root_bound(alloc, &instance)? == want, "y at {at}");
-    }
-    Ok(())
-}
-
-#[test]
 fn bounds_of_halves(rt: HostRuntime) -> Result<(), Fail> {
-    let alloc = rt.alloc();
-    let instance = base(alloc)?;
+    let instance = base(rt.alloc())?;
     for (packet, at, lower, upper) in [(4, 1, 4, 12), (4, 2, 5, 12), (7, 1, 10, 12)] {
-        let bounds = half_bounds(&rt, alloc, &instance, packet, at)?;
+        let bounds = half_bounds(&rt, rt.alloc(), &instance, packet, at)?;
         assert!(rt; bounds == (lower, upper), "packet {packet} at {at}");
     }
     Ok(())
 }
 
-/// The box with only the greatest delay of that packet.
-fn at_greatest(delay_box: DelayBox, packet: usize) -> Result<DelayBox, AllocError>
-    requires { packet < length delay_box }
-    ensures same_length { IfOk result (λ b. length b ≡ length delay_box) }
-    ensures is_box { IfOk result (λ b. (scenario : Scenario) → IsBox scenario delay_box → IsBox scenario b) }
+/// The box with only the greatest delay of each packet, where that is 3 for all.
+fn greatest_point(alloc: Global, instance: &Instance) -> Result<Tracked, Fail>
+    ensures { IfOk result (λ point. point.scenario ≡ instance.now) }
 {
-    let (least, most) = delay_box.range(packet);
-    if least == most {
-        return Ok(delay_box);
-    }
-    match delay_box.halves(packet, most - 1) {
-        Ok((_, upper)) => Ok(upper),
-        Err((_, error)) => Err(error),
-    }
-}
-
-/// The box with only the greatest delay of each packet.
-fn greatest_point(alloc: Global, instance: &Instance) -> Result<DelayBox, AllocError>
-    ensures { IfOk result (λ b. IsBox instance.now b) }
-{
-    let mut point = DelayBox::root(alloc, instance)?;
-    for packet in 0..point.len() {
-        point = at_greatest(point, packet)?;
+    let mut point = Tracked::root(alloc, instance)?;
+    for packet in 0..8 {
+        if point.delay_box().can_split(packet, 2) {
+            point = match point.halves(instance, packet, 2) {
+                Ok((_, upper)) => upper,
+                Err((_, error)) => return Err(error.into()),
+            };
+        }
     }
     Ok(point)
 }
 
+/// Asserts that a copy of the box is a point, with this schedule.
+fn is_point_of(
+    rt: &impl Abort,
+    alloc: Global,
+    point: &Tracked,
+    delays: &[u16],
+) -> Result<(), Fail> {
+    let copy = point.delay_box().copy()?;
+    assert!(rt; copy.is_point());
+    assert!(rt; copy.greatest(alloc)?.delays() == delays);
+    Ok(())
+}
+
 #[test]
-fn bound_of_a_point(rt: HostRuntime) -> Result<(), Fail> {
+fn point_of_the_greatest(rt: HostRuntime) -> Result<(), Fail> {
     let instance = swapped(rt.alloc())?;
     let point = greatest_point(rt.alloc(), &instance)?;
     assert!(rt; point.is_point());
-    assert!(rt; bound(&instance, &point) == 12);
-    Ok(())
-}
-
-#[test]
-fn root_is_no_point(rt: HostRuntime) -> Result<(), Fail> {
-    let root = DelayBox::root(rt.alloc(), &swapped(rt.alloc())?)?;
-    assert!(rt; !root.is_point());
-    Ok(())
-}
-
-/// A copy of the point with only the greatest delay of each packet.
-fn copied_point(alloc: Global) -> Result<DelayBox, Fail> {
-    Ok(greatest_point(alloc, &swapped(alloc)?)?.copy()?)
-}
-
-#[test]
-fn schedule_of_a_point(rt: HostRuntime) -> Result<(), Fail> {
-    let point = copied_point(rt.alloc())?;
-    assert!(rt; point.is_point());
-    let schedule = point.greatest(rt.alloc())?;
-    assert!(rt; schedule.delays() == [3, 3, 3, 3, 3, 3, 3, 3].as_slice());
-    Ok(())
+    assert!(rt; bound(&instance, point.delay_box()) == 12);
+    is_point_of(&rt, rt.alloc(), &point, &[3, 3, 3, 3, 3, 3, 3, 3])
 }
 
 #[test]
 fn spans_of_the_base(rt: HostRuntime) -> Result<(), Fail> {
-    let alloc = rt.alloc();
-    let instance = base(alloc)?;
-    let root = Tracked::root(alloc, &instance)?;
+    let instance = base(rt.alloc())?;
+    let root = Tracked::root(rt.alloc(), &instance)?;
     assert!(rt; 1 < instance.message_count() && 0 < instance.group_count());
     let target = Span {
         arrival: (1, 3),
@@ -129,6 +88,7 @@ fn spans_of_the_base(rt: HostRuntime) -> Result<(), Fail> {
     };
     assert!(rt; root.span(&instance, 1, 0) == target);
     assert!(rt; !root.is_point());
+    assert!(rt; !root.delay_box().is_point());
     assert!(rt; root.copy()?.bound() == 12);
     Ok(())
 }

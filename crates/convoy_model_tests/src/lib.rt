@@ -3,13 +3,13 @@
 #![tactic(auto)]
 
 #[cfg(test)]
+mod bounds;
+#[cfg(test)]
 mod boxes;
 #[cfg(test)]
 mod ceilings;
 #[cfg(test)]
 mod chains;
-#[cfg(test)]
-mod leads;
 #[cfg(test)]
 mod packets;
 #[cfg(test)]
@@ -17,13 +17,7 @@ mod pictures;
 #[cfg(test)]
 mod runs;
 #[cfg(test)]
-mod scenarios;
-#[cfg(test)]
-mod schedules;
-#[cfg(test)]
 mod seeking;
-#[cfg(test)]
-mod stamp_bounds;
 #[cfg(test)]
 mod timelines;
 #[cfg(test)]

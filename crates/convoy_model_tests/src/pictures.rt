@@ -1,12 +1,12 @@
 //! The picture of a worked row, and what is told of it.
 
-use super::scenarios::base;
-use super::schedules::greatest;
 use convoy_packets::{Instance, Packet};
 use convoy_picture::{Picture, Role, answer_words, entry_words, flight_words};
+use convoy_samples::{base, greatest};
 use convoy_scenario::{Scenario, Sender};
 use convoy_sim::simulate;
 use std::alloc::{AllocError, Global};
+use std::process::Abort;
 use std::test::Fail;
 
 /// The picture of a scenario under the greatest delays.
@@ -16,9 +16,40 @@ fn picture_of(alloc: Global, instance: &Instance) -> Result<Picture, AllocError>
     Picture::of(alloc, instance, &schedule, &run)
 }
 
+/// Asserts that the picture of the base is told in these words.
+fn is_told(
+    rt: &impl Abort,
+    alloc: Global,
+    scenario: &Scenario,
+    picture: &Picture,
+) -> Result<(), AllocError> {
+    let answer = answer_words(alloc, scenario, picture.why())?;
+    assert!(rt; answer.as_str() == "t at a: at worst 12 ticks");
+    for (number, want) in [
+        (
+            5,
+            "packet 5: y from a to b, sent at tick 6, there at tick 9",
+        ),
+        (
+            7,
+            "packet 7: proposal of y from b to a, sent at tick 9, there at tick 12",
+        ),
+    ] {
+        let flights = picture.flights();
+        assert!(rt; number < flights.len());
+        assert!(rt; flight_words(alloc, scenario, &flights[number])?.as_str() == want);
+    }
+    let entries = picture.entries();
+    assert!(rt; entries.len() == 15);
+    let first = entry_words(alloc, scenario, &entries[0])?;
+    assert!(rt; first.as_str() == "x arrives at b at tick 3 with stamp 1.b");
+    Ok(())
+}
+
 #[test]
-fn flights_of_base(rt: HostRuntime) -> Result<(), Fail> {
-    let picture = picture_of(rt.alloc(), &base(rt.alloc())?)?;
+fn picture_of_base(rt: HostRuntime) -> Result<(), Fail> {
+    let instance = base(rt.alloc())?;
+    let picture = picture_of(rt.alloc(), &instance)?;
     let flights = picture.flights();
     assert!(rt; flights.len() == 8);
     let message = flights[5];
@@ -37,80 +68,12 @@ fn flights_of_base(rt: HostRuntime) -> Result<(), Fail> {
     );
     assert!(rt; proposal.from == Sender::Group(1));
     assert!(rt; (proposal.sent, proposal.arrival) == (9, 12));
-    Ok(())
-}
-
-#[test]
-fn why_of_base(rt: HostRuntime) -> Result<(), Fail> {
-    let instance = base(rt.alloc())?;
-    let picture = picture_of(rt.alloc(), &instance)?;
     let why = picture.why();
     assert!(rt; (why.latency, why.committed, why.delivered) == (12, 6, 12));
-    assert!(rt; why.holder.map(|holder| holder.message) == Some(2));
-    assert!(rt; picture.entries().len() == 15);
+    assert!(rt; matches!(&why.holder, Some(holder) if holder.message == 2));
     for (message, role) in [(0, Role::Other), (1, Role::Target), (2, Role::Holder)] {
         assert!(rt; Role::of(instance.scenario(), &picture, message) == role);
     }
-    Ok(())
-}
-
-/// Whether the answer of a picture is told so.
-fn tells_answer(
-    alloc: Global,
-    scenario: &Scenario,
-    picture: &Picture,
-    want: &str,
-) -> Result<bool, AllocError> {
-    Ok(answer_words(alloc, scenario, picture.why())?.as_str() == want)
-}
-
-/// Whether the packet of that number in a picture is told so.
-fn tells_flight(
-    alloc: Global,
-    scenario: &Scenario,
-    picture: &Picture,
-    number: usize,
-    want: &str,
-) -> Result<bool, AllocError> {
-    match picture.flights().get(number) {
-        Some(flight) => Ok(flight_words(alloc, scenario, flight)?.as_str() == want),
-        None => Ok(false),
-    }
-}
-
-/// Whether the first of all that happens in a picture is told so.
-fn tells_first_entry(
-    alloc: Global,
-    scenario: &Scenario,
-    picture: &Picture,
-    want: &str,
-) -> Result<bool, AllocError> {
-    match picture.entries().first() {
-        Some(entry) => Ok(entry_words(alloc, scenario, entry)?.as_str() == want),
-        None => Ok(false),
-    }
-}
-
-#[test]
-fn words_of_base(rt: HostRuntime) -> Result<(), Fail> {
-    let alloc = rt.alloc();
-    let instance = base(alloc)?;
-    let scenario = instance.scenario();
-    let picture = picture_of(alloc, &instance)?;
-    assert!(rt; tells_answer(alloc, scenario, &picture, "t at a: at worst 12 ticks")?);
-    for (number, want) in [
-        (
-            5,
-            "packet 5: y from a to b, sent at tick 6, there at tick 9",
-        ),
-        (
-            7,
-            "packet 7: proposal of y from b to a, sent at tick 9, there at tick 12",
-        ),
-    ] {
-        assert!(rt; tells_flight(alloc, scenario, &picture, number, want)?);
-    }
-    let first = "x arrives at b at tick 3 with stamp 1.b";
-    assert!(rt; tells_first_entry(alloc, scenario, &picture, first)?);
+    is_told(&rt, rt.alloc(), instance.scenario(), &picture)?;
     Ok(())
 }

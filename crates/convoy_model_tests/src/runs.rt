@@ -2,42 +2,26 @@
 
 ghost use Rattle.convoy_packets.specs.Assignment.{IsAssignment};
 
-use super::scenarios::{base, base_at, base_with, instance_of, of_client, of_group, tied};
-use super::schedules::{given, least};
 use convoy_packets::{Instance, Order, Schedule};
+use convoy_samples::{
+    base, base_at, base_with, given, greatest, instance_of, least, of_client, of_group, tied,
+};
 use convoy_scenario::{MessageParts, ScenarioFault, Time};
-use convoy_sim::{Proposal, Record, Run, Timestamp, latency, simulate};
-use std::alloc::Global;
+use convoy_sim::{Proposal, Record, Timestamp, latency, simulate};
+use std::alloc::{AllocError, Global};
 use std::process::Abort;
 use std::test::Fail;
 
-/// The run of a scenario, once the call for the latency alone has found the same latency.
-fn run(
-    rt: &impl Abort,
-    alloc: Global,
-    instance: &Instance,
-    schedule: &Schedule,
-) -> Result<Run, Fail>
-    requires assignment { IsAssignment instance.now schedule.now }
-{
-    let run = simulate(alloc, instance, schedule)?;
-    assert!(rt; run.latency() == latency(instance, schedule));
-    Ok(run)
-}
-
-/// The run of a scenario under the schedule of least delays.
-fn least_run(rt: &impl Abort, alloc: Global, instance: &Instance) -> Result<Run, Fail> {
-    run(rt, alloc, instance, &least(alloc, instance)?)
-}
-
-/// The run of a scenario under a schedule.
-fn run_under(
-    rt: &impl Abort,
-    alloc: Global,
-    instance: &Instance,
-    delays: &[i64],
-) -> Result<Run, Fail> {
-    run(rt, alloc, instance, &given(alloc, instance, delays)?)
+/// A message from a client or a group to some groups alone.
+fn lone(alloc: Global, sender: Option<&str>, to: &[&str]) -> Result<Instance, ScenarioFault> {
+    let message = MessageParts {
+        name: "m",
+        sender,
+        to,
+        at: 7,
+        until: 7,
+    };
+    instance_of(alloc, 5, &["a", "b"], &[message], ("m", "a"))
 }
 
 /// x arrives at the group b after t where it takes two ticks or more.
@@ -50,73 +34,100 @@ fn overtaken(alloc: Global) -> Result<Instance, ScenarioFault> {
     instance_of(alloc, 3, &["a", "b"], &messages, ("t", "a"))
 }
 
-#[test]
-fn least_delays(rt: HostRuntime) -> Result<(), Fail> {
-    let alloc = rt.alloc();
-    assert!(rt; least_run(&rt, alloc, &base(alloc)?)?.latency() == 2);
-    // y arrives at the group a as t is committed there, and is committed there two ticks later.
-    let held_back = base_with(alloc, 1, &["a", "b"], 2)?;
-    assert!(rt; least_run(&rt, alloc, &held_back)?.latency() == 4);
-    // The stamp that b gives t is the less one now at equal times, so y is not before t.
-    let swapped = base_with(alloc, 1, &["b", "a"], 2)?;
-    assert!(rt; least_run(&rt, alloc, &swapped)?.latency() == 2);
-    Ok(())
+/// The latency of a scenario under a schedule, once the run has told the same.
+fn latency_told(
+    rt: &impl Abort,
+    alloc: Global,
+    instance: &Instance,
+    schedule: &Schedule,
+) -> Result<u32, AllocError>
+    requires assignment { IsAssignment instance.now schedule.now }
+{
+    let run = simulate(alloc, instance, schedule)?;
+    assert!(rt; run.latency() == latency(instance, schedule));
+    Ok(run.latency())
 }
 
-#[test]
-fn lone_message(rt: HostRuntime) -> Result<(), Fail> {
-    let alloc = rt.alloc();
-    for (sender, to, want) in [
-        (Some("a"), ["a"].as_slice(), 0),
-        (None, &["a"], 1),
-        (None, &["a", "b"], 2),
-    ] {
-        let message = MessageParts {
-            name: "m",
-            sender,
-            to,
-            at: 7,
-            until: 7,
-        };
-        let instance = instance_of(alloc, 5, &["a", "b"], &[message], ("m", "a"))?;
-        assert!(rt; least_run(&rt, alloc, &instance)?.latency() == want);
+/// The latency that is told under these delays, and in real time with ties in the order of these ranks.
+fn latency_under(
+    rt: &impl Abort,
+    alloc: Global,
+    instance: Result<Instance, ScenarioFault>,
+    delays: &[i64],
+    ranks: &[i64],
+) -> Result<u32, Fail> {
+    let instance = instance?;
+    let mut schedule = given(alloc, &instance, delays)?;
+    match instance.scenario().time() {
+        Time::Real => schedule.set_order(Order::from_list(alloc, instance.scenario(), ranks)?),
+        Time::Ticks => assert!(rt; ranks.is_empty(), "ties have an order"),
     }
-    Ok(())
+    Ok(latency_told(rt, alloc, &instance, &schedule)?)
 }
 
 #[test]
 fn base_under_schedules(rt: HostRuntime) -> Result<(), Fail> {
     let alloc = rt.alloc();
-    let most = [3, 3, 3, 3, 3, 3, 3, 3];
-    for (at, schedule, want) in [
-        (6, most, 12),
-        (5, most, 11),
-        (5, [3, 3, 1, 3, 1, 3, 3, 3], 3),
+    for (delay, groups, at, delays, want) in [
+        (3, ["a", "b"], 6, [1; 8], 2),
+        // y arrives at the group a as t is committed there, and is committed there two ticks later.
+        (1, ["a", "b"], 2, [1; 8], 4),
+        // The stamp that b gives t is the less one now at equal times, so y is not before t.
+        (1, ["b", "a"], 2, [1; 8], 2),
+        (3, ["a", "b"], 6, [3; 8], 12),
+        (3, ["a", "b"], 5, [3; 8], 11),
+        (3, ["a", "b"], 5, [3, 3, 1, 3, 1, 3, 3, 3], 3),
     ] {
-        let instance = base_at(alloc, at)?;
+        let instance = base_with(alloc, delay, &groups, at);
         assert!(rt;
-            run_under(&rt, alloc, &instance, &schedule)?.latency() == want,
-            "y at {at}"
+            latency_under(&rt, alloc, instance, &delays, &[])? == want,
+            "y at {at}, {want} ticks"
         );
     }
     Ok(())
 }
 
 #[test]
-fn overtaken_under_schedules(rt: HostRuntime) -> Result<(), Fail> {
-    let instance = overtaken(rt.alloc())?;
+fn others_under_schedules(rt: HostRuntime) -> Result<(), Fail> {
+    let alloc = rt.alloc();
+    for (sender, to, delays, want) in [
+        (Some("a"), ["a"].as_slice(), [].as_slice(), 0),
+        (None, &["a"], &[1], 1),
+        (None, &["a", "b"], &[1, 1, 1, 1], 2),
+    ] {
+        let found = latency_under(&rt, alloc, lone(alloc, sender, to), delays, &[])?;
+        assert!(rt; found == want, "{want} ticks");
+    }
     for (delay, want) in [(1, 11), (2, 6), (3, 6)] {
-        let schedule = [3, 3, 3, 3, delay, 3, 3, 3];
-        let run = run_under(&rt, rt.alloc(), &instance, &schedule)?;
-        assert!(rt; run.latency() == want, "x takes {delay}");
+        let delays = [3, 3, 3, 3, delay, 3, 3, 3];
+        let found = latency_under(&rt, alloc, overtaken(alloc), &delays, &[])?;
+        assert!(rt; found == want, "x takes {delay}");
+    }
+    Ok(())
+}
+
+#[test]
+fn ties_in_real_time(rt: HostRuntime) -> Result<(), Fail> {
+    let alloc = rt.alloc();
+    for (ranks, want) in [
+        ([0, 0, 0, 0, 0, 0, 0, 0, 0, 0], 2),
+        // t comes to b after x.
+        ([0, 0, 1, 0, 0, 0, 0, 0, 0, 0], 4),
+        ([0, 0, 255, 0, 254, 0, 0, 0, 0, 0], 4),
+        // And y comes to a after t is committed there.
+        ([0, 0, 1, 0, 0, 0, 1, 0, 0, 0], 2),
+        ([0, 1, 1, 0, 0, 0, 1, 0, 0, 0], 4),
+    ] {
+        let found = latency_under(&rt, alloc, tied(alloc), &[1; 8], &ranks)?;
+        assert!(rt; found == want, "{want} ticks");
     }
     Ok(())
 }
 
 #[test]
 fn base_as_told(rt: HostRuntime) -> Result<(), Fail> {
-    let alloc = rt.alloc();
-    let run = run_under(&rt, alloc, &base(alloc)?, &[3, 3, 3, 3, 3, 3, 3, 3])?;
+    let instance = base(rt.alloc())?;
+    let run = simulate(rt.alloc(), &instance, &greatest(rt.alloc(), &instance)?)?;
     let stamp = Timestamp { time: 2, group: 0 };
     assert!(rt; run.proposed(2, 0) == Some(Proposal { tick: 6, stamp }));
     assert!(rt; run.final_stamp(1) == Some(Timestamp { time: 2, group: 1 }));
@@ -129,47 +140,10 @@ fn base_as_told(rt: HostRuntime) -> Result<(), Fail> {
 
 #[test]
 fn record_of_the_base(rt: HostRuntime) -> Result<(), Fail> {
-    let alloc = rt.alloc();
-    let instance = base(alloc)?;
-    let copy = Record::of(&instance, least(alloc, &instance)?).copy()?;
+    let instance = base(rt.alloc())?;
+    let copy = Record::of(&instance, least(rt.alloc(), &instance)?).copy()?;
     assert!(rt; copy.latency() == 2);
     assert!(rt; copy.schedule().len() == 8);
-    Ok(())
-}
-
-/// The run of a scenario in real time under the schedule of least delays, with ties in an order.
-fn run_in_order(
-    rt: &impl Abort,
-    alloc: Global,
-    instance: &Instance,
-    ranks: &[i64],
-) -> Result<Run, Fail> {
-    let mut schedule = least(alloc, instance)?;
-    let scenario = instance.scenario();
-    match scenario.time() {
-        Time::Real => {
-            schedule.set_order(Order::from_list(alloc, scenario, ranks)?);
-            run(rt, alloc, instance, &schedule)
-        }
-        Time::Ticks => Err("ties have an order".into()),
-    }
-}
-
-#[test]
-fn ties_in_real_time(rt: HostRuntime) -> Result<(), Fail> {
-    let instance = tied(rt.alloc())?;
-    for (ranks, want) in [
-        ([0, 0, 0, 0, 0, 0, 0, 0, 0, 0], 2),
-        // t comes to b after x.
-        ([0, 0, 1, 0, 0, 0, 0, 0, 0, 0], 4),
-        ([0, 0, 255, 0, 254, 0, 0, 0, 0, 0], 4),
-        // And y comes to a after t is committed there.
-        ([0, 0, 1, 0, 0, 0, 1, 0, 0, 0], 2),
-        ([0, 1, 1, 0, 0, 0, 1, 0, 0, 0], 4),
-    ] {
-        let run = run_in_order(&rt, rt.alloc(), &instance, &ranks)?;
-        assert!(rt; run.latency() == want);
-    }
     Ok(())
 }
 
@@ -188,12 +162,10 @@ fn mixed(number: u32) -> [i64; 8] {
 // scenarios is run under eight schedules.
 #[test]
 fn mixed_schedules(rt: HostRuntime) -> Result<(), Fail> {
-    for at in 0..12u32 {
-        let instance = base_at(rt.alloc(), at)?;
-        for number in 0..8u32 {
-            let schedule = mixed(8 * at + number);
-            let _run = run_under(&rt, rt.alloc(), &instance, &schedule)?;
-        }
+    let alloc = rt.alloc();
+    for number in 0..96u32 {
+        let delays = mixed(number);
+        let _latency = latency_under(&rt, alloc, base_at(alloc, number / 8), &delays, &[])?;
     }
     Ok(())
 }

@@ -1,8 +1,7 @@
 //! Scenarios of which the greatest latency is known by other programs, or from docs/PROTOCOL.md.
 
-use super::scenarios::{base_at, instance_of, of_client, of_group, tied};
-use super::schedules::least;
 use convoy_packets::Instance;
+use convoy_samples::{base_at, instance_of, least, of_client, of_group, tied};
 use convoy_scenario::ScenarioFault;
 use convoy_seek::seek;
 use convoy_sim::Record;
@@ -54,76 +53,47 @@ fn three_groups(alloc: Global) -> Result<Instance, ScenarioFault> {
 }
 
 /// The record that is found from the one of the least delays.
-fn found(alloc: Global, instance: &Instance, until: u32, budget: u64) -> Result<Record, Fail> {
-    let known = Record::of(instance, least(alloc, instance)?);
-    match seek(alloc, instance, known, until, budget) {
+fn found(
+    alloc: Global,
+    instance: Result<Instance, ScenarioFault>,
+    until: u32,
+    budget: u64,
+) -> Result<Record, Fail> {
+    let instance = instance?;
+    let known = Record::of(&instance, least(alloc, &instance)?);
+    match seek(alloc, &instance, known, until, budget) {
         Ok(found) => Ok(found),
         Err((_, error)) => Err(error.into()),
     }
 }
 
-/// The latency that is found from the schedule of the least delays.
-fn latency_found(alloc: Global, instance: &Instance, until: u32, budget: u64) -> Result<u32, Fail> {
-    Ok(found(alloc, instance, until, budget)?.latency())
-}
-
 #[test]
-fn reaches_the_base(rt: HostRuntime) -> Result<(), Fail> {
+fn reaches_what_is_known(rt: HostRuntime) -> Result<(), Fail> {
     let alloc = rt.alloc();
-    for (at, want) in [(6, 12), (5, 11)] {
-        assert!(rt; latency_found(alloc, &base_at(alloc, at)?, u32::MAX, 200)? == want);
-    }
-    Ok(())
-}
-
-/// All schedules have the same delays, and one order of ties makes t late.
-#[test]
-fn reaches_an_order(rt: HostRuntime) -> Result<(), Fail> {
-    assert!(rt; latency_found(rt.alloc(), &tied(rt.alloc())?, u32::MAX, 400)? == 4);
-    Ok(())
-}
-
-#[test]
-fn reaches_two_senders(rt: HostRuntime) -> Result<(), Fail> {
-    let instance = two_senders(rt.alloc())?;
-    assert!(rt; latency_found(rt.alloc(), &instance, u32::MAX, 4_000)? == 11);
-    Ok(())
-}
-
-#[test]
-fn reaches_nine_messages(rt: HostRuntime) -> Result<(), Fail> {
-    let instance = nine_messages(rt.alloc())?;
+    assert!(rt; found(alloc, base_at(alloc, 6), u32::MAX, 200)?.latency() == 12);
+    assert!(rt; found(alloc, base_at(alloc, 5), u32::MAX, 200)?.latency() == 11);
+    // All schedules have the same delays, and one order of ties makes t late.
+    assert!(rt; found(alloc, tied(alloc), u32::MAX, 400)?.latency() == 4);
+    assert!(rt; found(alloc, two_senders(alloc), u32::MAX, 4_000)?.latency() == 11);
+    assert!(rt; found(alloc, three_groups(alloc), u32::MAX, 4_000)?.latency() == 30);
     for (until, budget, want) in [
         (u32::MAX, 4_000, 28),
         (u32::MAX, 0, 2),
         (2, 4_000, 2),
         (3, 4_000, 18),
     ] {
-        assert!(rt; latency_found(rt.alloc(), &instance, until, budget)? == want);
+        let found = found(alloc, nine_messages(alloc), until, budget)?;
+        assert!(rt; found.latency() == want, "until {until}, {budget} times");
     }
     Ok(())
 }
 
 #[test]
-fn reaches_three_groups(rt: HostRuntime) -> Result<(), Fail> {
-    let instance = three_groups(rt.alloc())?;
-    assert!(rt; latency_found(rt.alloc(), &instance, u32::MAX, 4_000)? == 30);
-    Ok(())
-}
-
-/// Whether the same schedule is found a second time.
-fn finds_it_again(alloc: Global, instance: &Instance, first: &Record) -> Result<bool, Fail> {
-    let second = found(alloc, instance, u32::MAX, 3_000)?;
-    Ok(
-        first.latency() == second.latency()
-            && first.schedule().delays() == second.schedule().delays(),
-    )
-}
-
-#[test]
 fn finds_the_same_again(rt: HostRuntime) -> Result<(), Fail> {
-    let instance = three_groups(rt.alloc())?;
-    let first = found(rt.alloc(), &instance, u32::MAX, 3_000)?;
-    assert!(rt; finds_it_again(rt.alloc(), &instance, &first)?);
+    let alloc = rt.alloc();
+    let first = found(alloc, three_groups(alloc), u32::MAX, 3_000)?;
+    let second = found(alloc, three_groups(alloc), u32::MAX, 3_000)?;
+    assert!(rt; first.latency() == second.latency());
+    assert!(rt; first.schedule().delays() == second.schedule().delays());
     Ok(())
 }

@@ -1,8 +1,7 @@
 //! The timelines of worked rows, under the schedule in which each packet takes one tick.
 
-use super::scenarios::{base, instance_of, of_client, of_group};
-use super::schedules::least;
 use convoy_packets::Instance;
+use convoy_samples::{base, instance_of, least, of_client, of_group};
 use convoy_scenario::ScenarioFault;
 use convoy_sim::simulate;
 use convoy_timeline::write_timeline;
@@ -66,15 +65,11 @@ fn least_timeline(alloc: Global, instance: &Instance) -> Result<Vec<u8>, AllocEr
 }
 
 #[test]
-fn timeline_of_base(rt: HostRuntime) -> Result<(), Fail> {
-    let timeline = least_timeline(rt.alloc(), &base(rt.alloc())?)?;
-    assert!(rt; timeline.as_slice() == BASE_TIMELINE.as_bytes());
-    Ok(())
-}
-
-#[test]
-fn timeline_of_held_back(rt: HostRuntime) -> Result<(), Fail> {
-    let timeline = least_timeline(rt.alloc(), &held_back(rt.alloc())?)?;
-    assert!(rt; timeline.as_slice() == HELD_BACK_TIMELINE.as_bytes());
+fn timelines(rt: HostRuntime) -> Result<(), Fail> {
+    let alloc = rt.alloc();
+    let base = least_timeline(alloc, &base(alloc)?)?;
+    assert!(rt; base.as_slice() == BASE_TIMELINE.as_bytes());
+    let held_back = least_timeline(alloc, &held_back(alloc)?)?;
+    assert!(rt; held_back.as_slice() == HELD_BACK_TIMELINE.as_bytes());
     Ok(())
 }

@@ -1,17 +1,15 @@
-//! Worked rows on boards, by one thread and by two.
+//! Worked rows on boards, by one thread.
 
 ghost use Rattle.std.specs.Prelude.{◌≡◌};
 
-use super::scenarios::lone;
-use super::schedules;
 use convoy_incumbent::{Board, CloseFault, Hand};
 use convoy_packets::Instance;
+use convoy_samples::{given, lone};
 use convoy_sim::Record;
 use std::alloc::Global;
 use std::process::Abort;
 use std::sync::Wait;
 use std::test::Fail;
-use std::thread::join;
 
 pub(crate) const LATENCY_2: [i64; 4] = [1, 1, 1, 1];
 
@@ -30,7 +28,7 @@ pub(crate) fn record_of<R: Abort>(
 ) -> Record
     ensures { result.scenario ≡ instance.now }
 {
-    match schedules::given(alloc, instance, list) {
+    match given(alloc, instance, list) {
         Ok(schedule) => Record::of(instance, schedule),
         Err(_) => panic!(rt; "there is no such schedule"),
     }
@@ -60,7 +58,12 @@ fn half_of<R: Abort>(rt: &R, board: &Board, hand: &mut Hand) -> Hand
 }
 
 /// What a hand is answered that notes and publishes a record.
-fn published<R: Abort + Wait>(rt: &R, board: &Board, hand: &mut Hand, found: Record) -> u32
+pub(crate) fn published<R: Abort + Wait>(
+    rt: &R,
+    board: &Board,
+    hand: &mut Hand,
+    found: Record,
+) -> u32
     requires hand { hand.old.board ≡ board.now }
     requires found { found.scenario ≡ board.now.scenario }
     ensures { hand.new.board ≡ board.now }
@@ -81,6 +84,38 @@ fn closed<R: Abort>(rt: &R, board: Board, hand: Hand) -> u32
     }
 }
 
+/// Three hands publish records in turn, and look at what the others have published.
+fn publish_in_turn<R: Abort + Wait>(
+    rt: &R,
+    alloc: Global,
+    instance: &Instance,
+    board: &Board,
+    first: &mut Hand,
+    second: &mut Hand,
+    third: &mut Hand,
+)
+    requires board { instance.now ≡ board.now.scenario }
+    requires first { first.old.board ≡ board.now }
+    requires second { second.old.board ≡ board.now }
+    requires third { third.old.board ≡ board.now }
+    ensures first { first.new.board ≡ board.now }
+    ensures second { second.new.board ≡ board.now }
+    ensures third { third.new.board ≡ board.now }
+{
+    assert!(rt; board.look(second) == 2);
+    let found = record_of(rt, alloc, instance, &LATENCY_5);
+    assert!(rt; published(rt, board, first, found) == 5);
+    let found = record_of(rt, alloc, instance, &LATENCY_9);
+    assert!(rt; published(rt, board, second, found) == 9);
+    let found = record_of(rt, alloc, instance, &ALSO_LATENCY_9);
+    assert!(rt; published(rt, board, third, found) == 9);
+    assert!(rt; board.look(first) == 9);
+    // A lesser latency leaves the greater one.
+    let found = record_of(rt, alloc, instance, &LATENCY_5);
+    assert!(rt; published(rt, board, first, found) == 9);
+    assert!(rt; board.look(second) == 9);
+}
+
 #[test]
 fn board_of_three_hands(rt: HostRuntime) -> Result<(), Fail> {
     let alloc = rt.alloc();
@@ -89,36 +124,21 @@ fn board_of_three_hands(rt: HostRuntime) -> Result<(), Fail> {
     let (board, mut first) = opened(&rt, alloc, least);
     let mut second = half_of(&rt, &board, &mut first);
     let mut third = half_of(&rt, &board, &mut second);
-    let found = record_of(&rt, alloc, &instance, &LATENCY_5);
-    assert!(rt; published(&rt, &board, &mut first, found) == 5);
-    let found = record_of(&rt, alloc, &instance, &LATENCY_9);
-    assert!(rt; published(&rt, &board, &mut second, found) == 9);
-    let found = record_of(&rt, alloc, &instance, &ALSO_LATENCY_9);
-    assert!(rt; published(&rt, &board, &mut third, found) == 9);
+    publish_in_turn(
+        &rt,
+        alloc,
+        &instance,
+        &board,
+        &mut first,
+        &mut second,
+        &mut third,
+    );
     board.join(&mut first, third);
     let Err(CloseFault::HandsOut(board, mut first)) = board.close(first) else {
         panic!(rt; "closed while a hand was out");
     };
     board.join(&mut first, second);
     assert!(rt; closed(&rt, board, first) == 9);
-    Ok(())
-}
-
-#[test]
-fn look_sees_others(rt: HostRuntime) -> Result<(), Fail> {
-    let alloc = rt.alloc();
-    let instance = lone(alloc)?;
-    let least = record_of(&rt, alloc, &instance, &LATENCY_2);
-    let (board, mut first) = opened(&rt, alloc, least);
-    let mut second = half_of(&rt, &board, &mut first);
-    assert!(rt; board.look(&mut second) == 2);
-    let found = record_of(&rt, alloc, &instance, &LATENCY_9);
-    assert!(rt; published(&rt, &board, &mut first, found) == 9);
-    assert!(rt; board.look(&mut second) == 9);
-    // A lesser latency leaves the greater one.
-    let found = record_of(&rt, alloc, &instance, &LATENCY_5);
-    assert!(rt; published(&rt, &board, &mut first, found) == 9);
-    assert!(rt; board.look(&mut second) == 9);
     Ok(())
 }
 
@@ -161,51 +181,5 @@ fn dropped_hand(rt: HostRuntime) -> Result<(), Fail> {
         panic!(rt; "closed without the share of a hand that was dropped");
     };
     assert!(rt; board.look(&mut first) == 2);
-    Ok(())
-}
-
-/// Notes and publishes a record, and looks so many times.
-fn publish_and_look<R: Abort + Wait>(
-    rt: &R,
-    board: &Board,
-    mut hand: Hand,
-    found: Record,
-    looks: u32,
-) -> Hand
-    requires hand { hand.board ≡ board.now }
-    requires found { found.scenario ≡ board.now.scenario }
-    ensures { result.board ≡ board.now }
-{
-    published(rt, board, &mut hand, found);
-    for _ in 0..looks {
-        board.look(&mut hand);
-    }
-    hand
-}
-
-#[test]
-fn two_threads_publish(rt: HostRuntime) -> Result<(), Fail> {
-    let alloc = rt.alloc();
-    let instance = lone(alloc)?;
-    let least = record_of(&rt, alloc, &instance, &LATENCY_2);
-    let (board, mut first) = opened(&rt, alloc, least);
-    let second = half_of(&rt, &board, &mut first);
-    let lesser = record_of(&rt, alloc, &instance, &LATENCY_5);
-    let greater = record_of(&rt, alloc, &instance, &LATENCY_9);
-    let shared = &board;
-    let rt_shared = &rt;
-    let (mut first, second) = join(
-        &rt,
-        move || -> Hand
-            requires { (first.board ≡ shared.now) × (lesser.scenario ≡ shared.now.scenario) }
-            ensures { result.board ≡ shared.entry.now }
-        { publish_and_look(rt_shared, shared, first, lesser, 300) },
-        move || -> Hand
-            requires { (second.board ≡ shared.now) × (greater.scenario ≡ shared.now.scenario) }
-            ensures { result.board ≡ shared.entry.now }
-        { publish_and_look(rt_shared, shared, second, greater, 300) },
-    );
-    board.join(&mut first, second);
-    assert!(rt; closed(&rt, board, first) == 9);
     Ok(())
 }

@@ -2,9 +2,9 @@
 
 ghost use Rattle.std.specs.Prelude.{◌≡◌};
 
-use super::scenarios::lone;
 use convoy_deque::{Owner, Thief};
 use convoy_intervals::Tracked;
+use convoy_samples::lone;
 use crossbeam_deque::Steal;
 use std::process::Abort;
 use std::test::Fail;

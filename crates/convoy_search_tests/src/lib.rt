@@ -1,5 +1,6 @@
 //! Tests of searches and what they stand on: worked rows of one step, of one worker, of the machine of many,
-//! of boards, deques and threads, and of the callers in `convoy_uses`.
+//! of boards, deques and threads, and of the callers in `convoy_uses`. Their scenarios and schedules are those of
+//! `convoy_samples`.
 #![tactic(auto)]
 
 #[cfg(test)]
@@ -13,9 +14,7 @@ mod machine;
 #[cfg(test)]
 mod options;
 #[cfg(test)]
-mod scenarios;
-#[cfg(test)]
-mod schedules;
+mod outcomes;
 #[cfg(test)]
 mod steps;
 #[cfg(test)]
@@ -24,5 +23,7 @@ mod threads;
 mod uses;
 #[cfg(test)]
 mod ways;
+#[cfg(test)]
+mod witness;
 #[cfg(test)]
 mod workers;

@@ -5,13 +5,11 @@ ghost use Rattle.std.specs.List.{All};
 ghost use Rattle.convoy_machine.specs.Replays.{IsEventOf};
 
 use self::Move::{Close, Draw, Look, Publish, Put, Split, Take};
-use super::scenarios::base;
-use super::schedules;
 use convoy_machine::{Event, ReplayFault, replay};
 use convoy_packets::Instance;
+use convoy_samples::{base, greatest};
 use convoy_sim::Record;
 use std::alloc::{AllocError, Global};
-use std::process::Abort;
 use std::test::Fail;
 
 /// An event in short: the worker, and then the branch.
@@ -27,32 +25,27 @@ enum Move {
     Close(usize, usize),
 }
 
-/// What a list of events comes to: the best latency, how many branches are left, and how many tickets
-/// workers 0 and 1 have spent; or why it is not replayed.
-type Told = Result<(u32, usize, u64, u64), ReplayFault>;
-
 fn event_of(chosen: Move, threes: &Record) -> Result<Event, AllocError>
     ensures { IfOk result (IsEventOf threes.now.scenario) }
 {
-    match chosen {
-        Look(worker) => Ok(Event::Look { worker }),
-        Publish(worker) => {
-            let found = threes.copy()?;
-            Ok(Event::Publish { worker, found })
-        }
-        Draw(worker) => Ok(Event::Draw { worker }),
-        Put(worker, branch) => Ok(Event::Put { worker, branch }),
-        Take(worker, branch) => Ok(Event::Take { worker, branch }),
-        Split(worker, branch, packet, at) => {
-            Ok(Event::Split {
-                worker,
-                branch,
-                packet,
-                at,
-            })
-        }
-        Close(worker, branch) => Ok(Event::Close { worker, branch }),
-    }
+    let event = match chosen {
+        Look(worker) => Event::Look { worker },
+        Publish(worker) => Event::Publish {
+            worker,
+            found: threes.copy()?,
+        },
+        Draw(worker) => Event::Draw { worker },
+        Put(worker, branch) => Event::Put { worker, branch },
+        Take(worker, branch) => Event::Take { worker, branch },
+        Split(worker, branch, packet, at) => Event::Split {
+            worker,
+            branch,
+            packet,
+            at,
+        },
+        Close(worker, branch) => Event::Close { worker, branch },
+    };
+    Ok(event)
 }
 
 fn events_of(alloc: Global, moves: &[Move], threes: &Record) -> Result<Vec<Event>, AllocError>
@@ -65,59 +58,48 @@ fn events_of(alloc: Global, moves: &[Move], threes: &Record) -> Result<Vec<Event
     Ok(events)
 }
 
+/// What a list of events comes to: the best latency, how many branches are left, and how many tickets
+/// workers 0 and 1 have spent; or why it is not replayed.
 fn told(
     alloc: Global,
     instance: &Instance,
     threes: &Record,
     moves: &[Move],
-) -> Result<Told, AllocError>
+) -> Result<(u32, usize, u64, u64), ReplayFault>
     requires threes { threes.now.scenario ≡ instance.now }
 {
     let events = events_of(alloc, moves, threes)?;
-    Ok(match replay(alloc, instance, &events) {
-        Err(fault) => Err(fault),
-        Ok(core) => {
-            Ok((
-                core.best().latency(),
-                core.left(),
-                core.spent(0),
-                core.spent(1),
-            ))
-        }
-    })
-}
-
-/// That each row comes to what stands beside it.
-fn hold<R: Abort>(rt: &R, alloc: Global, rows: &[(&[Move], Told)]) -> Result<(), Fail> {
-    let instance = base(alloc)?;
-    let threes = Record::of(&instance, schedules::greatest(alloc, &instance)?);
-    for (moves, want) in rows {
-        assert!(rt; told(alloc, &instance, &threes, moves)? == *want);
-    }
-    Ok(())
+    let core = replay(alloc, instance, &events)?;
+    Ok((
+        core.best().latency(),
+        core.left(),
+        core.spent(0),
+        core.spent(1),
+    ))
 }
 
 #[test]
 fn core_machine(rt: HostRuntime) -> Result<(), Fail> {
-    let closed = Ok((12, 0, 1, 0));
-    let rows = [
-        ([Draw(0), Publish(0), Close(0, 0)].as_slice(), closed),
+    let alloc = rt.alloc();
+    let instance = base(alloc)?;
+    let threes = Record::of(&instance, greatest(alloc, &instance)?);
+    for (moves, want) in [
+        (
+            [Draw(0), Publish(0), Close(0, 0)].as_slice(),
+            Ok((12, 0, 1, 0)),
+        ),
+        (
+            &[Publish(1), Look(0), Draw(0), Close(0, 0)],
+            Ok((12, 0, 1, 0)),
+        ),
         (&[Draw(0), Close(0, 0)], Err(ReplayFault::Unlawful(1))),
         (&[Publish(0), Close(0, 0)], Err(ReplayFault::Unlawful(1))),
         (
             &[Publish(1), Draw(0), Close(0, 0)],
             Err(ReplayFault::Unlawful(2)),
         ),
-        (&[Publish(1), Look(0), Draw(0), Close(0, 0)], closed),
-    ];
-    hold(&rt, rt.alloc(), &rows)
-}
-
-#[test]
-fn core_machine_shared(rt: HostRuntime) -> Result<(), Fail> {
-    let rows = [
         (
-            [
+            &[
                 Draw(0),
                 Split(0, 0, 4, 1),
                 Put(0, 1),
@@ -128,8 +110,7 @@ fn core_machine_shared(rt: HostRuntime) -> Result<(), Fail> {
                 Close(1, 1),
                 Draw(0),
                 Close(0, 2),
-            ]
-            .as_slice(),
+            ],
             Ok((12, 0, 2, 1)),
         ),
         (
@@ -144,6 +125,8 @@ fn core_machine_shared(rt: HostRuntime) -> Result<(), Fail> {
             ],
             Err(ReplayFault::Unlawful(6)),
         ),
-    ];
-    hold(&rt, rt.alloc(), &rows)
+    ] {
+        assert!(rt; told(alloc, &instance, &threes, moves) == want);
+    }
+    Ok(())
 }

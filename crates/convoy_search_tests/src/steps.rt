@@ -2,16 +2,19 @@
 
 ghost use Rattle.std.specs.Prelude.{◌≡◌, ◌<◌, length, IfOk};
 
-use super::scenarios::{base, swapped, tied};
 use convoy_branch::{Bounds, Fate, Step, Turn, step_branch};
 use convoy_certificate::Node;
 use convoy_intervals::Tracked;
 use convoy_packets::Instance;
+use convoy_samples::{base, swapped, tied};
 use std::alloc::{AllocError, Global};
+use std::process::Abort;
 use std::test::Fail;
 
-/// The latency that the step found, and the node that stands for the box; None where the box stays.
-fn summary(step: &Step) -> (Option<u32>, Option<Node>) {
+/// The latency that a step found, and the node that stands for the box; None where the box stays.
+type Summary = (Option<u32>, Option<Node>);
+
+fn summary(step: &Step) -> Summary {
     let found = match &step.found {
         Some(best) => Some(best.latency()),
         None => None,
@@ -27,49 +30,29 @@ fn summary(step: &Step) -> (Option<u32>, Option<Node>) {
     (found, node)
 }
 
-/// What a step over the box gives.
+/// What a step gives over the box of the greatest delays alone where it is `pointed`, and else over the whole box.
 fn step_over(
     alloc: Global,
     instance: &Instance,
-    branch: Tracked,
+    pointed: bool,
     seen: u32,
     bounds: Bounds,
-) -> Result<(Option<u32>, Option<Node>), Fail>
-    requires of_scenario { branch.scenario ≡ instance.now }
-{
+) -> Result<Summary, AllocError> {
+    let mut branch = Tracked::root(alloc, instance)?;
+    if pointed {
+        branch = greatest_point(instance, branch)?;
+    }
     match step_branch(alloc, instance, branch, false, seen, bounds) {
         Ok(step) => Ok(summary(&step)),
-        Err((_, error)) => Err(error.into()),
+        Err((_, error)) => Err(error),
     }
 }
 
-/// What a step over the whole box of a scenario gives.
-fn root_step(
-    alloc: Global,
-    instance: &Instance,
-    seen: u32,
-    bounds: Bounds,
-) -> Result<(Option<u32>, Option<Node>), Fail> {
-    let root = Tracked::root(alloc, instance)?;
-    step_over(alloc, instance, root, seen, bounds)
-}
-
-/// What a step over the box of the greatest delays alone gives.
-fn point_step(
-    alloc: Global,
-    instance: &Instance,
-    seen: u32,
-    bounds: Bounds,
-) -> Result<(Option<u32>, Option<Node>), Fail> {
-    let point = greatest_point(alloc, instance)?;
-    step_over(alloc, instance, point, seen, bounds)
-}
-
 /// The box with only the greatest delay of each packet.
-fn greatest_point(alloc: Global, instance: &Instance) -> Result<Tracked, AllocError>
+fn greatest_point(instance: &Instance, mut point: Tracked) -> Result<Tracked, AllocError>
+    requires { point.scenario ≡ instance.now }
     ensures { IfOk result (λ b. b.scenario ≡ instance.now) }
 {
-    let mut point = Tracked::root(alloc, instance)?;
     for packet in 0..point.delay_box().len() {
         point = at_greatest(instance, point, packet)?;
     }
@@ -93,56 +76,55 @@ fn at_greatest(instance: &Instance, branch: Tracked, packet: usize) -> Result<Tr
     }
 }
 
-#[test]
-fn closes_by_the_latency_found(rt: HostRuntime) -> Result<(), Fail> {
-    let alloc = rt.alloc();
-    let instance = base(alloc)?;
-    for bounds in [Bounds::Plain, Bounds::Stamp] {
-        assert!(rt; root_step(alloc, &instance, 2, bounds)? == (Some(12), Some(Node::Bound)));
-        assert!(rt; root_step(alloc, &instance, 12, bounds)? == (None, Some(Node::Bound)));
+/// Checks what steps over boxes of a scenario give: each row tells whether the box is the point of the greatest delays,
+/// the latency that was seen, the bounds, and then what is wanted.
+fn steps<R: Abort>(
+    rt: &R,
+    alloc: Global,
+    instance: &Instance,
+    rows: &[(bool, u32, Bounds, Summary)],
+) {
+    for (pointed, seen, bounds, want) in rows {
+        let found = step_over(alloc, instance, *pointed, *seen, *bounds);
+        assert!(rt;
+            found == Ok(*want),
+            "point: {pointed}, {seen} seen, {bounds:?}"
+        );
     }
-    Ok(())
 }
 
 #[test]
-fn parts_the_first_of_the_widest(rt: HostRuntime) -> Result<(), Fail> {
-    let alloc = rt.alloc();
-    let instance = swapped(alloc)?;
-    let split = Node::Split { packet: 0, at: 2 };
-    assert!(rt; root_step(alloc, &instance, 2, Bounds::Plain)? == (Some(6), Some(split)));
-    assert!(rt; root_step(alloc, &instance, 6, Bounds::Plain)? == (None, Some(split)));
-    Ok(())
-}
-
-#[test]
-fn closes_by_stamps(rt: HostRuntime) -> Result<(), Fail> {
-    let alloc = rt.alloc();
-    let instance = swapped(alloc)?;
-    assert!(rt; root_step(alloc, &instance, 2, Bounds::Stamp)? == (Some(6), Some(Node::Stamp)));
-    assert!(rt; root_step(alloc, &instance, 6, Bounds::Stamp)? == (None, Some(Node::Stamp)));
-    assert!(rt; root_step(alloc, &instance, 12, Bounds::Stamp)? == (None, Some(Node::Bound)));
-    Ok(())
-}
-
-#[test]
-fn closes_a_point(rt: HostRuntime) -> Result<(), Fail> {
-    let alloc = rt.alloc();
-    let instance = swapped(alloc)?;
-    assert!(rt; point_step(alloc, &instance, 2, Bounds::Plain)? == (Some(6), Some(Node::Point)));
-    assert!(rt; point_step(alloc, &instance, 6, Bounds::Plain)? == (None, Some(Node::Point)));
-    assert!(rt; point_step(alloc, &instance, 6, Bounds::Stamp)? == (None, Some(Node::Stamp)));
-    assert!(rt; point_step(alloc, &instance, 12, Bounds::Plain)? == (None, Some(Node::Bound)));
-    Ok(())
-}
-
-/// In real time a point is closed by its bound, or it stays: a leaf for it would have to speak of each order of ties.
-#[test]
-fn point_in_real_time(rt: HostRuntime) -> Result<(), Fail> {
-    let alloc = rt.alloc();
-    let instance = tied(alloc)?;
-    assert!(rt; root_step(alloc, &instance, 1, Bounds::Plain)? == (Some(2), None));
-    assert!(rt; root_step(alloc, &instance, 2, Bounds::Stamp)? == (None, None));
-    assert!(rt; root_step(alloc, &instance, 3, Bounds::Lead)? == (None, None));
-    assert!(rt; root_step(alloc, &instance, 4, Bounds::Plain)? == (None, Some(Node::Bound)));
+fn closes_or_parts(rt: HostRuntime) -> Result<(), Fail> {
+    let bound = Some(Node::Bound);
+    let rows = [
+        (false, 2, Bounds::Plain, (Some(12), bound)),
+        (false, 12, Bounds::Plain, (None, bound)),
+        (false, 2, Bounds::Stamp, (Some(12), bound)),
+        (false, 12, Bounds::Stamp, (None, bound)),
+    ];
+    steps(&rt, rt.alloc(), &base(rt.alloc())?, &rows);
+    // The first of the widest packets is parted.
+    let split = Some(Node::Split { packet: 0, at: 2 });
+    let rows = [
+        (false, 2, Bounds::Plain, (Some(6), split)),
+        (false, 6, Bounds::Plain, (None, split)),
+        (false, 2, Bounds::Stamp, (Some(6), Some(Node::Stamp))),
+        (false, 6, Bounds::Stamp, (None, Some(Node::Stamp))),
+        (false, 12, Bounds::Stamp, (None, bound)),
+        (true, 2, Bounds::Plain, (Some(6), Some(Node::Point))),
+        (true, 6, Bounds::Plain, (None, Some(Node::Point))),
+        (true, 6, Bounds::Stamp, (None, Some(Node::Stamp))),
+        (true, 12, Bounds::Plain, (None, bound)),
+    ];
+    steps(&rt, rt.alloc(), &swapped(rt.alloc())?, &rows);
+    // In real time a point is closed by its bound, or it stays: a leaf for it would have to speak of each order of
+    // ties.
+    let rows = [
+        (false, 1, Bounds::Plain, (Some(2), None)),
+        (false, 2, Bounds::Stamp, (None, None)),
+        (false, 3, Bounds::Lead, (None, None)),
+        (false, 4, Bounds::Plain, (None, bound)),
+    ];
+    steps(&rt, rt.alloc(), &tied(rt.alloc())?, &rows);
     Ok(())
 }

@@ -2,10 +2,10 @@
 
 ghost use Rattle.std.specs.Prelude.{◌≡◌};
 
-use super::boards::{LATENCY_2, LATENCY_5, LATENCY_9, opened, record_of};
-use super::scenarios::lone;
+use super::boards::{LATENCY_2, LATENCY_5, LATENCY_9, opened, published, record_of};
 use convoy_incumbent::{Board, Hand};
 use convoy_ledger::{Clerk, Ledger};
+use convoy_samples::lone;
 use convoy_sim::Record;
 use convoy_uses::{best_of_three, draw_together};
 use std::process::Abort;
@@ -50,10 +50,7 @@ fn take_part<R: Abort + Wait>(
     ensures hand { result.0.board ≡ board.now }
     ensures clerk { result.1.ledger ≡ ledger.now }
 {
-    match board.note(rt, found) {
-        Ok(noted) => board.publish(&mut hand, noted),
-        Err(_) => panic!(rt; "a record was not noted"),
-    };
+    published(rt, board, &mut hand, found);
     for _ in 0..300 {
         ledger.draw(&mut clerk);
         board.look(&mut hand);

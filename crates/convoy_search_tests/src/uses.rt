@@ -1,9 +1,9 @@
 //! Callers of the library.
 
-use super::scenarios::{base, swapped};
 use convoy_certificate::TextFault;
 use convoy_checker::Refused;
 use convoy_packets::{Instance, ListFault};
+use convoy_samples::{base, swapped};
 use convoy_scenario::{Limit, ScenarioFault};
 use convoy_scenario_lines::Expected;
 use convoy_uses::{
@@ -47,9 +47,10 @@ fn latencies_under_schedules(rt: HostRuntime) {
     );
 }
 
-/// The certificate of the base scenario with that latency and those nodes.
-fn certificate(alloc: Global, latency: u32, nodes: &str) -> Result<String, Fail> {
-    Ok(format!(in alloc;
+/// What a certificate of the base scenario with that latency and those nodes vouches for: the latency, and the greatest
+/// delay of the scenario.
+fn vouched(alloc: Global, latency: u32, nodes: &str) -> Result<(u32, u16), Fault> {
+    let text = format!(in alloc;
         "convoy 1
 delay 3
 groups a b
@@ -61,12 +62,13 @@ latency {latency}
 schedule 3 3 3 3 3 3 3 3
 {nodes}end
 "
-    )?)
+    )?;
+    let vouched = check_certificate(alloc, text.as_bytes())?;
+    Ok((vouched.latency, vouched.scenario.delay()))
 }
 
 #[test]
-fn certificates_vouch(rt: HostRuntime) -> Result<(), Fail> {
-    let alloc = rt.alloc();
+fn certificates_vouch(rt: HostRuntime) {
     for (latency, nodes, want) in [
         (12, "b\n", Ok((12, 3))),
         (11, "b\n", Err(Fault::Invalid(Refused::Latency(12)))),
@@ -77,14 +79,11 @@ fn certificates_vouch(rt: HostRuntime) -> Result<(), Fail> {
             Err(Fault::Text(TextFault::Line(10, Expected::Node))),
         ),
     ] {
-        let text = certificate(alloc, latency, nodes)?;
-        let found = check_certificate(alloc, text.as_bytes()).map(|v| (
-            v.latency,
-            v.scenario.delay(),
-        ));
-        assert!(rt; found == want, "latency {latency} {nodes}");
+        assert!(rt;
+            vouched(rt.alloc(), latency, nodes) == want,
+            "latency {latency} {nodes}"
+        );
     }
-    Ok(())
 }
 
 #[test]
@@ -94,28 +93,17 @@ fn greatest_latencies(rt: HostRuntime) -> Result<(), Fail> {
     for (instance, limit, want) in [
         (&first, 1, Answer::Exactly(12)),
         (&second, 10, Answer::Between { least: 6, most: 12 }),
-        (&second, 1_469, Answer::Exactly(6)),
-    ] {
-        let found = greatest_latency(alloc, instance, limit)?;
-        assert!(rt; found == want, "limit {limit}");
-    }
-    Ok(())
-}
-
-#[test]
-fn greatest_latencies_by_workers(rt: HostRuntime) -> Result<(), Fail> {
-    let alloc = rt.alloc();
-    let (first, second) = (base(alloc)?, swapped(alloc)?);
-    for (instance, limit, want) in [
-        (&first, 1, Answer::Exactly(12)),
-        (&second, 10, Answer::Between { least: 6, most: 12 }),
         (&second, 100_000, Answer::Exactly(6)),
     ] {
+        let found = greatest_latency(alloc, instance, limit);
+        assert!(rt; found == Ok(want), "limit {limit}");
         for workers in [1, 4, 16] {
+            assert!(rt; 1 <= limit && limit <= 100_000);
             let found = greatest_latency_by(&rt, alloc, instance, workers, limit);
             assert!(rt; found == Ok(want), "{workers} workers, limit {limit}");
         }
     }
+    assert!(rt; greatest_latency(alloc, &second, 1_469) == Ok(Answer::Exactly(6)));
     Ok(())
 }
 
@@ -131,36 +119,34 @@ fn timeouts_are_judged(rt: HostRuntime) -> Result<(), Fail> {
         (&second, 6, 10, Judgement::Unknown { least: 6, most: 12 }),
         (&second, 6, 1_469, Judgement::Enough),
     ] {
-        let found = judge_timeout(alloc, instance, timeout, limit)?;
-        assert!(rt; found == want, "timeout {timeout} limit {limit}");
+        let found = judge_timeout(alloc, instance, timeout, limit);
+        assert!(rt; found == Ok(want), "timeout {timeout} limit {limit}");
     }
-    Ok(())
-}
-
-/// The ceiling does not look at stamps, so the order of the groups makes no difference.
-#[test]
-fn timeouts_in_traffic(rt: HostRuntime) -> Result<(), Fail> {
-    let alloc = rt.alloc();
-    let (first, second) = (base(alloc)?, swapped(alloc)?);
+    // The ceiling does not look at stamps, so the order of the groups makes no difference.
     assert!(rt; timeout_in_traffic(first.scenario()) == 12);
     assert!(rt; timeout_in_traffic(second.scenario()) == 12);
     Ok(())
 }
 
+/// The greatest latency of a message alone, or why there is no such scenario.
+fn exchanged(alloc: Global, delay: u32) -> Result<Answer, Fault> {
+    let instance = Instance::of(alloc, exchange(alloc, delay)?)?;
+    Ok(greatest_latency(alloc, &instance, 1)?)
+}
+
 /// A message alone takes twice the greatest delay: on its way, and with its stamps on theirs.
 #[test]
-fn exchanges_take_two_delays(rt: HostRuntime) -> Result<(), Fail> {
-    let alloc = rt.alloc();
-    for delay in [1, 3, 16] {
-        let scenario = exchange(alloc, delay).ok().ok_or("no scenario")?;
-        let instance = Instance::of(alloc, scenario)?;
-        assert!(rt; greatest_latency(alloc, &instance, 1)? == Answer::Exactly(2 * delay));
+fn exchanges_take_two_delays(rt: HostRuntime) {
+    let too_long = Err(Fault::Scenario(ScenarioFault::OverLimit(Limit::Delay)));
+    for (delay, want) in [
+        (0, too_long),
+        (1, Ok(Answer::Exactly(2))),
+        (3, Ok(Answer::Exactly(6))),
+        (16, Ok(Answer::Exactly(32))),
+        (17, too_long),
+    ] {
+        assert!(rt; exchanged(rt.alloc(), delay) == want, "delay {delay}");
     }
-    for delay in [0, 17] {
-        let fault = exchange(alloc, delay).err();
-        assert!(rt; fault == Some(Fault::Scenario(ScenarioFault::OverLimit(Limit::Delay))));
-    }
-    Ok(())
 }
 
 #[test]

@@ -1,17 +1,19 @@
 //! Images of worked rows, and what they say.
 
-use super::scenarios::{base, instance_of, of_client, of_group, timed_instance_of};
 use convoy_draw::write_drawing;
-use convoy_packets::laws::fixed_order_is_order;
-use convoy_packets::{Instance, Schedule};
+use convoy_packets::Instance;
 use convoy_picture::Picture;
-use convoy_scenario::{LinkParts, Time};
+use convoy_samples::{
+    base, base_messages, greatest, instance_of, of_client, of_group, timed_instance_of,
+};
+use convoy_scenario::{LinkParts, ScenarioFault, Time};
 use convoy_sim::simulate;
 use std::alloc::Global;
+use std::process::Abort;
 use std::test::Fail;
 
 /// Names that would end a comment, look like numbers or entities, or take all the room there is.
-fn hostile(alloc: Global) -> Result<Instance, Fail> {
+fn hostile(alloc: Global) -> Result<Instance, ScenarioFault> {
     let groups = ["a--", "lt", "mmmmmmmmmmmmmmmm"];
     let messages = [
         of_client("amp", &["a--", "lt"], 0),
@@ -33,7 +35,7 @@ fn link<'a>(sender: Option<&'a str>, to: &'a str, (least, most): (u32, u32)) -> 
 }
 
 /// The shop in two regions of docs/USING.md, in ticks of 10 us.
-fn two_regions(alloc: Global) -> Result<Instance, Fail> {
+fn two_regions(alloc: Global) -> Result<Instance, ScenarioFault> {
     let (orders, stock, america) = ("eu-orders", "eu-stock", "us-orders");
     let (inside, between) = ((30, 250), (6_000, 8_000));
     let links = [
@@ -63,27 +65,21 @@ fn two_regions(alloc: Global) -> Result<Instance, Fail> {
 }
 
 /// The base scenario in ticks so fine that a packet takes as many of them as it may.
-fn finest_base(alloc: Global) -> Result<Instance, Fail> {
-    let messages = [
-        of_client("x", &["b"], 0),
-        of_client("t", &["b", "a"], 0),
-        of_group("y", "a", &["a", "b"], 131_070),
-    ];
+fn finest_base(alloc: Global) -> Result<Instance, ScenarioFault> {
     timed_instance_of(
         alloc,
         Time::Real,
         65_535,
         &["a", "b"],
         &[],
-        &messages,
+        &base_messages(131_070),
         ("t", "a"),
     )
 }
 
 /// The image of the run of a scenario under the greatest delays.
 fn image_of(alloc: Global, instance: &Instance) -> Result<String, Fail> {
-    fixed_order_is_order();
-    let schedule = Schedule::greatest(alloc, instance.table())?;
+    let schedule = greatest(alloc, instance)?;
     let run = simulate(alloc, instance, &schedule)?;
     let picture = Picture::of(alloc, instance, &schedule, &run)?;
     let mut out = Vec::new(alloc);
@@ -120,20 +116,28 @@ fn right_end(image: &str) -> u32 {
     end
 }
 
+/// Asserts how often an image has each piece.
+fn assert_counts(rt: &impl Abort, image: &str, counts: &[(&str, usize)]) {
+    for &(piece, times) in counts {
+        assert!(rt; count(image, piece) == times, "{piece}");
+    }
+}
+
 #[test]
 fn image_of_base(rt: HostRuntime) -> Result<(), Fail> {
     let image = image_of(rt.alloc(), &base(rt.alloc())?)?;
-    assert!(rt; count(&image, "<title>t at a: at worst 12 ticks</title>") == 1);
-    assert!(rt; count(&image, ">t waits 6 ticks for y</text>") == 1);
-    assert!(rt;
-        (count(
-            &image,
-            "packet 5: y from a to b, sent at tick 6, there at tick 9<"
-        )) == 1
-    );
-    assert!(rt; count(&image, ">t is committed at a at tick 6 with stamp 2.b<") == 1);
-    assert!(rt; count(&image, "stroke-width=\"40\"") == 3);
-    assert!(rt; count(&image, "signs without room") == 0);
+    let counts = [
+        ("<title>t at a: at worst 12 ticks</title>", 1),
+        (">t waits 6 ticks for y</text>", 1),
+        (
+            "packet 5: y from a to b, sent at tick 6, there at tick 9<",
+            1,
+        ),
+        (">t is committed at a at tick 6 with stamp 2.b<", 1),
+        ("stroke-width=\"40\"", 3),
+        ("signs without room", 0),
+    ];
+    assert_counts(&rt, image.as_str(), &counts);
     Ok(())
 }
 
@@ -141,36 +145,35 @@ fn image_of_base(rt: HostRuntime) -> Result<(), Fail> {
 #[test]
 fn hostile_names(rt: HostRuntime) -> Result<(), Fail> {
     let image = image_of(rt.alloc(), &hostile(rt.alloc())?)?;
-    assert!(rt; count(&image, "l60 -120M") == 8);
+    assert_counts(&rt, image.as_str(), &[("l60 -120M", 8), ("&", 0)]);
     assert!(rt; image.is_ascii());
-    assert!(rt; count(&image, "&") == 0);
     for (opened, closed) in [("<g", "</g>"), ("<text", "</text>"), ("<title", "</title>")] {
-        assert!(rt; count(&image, opened) == count(&image, closed));
+        assert!(rt; count(&image, opened) == count(&image, closed), "{opened}");
     }
     assert!(rt; count(&image, "\"") % 2 == 0);
     Ok(())
 }
 
-/// Where ticks are narrower than a tenth of a pixel, the lanes are filled and nothing stands outside of the
-/// image: 16,500 ticks have a number in each 2,000.
+/// Asserts that lanes are filled and nothing stands outside of the image, and how often it has each piece.
+fn assert_narrow(rt: &impl Abort, image: &str, counts: &[(&str, usize)]) {
+    assert!(rt; greatest_after(image, "H") == 10_080);
+    assert!(rt; right_end(image) <= 11_200);
+    assert_counts(rt, image, counts);
+}
+
+/// Ticks that are narrower than a tenth of a pixel, and those of the longest packets: 16,500 ticks have a number
+/// in each 2,000, and 262,140 in each 20,000. Of what comes in one tick each message has a place of its own: x
+/// comes to b where t comes to both groups.
 #[test]
 fn narrow_ticks(rt: HostRuntime) -> Result<(), Fail> {
     let image = image_of(rt.alloc(), &two_regions(rt.alloc())?)?;
-    assert!(rt; greatest_after(&image, "H") == 10_080);
-    assert!(rt; right_end(&image) <= 11_200);
-    assert!(rt; count(&image, "stroke=\"#dddddd\"") == 9);
-    Ok(())
-}
-
-/// The ticks of the longest packets: 262,140 have a number in each 20,000. Of what comes in one tick each
-/// message has a place of its own: x comes to b where t comes to both groups.
-#[test]
-fn narrowest_ticks(rt: HostRuntime) -> Result<(), Fail> {
+    assert_narrow(&rt, image.as_str(), &[("stroke=\"#dddddd\"", 9)]);
     let image = image_of(rt.alloc(), &finest_base(rt.alloc())?)?;
-    assert!(rt; greatest_after(&image, "H") == 10_080);
-    assert!(rt; right_end(&image) <= 11_200);
-    assert!(rt; count(&image, "stroke=\"#dddddd\"") == 14);
-    assert!(rt; count(&image, " cx=\"3775\"") == 1);
-    assert!(rt; count(&image, " cx=\"3835\"") == 2);
+    let counts = [
+        ("stroke=\"#dddddd\"", 14),
+        (" cx=\"3775\"", 1),
+        (" cx=\"3835\"", 2),
+    ];
+    assert_narrow(&rt, image.as_str(), &counts);
     Ok(())
 }

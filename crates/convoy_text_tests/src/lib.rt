@@ -9,10 +9,12 @@ mod checks;
 #[cfg(test)]
 mod drawings;
 #[cfg(test)]
+mod faults;
+#[cfg(test)]
 mod hints;
 #[cfg(test)]
 mod scenario_lines;
 #[cfg(test)]
 mod scenario_texts;
 #[cfg(test)]
-mod scenarios;
+mod texts;
