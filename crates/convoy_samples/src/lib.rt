@@ -1,5 +1,5 @@
-//! The scenarios, schedules and texts of the worked rows in docs/, which the tests and the benchmark share. They make
-//! no promise of their own but that a schedule is one of its instance.
+//! The scenarios, schedules and texts of the worked rows in docs/, which the crates of tests share. They make no promise
+//! of their own but that a schedule is one of its instance.
 #![tactic(auto)]
 
 mod messages;
