@@ -323,6 +323,60 @@ end
 """
 COUNTED_TWICE = scenario_of(COUNTED_TWICE_CERTIFICATE)
 
+# t waits at a for y, and both are delivered there in one tick: in the order of their stamps, and not of their numbers.
+HELD_BACK = scenario_of("""\
+delay 1
+groups a b
+multicast x client 0 b
+multicast y a 2 a b
+multicast t client 0 a b
+target t a
+""")
+
+# Two groups and 21 packets: the greatest latency is 11, and no pattern with which seeking begins has it.
+TWO_SENDERS = scenario_of("""\
+delay 4
+groups a b
+multicast m client 0 a b
+multicast n client 0 a b
+multicast t b 0 a b
+multicast o b 1 a b
+multicast p client 3 a b
+multicast q a 5 a b
+target t b
+""")
+
+# Two groups and 32 packets: the greatest latency is 28.
+NINE_MESSAGES = scenario_of("""\
+delay 9
+groups a b
+multicast m client 0 a b
+multicast n client 1 a b
+multicast t client 2 a b
+multicast o client 4 a b
+multicast p client 6 a b
+multicast q client 8 b
+multicast r a 11 a b
+multicast s client 12 a b
+multicast u client 12 a b
+target t a
+""")
+
+# Three groups and 57 packets: the greatest latency is 30, and no pattern with which seeking begins has it.
+THREE_GROUPS = scenario_of("""\
+delay 8
+groups a b c
+multicast m client 0 a b c
+multicast n client 0 a b c
+multicast t client 2 a b c
+multicast o client 5 a c
+multicast p client 6 a b c
+multicast q client 10 a c
+multicast r client 13 a b
+multicast s client 16 a b c
+target t c
+""")
+
 # In real time, where moments of one tick come in any order.
 REAL_BASE = 'time = "real"\n' + BASE
 REAL_SWAPPED = 'time = "real"\n' + SWAPPED
