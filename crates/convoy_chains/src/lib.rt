@@ -5,7 +5,5 @@
 pub use placing::place_by_leads;
 
 mod placing;
-#[cfg(test)]
-mod tests;
 mod want;
 mod wants;

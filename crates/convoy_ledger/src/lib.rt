@@ -8,5 +8,3 @@ pub use ledger::{Clerk, Ledger};
 mod fault;
 mod ledger;
 mod rule;
-#[cfg(test)]
-mod tests;

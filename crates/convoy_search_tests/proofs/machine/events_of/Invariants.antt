@@ -1,6 +1,0 @@
-use Rattle.std.specs.List.{All}
-use Rattle.convoy_machine.specs.Replays.{IsEventOf}
-use Rattle.convoy_search_tests.proofs.machine.events_of.Given as goal
-
-abbrev pub invariant-loop-chosen : goal.invariant-loop-chosen
-invariant-loop-chosen l = All (IsEventOf l.threes.scenario) l.events.items
