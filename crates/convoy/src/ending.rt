@@ -6,7 +6,7 @@ use convoy_about::{AboutEnd, Part};
 use convoy_commands::{Done, SearchEnd};
 
 /// How a run ended that had no fault.
-#[derive(Clone, Copy, Debug)]
+#[derive(Clone, Copy)]
 pub enum End {
     /// A command gave its answer, or a batch its blocks.
     Answered(Done),

@@ -14,7 +14,7 @@ const PAUSE: u64 = 1_000;
 const FEW: u64 = 1_023;
 
 /// Where progress is told.
-#[derive(Clone, Copy, Debug, PartialEq, Eq)]
+#[derive(Clone, Copy, PartialEq, Eq)]
 pub enum Screen {
     /// Nowhere.
     Off,

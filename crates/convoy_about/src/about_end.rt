@@ -2,7 +2,7 @@ use super::part::Part;
 use convoy_commands::Done;
 
 /// How a check ended: as `check` does, or because the certificate is that of another scenario.
-#[derive(Clone, Copy, Debug, PartialEq, Eq)]
+#[derive(Clone, Copy)]
 pub enum AboutEnd {
     /// The certificate was accepted, and is that of the scenario that is wanted, if one is; or it was
     /// refused as by `check`. It is never `Done::Open`.

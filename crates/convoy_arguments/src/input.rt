@@ -4,7 +4,7 @@ ghost use Rattle.convoy_arguments.specs.Inputs.{IsNamed, file_in};
 use std::alloc::{AllocError, Global};
 
 /// What the command line says is to be read.
-#[derive(Debug, Drop)]
+#[derive(Drop)]
 pub enum Input {
     Standard,
     /// The file of this name.

@@ -1,7 +1,7 @@
 use clap::ArgMatches;
 
 /// How the words of a command line ask for a task, beyond which task it is: nothing that is answered rests on it.
-#[derive(Clone, Copy, Debug)]
+#[derive(Clone, Copy)]
 pub struct Manner {
     /// Whether hints and progress are left out.
     pub is_quiet: bool,

@@ -3,7 +3,7 @@ use convoy_commands::{Command, Options};
 use convoy_tables::Format;
 
 /// What a command line asks for of the text that is read.
-#[derive(Debug, Drop)]
+#[derive(Drop)]
 pub enum Task {
     /// What a command answers.
     Command(Command),

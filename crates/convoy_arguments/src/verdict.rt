@@ -6,7 +6,7 @@ use super::manner::Manner;
 use super::task::Task;
 
 /// What is to be done for a command line.
-#[derive(Debug, Drop)]
+#[derive(Drop)]
 pub enum Verdict {
     /// It asks for this, of the text that the input holds, and in this manner.
     Ask {

@@ -33,7 +33,7 @@ const FORMAT_OPTIONS: [(&str, &str); 3] = [
 ];
 
 /// What the next word of a command line is the value of.
-#[derive(Clone, Copy, Debug)]
+#[derive(Clone, Copy)]
 enum Due {
     /// Of an option that the program has.
     Setting,

@@ -7,9 +7,10 @@ ghost use Rattle.convoy_batch.specs.BatchSteps.{AnswersOne, EndsBatch, IsFresh, 
 ghost use Rattle.convoy_batch.specs.Batches.{IsBatchRun, JobSays};
 ghost use Rattle.convoy_commands.specs.Replies.{reply_of};
 
-use super::block::Block;
+use super::block::fill;
 use convoy_branch::{NoGate, Options};
 use convoy_commands::{Done, Fault, LONGEST_JOB, SearchEnd, latency_answer};
+use convoy_lines::ReservedText;
 use convoy_streams::laws::{ended_jobs_stay, pieces_go_on};
 use convoy_streams::{
     BUFFER_LENGTH, JobFault, ReadFault, Sink, Source, Splitter, read_piece, write_all,
@@ -66,7 +67,7 @@ pub fn run_batch<R: Threads + Wait + Sync, S: Source, K: Sink>(
 #[derive(Drop)]
 struct Batch {
     splitter: Splitter,
-    block: Block,
+    block: ReservedText,
     number: u32,
     end: SearchEnd,
 }
@@ -79,7 +80,7 @@ impl Batch {
     {
         Ok(Batch {
             splitter: Splitter::new(alloc, LONGEST_JOB),
-            block: Block::new(alloc)?,
+            block: ReservedText::new(alloc)?,
             number: 1,
             end: SearchEnd::Exact,
         })
@@ -188,7 +189,7 @@ impl Batch {
         ensures end { IfOk result (λ end. self.new.end ≡ end) }
     {
         let answer = job_answer(rt, alloc, &self.splitter, options);
-        let end = self.block.fill(self.number, self.splitter.label(), answer);
+        let end = fill(&mut self.block, self.number, self.splitter.label(), answer);
         if write_all(sink, self.block.bytes()).is_err() {
             return Err(Fault::Write);
         }

@@ -1,4 +1,4 @@
-ghost use Rattle.std.specs.Prelude.{◌≡◌, ◌≤◌, ◌+◌, ℕ, List, [], ◌++◌, length, IfOk, OnOk, OnErr, Ok};
+ghost use Rattle.std.specs.Prelude.{◌≡◌, ◌≤◌, ◌+◌, ℕ, List, ◌++◌, length, Ok};
 ghost use Rattle.std.specs.List.{flat_map};
 ghost use Rattle.convoy_lines.specs.Texts.{spaced};
 ghost use Rattle.convoy_streams.specs.declared.label.TheConstants.{LONGEST_LABEL};
@@ -8,151 +8,89 @@ ghost use Rattle.convoy_commands.specs.Faults.{IsShortEnding, ending_text, fault
 ghost use Rattle.convoy_commands.specs.Replies.{reply_of};
 
 use convoy_commands::{Done, Fault, FaultEnding, SearchEnd, fault_row};
+use convoy_lines::ReservedText;
 use itoa::Buffer;
-use std::alloc::{AllocError, Global};
-use std::marker::Model;
 
-/// How many bytes are reserved for a block.
-const BLOCK_LENGTH: usize = 4_096;
-
-/// What is written for one job of a batch. Its memory is taken once, so that to tell a fault needs
-/// none.
-#[derive(Drop)]
-pub(crate) struct Block {
-    bytes: Vec<u8>,
+/// Makes a text the block of the job of that number and label: what is answered for the job, or the line of
+/// its fault. Answers how the job so ended.
+pub(crate) fn fill(
+    block: &mut ReservedText,
+    number: u32,
+    label: &[u8],
+    answer: Result<(Done, Vec<u8>), Fault>,
+) -> SearchEnd
+    requires { length label.now ≤ LONGEST_LABEL }
+    ensures { IsBlockFor number label.now (reply_of answer) result block.new }
+{
+    start(block, number, label);
+    match answer {
+        Ok((done, text)) => {
+            if block.append(&text).is_err() {
+                push_fault(block, &Fault::Memory);
+                return SearchEnd::Faulty;
+            }
+            end_of_answer(done)
+        }
+        Err(fault) => {
+            push_fault(block, &fault);
+            SearchEnd::Faulty
+        }
+    }
 }
 
-impl Model for Block {
-    ghost use Rattle.std.specs.Prelude.{◌≤◌, ℕ, List};
-    ghost use Rattle.std.specs.Vec.{vec_capacity};
-
-    ghost Value = { List ℕ };
-
-    ghost view = { λ b. b.bytes.items };
-
-    ghost invariant = { λ b. 4096 ≤ vec_capacity b.bytes };
+/// Makes a text the first line of a block.
+fn start(block: &mut ReservedText, number: u32, label: &[u8])
+    requires { length label.now ≤ LONGEST_LABEL }
+    ensures line { block.new ≡ job_line number label.now }
+    ensures short { length block.new ≤ 128 }
+{
+    let mut digits = Buffer::new();
+    block.clear();
+    block.push(b"job ");
+    block.push(digits.format(number).as_bytes());
+    push_label(block, label);
+    block.push(b"\n");
 }
 
-impl Block {
-    /// An empty block, with its memory.
-    pub(crate) fn new(alloc: Global) -> Result<Block, AllocError>
-        ensures { IfOk result (λ block. block ≡ []) }
-    {
-        Ok(Block {
-            bytes: Vec::with_capacity(alloc, BLOCK_LENGTH)?,
-        })
+/// Appends a label as a further word, where it has a byte.
+fn push_label(block: &mut ReservedText, label: &[u8])
+    requires room { length block.old ≤ 1024 }
+    requires short { length label.now ≤ LONGEST_LABEL }
+    ensures text { block.new ≡ block.old ++ flat_map spaced (label_words label.now) }
+    ensures short { length block.new ≤ length block.old + 1 + length label.now }
+{
+    if label.is_empty() {
+        return;
     }
+    block.push(b" ");
+    block.push(label);
+}
 
-    /// What is to be written.
-    pub(crate) fn bytes(&self) -> &[u8]
-        ensures { result.now ≡ self.now }
-    {
-        self.bytes.as_slice()
-    }
+/// Appends the line of a fault.
+fn push_fault(block: &mut ReservedText, fault: &Fault)
+    requires { length block.old ≤ 128 }
+    ensures { block.new ≡ block.old ++ fault_line_of fault.now }
+{
+    let (number, phrase, ending) = fault_row(fault);
+    let mut digits = Buffer::new();
+    block.push(b"fault ");
+    block.push(digits.format(number).as_bytes());
+    block.push(b" ");
+    block.push(phrase.as_bytes());
+    push_ending(block, ending);
+    block.push(b"\n");
+}
 
-    /// Makes it the block of the job of that number and label: what is answered for the job, or the line of
-    /// its fault. Answers how the job so ended.
-    pub(crate) fn fill(
-        &mut self,
-        number: u32,
-        label: &[u8],
-        answer: Result<(Done, Vec<u8>), Fault>,
-    ) -> SearchEnd
-        requires { length label.now ≤ LONGEST_LABEL }
-        ensures { IsBlockFor number label.now (reply_of answer) result self.new }
-    {
-        self.start(number, label);
-        match answer {
-            Ok((done, text)) => {
-                if self.append(&text).is_err() {
-                    self.push_fault(&Fault::Memory);
-                    return SearchEnd::Faulty;
-                }
-                end_of_answer(done)
-            }
-            Err(fault) => {
-                self.push_fault(&fault);
-                SearchEnd::Faulty
-            }
-        }
-    }
-
-    /// Makes it the first line of a block.
-    fn start(&mut self, number: u32, label: &[u8])
-        requires { length label.now ≤ LONGEST_LABEL }
-        ensures line { self.new ≡ job_line number label.now }
-        ensures short { length self.new ≤ 128 }
-    {
-        let mut digits = Buffer::new();
-        self.clear();
-        self.push(b"job ");
-        self.push(digits.format(number).as_bytes());
-        self.push_label(label);
-        self.push(b"\n");
-    }
-
-    /// Appends a label as a further word, where it has a byte.
-    fn push_label(&mut self, label: &[u8])
-        requires room { length self.old ≤ 1024 }
-        requires short { length label.now ≤ LONGEST_LABEL }
-        ensures text { self.new ≡ self.old ++ flat_map spaced (label_words label.now) }
-        ensures short { length self.new ≤ length self.old + 1 + length label.now }
-    {
-        if label.is_empty() {
-            return;
-        }
-        self.push(b" ");
-        self.push(label);
-    }
-
-    fn clear(&mut self)
-        ensures { self.new ≡ [] }
-    {
-        self.bytes.clear();
-    }
-
-    /// Appends the line of a fault.
-    fn push_fault(&mut self, fault: &Fault)
-        requires { length self.old ≤ 128 }
-        ensures { self.new ≡ self.old ++ fault_line_of fault.now }
-    {
-        let (number, phrase, ending) = fault_row(fault);
-        let mut digits = Buffer::new();
-        self.push(b"fault ");
-        self.push(digits.format(number).as_bytes());
-        self.push(b" ");
-        self.push(phrase.as_bytes());
-        self.push_ending(ending);
-        self.push(b"\n");
-    }
-
-    /// Appends what ends the text of a fault.
-    fn push_ending(&mut self, ending: FaultEnding)
-        requires room { length self.old ≤ 1024 }
-        requires short { IsShortEnding ending }
-        ensures text { self.new ≡ self.old ++ ending_text ending }
-        ensures short { length self.new ≤ length self.old + 64 }
-    {
-        match ending {
-            FaultEnding::Word(word) => self.push(word.as_bytes()),
-            FaultEnding::Number(value) => self.push(Buffer::new().format(value).as_bytes()),
-        }
-    }
-
-    /// Appends bytes for which there is room.
-    fn push(&mut self, bytes: &[u8])
-        requires { length self.old + length bytes.now ≤ 4096 }
-        ensures { self.new ≡ self.old ++ bytes.now }
-    {
-        let _ = self.bytes.extend_from_slice(bytes);
-    }
-
-    /// Appends bytes, and takes memory where they need more room.
-    fn append(&mut self, bytes: &[u8]) -> Result<(), AllocError>
-        ensures ok { OnOk result (self.new ≡ self.old ++ bytes.now) }
-        ensures err { OnErr result (self.new ≡ self.old) }
-    {
-        self.bytes.extend_from_slice(bytes)
+/// Appends what ends the text of a fault.
+fn push_ending(block: &mut ReservedText, ending: FaultEnding)
+    requires room { length block.old ≤ 1024 }
+    requires short { IsShortEnding ending }
+    ensures text { block.new ≡ block.old ++ ending_text ending }
+    ensures short { length block.new ≤ length block.old + 64 }
+{
+    match ending {
+        FaultEnding::Word(word) => block.push(word.as_bytes()),
+        FaultEnding::Number(value) => block.push(Buffer::new().format(value).as_bytes()),
     }
 }
 

@@ -17,14 +17,14 @@ use std::sync::Wait;
 use std::thread::Threads;
 
 /// The scenario of a job, and what a search found of the latency that is asked there.
-#[derive(Debug, Drop)]
+#[derive(Drop)]
 pub(crate) struct JobFinding {
     pub(crate) instance: Instance,
     pub(crate) finding: Finding,
 }
 
 /// A job, by its label, which is empty where it has none, with what was found of it, or its fault.
-#[derive(Debug, Drop)]
+#[derive(Drop)]
 pub(crate) struct JobRow {
     pub(crate) label: Vec<u8>,
     pub(crate) found: Result<JobFinding, Fault>,

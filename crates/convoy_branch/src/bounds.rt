@@ -12,7 +12,7 @@ use std::alloc::{AllocError, Global};
 
 /// By what a search closes boxes (docs/PROTOCOL.md). In real time no stamp bound is asked for, and
 /// the plain one counts in its place.
-#[derive(Clone, Copy, Debug, PartialEq, Eq)]
+#[derive(Clone, Copy, PartialEq, Eq)]
 pub enum Bounds {
     /// By plain bounds alone.
     Plain,

@@ -22,7 +22,7 @@ pub const MOST_SIMULATIONS: u64 = 1_000_000;
 pub const DEFAULT_SIMULATIONS: u64 = 20_000;
 
 /// By what a search goes (docs/PROTOCOL.md).
-#[derive(Clone, Copy, Debug, PartialEq, Eq)]
+#[derive(Clone, Copy, PartialEq, Eq)]
 pub enum Ways {
     /// By those bounds alone.
     One(Bounds),
@@ -46,7 +46,7 @@ impl Ways {
 /// [`MOST_TICKETS`], or by leads to as many as lead leaves are read; how many schedules are simulated
 /// at most to find a good one to start from, up to [`MOST_SIMULATIONS`]; how many reads of the input
 /// are made at most; and by what it closes boxes, or that it goes both ways.
-#[derive(Clone, Copy, Debug)]
+#[derive(Clone, Copy)]
 pub struct Options {
     workers: u32,
     limit: u64,

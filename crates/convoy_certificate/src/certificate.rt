@@ -27,7 +27,7 @@ pub const LONGEST_TEXT: usize = 67_108_864;
 /// `GREATEST_WHOLE_DELAY` ticks; else it names one from 0 to `GREATEST_PACKET`, and cuts after 0 to
 /// `GREATEST_DELAY` ticks. In real time no node is a point or stamp leaf. Nothing else is known of the
 /// nodes: they may be no tree, and there may be none.
-#[derive(Debug, Drop)]
+#[derive(Drop)]
 pub struct Certificate {
     instance: Instance,
     latency: u32,

@@ -7,7 +7,7 @@ use super::version::Version;
 use convoy_lines::begins_with;
 
 /// What a text is, by its first line.
-#[derive(Clone, Copy, Debug, PartialEq, Eq)]
+#[derive(Clone, Copy, PartialEq, Eq)]
 pub enum Form {
     /// The text is of the form of a certificate, and of this version; None where its first line names no
     /// version that is read.

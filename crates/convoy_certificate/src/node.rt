@@ -7,7 +7,7 @@ pub const GREATEST_UNTIMED_PACKET: u16 = 1_023;
 
 /// A node of the tree of a certificate, as it stands in the list of nodes: a split comes first, then
 /// the tree of its lower half, and then that of its upper half.
-#[derive(Clone, Copy, Debug, PartialEq, Eq)]
+#[derive(Clone, Copy, PartialEq, Eq)]
 pub enum Node {
     /// The delays of a packet are split: at most `at`, and above it.
     Split { packet: u16, at: u16 },

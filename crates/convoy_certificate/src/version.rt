@@ -1,7 +1,7 @@
 use convoy_scenario_lines::Version as LinesVersion;
 
 /// A version of the text of a certificate (docs/FORMATS.md, "Certificate text").
-#[derive(Clone, Copy, Debug, PartialEq, Eq)]
+#[derive(Clone, Copy, PartialEq, Eq)]
 pub enum Version {
     /// A scenario in whole ticks in which no message may wait, without links, and a tree of splits,
     /// bound leaves and point leaves.

@@ -1,4 +1,4 @@
--- Laws of trees, whatever a node has to say of its box. They range over every such test, which no clause can do, so this is the one file of proofs that the crates above may cite.
+-- Laws of trees, whatever a node has to say of its box. They range over every such test, which no clause can do, so the crates above cite this file.
 use Rattle.std.specs.Prelude.{◌≡◌, List, [], ◌∷◌, ◌++◌}
 use Rattle.std.proofs.Common.{refl, sym, ap, subst, append_assoc}
 use Rattle.convoy_intervals.specs.Boxes.{Box}

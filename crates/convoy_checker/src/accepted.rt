@@ -1,7 +1,7 @@
 use std::marker::Model;
 
 /// That a certificate is valid: its latency is the greatest of its scenario.
-#[derive(Debug, Drop)]
+#[derive(Drop)]
 pub struct Accepted {
     latency: u32,
 }

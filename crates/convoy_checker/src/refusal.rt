@@ -2,7 +2,7 @@ use super::refused::Refused;
 use convoy_certificate::TextFault;
 
 /// Why a certificate is refused. Memory that ran out is told by both, and says nothing of the certificate.
-#[derive(Clone, Copy, Debug, PartialEq, Eq)]
+#[derive(Clone, Copy)]
 pub enum Refusal {
     /// The text is that of no certificate.
     Text(TextFault),

@@ -9,7 +9,7 @@ use std::alloc::{AllocError, Global};
 use std::marker::Model;
 
 /// A change of the box at which a walk stands: the new range of one packet, in ticks.
-#[derive(Clone, Copy, Debug)]
+#[derive(Clone, Copy)]
 struct Change {
     packet: u16,
     range: (u16, u16),
@@ -21,7 +21,7 @@ struct Change {
 /// has been met and its own node has not. The walk keeps one box, and the changes that make it each
 /// of the other open boxes in turn, the next change last: so its memory grows with the depth of the
 /// tree and not with the packets at each depth.
-#[derive(Debug, Drop)]
+#[derive(Drop)]
 pub(crate) struct Walk {
     current: DelayBox,
     changes: Vec<Change>,

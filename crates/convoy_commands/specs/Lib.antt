@@ -10,7 +10,6 @@ pub use Rattle.convoy_scenario.specs.Memory
 pub use Rattle.convoy_streams.specs.Devices
 pub use Rattle.convoy_streams.specs.Reads
 pub use Rattle.convoy_streams.specs.Writes
-pub use Rattle.convoy_streams.specs.InMemory
 pub use Rattle.convoy_streams.specs.Streams
 pub use Rattle.convoy_packets.specs.Assignment
 pub use Rattle.convoy_packets.specs.Given

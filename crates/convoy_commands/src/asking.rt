@@ -24,7 +24,7 @@ use convoy_sim::simulate;
 use std::alloc::{AllocError, Global};
 
 /// What is asked of a certificate. It is checked first, and a refusal is the answer to each.
-#[derive(Clone, Copy, Debug)]
+#[derive(Clone, Copy)]
 pub enum Asking {
     /// Whether it is valid.
     Check,

@@ -25,7 +25,7 @@ use std::sync::Wait;
 use std::thread::Threads;
 
 /// What is to be answered for a text (docs/FORMATS.md, "Commands").
-#[derive(Clone, Copy, Debug)]
+#[derive(Clone, Copy)]
 pub enum Command {
     /// What needs no search.
     Direct(Direct),
@@ -34,7 +34,7 @@ pub enum Command {
 }
 
 /// What is to be answered without a search.
-#[derive(Clone, Copy, Debug)]
+#[derive(Clone, Copy)]
 pub enum Direct {
     /// The latency that the schedule of least delays attains.
     First,
@@ -49,7 +49,7 @@ pub enum Direct {
 }
 
 /// What a search is for.
-#[derive(Clone, Copy, Debug)]
+#[derive(Clone, Copy)]
 pub enum Goal {
     /// A certificate of the greatest latency.
     Certificate,

@@ -1,7 +1,7 @@
 use convoy_checker::Refusal;
 
 /// How a command ended that gave an answer.
-#[derive(Clone, Copy, Debug, PartialEq, Eq)]
+#[derive(Clone, Copy)]
 pub enum Done {
     /// The answer was written.
     Fine,

@@ -118,7 +118,7 @@ pub(crate) fn fault_of_order(cause: ListFault) -> Fault
 }
 
 /// What ends a fault's text, after its phrase.
-#[derive(Clone, Copy, Debug)]
+#[derive(Clone, Copy)]
 pub enum FaultEnding {
     Word(&'static str),
     Number(usize),

@@ -11,8 +11,7 @@ pub use convoy_branch::{
 pub use convoy_packets::ListFault;
 pub use convoy_scenario::{Duration, ScenarioFault};
 pub use convoy_streams::{
-    DeviceFailed, ReadFault, Sink, SliceSource, Source, StreamSink, StreamSource, VecSink,
-    write_all,
+    DeviceFailed, ReadFault, Sink, Source, StreamSink, StreamSource, write_all,
 };
 pub use done::Done;
 pub use fault::{Fault, FaultEnding, OrderFault, fault_line, fault_row};

@@ -3,7 +3,7 @@ ghost use Rattle.convoy_commands.specs.SearchEnds.{end_by, worse};
 
 /// How a search ended that is one of several, as those for the jobs of a batch or for the rows of a survey; or
 /// the worst end of several.
-#[derive(Clone, Copy, Debug, PartialEq, Eq)]
+#[derive(Clone, Copy, PartialEq, Eq)]
 pub enum SearchEnd {
     /// Its answer is the greatest latency.
     Exact,

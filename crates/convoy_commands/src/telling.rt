@@ -26,7 +26,7 @@ use convoy_toml_writer::write_toml;
 use std::alloc::{AllocError, Global};
 
 /// What is to be told of a scenario or of a certificate.
-#[derive(Clone, Copy, Debug)]
+#[derive(Clone, Copy)]
 pub enum Telling {
     /// The latency under the schedule and the order of ties that are given, and these.
     Simulate,

@@ -4,7 +4,7 @@ use super::time::Time;
 use std::marker::Model;
 
 /// A message as it is written, with the names of groups in place of their numbers.
-#[derive(Debug, Drop)]
+#[derive(Drop)]
 pub struct DraftMulticast {
     pub name: Name,
     /// The group that sends it, or none where a client does.
@@ -22,18 +22,12 @@ impl Model for DraftMulticast {
 
     ghost Value = { DraftMessage };
 
-    ghost view = { λ m. record {
-      name = m.name;
-      sender = m.sender;
-      to = m.to.items;
-      at = m.at;
-      until = m.until;
-    } };
+    ghost view = { λ m. record { name = m.name; sender = m.sender; to = m.to.items; at = m.at; until = m.until } };
 }
 
 /// A link as it is written: what goes from the sender to the group `to` takes `least` to `most` ticks,
 /// be these a range or not.
-#[derive(Debug, Drop)]
+#[derive(Drop)]
 pub struct DraftLink {
     /// The group that sends, or none where a client does.
     pub sender: Option<Name>,
@@ -49,17 +43,12 @@ impl Model for DraftLink {
 
     ghost Value = { DraftLink };
 
-    ghost view = { λ l. record {
-      sender = l.sender;
-      to = l.to;
-      least = l.least;
-      most = l.most;
-    } };
+    ghost view = { λ l. record { sender = l.sender; to = l.to; least = l.least; most = l.most } };
 }
 
 /// A scenario as it is written, with names in place of numbers, before any rule is asked of it
 /// (docs/FORMATS.md, "Scenario text"). `Scenario::from_draft` makes the scenario of it.
-#[derive(Debug, Drop)]
+#[derive(Drop)]
 pub struct DraftScenario {
     /// Whether time goes in whole ticks, or is real.
     pub time: Time,

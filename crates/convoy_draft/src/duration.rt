@@ -11,7 +11,7 @@ pub const LONGEST_DURATION: u64 = 1_000_000_000_000_000;
 pub const MOST_UNITS: u64 = 4_294_967_295;
 
 /// A unit of durations.
-#[derive(Clone, Copy, Debug, PartialEq, Eq)]
+#[derive(Clone, Copy, PartialEq, Eq)]
 pub enum TimeUnit {
     Seconds,
     Milliseconds,
@@ -60,7 +60,7 @@ impl TimeUnit {
 }
 
 /// A time that passes: a whole number of nanoseconds, at most `LONGEST_DURATION`.
-#[derive(Clone, Copy, Debug, PartialEq, Eq)]
+#[derive(Clone, Copy, PartialEq, Eq)]
 pub struct Duration {
     nanoseconds: u64,
 }

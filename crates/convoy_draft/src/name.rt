@@ -9,7 +9,7 @@ use std::marker::Model;
 
 /// A name as it is written, be it one that a group or a message may have or not (docs/FORMATS.md,
 /// "Scenario text").
-#[derive(Debug, Drop)]
+#[derive(Drop)]
 pub struct Name {
     text: String,
 }

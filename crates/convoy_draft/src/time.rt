@@ -6,7 +6,7 @@ use super::limits::{GREATEST_DELAY, GREATEST_WHOLE_DELAY};
 
 /// How time goes in a scenario (docs/PROTOCOL.md): which delays a packet may take, and in which order
 /// things happen that happen at one group at once.
-#[derive(Clone, Copy, Debug, PartialEq, Eq)]
+#[derive(Clone, Copy, PartialEq, Eq)]
 pub enum Time {
     /// Delays are whole numbers of ticks, and what happens at one group in one tick happens in a fixed
     /// order: arrivals first, by the numbers of the messages, and then commits, likewise.

@@ -1,7 +1,7 @@
 use convoy_sim::Proposal;
 
 /// A packet of a run, on its way from one place to another.
-#[derive(Clone, Copy, Debug, PartialEq, Eq)]
+#[derive(Clone, Copy)]
 pub struct Flight {
     /// Its number: its place in the packet order (docs/PROTOCOL.md).
     pub packet: u16,
@@ -10,7 +10,7 @@ pub struct Flight {
 }
 
 /// A message that holds the target back at its group.
-#[derive(Clone, Copy, Debug, PartialEq, Eq)]
+#[derive(Clone, Copy)]
 pub struct Holder {
     /// The number of the message.
     pub message: usize,
@@ -19,7 +19,7 @@ pub struct Holder {
 }
 
 /// How the last proposal for a message comes to the target's group, which then commits the message.
-#[derive(Clone, Copy, Debug, PartialEq, Eq)]
+#[derive(Clone, Copy)]
 pub struct LastProposal {
     /// The number of the message.
     pub message: usize,
@@ -39,7 +39,7 @@ pub struct LastProposal {
 
 /// Why the target of a scenario is delivered at its group when it is, in one run. Ticks are counted
 /// from the start of the run.
-#[derive(Clone, Copy, Debug, PartialEq, Eq)]
+#[derive(Clone, Copy)]
 pub struct Explanation {
     /// From the issue of the target to its delivery, in ticks.
     pub latency: u32,

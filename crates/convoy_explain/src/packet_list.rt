@@ -3,13 +3,12 @@ ghost use Rattle.std.specs.List.{flat_map, enumerate_from, slice_get};
 ghost use Rattle.convoy_packets.specs.Assignment.{IsAssignment, range_of};
 ghost use Rattle.convoy_explain.specs.PacketLists.{packet_line, packet_text, packets_text, scheduled_packets_text};
 ghost use Rattle.convoy_explain.specs.PacketLists.{taken_text};
-ghost use Rattle.convoy_scenario.specs.Naming.{sender_word};
-ghost use Rattle.convoy_scenario.specs.Scenario.{message_at};
 
-use super::telling::{group_name, message_name};
 use convoy_packets::laws::delays_are_one_each;
 use convoy_packets::{Instance, Packet, Schedule};
-use convoy_scenario::{Scenario, Sender};
+use convoy_scenario::Scenario;
+use convoy_scenario::lookup::sender_of;
+use convoy_scenario::naming::{group_name, message_name, sender_word};
 use std::alloc::{AllocError, Global};
 
 /// Appends the list of an instance's packets and of the waits of its messages: for each, in packet order,
@@ -110,7 +109,7 @@ fn packet_text(alloc: Global, scenario: &Scenario, packet: Packet) -> Result<Str
         }
         Packet::Multicast { message, to } => {
             let name = message_name(scenario, message);
-            let sender = sender_word(scenario, message);
+            let sender = sender_word(scenario, sender_of(scenario, message));
             let to = group_name(scenario, to);
             format!(in alloc; "{name} from {sender} to {to}")
         }
@@ -131,18 +130,5 @@ fn taken_text(alloc: Global, delay: Option<u16>) -> Result<String, AllocError>
     match delay {
         Some(delay) => format!(in alloc; ", takes {delay}"),
         None => Ok(String::new(alloc)),
-    }
-}
-
-/// The word for who sends a message; a client where the scenario has no such message.
-fn sender_word(scenario: &Scenario, message: usize) -> &str
-    ensures { result.now ≡ sender_word scenario.now (message_at scenario.now message).sender }
-{
-    if message >= scenario.message_count() {
-        return "client";
-    }
-    match scenario.sender(message) {
-        Sender::Client => "client",
-        Sender::Group(group) => group_name(scenario, group),
     }
 }

@@ -1,15 +1,16 @@
 ghost use Rattle.std.specs.Prelude.{◌≡◌, ◌++◌, OnErr, OnOk, IfOk, string_bytes};
-ghost use Rattle.convoy_scenario.specs.Scenario.{group_name_at};
 ghost use Rattle.convoy_explain.specs.Explanations.{answered_text, awaited_text, commit_text, flight_text};
-ghost use Rattle.convoy_explain.specs.Explanations.{gap_after, holder_text, latency_text, message_name_at};
-ghost use Rattle.convoy_explain.specs.Explanations.{node_word, sender_text, sent_text, stamp_text, text_of};
-ghost use Rattle.convoy_explain.specs.Explanations.{in_unit_text, issue_text, tick_word, ticks_text, tie_won_text};
+ghost use Rattle.convoy_explain.specs.Explanations.{gap_after, holder_text, latency_text};
+ghost use Rattle.convoy_explain.specs.Explanations.{node_word, sent_text, text_of};
+ghost use Rattle.convoy_explain.specs.Explanations.{in_unit_text, issue_text, ticks_text, tie_won_text};
 ghost use Rattle.convoy_explain.specs.Explanations.{tied_text, wait_text, window_of, window_text, worst_text};
 ghost use Rattle.convoy_scenario.specs.Scenario.{may_wait, message_at};
 
 use super::explanation::{Explanation, Flight, Holder, LastProposal};
-use convoy_scenario::{Scenario, Sender, Time};
-use convoy_sim::Timestamp;
+use super::words::{sender_name, stamp_text, tick_word};
+use convoy_scenario::lookup::sender_of;
+use convoy_scenario::naming::{group_name, message_name};
+use convoy_scenario::{Scenario, Time};
 use std::alloc::{AllocError, Global};
 
 /// Appends the text of an explanation of the schedule of a valid certificate, which has so many nodes,
@@ -147,7 +148,7 @@ fn issue_line(alloc: Global, scenario: &Scenario, last: &LastProposal) -> Result
     ensures { IfOk result (λ line. string_bytes line ≡ issue_text scenario.now last.now) }
 {
     let window = window_text(alloc, scenario, last.message)?;
-    let sender = sender_name(scenario, last.message);
+    let sender = sender_name(scenario, sender_of(scenario, last.message));
     format!(in alloc;
         "{window}: here {sender} issues it at tick {}\n",
         last.issued
@@ -191,7 +192,7 @@ fn flown_line(
 {
     let tick = last.issued;
     let gap = gap_after(tick);
-    let sender = sender_name(scenario, last.message);
+    let sender = sender_name(scenario, sender_of(scenario, last.message));
     let message = message_name(scenario, last.message);
     let to = group_name(scenario, last.from);
     let flight = flight_text(alloc, flight)?;
@@ -356,21 +357,6 @@ fn flight_text(alloc: Global, flight: &Flight) -> Result<String, AllocError>
     format!(in alloc; ", packet {}, {} {ticks}", flight.packet, flight.delay)
 }
 
-/// A stamp, with the name of the group that gave it.
-#[tactic(auto, unfolding(crate::specs::Explanations::stamp_text))]
-fn stamp_text(alloc: Global, scenario: &Scenario, stamp: Timestamp) -> Result<String, AllocError>
-    ensures { IfOk result (λ text. string_bytes text ≡ stamp_text scenario.now stamp) }
-{
-    let giver = group_name(scenario, stamp.group);
-    format!(in alloc; "{}.{giver}", stamp.time)
-}
-
-fn tick_word(count: u32) -> &'static str
-    ensures { result.now ≡ tick_word count }
-{
-    if count == 1 { "tick" } else { "ticks" }
-}
-
 fn node_word(count: usize) -> &'static str
     ensures { result.now ≡ node_word count }
 {
@@ -387,40 +373,5 @@ fn gap_after(tick: u32) -> &'static str
         "  "
     } else {
         " "
-    }
-}
-
-/// Who sends a message; a client where the scenario has no such message.
-fn sender_name(scenario: &Scenario, message: usize) -> &str
-    ensures { result.now ≡ sender_text scenario.now (message_at scenario.now message).sender }
-{
-    if message >= scenario.message_count() {
-        return "a client";
-    }
-    match scenario.sender(message) {
-        Sender::Client => "a client",
-        Sender::Group(group) => group_name(scenario, group),
-    }
-}
-
-/// The name of a group, and none for a group that the scenario has not.
-pub(crate) fn group_name(scenario: &Scenario, group: usize) -> &str
-    ensures { result.now ≡ group_name_at scenario.now group }
-{
-    if group < scenario.group_count() {
-        scenario.group_name(group)
-    } else {
-        ""
-    }
-}
-
-/// The name of a message, and none for a message that the scenario has not.
-pub(crate) fn message_name(scenario: &Scenario, message: usize) -> &str
-    ensures { result.now ≡ message_name_at scenario.now message }
-{
-    if message < scenario.message_count() {
-        scenario.message_name(message)
-    } else {
-        ""
     }
 }

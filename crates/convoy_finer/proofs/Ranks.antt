@@ -15,7 +15,7 @@ use Rattle.convoy_sim.specs.Moments.{is_before, arrival_of, commit_of, moments_a
 use Rattle.convoy_sim.proofs.Membership.{IsIn, in-flat_map, in_of_range, all-in}
 use Rattle.convoy_sim.proofs.Addressed.{in_of_goes, in-numbers, number_of_goes}
 use Rattle.convoy_sim.proofs.MomentsOrder.{before_itself, before_trans}
-use Rattle.convoy_sim.proofs.Ranges.{length-rising-le}
+use Rattle.convoy_packets.proofs.Lists.{length-increasing-le}
 use Rattle.convoy_finer.specs.FinerTicks.{IsFiner}
 use Rattle.convoy_finer.proofs.Lists.{filter_less, filter_not_all, flat_map_few}
 use Rattle.convoy_finer.proofs.SameParts.{same_message, same_numbers, goes_too}
@@ -82,7 +82,7 @@ in_unordered plan schedule m g c goes i =
 few_destinations : (plan : Scenario) → IsScenario plan → (m : ℕ) → m < length plan.multicasts → length (message_at plan m).destinations ≤ 8
 few_destinations plan well m l =
     let message = well.messages m no_message l in
-    let few = length-rising-le (message_at plan m).destinations (length plan.groups) message.ascending message.known in
+    let few = length-increasing-le (message_at plan m).destinations (length plan.groups) message.ascending message.known in
     let most = well.groups_high in
     omega arith
 

@@ -2,7 +2,7 @@ use super::body::{Body, split_of};
 use std::alloc::{AllocError, Global};
 
 /// One half of a box: the schedules in which a packet takes at most that, or more.
-#[derive(Clone, Copy, Debug, PartialEq, Eq)]
+#[derive(Clone, Copy, PartialEq, Eq)]
 pub(crate) struct Half {
     packet: usize,
     at: u16,

@@ -8,7 +8,6 @@ ghost use Rattle.convoy_incumbent.specs.Boards.{IsBetterOf, pair_of, places};
 use super::rule::Pair;
 use boxcar::Pushed;
 use convoy_sim::Record;
-use std::fmt;
 use std::marker::Model;
 
 /// The number of places that a word can name: a word is a latency times this, and a place.
@@ -44,14 +43,6 @@ impl Model for Noted {
     ghost view = { λ n. n.pushed };
 
     ghost invariant = { λ n. (n.latency ≡ n.pushed.value.latency) × IsAttained n.pushed.value };
-}
-
-impl fmt::Debug for Noted {
-    fn fmt<W: fmt::Write>(&self, f: &mut fmt::Formatter<W>) -> fmt::Result {
-        f.debug_struct("Noted")
-            .field("latency", &self.latency)
-            .finish_non_exhaustive()
-    }
 }
 
 impl Noted {

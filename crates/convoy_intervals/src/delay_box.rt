@@ -16,7 +16,7 @@ use std::marker::Model;
 /// A range of delays for each packet of a scenario, by the packet's place in the packet list. A
 /// range is a least and a greatest delay, in ticks, and both belong to it. A schedule is a member
 /// of the box if each of its delays lies in the packet's range.
-#[derive(Debug, Drop)]
+#[derive(Drop)]
 pub struct DelayBox {
     ranges: Vec<(u16, u16)>,
 }

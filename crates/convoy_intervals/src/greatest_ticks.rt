@@ -66,10 +66,7 @@ impl<'a> Model for BoxTicks<'a> {
 
     ghost Value = { Scheduled };
 
-    ghost view = { λ t. record {
-      scenario = t.instance.now;
-      schedule = greatest_of t.delay_box.now;
-    } };
+    ghost view = { λ t. record { scenario = t.instance.now; schedule = greatest_of t.delay_box.now } };
 
     ghost invariant = { λ t. IsBox t.instance.now t.delay_box.now };
 }

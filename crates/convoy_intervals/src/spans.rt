@@ -15,7 +15,7 @@ use std::alloc::{AllocError, Global};
 
 /// From when to when a message may arrive at a group, and be committed there, over the members of a
 /// box.
-#[derive(Clone, Copy, Debug, PartialEq, Eq)]
+#[derive(Clone, Copy)]
 pub struct Span {
     /// The least and the greatest tick at which the message arrives.
     pub arrival: (u32, u32),

@@ -3,13 +3,13 @@
 
 pub use labels::{begins_with, number_in, words_after};
 pub use line_reader::LineReader;
+pub use reserved::{RESERVED, ReservedText};
 pub use words::{Words, number_of};
 pub use writing::{push_further_word, push_number, push_number_line};
 
 mod labels;
 pub mod laws;
 mod line_reader;
-#[cfg(test)]
-mod tests;
+mod reserved;
 mod words;
 mod writing;

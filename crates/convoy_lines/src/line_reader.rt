@@ -10,7 +10,7 @@ use std::marker::Model;
 /// Reads a text line by line: where it stands, and the number of the next line.
 ///
 /// A line is ended by byte 10. Where a call answers None, the reader stands where it stood.
-#[derive(Debug, Drop)]
+#[derive(Drop)]
 pub struct LineReader<'a> {
     rest: &'a [u8],
     number: usize,

@@ -5,7 +5,7 @@ use std::marker::Model;
 
 /// The words of a line that are left to read: what stands between its spaces. A line of no bytes has
 /// one word, of no bytes.
-#[derive(Debug, Drop)]
+#[derive(Drop)]
 pub struct Words<'a> {
     rest: Option<&'a [u8]>,
 }

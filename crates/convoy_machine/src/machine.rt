@@ -37,11 +37,7 @@ impl Model for Core {
 
     ghost Value = { Core };
 
-    ghost view = { λ c. record {
-      best = c.best;
-      workers = c.workers;
-      branches = c.branches.items;
-    } };
+    ghost view = { λ c. record { best = c.best; workers = c.workers; branches = c.branches.items } };
 }
 
 impl Core {

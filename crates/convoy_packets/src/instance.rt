@@ -10,7 +10,7 @@ use std::marker::Model;
 
 /// A scenario with its packets: all that a run, a bound or a search is asked about. Contracts see the
 /// scenario; the table is made of it once, for look-ups.
-#[derive(Debug, Drop)]
+#[derive(Drop)]
 pub struct Instance {
     scenario: Scenario,
     table: PacketTable,

@@ -10,7 +10,7 @@ pub const GREATEST_RANK: u8 = u8::MAX;
 
 /// An order of ties: the rank of each arrival and of each commit. What happens at one group in one
 /// tick happens in the order of ranks (docs/PROTOCOL.md).
-#[derive(Clone, Copy, Debug, PartialEq, Eq)]
+#[derive(Clone, Copy)]
 pub struct Order {
     arrivals: [u8; PLACES],
     commits: [u8; PLACES],

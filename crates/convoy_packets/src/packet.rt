@@ -5,7 +5,7 @@ pub const MOST_PACKETS: usize = MOST_MULTICASTS * (1 + MOST_GROUPS * MOST_GROUPS
 
 /// What a schedule gives a number of ticks: a packet that one place sends another, where a place never
 /// sends one to itself, or the wait of a message, which goes nowhere.
-#[derive(Clone, Copy, Debug, PartialEq, Eq)]
+#[derive(Clone, Copy, PartialEq, Eq)]
 pub enum Packet {
     /// The wait of a message, from the first tick at which it may be issued to its issue.
     Wait {

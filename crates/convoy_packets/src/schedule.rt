@@ -15,7 +15,7 @@ use std::marker::Model;
 
 /// A schedule: the delay of each packet in ticks, in the order of a packet table, and the order in
 /// which ties fall.
-#[derive(Debug, Drop)]
+#[derive(Drop)]
 pub struct Schedule {
     delays: Vec<u16>,
     order: Order,

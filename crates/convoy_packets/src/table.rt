@@ -1,6 +1,5 @@
 ghost use Rattle.std.specs.Prelude.{◌≡◌, ◌<◌, ◌==◌, length, map, IfOk, Some};
 ghost use Rattle.std.specs.List.{All, slice_get};
-ghost use Rattle.convoy_scenario.specs.Scenario.{message_at};
 ghost use Rattle.convoy_packets.specs.Assignment.{delay_in, range_of};
 ghost use Rattle.convoy_packets.specs.Packets.{place_of};
 ghost use Rattle.convoy_packets.specs.Table.{table_of, IsRange, IsTable};
@@ -10,13 +9,14 @@ use super::listing::list_packets;
 use super::packet::Packet;
 use super::schedule::Schedule;
 use super::slots::{entry_of, slots_for};
+use convoy_scenario::lookup::{longest_wait, sender_of};
 use convoy_scenario::{Scenario, Sender};
 use std::alloc::{AllocError, Global};
 use std::marker::Model;
 
 /// The packets of a scenario in the order in which schedules list their delays, with the range of
 /// each, and where each packet stands. A look-up takes constant time.
-#[derive(Debug, Drop)]
+#[derive(Drop)]
 pub struct PacketTable {
     timed: bool,
     packets: Vec<Packet>,
@@ -176,27 +176,5 @@ fn range_of(scenario: &Scenario, packet: Packet) -> (u16, u16)
             to,
         ),
         Packet::Propose { from, to, .. } => scenario.range_between(Sender::Group(from), to),
-    }
-}
-
-/// How many ticks a message waits at most; 0 where the scenario has no such message.
-fn longest_wait(scenario: &Scenario, message: usize) -> u16
-    ensures { result ≡ (message_at scenario.now message).longest_wait }
-{
-    if message < scenario.message_count() {
-        scenario.longest_wait(message)
-    } else {
-        0
-    }
-}
-
-/// Who sends a message; a client where the scenario has no such message.
-fn sender_of(scenario: &Scenario, message: usize) -> Sender
-    ensures { result ≡ (message_at scenario.now message).sender }
-{
-    if message < scenario.message_count() {
-        scenario.sender(message)
-    } else {
-        Sender::Client
     }
 }

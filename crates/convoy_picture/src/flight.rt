@@ -2,15 +2,14 @@ ghost use Rattle.std.specs.Prelude.{◌≡◌, ◌+◌, ◌≤◌};
 ghost use Rattle.convoy_picture.specs.Pictures.{flight_of, sent_at};
 ghost use Rattle.convoy_packets.specs.Assignment.{delay_of, sender_of};
 ghost use Rattle.convoy_packets.specs.declared.packet.Packet.TheVariants.{Multicast};
-ghost use Rattle.convoy_scenario.specs.Scenario.{message_at};
 ghost use Rattle.convoy_sim.specs.Times.{arrive};
 
 use convoy_packets::{Instance, Packet, Schedule};
-use convoy_scenario::{GREATEST_AT, Scenario, Sender};
+use convoy_scenario::{GREATEST_AT, Scenario, Sender, lookup};
 use convoy_timeline::issue_of;
 
 /// A packet of a run on its way. Ticks are counted from the start of the run.
-#[derive(Clone, Copy, Debug, PartialEq, Eq)]
+#[derive(Clone, Copy)]
 pub struct Flight {
     /// Its number: its place in the packet order (docs/PROTOCOL.md).
     pub number: usize,
@@ -50,7 +49,7 @@ fn sent_tick(instance: &Instance, schedule: &Schedule, packet: Packet) -> u32
     ensures soon { result ≤ GREATEST_AT + u16.MAX + u16.MAX }
 {
     match packet {
-        Packet::Wait { message } => first_tick(instance.scenario(), message),
+        Packet::Wait { message } => lookup::first_tick(instance.scenario(), message),
         Packet::Multicast { message, .. } => issue_of(instance, schedule, message),
         Packet::Propose { message, from, .. } => arrival(instance, schedule, message, from),
     }
@@ -88,30 +87,9 @@ fn sender(scenario: &Scenario, packet: Packet) -> Sender
     ensures { result ≡ sender_of scenario.now packet }
 {
     match packet {
-        Packet::Wait { message } | Packet::Multicast { message, .. } => issuer(scenario, message),
+        Packet::Wait { message } | Packet::Multicast { message, .. } => lookup::sender_of(
+            scenario, message,
+        ),
         Packet::Propose { from, .. } => Sender::Group(from),
-    }
-}
-
-/// Who issues a message; a client where the scenario has no such message.
-fn issuer(scenario: &Scenario, message: usize) -> Sender
-    ensures { result ≡ (message_at scenario.now message).sender }
-{
-    if message < scenario.message_count() {
-        scenario.sender(message)
-    } else {
-        Sender::Client
-    }
-}
-
-/// The first tick at which a message may be issued; 0 where the scenario has no such message.
-fn first_tick(scenario: &Scenario, message: usize) -> u32
-    ensures value { result ≡ (message_at scenario.now message).at }
-    ensures soon { result ≤ GREATEST_AT }
-{
-    if message < scenario.message_count() {
-        scenario.issue_tick(message)
-    } else {
-        0
     }
 }

@@ -6,10 +6,8 @@ pub use flight::Flight;
 pub use picture::Picture;
 pub use role::Role;
 pub use told::{answer_words, entry_words, flight_words, receiver_of};
-pub use words::{group_name, message_name, sender_name, stamp_text, tick_word};
 
 mod flight;
 mod picture;
 mod role;
 mod told;
-mod words;

@@ -14,7 +14,7 @@ use std::marker::Model;
 
 /// What is drawn of a run of a scenario, as plain numbers: messages and groups go by their numbers in
 /// the scenario, times are in ticks from the start of the run.
-#[derive(Debug, Drop)]
+#[derive(Drop)]
 pub struct Picture {
     flights: Vec<Flight>,
     issues: Vec<u32>,

@@ -2,7 +2,7 @@ use super::picture::Picture;
 use convoy_scenario::Scenario;
 
 /// What a message is to the target of a picture.
-#[derive(Clone, Copy, Debug, PartialEq, Eq)]
+#[derive(Clone, Copy, PartialEq, Eq)]
 pub enum Role {
     /// The target itself.
     Target,

@@ -3,10 +3,10 @@ ghost use Rattle.convoy_picture.specs.Words.{answer_text, doing_text, entry_text
 ghost use Rattle.convoy_packets.specs.Assignment.{receiver_of};
 
 use super::flight::Flight;
-use super::words::{group_name, message_name, sender_name, stamp_text};
-use convoy_explain::{Explanation, ticks_text};
+use convoy_explain::{Explanation, sender_name, stamp_text, ticks_text};
 use convoy_packets::Packet;
 use convoy_scenario::Scenario;
+use convoy_scenario::naming::{group_name, message_name};
 use convoy_timeline::{Entry, EntryKind};
 use std::alloc::{AllocError, Global};
 

@@ -14,6 +14,7 @@ pub use sender::Sender;
 
 pub mod laws;
 mod link;
+pub mod lookup;
 pub mod naming;
 mod numbering;
 mod parts;

@@ -5,7 +5,7 @@ use std::alloc::{AllocError, Global};
 use std::marker::Model;
 
 /// A message in plain parts: groups by name, whether there are such groups or not.
-#[derive(Debug, Drop)]
+#[derive(Drop)]
 pub struct MessageParts<'a> {
     pub name: &'a str,
     /// The group that sends it, or none where a client does.
@@ -34,7 +34,7 @@ impl<'a> Model for MessageParts<'a> {
 }
 
 /// A link in plain parts: what goes from the sender to the group `to` takes `least` to `most` ticks.
-#[derive(Debug, Drop)]
+#[derive(Drop)]
 pub struct LinkParts<'a> {
     /// The group that sends, or none where a client does.
     pub sender: Option<&'a str>,
@@ -60,7 +60,7 @@ impl<'a> Model for LinkParts<'a> {
 }
 
 /// A scenario in plain parts, well formed or not.
-#[derive(Debug, Drop)]
+#[derive(Drop)]
 pub struct ScenarioParts<'a> {
     /// Whether time goes in whole ticks, or is real.
     pub time: Time,

@@ -13,7 +13,7 @@ use std::alloc::{AllocError, Global};
 use std::marker::Model;
 
 /// A message as a scenario keeps it.
-#[derive(Debug, Drop)]
+#[derive(Drop)]
 pub struct Multicast {
     pub name: Name,
     pub sender: Sender,
@@ -56,7 +56,7 @@ impl Multicast {
 /// A scenario that is well formed: its limits hold, its names are names and differ, and every group
 /// and message that it refers to is there (docs/FORMATS.md, "Scenario text"). Groups and messages go
 /// by number, from 0, in the order of the text.
-#[derive(Debug, Drop)]
+#[derive(Drop)]
 pub struct Scenario {
     time: Time,
     tick: Option<Duration>,

@@ -1,5 +1,5 @@
 /// Who sends a message.
-#[derive(Clone, Copy, Debug, PartialEq, Eq)]
+#[derive(Clone, Copy, PartialEq, Eq)]
 pub enum Sender {
     /// A place apart from all groups.
     Client,

@@ -1,6 +1,7 @@
 use convoy_explain::write_packets;
 use convoy_packets::{GREATEST_RANK, Instance, ListFault};
 use convoy_scenario::Scenario;
+use convoy_scenario::naming::group_name;
 use convoy_sketch::{Quoted, noun};
 use std::alloc::{AllocError, Global};
 
@@ -147,13 +148,4 @@ fn add_moments<'a>(
         })?;
     }
     Ok(())
-}
-
-/// The name of a group, and none for a group that the scenario has not.
-fn group_name(scenario: &Scenario, group: usize) -> &str {
-    if group < scenario.group_count() {
-        scenario.group_name(group)
-    } else {
-        ""
-    }
 }

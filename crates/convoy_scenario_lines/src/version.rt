@@ -1,5 +1,5 @@
 /// A version of the lines of a scenario (docs/FORMATS.md, "Certificate text").
-#[derive(Clone, Copy, Debug, PartialEq, Eq)]
+#[derive(Clone, Copy, PartialEq, Eq)]
 pub enum Version {
     /// The lines of a scenario in whole ticks in which no message may wait, without links.
     One,

@@ -1,11 +1,14 @@
 use super::sheet::lane_of;
-use convoy_picture::{Picture, message_name, stamp_text, tick_word};
+use convoy_explain::{stamp_text, tick_word};
+use convoy_picture::Picture;
+use convoy_scenario::lookup::sender_of;
+use convoy_scenario::naming::message_name;
 use convoy_scenario::{Scenario, Sender};
 use convoy_timeline::{Entry, EntryKind};
 use std::alloc::{AllocError, Global};
 
 /// What a mark on a lane stands for.
-#[derive(Clone, Copy, Debug, PartialEq, Eq)]
+#[derive(Clone, Copy, PartialEq, Eq)]
 pub enum MarkKind {
     /// The message is issued.
     Issue,
@@ -30,7 +33,7 @@ impl MarkKind {
 }
 
 /// A mark on a lane.
-#[derive(Clone, Copy, Debug, PartialEq, Eq)]
+#[derive(Clone, Copy)]
 pub struct Mark {
     pub kind: MarkKind,
     pub message: usize,
@@ -52,15 +55,6 @@ pub fn issue_mark(scenario: &Scenario, picture: &Picture, message: usize) -> Mar
 /// The tick at which a message is issued; 0 where the picture has no such message.
 pub(crate) fn issue_tick(picture: &Picture, message: usize) -> u32 {
     picture.issues().get(message).copied().unwrap_or(0)
-}
-
-/// Who issues a message; a client where the scenario has no such message.
-fn sender_of(scenario: &Scenario, message: usize) -> Sender {
-    if message < scenario.message_count() {
-        scenario.sender(message)
-    } else {
-        Sender::Client
-    }
 }
 
 /// The mark of what happens at a group.

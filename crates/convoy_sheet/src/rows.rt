@@ -1,7 +1,7 @@
 use std::alloc::{AllocError, Global};
 
 /// Rows of words beside a lane, in which no two cover each other: where the last word of each row ends.
-#[derive(Debug, Drop)]
+#[derive(Drop)]
 pub(crate) struct Rows {
     ends: Vec<u32>,
     /// How many rows there may be.

@@ -26,7 +26,7 @@ const NARROWEST_TICK: u32 = 7;
 const WIDEST_SHIFT: u32 = 60;
 
 /// Ticks in which something is under way, with no idle time to be cut between them.
-#[derive(Clone, Copy, Debug, PartialEq, Eq)]
+#[derive(Clone, Copy)]
 pub struct Stretch {
     pub first: u32,
     pub last: u32,
@@ -35,7 +35,7 @@ pub struct Stretch {
 }
 
 /// Where ticks stand across the sheet: those of idle time are cut out.
-#[derive(Debug, Drop)]
+#[derive(Drop)]
 pub struct Scale {
     stretches: Vec<Stretch>,
     /// How many ticks the stretches have together.

@@ -38,7 +38,7 @@ pub const AXIS: u32 = 950;
 const MOST_ROWS: usize = 24;
 
 /// A lane of the sheet: that of the clients, or of a group.
-#[derive(Debug, Drop)]
+#[derive(Drop)]
 struct Lane {
     /// Where its line is, from above.
     y: u32,
@@ -47,7 +47,7 @@ struct Lane {
 }
 
 /// Where all that is drawn of a picture stands.
-#[derive(Debug, Drop)]
+#[derive(Drop)]
 pub struct Sheet {
     pub scale: Scale,
     lanes: Vec<Lane>,

@@ -10,7 +10,7 @@ use Rattle.convoy_sim.proofs.Addressed.{in_of_goes, number_of_goes}
 use Rattle.convoy_sim.proofs.ScenarioMoments.{multicast_at, traffic_of}
 use Rattle.convoy_sim.proofs.Issues.{within_its_wait}
 use Rattle.convoy_sim.proofs.PacketDelays.{arrives_within, committed_within}
-use Rattle.convoy_sim.proofs.Ranges.{length-rising-le}
+use Rattle.convoy_packets.proofs.Lists.{length-increasing-le}
 
 module _ (plan : Scenario) (well : IsScenario plan) where
   -- each destination is a group of the scenario
@@ -44,7 +44,7 @@ module _ (plan : Scenario) (well : IsScenario plan) where
   pub few_destinations : (m : ℕ) → m < length plan.multicasts → length (message_at plan m).destinations ≤ 8
   few_destinations m l =
       let message = multicast_at plan (traffic_of plan well) m l in
-      let few = length-rising-le (message_at plan m).destinations (length plan.groups) message.ascending message.known in
+      let few = length-increasing-le (message_at plan m).destinations (length plan.groups) message.ascending message.known in
       let most = well.groups_high in
       omega arith
 

@@ -4,7 +4,7 @@ ghost use Rattle.convoy_sim.specs.Moments.{next_arrival};
 use convoy_scenario::Time;
 
 /// What a moment is: of equal rank inside a tick, arrivals are before commits.
-#[derive(Clone, Copy, Debug, PartialEq, Eq)]
+#[derive(Clone, Copy, PartialEq, Eq)]
 pub enum MomentKind {
     /// The message arrives at the group, which proposes a local stamp for it.
     Arrival,
@@ -28,7 +28,7 @@ impl MomentKind {
 }
 
 /// A message arrives at a group or is committed there, at that tick.
-#[derive(Clone, Copy, Debug, PartialEq, Eq)]
+#[derive(Clone, Copy)]
 pub struct Moment {
     /// In ticks.
     pub tick: u32,

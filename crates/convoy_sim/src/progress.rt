@@ -10,7 +10,7 @@ use convoy_scenario::MOST_GROUPS;
 use std::alloc::{AllocError, Global};
 
 /// How far a message has come at a group.
-#[derive(Clone, Copy, Debug)]
+#[derive(Clone, Copy)]
 pub struct Progress {
     /// The tick at which it came.
     pub came: Option<u32>,

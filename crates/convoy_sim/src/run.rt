@@ -6,7 +6,7 @@ use std::marker::Model;
 
 /// What a group does as a message comes: it proposes a stamp to all groups that the message goes to
 /// (docs/PROTOCOL.md, rule 1).
-#[derive(Clone, Copy, Debug, PartialEq, Eq)]
+#[derive(Clone, Copy, PartialEq, Eq)]
 pub struct Proposal {
     /// The tick at which the message comes.
     pub tick: u32,
@@ -16,7 +16,7 @@ pub struct Proposal {
 
 /// A run of a scenario under a schedule: what each group does with each message, and when
 /// (docs/PROTOCOL.md). Messages and groups go by their numbers in the scenario, times are in ticks.
-#[derive(Debug, Drop)]
+#[derive(Drop)]
 pub struct Run {
     finals: Vec<Timestamp>,
     progress: Vec<Progress>,
@@ -28,11 +28,7 @@ impl Model for Run {
 
     ghost Value = { Run };
 
-    ghost view = { λ r. record {
-      finals = r.finals.items;
-      progress = r.progress.items;
-      latency = r.latency;
-    } };
+    ghost view = { λ r. record { finals = r.finals.items; progress = r.progress.items; latency = r.latency } };
 
     ghost invariant = { λ r. IsTabled r.finals.items r.progress.items };
 }

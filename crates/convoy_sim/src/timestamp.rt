@@ -1,5 +1,5 @@
 /// A stamp of a message, compared by time and then by group.
-#[derive(Clone, Copy, Debug, PartialEq, Eq)]
+#[derive(Clone, Copy, PartialEq, Eq)]
 pub struct Timestamp {
     /// The group's clock.
     pub time: u64,

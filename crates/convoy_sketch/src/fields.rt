@@ -1,5 +1,5 @@
 /// What a key's value has to be.
-#[derive(Clone, Copy, Debug, PartialEq, Eq)]
+#[derive(Clone, Copy, PartialEq, Eq)]
 pub(crate) enum Kind {
     Integer,
     /// A number of ticks, or where time is real a duration.
@@ -15,7 +15,7 @@ pub(crate) enum Kind {
 }
 
 /// A key that a table may have, or has to have.
-#[derive(Clone, Copy, Debug)]
+#[derive(Clone, Copy)]
 pub(crate) struct Field {
     pub(crate) key: &'static str,
     pub(crate) kind: Kind,

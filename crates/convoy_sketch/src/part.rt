@@ -2,7 +2,7 @@ use super::quoting::{Ordinal, Quoted};
 use std::fmt;
 
 /// What a part of a scenario is.
-#[derive(Clone, Copy, Debug, PartialEq, Eq)]
+#[derive(Clone, Copy, PartialEq, Eq)]
 pub enum PartKind {
     /// The whole of it.
     Scenario,

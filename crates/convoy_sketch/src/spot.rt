@@ -1,5 +1,5 @@
 /// A place in a text: its line and its column, both from 1. A column counts characters.
-#[derive(Clone, Copy, Debug, PartialEq, Eq)]
+#[derive(Clone, Copy)]
 pub struct Spot {
     /// Its line.
     pub line: usize,

@@ -19,12 +19,7 @@ impl Model for Memo {
 
     ghost Value = { Memo };
 
-    ghost view = { λ t. record {
-      message = t.message;
-      group = t.group;
-      by = t.by;
-      stamps = t.stamps.items;
-    } };
+    ghost view = { λ t. record { message = t.message; group = t.group; by = t.by; stamps = t.stamps.items } };
 }
 
 impl Memo {

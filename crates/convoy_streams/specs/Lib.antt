@@ -5,7 +5,6 @@ pub mod Writes
 pub mod Jobs
 pub mod Laws
 -- words of single devices: those in memory, and the standard library's streams
-pub mod InMemory
 pub mod Streams
 -- how far a splitter has come, and what a byte does to the line that is being read
 pub mod Steps

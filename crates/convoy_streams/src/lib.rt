@@ -4,7 +4,6 @@
 
 pub use device::{DeviceFailed, Sink, Source};
 pub use label::LONGEST_LABEL;
-pub use memory::{SliceSource, VecSink};
 pub use reading::{BUFFER_LENGTH, ReadFault, read_piece, read_to_end};
 pub use splitter::{JobFault, Splitter};
 pub use stream::{StreamSink, StreamSource};
@@ -14,10 +13,7 @@ mod device;
 mod label;
 pub mod laws;
 mod line;
-mod memory;
 mod reading;
 mod splitter;
 mod stream;
-#[cfg(test)]
-mod tests;
 mod writing;

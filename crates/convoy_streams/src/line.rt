@@ -4,7 +4,7 @@ ghost use Rattle.convoy_streams.specs.Steps.{adds_if, front_of, is_whole, step_o
 use super::label::{LONGEST_LABEL, is_label_byte};
 
 /// How much of a divider the line that is being read is.
-#[derive(Clone, Copy, Debug)]
+#[derive(Clone, Copy)]
 pub(crate) enum Line {
     Start,
     OneDash,
@@ -18,7 +18,7 @@ pub(crate) enum Line {
 }
 
 /// What a further byte does.
-#[derive(Clone, Copy, Debug)]
+#[derive(Clone, Copy)]
 pub(crate) enum Step {
     /// It ends a divider.
     Ends,

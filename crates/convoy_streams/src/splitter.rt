@@ -25,7 +25,7 @@ pub enum JobFault {
 ///
 /// A job of more than `longest` bytes is read to its end and not kept, and so is one for which memory
 /// runs out.
-#[derive(Debug, Drop)]
+#[derive(Drop)]
 pub struct Splitter {
     text: Vec<u8>,
     /// How many bytes more the job may have.

@@ -100,16 +100,6 @@ impl Windows {
         entry_at(&self.settlings.greatest, message, group)
     }
 
-    /// The least delay, in ticks, of a message on its way to a group, 0 where it does not go there.
-    pub fn least_multicast(&self, message: usize, group: usize) -> u32
-        requires message { message < MOST_MULTICASTS }
-        requires group { group < MOST_GROUPS }
-        ensures value { result ≡ (tables_by self.now).least_multicast message group }
-        ensures fits { result ≤ 65535 }
-    {
-        entry_at(&self.multicasts.least, message, group)
-    }
-
     /// The greatest delay, in ticks, of a message on its way to a group, 0 where it does not go there.
     pub fn greatest_multicast(&self, message: usize, group: usize) -> u32
         requires message { message < MOST_MULTICASTS }

@@ -3,7 +3,7 @@ ghost use Rattle.convoy_survey.specs.Ceilings.{falls_short, is_unsought};
 
 /// A message at a group that it goes to, both by number, with its ceiling there and with how near to it
 /// traffic was found to come.
-#[derive(Clone, Copy, Debug, PartialEq, Eq)]
+#[derive(Clone, Copy)]
 pub struct Ceiled {
     pub message: usize,
     pub group: usize,

@@ -2,7 +2,7 @@ ghost use Rattle.std.specs.Prelude.{◌≡◌};
 ghost use Rattle.convoy_survey.specs.Findings.{answer_word, cause_of, is_fault, is_open, least_of, most_of, nodes_of};
 
 /// Why the target is late in the run of one schedule.
-#[derive(Clone, Copy, Debug, PartialEq, Eq)]
+#[derive(Clone, Copy)]
 pub struct Cause {
     /// The message that holds the target back up to its delivery, by number; none where the target is
     /// delivered as it is committed.
@@ -13,7 +13,7 @@ pub struct Cause {
 }
 
 /// What a search finds of the latency of one message at one group.
-#[derive(Clone, Copy, Debug, PartialEq, Eq)]
+#[derive(Clone, Copy)]
 pub enum Finding {
     /// The greatest latency, in ticks; why it is so late in a schedule that has it; and how many nodes the
     /// tree of the certificate has that shows it.
@@ -34,7 +34,7 @@ pub enum Finding {
 }
 
 /// A message at a group that it goes to, both by number, with what was found.
-#[derive(Clone, Copy, Debug, PartialEq, Eq)]
+#[derive(Clone, Copy)]
 pub struct Surveyed {
     pub message: usize,
     pub group: usize,

@@ -5,7 +5,7 @@ use std::alloc::{AllocError, Global};
 use std::marker::Model;
 
 /// What a cell has.
-#[derive(Clone, Copy, Debug, PartialEq, Eq)]
+#[derive(Clone, Copy, PartialEq, Eq)]
 pub enum Kind {
     Word,
     Number,
@@ -13,7 +13,7 @@ pub enum Kind {
 }
 
 /// A cell of a table.
-#[derive(Debug, Drop)]
+#[derive(Drop)]
 pub struct Cell {
     kind: Kind,
     text: String,

@@ -1,5 +1,5 @@
 /// How a table is written (docs/FORMATS.md, "Tables").
-#[derive(Clone, Copy, Debug, PartialEq, Eq)]
+#[derive(Clone, Copy, PartialEq, Eq)]
 pub enum Format {
     /// In aligned columns, for people.
     Text,

@@ -4,7 +4,7 @@
 pub use cell::{Cell, Kind};
 pub use format::Format;
 pub use table::{Row, Table};
-pub use writing::{table_text, write_table};
+pub use writing::table_text;
 
 mod aligning;
 mod cell;

@@ -3,7 +3,7 @@ use std::alloc::{AllocError, Global};
 use std::marker::Model;
 
 /// The cells of one row of a table, in the order of its columns.
-#[derive(Debug, Drop)]
+#[derive(Drop)]
 pub struct Row {
     cells: Vec<Cell>,
 }
@@ -82,7 +82,7 @@ impl Row {
 
 /// A table: the names of its columns, and its rows. A row has as many cells as there are columns; those
 /// beyond have columns without a name.
-#[derive(Debug, Drop)]
+#[derive(Drop)]
 pub struct Table {
     columns: Row,
     rows: Vec<Row>,

@@ -1,4 +1,4 @@
-ghost use Rattle.std.specs.Prelude.{◌≡◌, ◌<◌, ◌++◌, codes, length, OnOk, OnErr, IfOk};
+ghost use Rattle.std.specs.Prelude.{◌≡◌, ◌<◌, ◌++◌, codes, length, OnOk, IfOk};
 ghost use Rattle.convoy_tables.specs.Formats.{array_text, before, between_cells, cell_text, line_text, lines_text, joined, object_text, row_text, table_text};
 ghost use Rattle.convoy_tables.specs.Tables.{cell_at};
 
@@ -9,16 +9,6 @@ use super::format::Format;
 use super::json::push_json_member;
 use super::table::{Row, Table};
 use std::alloc::{AllocError, Global};
-
-/// Appends a table in a format (docs/FORMATS.md, "Tables"). Where memory runs out the vector is as it
-/// was.
-pub fn write_table(table: &Table, format: Format, out: &mut Vec<u8>) -> Result<(), AllocError>
-    ensures ok { OnOk result (out.new.items ≡ out.old.items ++ table_text format table.now) }
-    ensures err { OnErr result (out.new.items ≡ out.old.items) }
-{
-    let text = table_text(*out.allocator(), table, format)?;
-    out.extend_from_slice(&text)
-}
 
 /// The text of a table in a format (docs/FORMATS.md, "Tables"). Fails where memory runs out, and else never.
 pub fn table_text(alloc: Global, table: &Table, format: Format) -> Result<Vec<u8>, AllocError>

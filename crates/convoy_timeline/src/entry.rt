@@ -1,7 +1,7 @@
 use convoy_sim::Timestamp;
 
 /// What an entry tells: inside a tick, proposals come first, and deliveries last.
-#[derive(Clone, Copy, Debug, PartialEq, Eq)]
+#[derive(Clone, Copy, PartialEq, Eq)]
 pub enum EntryKind {
     /// The message arrives at the group, which proposes a local stamp for it.
     Propose,
@@ -39,7 +39,7 @@ impl EntryKind {
 }
 
 /// What happens to a message at a group, at that tick and with that stamp.
-#[derive(Clone, Copy, Debug, PartialEq, Eq)]
+#[derive(Clone, Copy)]
 pub struct Entry {
     /// In ticks.
     pub tick: u32,

@@ -1,9 +1,9 @@
 ghost use Rattle.std.specs.Prelude.{◌≡◌, ◌+◌, ◌≤◌};
-ghost use Rattle.convoy_scenario.specs.Scenario.{message_at};
 ghost use Rattle.convoy_sim.specs.Times.{issue};
 
 use convoy_packets::{Instance, Schedule};
-use convoy_scenario::{GREATEST_AT, Scenario};
+use convoy_scenario::GREATEST_AT;
+use convoy_scenario::lookup::first_tick;
 
 /// The tick at which a message is issued in the run of an instance under a schedule: the first at which it
 /// may be, and its wait; 0 where the scenario has no such message.
@@ -14,16 +14,4 @@ pub fn issue_of(instance: &Instance, schedule: &Schedule, message: usize) -> u32
 {
     let wait = instance.table().wait_in(schedule, message);
     first_tick(instance.scenario(), message) + u32::from(wait)
-}
-
-/// The first tick at which a message may be issued; 0 where the scenario has no such message.
-fn first_tick(scenario: &Scenario, message: usize) -> u32
-    ensures value { result ≡ (message_at scenario.now message).at }
-    ensures soon { result ≤ GREATEST_AT }
-{
-    if message < scenario.message_count() {
-        scenario.issue_tick(message)
-    } else {
-        0
-    }
 }

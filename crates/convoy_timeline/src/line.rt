@@ -1,7 +1,7 @@
 use super::entry::Entry;
 
 /// What a line of a timeline tells.
-#[derive(Clone, Copy, Debug, PartialEq, Eq)]
+#[derive(Clone, Copy)]
 pub(crate) enum Line {
     /// A message is issued at that tick.
     Issue { tick: u32, message: usize },

@@ -1,8 +1,6 @@
 ghost use Rattle.std.specs.Prelude.{◌≡◌, ◌++◌, string_bytes, OnOk, OnErr, IfOk};
 ghost use Rattle.std.specs.List.{flat_map};
 ghost use Rattle.convoy_packets.specs.Assignment.{Schedule};
-ghost use Rattle.convoy_scenario.specs.Naming.{sender_word};
-ghost use Rattle.convoy_scenario.specs.Scenario.{group_name_at, message_at};
 ghost use Rattle.convoy_sim.specs.Run.{IsRunOf};
 ghost use Rattle.convoy_timeline.specs.Timeline.{issue_line, line_of, line_text, tick_line};
 ghost use Rattle.convoy_timeline.specs.Timeline.{timeline_of, timeline_text};
@@ -13,7 +11,9 @@ use super::line::Line;
 use super::lines::list_lines;
 use super::listing::list_entries;
 use convoy_packets::{Instance, Schedule};
-use convoy_scenario::{Scenario, Sender};
+use convoy_scenario::Scenario;
+use convoy_scenario::lookup::sender_of;
+use convoy_scenario::naming::{group_name, message_name, sender_word};
 use convoy_sim::Run;
 use std::alloc::{AllocError, Global};
 
@@ -134,7 +134,7 @@ fn issue_line(
 ) -> Result<String, AllocError>
     ensures { IfOk result (λ line. string_bytes line ≡ issue_line scenario.now tick message) }
 {
-    let sender = sender_word(scenario, message);
+    let sender = sender_word(scenario, sender_of(scenario, message));
     let name = message_name(scenario, message);
     format!(in alloc; "{tick} {sender} issue {name}\n")
 }
@@ -151,39 +151,4 @@ fn line_of(alloc: Global, scenario: &Scenario, entry: &Entry) -> Result<String, 
         "{} {group} {kind} {message} {}.{stamp_group}\n",
         entry.tick, entry.stamp.time,
     )
-}
-
-/// The name of a group, and none for a group that the scenario has not.
-fn group_name(scenario: &Scenario, group: usize) -> &str
-    ensures { result.now ≡ group_name_at scenario.now group }
-{
-    if group < scenario.group_count() {
-        scenario.group_name(group)
-    } else {
-        ""
-    }
-}
-
-/// The name of a message, and none for a message that the scenario has not.
-fn message_name(scenario: &Scenario, message: usize) -> &str
-    ensures { result.now ≡ (message_at scenario.now message).name }
-{
-    if message < scenario.message_count() {
-        scenario.message_name(message)
-    } else {
-        ""
-    }
-}
-
-/// The word for who sends a message; a client where the scenario has no such message.
-fn sender_word(scenario: &Scenario, message: usize) -> &str
-    ensures { result.now ≡ sender_word scenario.now (message_at scenario.now message).sender }
-{
-    if message >= scenario.message_count() {
-        return "client";
-    }
-    match scenario.sender(message) {
-        Sender::Client => "client",
-        Sender::Group(group) => group_name(scenario, group),
-    }
 }

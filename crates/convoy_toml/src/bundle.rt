@@ -5,7 +5,7 @@ use super::written::LinkEnds;
 use std::marker::Model;
 
 /// The links of a table, with their range in ticks.
-#[derive(Debug, Drop)]
+#[derive(Drop)]
 pub struct Bundle {
     /// Where they lead.
     pub ends: LinkEnds,

@@ -1,7 +1,7 @@
 use convoy_scenario::Scenario;
 
 /// What a scenario text holds.
-#[derive(Debug, Drop)]
+#[derive(Drop)]
 pub struct Input {
     pub scenario: Scenario,
     /// The delays of one run in the order of the packets, where the text gives them.

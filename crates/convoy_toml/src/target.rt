@@ -6,7 +6,7 @@ use convoy_scenario::Name;
 use std::alloc::{AllocError, Global};
 
 /// Whether a scenario text has to name its target.
-#[derive(Clone, Copy, Debug, PartialEq, Eq)]
+#[derive(Clone, Copy, PartialEq, Eq)]
 pub enum TargetKey {
     /// The table `target` has to be there.
     Required,

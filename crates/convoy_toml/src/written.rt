@@ -2,14 +2,14 @@ use convoy_scenario::{Duration, Name, Time};
 use std::marker::Model;
 
 /// A time as it is written: a number of ticks, within the limits or not, or a duration.
-#[derive(Clone, Copy, Debug)]
+#[derive(Clone, Copy)]
 pub enum WrittenTime {
     Count(i64),
     Lasting(Duration),
 }
 
 /// A message as it is written, with the names of groups in place of their numbers.
-#[derive(Debug, Drop)]
+#[derive(Drop)]
 pub struct WrittenMulticast {
     pub name: Name,
     /// The group that sends it, or none where a client does.
@@ -27,17 +27,11 @@ impl Model for WrittenMulticast {
 
     ghost Value = { WrittenMessage };
 
-    ghost view = { λ m. record {
-      name = m.name;
-      sender = m.sender;
-      to = m.to.items;
-      at = m.at;
-      until = m.until;
-    } };
+    ghost view = { λ m. record { name = m.name; sender = m.sender; to = m.to.items; at = m.at; until = m.until } };
 }
 
 /// Where the links of a table lead.
-#[derive(Debug, Drop)]
+#[derive(Drop)]
 pub struct LinkEnds {
     /// The groups that send, or none where the clients do.
     pub senders: Option<Vec<Name>>,
@@ -62,7 +56,7 @@ impl Model for LinkEnds {
 
 /// A table of links as it is written: what goes by one of them takes `least` to `most`, be these a range
 /// or not.
-#[derive(Debug, Drop)]
+#[derive(Drop)]
 pub struct WrittenLink {
     /// Where they lead.
     pub ends: LinkEnds,
@@ -77,15 +71,11 @@ impl Model for WrittenLink {
 
     ghost Value = { WrittenLink };
 
-    ghost view = { λ l. record {
-      ends = l.ends;
-      least = l.least;
-      most = l.most;
-    } };
+    ghost view = { λ l. record { ends = l.ends; least = l.least; most = l.most } };
 }
 
 /// A target as it is written.
-#[derive(Debug, Drop)]
+#[derive(Drop)]
 pub struct WrittenTarget {
     /// The name of the message of which the latency is asked.
     pub message: Name,
@@ -102,7 +92,7 @@ impl Model for WrittenTarget {
 }
 
 /// A scenario as it is written, before its times are put into ticks.
-#[derive(Debug, Drop)]
+#[derive(Drop)]
 pub struct WrittenScenario {
     /// Whether time goes in whole ticks, or is real.
     pub time: Time,
@@ -141,7 +131,7 @@ impl Model for WrittenScenario {
 
 /// What is written in a scenario text: the scenario, and the schedule and the order of its ties where
 /// they are given.
-#[derive(Debug, Drop)]
+#[derive(Drop)]
 pub struct WrittenInput {
     pub scenario: WrittenScenario,
     /// The members of the array `schedule`, whatever they are.

@@ -12,7 +12,7 @@ use convoy_library::scenario::Scenario;
 use std::alloc::Global;
 
 /// A scenario and its greatest latency, in ticks.
-#[derive(Debug, Drop)]
+#[derive(Drop)]
 pub struct Vouched {
     pub scenario: Scenario,
     pub latency: u32,

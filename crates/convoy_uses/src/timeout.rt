@@ -6,7 +6,7 @@ use convoy_library::packets::Instance;
 use std::alloc::{AllocError, Global};
 
 /// Whether a timeout is long enough, with latencies in ticks.
-#[derive(Clone, Copy, Debug, PartialEq, Eq)]
+#[derive(Clone, Copy, PartialEq, Eq)]
 pub enum Judgement {
     /// No schedule has a latency above the timeout.
     Enough,

@@ -1,7 +1,7 @@
 use convoy_scenario::Sender;
 
 /// What is changed of a scenario.
-#[derive(Clone, Copy, Debug, PartialEq, Eq)]
+#[derive(Clone, Copy)]
 pub enum Change {
     /// Nothing.
     Nothing,

@@ -2,12 +2,12 @@ ghost use Rattle.std.specs.Prelude.{◌≡◌, ◌++◌, ◌&&◌, ◌==◌, IfO
 ghost use Rattle.std.specs.List.{flat_map, list_any};
 ghost use Rattle.convoy_scenario.specs.declared.sender.Sender.TheVariants.{Group};
 ghost use Rattle.convoy_scenario.specs.Scenario.{message_numbers};
-ghost use Rattle.convoy_scenario.specs.Scenario.{message_at};
 ghost use Rattle.convoy_packets.specs.Packets.{packets_of};
 ghost use Rattle.convoy_what_if.specs.Changes.{can_narrow, changes_of, goes_between, group_numbers, link_changes, message_changes, sender_changes};
 
 use super::kinds::Change;
 use convoy_packets::{Instance, Packet};
+use convoy_scenario::lookup::sender_of;
 use convoy_scenario::{Sender, is_same_sender};
 use std::alloc::{AllocError, Global};
 
@@ -120,22 +120,11 @@ fn goes_between(instance: &Instance, sender: Sender, to: usize, packet: Packet) 
         Packet::Multicast {
             message,
             to: receiver,
-        } => is_same_sender(sender, sender_of(instance, message)) && to == receiver,
+        } => is_same_sender(sender, sender_of(instance.scenario(), message)) && to == receiver,
         Packet::Propose {
             from,
             to: receiver,
             ..
         } => is_same_sender(sender, Sender::Group(from)) && to == receiver,
-    }
-}
-
-/// Who sends a message; a client where the scenario has no such message.
-fn sender_of(instance: &Instance, message: usize) -> Sender
-    ensures { result ≡ (message_at instance.now message).sender }
-{
-    if message < instance.message_count() {
-        instance.sender(message)
-    } else {
-        Sender::Client
     }
 }

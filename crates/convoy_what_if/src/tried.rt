@@ -3,7 +3,7 @@ use convoy_survey::Finding;
 use convoy_tables::Row;
 
 /// A change of a scenario that was tried.
-#[derive(Debug, Drop)]
+#[derive(Drop)]
 pub struct Tried {
     /// What is changed.
     pub change: Change,

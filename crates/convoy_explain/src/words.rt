@@ -1,32 +1,12 @@
-ghost use Rattle.std.specs.Prelude.{◌≡◌, IfOk, string_bytes};
-ghost use Rattle.convoy_explain.specs.Explanations.{message_name_at, sender_text, stamp_text, tick_word};
-ghost use Rattle.convoy_scenario.specs.Scenario.{group_name_at};
+//! Words for senders, stamps and ticks.
 
+ghost use Rattle.std.specs.Prelude.{◌≡◌, IfOk, string_bytes};
+ghost use Rattle.convoy_explain.specs.Explanations.{sender_text, stamp_text, tick_word};
+
+use convoy_scenario::naming::group_name;
 use convoy_scenario::{Scenario, Sender};
 use convoy_sim::Timestamp;
 use std::alloc::{AllocError, Global};
-
-/// The name of the group of that number; empty where the scenario has no such group.
-pub fn group_name(scenario: &Scenario, group: usize) -> &str
-    ensures { result.now ≡ group_name_at scenario.now group }
-{
-    if group < scenario.group_count() {
-        scenario.group_name(group)
-    } else {
-        ""
-    }
-}
-
-/// The name of the message of that number; empty where the scenario has no such message.
-pub fn message_name(scenario: &Scenario, message: usize) -> &str
-    ensures { result.now ≡ message_name_at scenario.now message }
-{
-    if message < scenario.message_count() {
-        scenario.message_name(message)
-    } else {
-        ""
-    }
-}
 
 /// Who issues a message or sends a packet: `a client`, or the name of a group, which is empty where the
 /// scenario has no such group.
@@ -41,7 +21,7 @@ pub fn sender_name(scenario: &Scenario, sender: Sender) -> &str
 
 /// A stamp, as `2.b`: its time, and the name of the group that gave it, which is empty where the
 /// scenario has no such group. Fails where memory runs out, and else never.
-#[tactic(auto, unfolding(convoy_explain::specs::Explanations::stamp_text))]
+#[tactic(auto, unfolding(crate::specs::Explanations::stamp_text))]
 pub fn stamp_text(
     alloc: Global,
     scenario: &Scenario,

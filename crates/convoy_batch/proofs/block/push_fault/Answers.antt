@@ -1,6 +1,6 @@
 use Rattle.std.proofs.Common.{◌∙◌, ap, decimal}
 use Rattle.convoy_batch.proofs.Blocks.{fault_pushed}
-use Rattle.convoy_batch.proofs.block.Block.push_fault.Goals as goal
+use Rattle.convoy_batch.proofs.block.push_fault.Goals as goal
 
 pub returns : goal.returns
 returns c =

@@ -1,7 +1,7 @@
 use Rattle.std.proofs.Common.{inl, refl, ap, sym, ◌∙◌, ◌++◌}
 use Rattle.convoy_commands.specs.Faults.{fault_line_of}
 use Rattle.convoy_batch.proofs.Blocks.{has_room, no_room}
-use Rattle.convoy_batch.proofs.block.Block.fill.Goals as goal
+use Rattle.convoy_batch.proofs.block.fill.Goals as goal
 
 pub returns-then-is_err : goal.returns-then-is_err
 returns-then-is_err c =
