@@ -1,5 +1,5 @@
 -- What holds of a batch between two bytes, and how it ends early.
-use Rattle.std.specs.Prelude.{◌≡◌, ◌⊎◌, ℕ, ◌+◌, ◌<◌, List, [], length, Result, Ok, Err, MatchResult, IsOk}
+use Rattle.std.specs.Prelude.{◌≡◌, ◌⊎◌, ℕ, ◌+◌, ◌<◌, List, length, Result, Ok, Err, MatchResult, IsOk}
 use Rattle.convoy_streams.specs.Jobs.{Job, begun, ended_jobs, jobs_of}
 use Rattle.convoy_streams.specs.Splitting.{Holds, IsAfter, IsJobStart}
 use Rattle.convoy_streams.specs.declared.splitter.Splitter.{Splitter}
@@ -9,7 +9,6 @@ use Rattle.convoy_branch.specs.Options.{Settings}
 use Rattle.convoy_batch.specs.declared.batch.Batch.{Batch}
 use Rattle.convoy_batch.specs.declared.batch.TheConstants.{MOST_JOBS}
 use Rattle.convoy_commands.specs.declared.search_end.SearchEnd.{SearchEnd}
-use Rattle.convoy_commands.specs.declared.search_end.SearchEnd.TheVariants as ends
 use Rattle.convoy_commands.specs.declared.limits.TheConstants.{LONGEST_JOB}
 use Rattle.convoy_commands.specs.declared.fault.Fault.{Fault}
 use Rattle.convoy_commands.specs.declared.fault.Fault.TheVariants.{Memory, Write, TooManyJobs}

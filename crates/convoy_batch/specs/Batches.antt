@@ -11,7 +11,6 @@ use Rattle.convoy_batch.specs.declared.batch.TheConstants.{MOST_JOBS}
 use Rattle.convoy_commands.specs.declared.limits.TheConstants.{LONGEST_JOB}
 use Rattle.convoy_commands.specs.declared.done.Done.TheVariants.{Fine, Open, Refused}
 use Rattle.convoy_commands.specs.declared.search_end.SearchEnd.{SearchEnd}
-use Rattle.convoy_commands.specs.declared.search_end.SearchEnd.TheVariants as ends
 use Rattle.convoy_commands.specs.declared.fault.Fault.{Fault}
 use Rattle.convoy_commands.specs.declared.fault.Fault.TheVariants.{Memory, Reading, Write, TooManyJobs}
 use Rattle.convoy_commands.specs.Faults.{fault_line_of}

@@ -7,7 +7,6 @@ use Rattle.std.proofs.lemmas.List.Sums.{count_by-le-length, sum_by-cons}
 use Rattle.convoy_scenario.specs.Scenario.{Scenario}
 use Rattle.convoy_certificate.specs.Reading.{AreReadable}
 use Rattle.convoy_certificate.specs.Text.{is_lead}
-use Rattle.convoy_certificate.specs.declared.certificate.TheConstants.{MOST_LEADS, MOST_NODES}
 use Rattle.convoy_certificate.specs.declared.node.Node.{Node}
 use Rattle.convoy_intervals.specs.Boxes.{Box, root_of}
 use Rattle.convoy_branch.specs.declared.bounds.Bounds.{Bounds}

@@ -7,7 +7,6 @@ use Rattle.std.proofs.lemmas.List.Quantifiers.{Any-push}
 use Rattle.convoy_scenario.specs.Scenario.{Scenario}
 use Rattle.convoy_branch.specs.declared.bounds.Bounds.{Bounds}
 use Rattle.convoy_branch.specs.declared.bounds.Bounds.TheVariants.{Plain, Lead}
-use Rattle.convoy_branch.specs.SearchBounds.{most_nodes}
 use Rattle.convoy_branch.specs.Uppers.{IsUpperOf}
 use Rattle.convoy_scenario.specs.WellFormed.{IsScenario}
 use Rattle.convoy_packets.specs.Assignment.{IsAssignment, Schedule}

@@ -1,9 +1,9 @@
 use super::scene::Scene;
 use super::signs::sign;
 use super::style::{BAR, color_of};
-use convoy_explain::may_wait;
 use convoy_picture::Role;
 use convoy_scenario::Scenario;
+use convoy_scenario::lookup::may_wait;
 use convoy_scenario::naming::message_name;
 use convoy_sheet::{MARGIN, MarkKind, width_of};
 use std::alloc::{AllocError, Global};

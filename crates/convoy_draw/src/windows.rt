@@ -6,7 +6,8 @@ ghost use Rattle.convoy_draw.specs.Drawings.{Tells, TellsWindows};
 use super::layers::element;
 use super::scene::Scene;
 use super::style::{BAR, color_of};
-use convoy_explain::{may_wait, window, window_text};
+use convoy_explain::window_text;
+use convoy_scenario::lookup::{may_wait, window};
 use convoy_sheet::issue_mark;
 use std::alloc::{AllocError, Global};
 

@@ -1,8 +1,8 @@
 -- The text of an explanation: why a schedule has its latency, of which a certificate shows that it is the greatest.
-use Rattle.std.specs.Prelude.{ℕ, ◌+◌, ◌*◌, ◌==◌, ◌&&◌, nat_lt, List, [], ◌∷◌, ◌++◌, Option, Some, None, codes, decimal, if◌then◌else◌}
+use Rattle.std.specs.Prelude.{ℕ, ◌*◌, ◌==◌, ◌&&◌, nat_lt, List, [], ◌∷◌, ◌++◌, Option, Some, None, codes, decimal, if◌then◌else◌}
 use Rattle.convoy_scenario.specs.declared.sender.Sender.{Sender}
 use Rattle.convoy_scenario.specs.declared.sender.Sender.TheVariants.{Client, Group}
-use Rattle.convoy_scenario.specs.Scenario.{Message, Scenario, message_at, may_wait, group_name_at}
+use Rattle.convoy_scenario.specs.Scenario.{Scenario, message_at, may_wait, window_of, group_name_at}
 use Rattle.convoy_draft.specs.Durations.{count_of, unit_of, unit_word}
 use Rattle.convoy_sim.specs.declared.timestamp.Timestamp.{Timestamp}
 use Rattle.convoy_explain.specs.Causes.{is_real}
@@ -35,10 +35,6 @@ message_name_at scenario m = (message_at scenario m).name
 abbrev pub sender_text : Scenario → Sender → List ℕ
 sender_text scenario Client = codes "a client"
 sender_text scenario (Group g) = group_name_at scenario g
-
--- the first and the last tick at which a message may be issued
-abbrev pub window_of : Message → ℕ × ℕ
-window_of message = (message.at, message.at + message.longest_wait)
 
 -- from when to when message m may be issued
 unfoldable pub window_text : Scenario → ℕ → List ℕ

@@ -5,7 +5,7 @@
 pub use explaining::explain;
 pub use explanation::{Explanation, Flight, Holder, LastProposal};
 pub use packet_list::{write_packets, write_scheduled_packets};
-pub use telling::{may_wait, ticks_text, window, window_text, write_explanation};
+pub use telling::{ticks_text, window_text, write_explanation};
 pub use words::{sender_name, stamp_text, tick_word};
 
 mod explaining;

@@ -3,12 +3,11 @@ ghost use Rattle.convoy_explain.specs.Explanations.{answered_text, awaited_text,
 ghost use Rattle.convoy_explain.specs.Explanations.{gap_after, holder_text, latency_text};
 ghost use Rattle.convoy_explain.specs.Explanations.{node_word, sent_text, text_of};
 ghost use Rattle.convoy_explain.specs.Explanations.{in_unit_text, issue_text, ticks_text, tie_won_text};
-ghost use Rattle.convoy_explain.specs.Explanations.{tied_text, wait_text, window_of, window_text, worst_text};
-ghost use Rattle.convoy_scenario.specs.Scenario.{may_wait, message_at};
+ghost use Rattle.convoy_explain.specs.Explanations.{tied_text, wait_text, window_text, worst_text};
 
 use super::explanation::{Explanation, Flight, Holder, LastProposal};
 use super::words::{sender_name, stamp_text, tick_word};
-use convoy_scenario::lookup::sender_of;
+use convoy_scenario::lookup::{may_wait, sender_of, window};
 use convoy_scenario::naming::{group_name, message_name};
 use convoy_scenario::{Scenario, Time};
 use std::alloc::{AllocError, Global};
@@ -325,27 +324,6 @@ pub fn window_text(alloc: Global, scenario: &Scenario, message: usize) -> Result
     let name = message_name(scenario, message);
     let (first, last) = window(scenario, message);
     format!(in alloc; "{name} may be issued from tick {first} to {last}")
-}
-
-/// The first and the last tick at which a message may be issued; 0 and 0 where the scenario has no such
-/// message.
-pub fn window(scenario: &Scenario, message: usize) -> (u32, u32)
-    ensures { result ≡ window_of (message_at scenario.now message) }
-{
-    if message < scenario.message_count() {
-        let first = scenario.issue_tick(message);
-        (first, first + u32::from(scenario.longest_wait(message)))
-    } else {
-        (0, 0)
-    }
-}
-
-/// Whether a message may wait before its issue, so that it has several ticks to be issued at; not where the
-/// scenario has no such message.
-pub fn may_wait(scenario: &Scenario, message: usize) -> bool
-    ensures { result ≡ may_wait (message_at scenario.now message) }
-{
-    message < scenario.message_count() && 0 < scenario.longest_wait(message)
 }
 
 /// A packet on its way.

@@ -1,5 +1,5 @@
 -- Worked rows of leads, computed from the definitions alone.
-use Rattle.std.proofs.Common.{◌≡◌, true, false, List, [], ◌∷◌, replicate, slice_set, refl, codes, None}
+use Rattle.std.proofs.Common.{◌≡◌, true, false, List, [], ◌∷◌, replicate, slice_set, refl, codes}
 use Rattle.convoy_scenario.specs.declared.sender.Sender.TheVariants.{Client, Group}
 use Rattle.convoy_draft.specs.declared.time.Time.{Time}
 use Rattle.convoy_draft.specs.declared.time.Time.TheVariants.{Ticks, Real}

@@ -1,5 +1,5 @@
 -- The words after a label, and the number of a line: what is read was written so, and what is written is read again.
-use Rattle.std.proofs.Common.{◌≡◌, ℕ, ◌<◌, ◌≤◌, ◌==◌, ◌&&◌, not, true, cond, List, [], ◌∷◌, length, Option, Some, None, refl, ap, ◌∙◌, arith, decimal}
+use Rattle.std.proofs.Common.{◌≡◌, ℕ, ◌≤◌, ◌==◌, ◌&&◌, not, true, cond, List, [], ◌∷◌, length, Option, Some, None, refl, ap, ◌∙◌, arith, decimal}
 use Rattle.std.specs.Str.{bytes_eq}
 use Rattle.std.proofs.lemmas.Bool.{and_parts, and_from, eqb-true, ne_eqb}
 use Rattle.std.proofs.lemmas.List.{nil_from_length}
@@ -8,7 +8,7 @@ use Rattle.std.proofs.lemmas.Slice.Eq.{bytes_eq-Decides}
 use Rattle.convoy_lines.specs.Labels.{greatest_number, is_spaced, words_after, number_in}
 use Rattle.convoy_lines.specs.Laws.{IsWord}
 use Rattle.convoy_lines.specs.Chains.{◌>>=◌}
-use Rattle.convoy_lines.specs.Texts.{line_of, number_line}
+use Rattle.convoy_lines.specs.Texts.{line_of}
 use Rattle.convoy_lines.specs.Words.{words_of, next_word, number_of}
 use Rattle.convoy_lines.proofs.Spelling.{AreWords, words_again, line_takes, number_again, number_takes, decimal_word}
 

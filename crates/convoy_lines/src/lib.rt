@@ -1,4 +1,4 @@
-//! Words, lines and texts of lines: a reader, and what writes them.
+//! Words, lines and texts of lines: a reader, what writes them, and a text whose memory is taken beforehand.
 #![tactic(auto)]
 
 pub use labels::{begins_with, number_in, words_after};

@@ -1,3 +1,5 @@
+//! A text with room of its own, for what has to be told even where memory has run out.
+
 ghost use Rattle.std.specs.Prelude.{◌≡◌, ◌≤◌, ◌+◌, [], ◌++◌, length, IfOk, OnOk, OnErr};
 
 use std::alloc::{AllocError, Global};
@@ -16,12 +18,13 @@ pub struct ReservedText {
 impl Model for ReservedText {
     ghost use Rattle.std.specs.Prelude.{◌≤◌, ℕ, List};
     ghost use Rattle.std.specs.Vec.{vec_capacity};
+    ghost use Rattle.convoy_lines.specs.declared.reserved.TheConstants.{RESERVED};
 
     ghost Value = { List ℕ };
 
     ghost view = { λ t. t.bytes.items };
 
-    ghost invariant = { λ t. 4096 ≤ vec_capacity t.bytes };
+    ghost invariant = { λ t. RESERVED ≤ vec_capacity t.bytes };
 }
 
 impl ReservedText {
@@ -50,7 +53,7 @@ impl ReservedText {
 
     /// Appends bytes for which there is room.
     pub fn push(&mut self, bytes: &[u8])
-        requires { length self.old + length bytes.now ≤ 4096 }
+        requires { length self.old + length bytes.now ≤ RESERVED }
         ensures { self.new ≡ self.old ++ bytes.now }
     {
         let _ = self.bytes.extend_from_slice(bytes);

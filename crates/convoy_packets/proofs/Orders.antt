@@ -1,6 +1,5 @@
 -- Orders of ties.
-use Rattle.std.proofs.Common.{◌≡◌, ℕ, ◌+◌, ◌*◌, ◌<◌, ◌≤◌, List, length, get_or, replicate, refl, arith}
-use Rattle.std.specs.List.{All}
+use Rattle.std.proofs.Common.{ℕ, ◌+◌, ◌*◌, replicate, refl, arith}
 use Rattle.std.proofs.lemmas.List.{length-replicate, get_or-replicate}
 use Rattle.convoy_scenario.specs.Scenario.{Scenario}
 use Rattle.convoy_packets.specs.Order.{AreRanks, IsOrder, no_order}

@@ -1,5 +1,5 @@
 -- What a scenario says, as plain data: groups and messages go by number, from 0, in the order of the text.
-use Rattle.std.specs.Prelude.{ℕ, nat_lt, Bool, true, false, ◌==◌, ◌&&◌, List, [], length, find, slice_index_or, Option, IsTrue}
+use Rattle.std.specs.Prelude.{ℕ, ◌+◌, nat_lt, Bool, true, false, ◌==◌, ◌&&◌, List, [], length, find, slice_index_or, Option, IsTrue}
 use Rattle.std.specs.List.{list_any, range_with_len}
 use Rattle.std.specs.Option.{option_map_or}
 use Rattle.convoy_scenario.specs.declared.sender.Sender.{Sender}
@@ -44,6 +44,10 @@ message_at scenario m = slice_index_or scenario.multicasts m no_message
 -- the message may wait: it is not known at which tick it is issued
 abbrev pub may_wait : Message → Bool
 may_wait message = nat_lt 0 message.longest_wait
+
+-- the first and the last tick at which a message may be issued
+abbrev pub window_of : Message → ℕ × ℕ
+window_of message = (message.at, message.at + message.longest_wait)
 
 -- time is real, or some message may wait: lines that tell such a scenario say how time goes
 abbrev pub is_timed : Scenario → Bool

@@ -2,7 +2,7 @@
 //! a message of a client, issued at tick 0, that does not wait.
 
 ghost use Rattle.std.specs.Prelude.{◌≡◌, ◌≤◌};
-ghost use Rattle.convoy_scenario.specs.Scenario.{message_at};
+ghost use Rattle.convoy_scenario.specs.Scenario.{message_at, may_wait, window_of};
 
 use super::scenario::Scenario;
 use super::sender::Sender;
@@ -40,4 +40,20 @@ pub fn longest_wait(scenario: &Scenario, message: usize) -> u16
     } else {
         0
     }
+}
+
+/// Whether a message may wait, so that it has several ticks to be issued at; not where the scenario has no such
+/// message.
+pub fn may_wait(scenario: &Scenario, message: usize) -> bool
+    ensures { result ≡ may_wait (message_at scenario.now message) }
+{
+    0 < longest_wait(scenario, message)
+}
+
+/// The first and the last tick at which a message may be issued; 0 and 0 where the scenario has no such message.
+pub fn window(scenario: &Scenario, message: usize) -> (u32, u32)
+    ensures { result ≡ window_of (message_at scenario.now message) }
+{
+    let first = first_tick(scenario, message);
+    (first, first + u32::from(longest_wait(scenario, message)))
 }

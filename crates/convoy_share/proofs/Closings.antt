@@ -1,7 +1,7 @@
 -- The end of a search: what the owner has once all trees are one, and once board and ledger are closed.
-use Rattle.std.specs.Prelude.{◌≡◌, ℕ, ◌+◌, ◌-◌, ◌≤◌, List, [], ◌∷◌, length}
+use Rattle.std.specs.Prelude.{◌≡◌, ℕ, ◌+◌, ◌-◌, ◌≤◌, List, [], length}
 use Rattle.std.specs.List.{All, sum}
-use Rattle.std.proofs.Common.{arith, refl, ap, sym, subst, ◌∙◌, inl, inr}
+use Rattle.std.proofs.Common.{arith, ap, sym, subst, ◌∙◌, inl, inr}
 use Rattle.std.proofs.lemmas.List.Elements.{All-nil}
 use Rattle.convoy_sim.specs.Record.{IsAttained}
 use Rattle.convoy_intervals.specs.Boxes.{Box}
@@ -11,7 +11,7 @@ use Rattle.convoy_ledger.specs.Tickets.{LedgerId, Account, HasAll}
 use Rattle.convoy_branch.specs.Fronts.{left_in}
 use Rattle.convoy_branch.specs.Laws.{FrontsBetter}
 use Rattle.convoy_branch.specs.Steps.{IsRealPoint}
-use Rattle.convoy_deque.specs.Tasks.{AreAllTaken, DequeId}
+use Rattle.convoy_deque.specs.Tasks.{AreAllTaken}
 use Rattle.convoy_share.specs.declared.ending.Ended.{Ended}
 use Rattle.convoy_share.specs.declared.means.Means.{Means}
 use Rattle.convoy_share.specs.declared.owner.OwnerWorker.{OwnerWorker}
@@ -25,7 +25,7 @@ use Rattle.convoy_share.specs.Finishing.{IsFinishing}
 use Rattle.convoy_share.specs.Means.{IsLater, drawn}
 use Rattle.convoy_share.specs.Opening.{AreOpened}
 use Rattle.convoy_share.specs.Pieces.{front}
-use Rattle.convoy_share.specs.Workers.{HasJoined, IsOwner, StaysOwner}
+use Rattle.convoy_share.specs.Workers.{HasJoined, StaysOwner}
 use Rattle.convoy_share.proofs.Fillings.{IsFilling-better}
 
 -- each branch was taken: all trees can be put together

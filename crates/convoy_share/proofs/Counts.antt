@@ -1,5 +1,5 @@
 -- Sums and counts over pieces and tasks.
-use Rattle.std.specs.Prelude.{◌≡◌, ℕ, zero, suc, ◌+◌, ◌≤◌, ◌<◌, List, [], ◌∷◌, ◌++◌, length}
+use Rattle.std.specs.Prelude.{◌≡◌, ℕ, suc, ◌+◌, ◌≤◌, ◌<◌, List, [], ◌∷◌, ◌++◌, length}
 use Rattle.std.specs.List.{All, sum_by}
 use Rattle.std.proofs.Common.{arith, refl, ap, ◌∙◌, get_or, length-append}
 use Rattle.std.proofs.lemmas.Bool.Decides.{nat_tests}

@@ -17,7 +17,6 @@ use Rattle.convoy_certificate.specs.declared.node.Node.{Node}
 use Rattle.convoy_intervals.specs.Boxes.{Box, root_of}
 use Rattle.convoy_checker.specs.Laws.{TreesCover}
 use Rattle.convoy_branch.specs.declared.bounds.Bounds.{Bounds}
-use Rattle.convoy_branch.specs.declared.bounds.Bounds.TheVariants.{Plain}
 use Rattle.convoy_branch.specs.SearchBounds.{most_nodes}
 use Rattle.convoy_branch.specs.Uppers.{IsUpperOf}
 use Rattle.convoy_branch.specs.Fronts.{left_in}

@@ -1,5 +1,5 @@
 -- What a turn makes of a box in a tree.
-use Rattle.std.specs.Prelude.{◌≡◌, ℕ, ◌≤◌, List, [], ◌∷◌, true, false, Option, Some, None}
+use Rattle.std.specs.Prelude.{◌≡◌, ℕ, ◌≤◌, [], ◌∷◌, true, false, Option, Some, None}
 use Rattle.std.specs.List.{All}
 use Rattle.std.proofs.Common.{arith, refl, ap, sym, subst, ◌∙◌}
 use Rattle.std.proofs.lemmas.Bool.{false≢true}
@@ -19,8 +19,7 @@ use Rattle.convoy_branch.specs.declared.step.Turn.{Turn}
 use Rattle.convoy_branch.specs.declared.step.Turn.TheVariants.{Closed, Halves}
 use Rattle.convoy_branch.specs.Steps.{IsTurn, known_after}
 use Rattle.convoy_branch.specs.Laws.{FrontsBetter, TurnsAreFronts, TurnsAreNodes}
-use Rattle.convoy_share.specs.declared.piece.Piece.{Piece}
-use Rattle.convoy_share.specs.declared.piece.Piece.TheVariants.{Done, Todo, Pushed}
+use Rattle.convoy_share.specs.declared.piece.Piece.TheVariants.{Done, Todo}
 use Rattle.convoy_share.specs.Pieces.{AreTreesOf, places_in, spent, IsPiece}
 use Rattle.convoy_share.specs.Turns.{pieces_of, IsTurned}
 use Rattle.convoy_share.proofs.Places.{AreTreesOf-better, pieces_better}

@@ -1,7 +1,7 @@
 use super::mark::issue_tick;
 use super::sheet::{LEFT, RIGHT};
-use convoy_explain::window;
 use convoy_picture::Picture;
+use convoy_scenario::lookup::window;
 use convoy_scenario::{Scenario, Time};
 use std::alloc::{AllocError, Global};
 

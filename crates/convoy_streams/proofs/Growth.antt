@@ -2,9 +2,9 @@
 use Rattle.std.proofs.Common.{◌≡◌, ℕ, ◌==◌, Bool, true, false, cond, if◌then◌else◌, List, [], ◌∷◌, ◌++◌, refl, ap, sym, ◌∙◌, append_assoc}
 use Rattle.std.proofs.lemmas.Grind.{fold-append}
 use Rattle.std.proofs.lemmas.List.{append-nil}
-use Rattle.convoy_lines.specs.Places.{Lines, in_front, with_byte, lines_in}
+use Rattle.convoy_lines.specs.Places.{Lines, in_front, lines_in}
 use Rattle.convoy_lines.specs.Texts.{ended}
-use Rattle.convoy_streams.specs.Jobs.{Divided, Job, Progress, after_bytes, after_divider, after_line, divided, ended_jobs, is_divider, label_in, names, progress_in, progress_of, undivided}
+use Rattle.convoy_streams.specs.Jobs.{Divided, Job, Progress, after_bytes, after_divider, after_line, ended_jobs, is_divider, label_in, names, progress_in, progress_of, undivided}
 
 -- a byte put in front, and a byte put at the end, which may be byte 10
 abbrev put_byte : Bool → ℕ → Lines → Lines

@@ -1,5 +1,5 @@
 -- What a step over a byte, and the end of a text, make of the line and of what is kept.
-use Rattle.std.proofs.Common.{◌≡◌, ◌⊎◌, inl, inr, ℕ, ◌==◌, nat_le, nat_lt, Bool, true, false, not, ◌&&◌, if◌then◌else◌, MatchBool, List, [], ◌∷◌, ◌++◌, length, arith, refl, ap, sym, ◌∙◌, subst, append_assoc, length-append}
+use Rattle.std.proofs.Common.{◌≡◌, inl, inr, ℕ, ◌==◌, nat_le, nat_lt, Bool, true, false, not, ◌&&◌, if◌then◌else◌, MatchBool, List, [], ◌∷◌, ◌++◌, length, arith, refl, ap, sym, ◌∙◌, subst, append_assoc, length-append}
 use Rattle.std.specs.List.{list_all}
 use Rattle.std.proofs.lemmas.List.{append-nil}
 use Rattle.std.proofs.lemmas.List.Folds.{list_all-append}
@@ -12,7 +12,7 @@ use Rattle.convoy_streams.specs.declared.line.Line.TheVariants.{Start, OneDash, 
 use Rattle.convoy_streams.specs.declared.line.Step.{Step}
 use Rattle.convoy_streams.specs.declared.line.Step.TheVariants.{Ends, Waits, Adds, Keeps}
 use Rattle.convoy_streams.specs.declared.splitter.Splitter.{Splitter}
-use Rattle.convoy_streams.specs.Jobs.{Divided, Job, Progress, after_bytes, after_divider, all_jobs, begun, ended_jobs, is_divider, is_label, is_label_byte, jobs_of, label_in, may_be_label, names, progress_of, with_bytes}
+use Rattle.convoy_streams.specs.Jobs.{Divided, Job, Progress, after_bytes, after_divider, all_jobs, begun, ended_jobs, is_divider, is_label, is_label_byte, jobs_of, label_in, may_be_label, progress_of, with_bytes}
 use Rattle.convoy_streams.specs.Steps.{adds_if, front_of, is_whole, step_at_end, step_of, step_within, waits_for}
 use Rattle.convoy_streams.specs.Splitting.{DividesJob, EndsJob, Finishes, GoesOn, Holds, IsAfter, IsBegun, IsJobStart, LineIs, kept_job, next_label_of}
 use Rattle.convoy_streams.proofs.Growth.{progress_push, progress_then}

@@ -1,7 +1,7 @@
 -- What a splitter has of the text that it has taken so far.
 use Rattle.std.specs.Prelude.{◌≡◌, ℕ, ◌+◌, ◌<◌, ◌≤◌, Bool, true, false, if◌then◌else◌, List, [], ◌∷◌, ◌++◌, length, Option, Some, None}
 use Rattle.convoy_streams.specs.declared.line.Line.{Line}
-use Rattle.convoy_streams.specs.declared.line.Line.TheVariants.{Start, OneDash, TwoDashes, Dashes, Named, Other}
+use Rattle.convoy_streams.specs.declared.line.Line.TheVariants.{Start, Named, Other}
 use Rattle.convoy_streams.specs.declared.splitter.JobFault.{JobFault}
 use Rattle.convoy_streams.specs.declared.splitter.JobFault.TheVariants.{TooLong, Memory}
 use Rattle.convoy_streams.specs.declared.splitter.Splitter.{Splitter}

@@ -1,4 +1,3 @@
-use Rattle.std.proofs.Common.{refl}
 use Rattle.convoy_branch.specs.Steps.{known_after}
 use Rattle.convoy_branch.proofs.Tries.{open_without, turn_of_leaf}
 use Rattle.convoy_branch.proofs.step.step_branch.Goals as goal

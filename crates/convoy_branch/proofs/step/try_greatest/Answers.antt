@@ -1,4 +1,4 @@
-use Rattle.std.proofs.Common.{◌≡◌, ◌∙◌, ap, subst}
+use Rattle.std.proofs.Common.{◌∙◌, ap, subst}
 use Rattle.convoy_scenario.specs.Scenario.{Scenario}
 use Rattle.convoy_intervals.specs.Boxes.{Box, IsBox, IsIn, greatest_of}
 use Rattle.convoy_branch.proofs.FixedOrders.{greatest_assigned}

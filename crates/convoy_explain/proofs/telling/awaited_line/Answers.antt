@@ -1,4 +1,4 @@
-use Rattle.std.proofs.Common.{sym, append_assoc}
+use Rattle.std.proofs.Common.{sym}
 use Rattle.std.specs.Fmt.{digits}
 use Rattle.convoy_explain.specs.Explanations.{awaited_text}
 use Rattle.convoy_explain.proofs.telling.awaited_line.Goals as goal
@@ -7,4 +7,4 @@ pub returns : goal.returns
 unfolding awaited_text digits
 returns c =
     let group = rw c.target_group.ensures.value at c.group_name-group.ensures in
-    simp (sym c.message_name-message.ensures, sym group, append_assoc) c.format.ensures.ok
+    simp (sym c.message_name-message.ensures, sym group) c.format.ensures.ok

@@ -1,4 +1,4 @@
-use Rattle.std.proofs.Common.{false, List, [], ◌∷◌, ◌++◌, ◌≡◌, ◌∙◌, ap, refl, reverse}
+use Rattle.std.proofs.Common.{false, List, [], ◌∷◌, ◌++◌, ◌∙◌, ap, refl, reverse}
 use Rattle.convoy_share.specs.Common.{common_of}
 use Rattle.convoy_share.specs.declared.owner.OwnerWorker.{OwnerWorker}
 use Rattle.convoy_share.specs.declared.piece.Piece.{Piece}

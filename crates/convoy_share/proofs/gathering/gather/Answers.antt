@@ -1,4 +1,4 @@
-use Rattle.std.proofs.Common.{sym, ap, ◌∙◌, List, ℕ, ◌++◌, [], ◌∷◌}
+use Rattle.std.proofs.Common.{ap, ◌∙◌, ℕ, ◌++◌, [], ◌∷◌}
 use Rattle.convoy_ledger.specs.Tickets.{Account}
 use Rattle.convoy_share.specs.Common.{common_of}
 use Rattle.convoy_share.proofs.Worked.{owner_joined}

@@ -1,4 +1,3 @@
-use Rattle.std.proofs.Common.{◌≤◌}
 use Rattle.convoy_share.specs.Common.{common_of}
 use Rattle.convoy_share.specs.Opening.{AreOpened}
 use Rattle.convoy_share.proofs.opening.open_workers.Given as goal

@@ -1,4 +1,4 @@
-use Rattle.std.proofs.Common.{arith, ap, sym, subst, ◌∙◌, List, [], reverse}
+use Rattle.std.proofs.Common.{arith, ap, sym, subst, ◌∙◌, List, reverse}
 use Rattle.std.proofs.lemmas.List.{reverse-reverse, nil_from_length}
 use Rattle.convoy_share.specs.Filling.{IsPlacing}
 use Rattle.convoy_share.specs.Subtrees.{Subtree}

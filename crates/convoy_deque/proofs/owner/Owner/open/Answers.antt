@@ -1,4 +1,4 @@
-use Rattle.std.proofs.Common.{refl, sym, ap, ◌∙◌}
+use Rattle.std.proofs.Common.{refl, ap}
 use Rattle.convoy_deque.specs.declared.rule.View.{View}
 use Rattle.convoy_deque.proofs.Steps.{begins, opens}
 use Rattle.convoy_deque.proofs.owner.Owner.open.Goals as goal

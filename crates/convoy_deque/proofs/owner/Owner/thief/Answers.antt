@@ -1,4 +1,4 @@
-use Rattle.std.proofs.Common.{sym, ap, arith}
+use Rattle.std.proofs.Common.{ap, arith}
 use Rattle.convoy_deque.specs.Tasks.{OwnerEnd}
 use Rattle.convoy_deque.proofs.Steps.{forks}
 use Rattle.convoy_deque.proofs.owner.Owner.thief.Goals as goal

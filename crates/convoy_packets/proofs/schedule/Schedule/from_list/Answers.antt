@@ -1,4 +1,4 @@
-use Rattle.std.proofs.Common.{◌≡◌, length, sym, ap, subst, rules}
+use Rattle.std.proofs.Common.{◌≡◌, length, sym, subst, rules}
 use Rattle.convoy_packets.specs.Assignment.{Schedule, AreWithin}
 use Rattle.convoy_packets.proofs.GivenLists.{given_within}
 use Rattle.convoy_packets.proofs.schedule.Schedule.from_list.Goals as goal

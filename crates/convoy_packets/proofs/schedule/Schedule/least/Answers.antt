@@ -1,4 +1,4 @@
-use Rattle.std.proofs.Common.{◌≡◌, sym, subst}
+use Rattle.std.proofs.Common.{sym, subst}
 use Rattle.convoy_packets.specs.Assignment.{Schedule, AreWithin}
 use Rattle.convoy_packets.proofs.Ranges.{AreWithin-least}
 use Rattle.convoy_packets.proofs.schedule.Schedule.least.Goals as goal

@@ -1,4 +1,4 @@
-use Rattle.std.proofs.Common.{ap, refl, ◌∙◌}
+use Rattle.std.proofs.Common.{refl, ◌∙◌}
 use Rattle.convoy_streams.proofs.Stepping.{adds, ends, keeps, waits}
 use Rattle.convoy_streams.proofs.splitter.Splitter.take.Goals as goal
 
