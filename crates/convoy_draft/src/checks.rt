@@ -302,7 +302,8 @@ fn all_have_ranges(delay: i64, links: &[DraftLink]) -> bool
     links.iter().all(|link| has_range(delay, link))
 }
 
-fn is_named_alike(name: &Option<Name>, other: &Option<Name>) -> bool
+/// Whether two senders are written alike: both are clients, or groups of one name.
+pub fn is_named_alike(name: &Option<Name>, other: &Option<Name>) -> bool
     ensures { result ≡ is_named_alike name.now other.now }
 {
     match (name, other) {

@@ -39,6 +39,8 @@ pub enum Limit {
     /// The greatest delay of a packet is from 1 to `GREATEST_DELAY`, and in whole ticks at most
     /// `GREATEST_WHOLE_DELAY`.
     Delay,
+    /// In real time the least delay of what goes by no link is 1 or more, and at most D.
+    Least,
     /// There are 1 to `MOST_GROUPS` groups.
     Groups,
     /// There are 1 to `MOST_MULTICASTS` multicasts.
@@ -100,6 +102,10 @@ pub enum ScenarioFault {
     /// The target's message may wait, so that its issue is not known.
     #[error("the target's message may be issued later than at its first tick")]
     TargetWaits,
+    /// In real time something goes from one place to another, and no range is written for it: neither a
+    /// link nor the least delay of what goes by none.
+    #[error("in real time a packet travels whose range is not written")]
+    NoRange,
     /// Memory ran out, which says nothing of the text.
     #[error("out of memory")]
     Memory,
@@ -150,6 +156,10 @@ impl fmt::Display for Limit {
             Limit::Delay => write!(
                 f,
                 "the greatest delay is 1 to {GREATEST_DELAY}, and in whole ticks 1 to {GREATEST_WHOLE_DELAY}"
+            ),
+            Limit::Least => write!(
+                f,
+                "the least delay of what goes by no link is 1 or more, and at most the greatest delay"
             ),
             Limit::Groups => write!(f, "there are 1 to {MOST_GROUPS} groups"),
             Limit::Multicasts => write!(f, "there are 1 to {MOST_MULTICASTS} multicasts"),

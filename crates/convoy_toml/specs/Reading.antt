@@ -1,5 +1,5 @@
 -- The scenario of a TOML table, and of a text, with the schedule and the order of its ties that are given beside it.
-use Rattle.std.specs.Prelude.{ℕ, ℤ, if◌then◌else◌, List, Option, option_map, ok_or, Result, Ok, Err}
+use Rattle.std.specs.Prelude.{ℕ, ℤ, if◌then◌else◌, List, Option, option_map, is_some, ok_or, Result, Ok, Err}
 use Rattle.std.specs.Result.{result_map_both}
 use Rattle.std.specs.Str.{is_utf8}
 use Rattle.toml.specs.Data.{Members}
@@ -8,12 +8,14 @@ use Rattle.convoy_draft.specs.declared.fault.ScenarioFault.{ScenarioFault}
 use Rattle.convoy_toml.specs.declared.input.Input.{Input}
 use Rattle.convoy_toml.specs.declared.target.TargetKey.{TargetKey}
 use Rattle.convoy_toml.specs.declared.target.TargetKey.TheVariants.{Required}
-use Rattle.convoy_draft.specs.declared.fault.ScenarioFault.TheVariants.{NotToml}
+use Rattle.convoy_draft.specs.declared.fault.ScenarioFault.TheVariants.{NotToml, NoRange}
+use Rattle.convoy_draft.specs.Draft.{Draft}
 use Rattle.convoy_scenario.specs.Scenario.{Scenario}
 use Rattle.convoy_scenario.specs.Numbering.{scenario_of_draft}
 use Rattle.convoy_lines.specs.Results.{◌>>=◌}
 use Rattle.convoy_toml.specs.Shape.{Written, written_of_table}
 use Rattle.convoy_toml.specs.Times.{draft_of_written}
+use Rattle.convoy_toml.specs.Ways.{has_ranges}
 
 -- what a text gives: a scenario, and the delays of one run and the ranks of its moments where they stand beside it
 pub record InputView : Type 0 where
@@ -25,11 +27,16 @@ pub record InputView : Type 0 where
 abbrev pub table_of_text : List ℕ → Result Members ScenarioFault
 table_of_text text = if is_utf8 text then ok_or (parse_document text) NotToml else Err NotToml
 
--- what is given where this is written: its times in ticks first, then the checks of the scenario; schedule and order stay as they are written
+-- in real time a packet that travels has a range that is written
+abbrev pub need_ranges : Bool → Draft → Result (Unit {0}) ScenarioFault
+need_ranges has_least draft = if has_ranges has_least draft then Ok tt else Err NoRange
+
+-- what is given where this is written: its times in ticks first, then the checks of the scenario, and last whether ranges are written; schedule and order stay as they are written
 abbrev pub input_of_written : Written → Result InputView ScenarioFault
 input_of_written written = do
   draft ← draft_of_written written.scenario
   scenario ← scenario_of_draft draft
+  _ ← need_ranges (is_some written.scenario.least) draft
   Ok (record { scenario = scenario; schedule = written.schedule; order = written.order })
 
 -- what a table gives, where the target has to be written or not: its shape first, then what is said of that

@@ -4,7 +4,7 @@ use Rattle.std.specs.BTreeMap.{BTreeMap}
 use Rattle.std.specs.declared.alloc.Global.{Global}
 use Rattle.toml.specs.View.{table_view}
 use Rattle.toml.specs.declared.value.Value.{Value}
-use Rattle.std.specs.Prelude.{Vec, String, map, ℕ, nat_le, Bool, true, false, not, ◌&&◌, if◌then◌else◌, ℤ, List, [], ◌∷◌, length, slice_index_or, find, Option, Some, None, is_some, is_none, option_map, option_and_then, ok_or, unwrap_or, Result, Ok, Err}
+use Rattle.std.specs.Prelude.{Vec, String, map, ℕ, nat_le, Bool, true, false, not, ◌&&◌, ◌||◌, if◌then◌else◌, ℤ, List, [], ◌∷◌, length, slice_index_or, find, Option, Some, None, is_some, is_none, option_map, option_and_then, ok_or, unwrap_or, Result, Ok, Err}
 use Rattle.std.specs.List.{list_any, slice_get}
 use Rattle.std.specs.Option.{option_or}
 use Rattle.std.specs.Str.{bytes_eq}
@@ -48,11 +48,12 @@ pub record WrittenTarget : Type 0 where
   pub message : List ℕ
   pub group : List ℕ
 
--- a scenario as it is written, with the length of a tick in nanoseconds where the key is there
+-- a scenario as it is written, with the length of a tick in nanoseconds, D, and the least delay of what goes by no link, each where its key is there
 pub record WrittenScenario : Type 0 where
   pub time : AnyTime
   pub tick : Option ℕ
-  pub delay : WrittenTime
+  pub delay : Option WrittenTime
+  pub least : Option WrittenTime
   pub groups : List (List ℕ)
   pub links : List WrittenLink
   pub messages : List WrittenMessage
@@ -112,6 +113,23 @@ as_when time value = option_or (option_map Count (as_integer value)) (option_map
 -- the length of a tick: a duration above 0, where time is real
 abbrev pub as_tick : AnyTime → Data → Option ℕ
 as_tick time value = option_and_then (λ length. if nat_le 1 length then Some length else None) (as_duration time value)
+
+-- whether D has to be written: in real time it may be left out where links are written, and no least delay of what goes by none
+abbrev pub needs_delay : AnyTime → Members → Bool
+needs_delay Ticks table = true
+needs_delay Real table = is_none (get_member (key_word Link) table) || is_some (get_member (key_word Least) table)
+
+-- D of a scenario's table, where it is written
+abbrev pub delay_of_table : AnyTime → Members → Result (Option WrittenTime) ScenarioFault
+delay_of_table time table =
+    if needs_delay time table
+    then (need Delay (as_when time) table >>= λ delay. Ok (Some delay))
+    else wish Delay (as_when time) table
+
+-- the least delay of what goes by no link: a time, where time is real
+abbrev pub as_least : AnyTime → Data → Option WrittenTime
+as_least Ticks value = None
+as_least Real value = as_when Real value
 
 -- a message as it is written
 abbrev pub message_of_table : AnyTime → Members → Result WrittenMessage ScenarioFault
@@ -212,13 +230,14 @@ abbrev pub scenario_of_table : TargetKey → Members → Result WrittenScenario 
 scenario_of_table key table = do
   time ← time_of_table table
   tick ← wish Tick (as_tick time) table
-  delay ← need Delay (as_when time) table
+  delay ← delay_of_table time table
+  least ← wish Least (as_least time) table
   groups ← need_all Groups as_str table
   tables ← need_all Multicast as_table table
   messages ← messages_of time tables
   target ← target_of_table key table groups messages
   links ← links_of_table time table
-  Ok (record { time = time; tick = tick; delay = delay; groups = groups; links = links; messages = messages; target_message = target.message; target_group = target.group })
+  Ok (record { time = time; tick = tick; delay = delay; least = least; groups = groups; links = links; messages = messages; target_message = target.message; target_group = target.group })
 
 -- what is written in a scenario's table: the scenario, and the delays of a schedule and the ranks of its moments where they are given
 pub record Written : Type 0 where
@@ -232,7 +251,7 @@ written_of_table key table = do
   scenario ← scenario_of_table key table
   schedule ← wish_all Schedule as_integer table
   order ← wish_all Order as_integer table
-  _ ← need_only (Time ∷ Tick ∷ Delay ∷ Groups ∷ Multicast ∷ Target ∷ Link ∷ Schedule ∷ Order ∷ []) table
+  _ ← need_only (Time ∷ Tick ∷ Delay ∷ Least ∷ Groups ∷ Multicast ∷ Target ∷ Link ∷ Schedule ∷ Order ∷ []) table
   Ok (record { scenario = scenario; schedule = schedule; order = order })
 
 -- how a call's answer is seen: a vector as the list that it holds

@@ -1,16 +1,18 @@
 -- What the times of a scenario are in ticks, where they are written as durations. Nothing is rounded.
-use Rattle.std.specs.Prelude.{ℕ, suc, zero, ◌+◌, ℤ, pos, ◌%◌, ◌/◌, ◌==◌, max, Bool, true, false, if◌then◌else◌, List, [], ◌∷◌, ◌++◌, map, flat_map, Option, Some, None, option_and_then, ok_or, Result, Ok, Err}
+use Rattle.std.specs.Prelude.{ℕ, suc, zero, ◌+◌, ℤ, pos, int_le, ◌%◌, ◌/◌, ◌==◌, max, Bool, true, false, ◌&&◌, if◌then◌else◌, List, [], ◌∷◌, ◌++◌, map, flat_map, Option, Some, None, option_and_then, ok_or, unwrap_or, Result, Ok, Err}
 use Rattle.std.specs.List.{list_all}
 use Rattle.convoy_lines.specs.Results.{◌>>=◌}
 use Rattle.convoy_draft.specs.declared.fault.Key.{Key}
 use Rattle.convoy_draft.specs.declared.fault.Key.TheVariants.{Tick, Delay, At, Until, Least, Most}
 use Rattle.convoy_draft.specs.declared.fault.ScenarioFault.{ScenarioFault}
-use Rattle.convoy_draft.specs.declared.fault.ScenarioFault.TheVariants.{Shape, NotWhole}
+use Rattle.convoy_draft.specs.declared.fault.ScenarioFault.TheVariants.{Shape, NotWhole, OverLimit}
+use Rattle.convoy_draft.specs.declared.fault.Limit.TheVariants as limits
 use Rattle.convoy_draft.specs.Draft.{Draft, DraftMessage}
 use Rattle.convoy_toml.specs.declared.written.WrittenTime.{WrittenTime}
 use Rattle.convoy_toml.specs.declared.written.WrittenTime.TheVariants.{Count, Lasting}
 use Rattle.convoy_toml.specs.Links.{Bundle, links_of_bundles}
 use Rattle.convoy_toml.specs.Shape.{WrittenScenario, WrittenLink, WrittenMessage}
+use Rattle.convoy_toml.specs.Ways.{with_least}
 
 -- the time is a number of ticks
 abbrev pub is_count : WrittenTime → Bool
@@ -27,12 +29,14 @@ abbrev pub length_of : WrittenTime → ℕ
 length_of (Count ticks) = 0
 length_of (Lasting length) = length
 
+-- the time, where one is written
+abbrev pub if_written : Option WrittenTime → List WrittenTime
+if_written None = []
+if_written (Some time) = time ∷ []
+
 -- the first time at which a message may be issued, and the last where that is written
 abbrev pub times_of_message : WrittenMessage → List WrittenTime
-times_of_message message = message.at ∷ last_time message.until where
-  last_time : Option WrittenTime → List WrittenTime
-  last_time None = []
-  last_time (Some until) = until ∷ []
+times_of_message message = message.at ∷ if_written message.until
 
 -- the least and the greatest delay of each table of links
 abbrev pub times_of_links : List WrittenLink → List WrittenTime
@@ -41,7 +45,8 @@ times_of_links (link ∷ links) = link.least ∷ link.most ∷ times_of_links li
 
 -- all times of a scenario
 abbrev pub times_of : WrittenScenario → List WrittenTime
-times_of scenario = scenario.delay ∷ flat_map times_of_message scenario.messages ++ times_of_links scenario.links
+times_of scenario =
+    if_written scenario.delay ++ if_written scenario.least ++ flat_map times_of_message scenario.messages ++ times_of_links scenario.links
 
 -- the greatest common divisor, in at most so many steps of Euclid's rule
 unfoldable pub divisor_within : ℕ → ℕ → ℕ → ℕ
@@ -66,10 +71,10 @@ tick_between times =
 
 -- the length of a scenario's tick, if it has one
 abbrev pub tick_of : WrittenScenario → Result (Option ℕ) ScenarioFault
-tick_of scenario = if_written scenario.tick where
-  if_written : Option ℕ → Result (Option ℕ) ScenarioFault
-  if_written (Some tick) = Ok (Some tick)
-  if_written None = tick_between (times_of scenario)
+tick_of scenario = or_between scenario.tick where
+  or_between : Option ℕ → Result (Option ℕ) ScenarioFault
+  or_between (Some tick) = Ok (Some tick)
+  or_between None = tick_between (times_of scenario)
 
 -- how many ticks of this length a duration takes, if that is a whole number
 abbrev pub ticks_in : ℕ → ℕ → Option ℤ
@@ -83,6 +88,11 @@ ticks_of tick (Lasting length) = option_and_then (λ t. ticks_in t length) tick
 -- the ticks of a time, which has to be a whole number of them
 abbrev pub whole : Option ℕ → Key → WrittenTime → Result ℤ ScenarioFault
 whole tick key time = ok_or (ticks_of tick time) (NotWhole key)
+
+-- the ticks of a time that may be left out
+abbrev pub whole_if_written : Option ℕ → Key → Option WrittenTime → Result (Option ℤ) ScenarioFault
+whole_if_written tick key None = Ok None
+whole_if_written tick key (Some time) = whole tick key time >>= λ ticks. Ok (Some ticks)
 
 -- the last tick at which a message may be issued: where none is written, the first one
 abbrev pub last_tick : Option ℕ → ℤ → Option WrittenTime → Result ℤ ScenarioFault
@@ -119,12 +129,31 @@ bundles_of tick (link ∷ links) = do
   others ← bundles_of tick links
   Ok (first ∷ others)
 
--- the scenario in ticks, with each link that its tables write; or the first time that is no whole number of them; or too many links
+-- the greatest delay of all tables of links, and of one more
+abbrev pub greatest_most : ℤ → List Bundle → ℤ
+greatest_most so_far [] = so_far
+greatest_most so_far (bundle ∷ bundles) = greatest_most (if int_le so_far bundle.most then bundle.most else so_far) bundles
+
+-- D: what is written, or else the greatest delay of all links
+abbrev pub delay_or_greatest : Option ℤ → List Bundle → ℤ
+delay_or_greatest written bundles = unwrap_or written (greatest_most (pos 0) bundles)
+
+-- the least delay of what goes by no link is within 1 to D, where it is written
+abbrev pub is_least : ℤ → Option ℤ → Bool
+is_least delay None = true
+is_least delay (Some least) = int_le (pos 1) least && int_le least delay
+
+abbrev pub need_least : ℤ → Option ℤ → Result (Unit {0}) ScenarioFault
+need_least delay least = if is_least delay least then Ok tt else Err (OverLimit limits.Least)
+
+-- the scenario in ticks, with each link that its tables write, and where a least delay of what goes by none is written, a link with it for each way of that; or the first time that is no whole number of ticks; or too many links; or a least delay beyond its limits
 abbrev pub draft_of_written : WrittenScenario → Result Draft ScenarioFault
 draft_of_written scenario = do
   tick ← tick_of scenario
-  delay ← whole tick Delay scenario.delay
+  written ← whole_if_written tick Delay scenario.delay
+  least ← whole_if_written tick Least scenario.least
   messages ← draft_messages_of tick scenario.messages
   bundles ← bundles_of tick scenario.links
   links ← links_of_bundles bundles
-  Ok (record { time = scenario.time; tick = tick; delay = delay; groups = scenario.groups; links = links; messages = messages; target_message = scenario.target_message; target_group = scenario.target_group })
+  _ ← need_least (delay_or_greatest written bundles) least
+  Ok (with_least least (record { time = scenario.time; tick = tick; delay = delay_or_greatest written bundles; groups = scenario.groups; links = links; messages = messages; target_message = scenario.target_message; target_group = scenario.target_group }))

@@ -7,6 +7,7 @@ pub use input::Input;
 pub use links::MOST_WRITTEN_LINKS;
 pub use read::{read_toml, read_toml_any_target};
 pub use target::TargetKey;
+pub use ways::Way;
 
 mod bundle;
 mod divisor;
@@ -17,4 +18,5 @@ mod read;
 mod shape;
 mod target;
 mod times;
+mod ways;
 mod written;

@@ -140,7 +140,7 @@ fn link_in(bundle: &Bundle, sender: Option<&Name>, to: &Name) -> Result<DraftLin
 }
 
 /// The same name, in memory of its own, if there is one.
-fn copy_sender(sender: Option<&Name>) -> Result<Option<Name>, AllocError>
+pub fn copy_sender(sender: Option<&Name>) -> Result<Option<Name>, AllocError>
     ensures { IfOk result (λ copy. copy ≡ option_map (λ name. name.now) sender.entry) }
 {
     match sender {

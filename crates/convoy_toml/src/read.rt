@@ -9,6 +9,7 @@ use super::input::Input;
 use super::shape::written_of_table;
 use super::target::TargetKey;
 use super::times::draft_of_written;
+use super::ways::has_ranges;
 use super::written::WrittenInput;
 use convoy_scenario::{Scenario, ScenarioFault};
 use std::alloc::Global;
@@ -68,8 +69,13 @@ fn read_by(alloc: Global, text: &[u8], target: TargetKey) -> Result<Input, Scena
         schedule,
         order,
     } = written;
+    let has_least = scenario.least.is_some();
     let draft = draft_of_written(alloc, scenario)?;
+    let has_ranges = has_ranges(alloc, has_least, &draft)?;
     let scenario = Scenario::from_draft(alloc, draft)?;
+    if !has_ranges {
+        return Err(ScenarioFault::NoRange);
+    }
     Ok(Input {
         scenario,
         schedule,

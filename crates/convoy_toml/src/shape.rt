@@ -6,7 +6,7 @@ ghost use Rattle.toml.specs.Data.{as_integer, as_str, as_array, as_table, get_me
 ghost use Rattle.toml.specs.View.{view, array_view, table_view};
 ghost use Rattle.convoy_draft.specs.Keys.{key_word};
 ghost use Rattle.convoy_scenario.specs.Memory.{IsUnlessMemory};
-ghost use Rattle.convoy_toml.specs.Shape.{all_of, as_duration, as_when, as_tick, need, need_all, wish, wish_all, names_in, as_names, as_both, both_of_table, ends_of_table, has_only, need_only, time_of_table, message_of_table, messages_of, link_of_table, links_of, links_of_table, written_target, target_of_table, scenario_of_table, written_of_table, listed, listed_if_there, tables_listed};
+ghost use Rattle.convoy_toml.specs.Shape.{all_of, as_duration, as_when, as_tick, as_least, needs_delay, delay_of_table, need, need_all, wish, wish_all, names_in, as_names, as_both, both_of_table, ends_of_table, has_only, need_only, time_of_table, message_of_table, messages_of, link_of_table, links_of, links_of_table, written_target, target_of_table, scenario_of_table, written_of_table, listed, listed_if_there, tables_listed};
 
 use super::target::{TargetKey, first_target};
 use super::written::{
@@ -206,6 +206,52 @@ fn tick_of_table(table: &Table, time: Time) -> Result<Option<Duration>, Scenario
     };
     let length = tick_written(value, time).ok_or(ScenarioFault::Shape(Key::Tick))?;
     Ok(Some(length))
+}
+
+/// Whether D has to be written: in real time it may be left out where links are written, and no least delay of what
+/// goes by none.
+fn needs_delay(table: &Table, time: Time) -> bool
+    ensures { result ≡ needs_delay time (table_view table.now) }
+{
+    match time {
+        Time::Ticks => true,
+        Time::Real => {
+            value_at(table, Key::Link).is_none() || value_at(table, Key::Least).is_some()
+        }
+    }
+}
+
+/// D, where it is written.
+fn delay_of_table(table: &Table, time: Time) -> Result<Option<WrittenTime>, ScenarioFault>
+    ensures { result ≡ delay_of_table time (table_view table.now) }
+{
+    if needs_delay(table, time) {
+        let delay = when(table, Key::Delay, time)?;
+        Ok(Some(delay))
+    } else {
+        when_written(table, Key::Delay, time)
+    }
+}
+
+/// The least delay of what goes by no link: a time, where time is real.
+fn least_written(value: &Value, time: Time) -> Option<WrittenTime>
+    ensures { result ≡ as_least time (view value.now) }
+{
+    match time {
+        Time::Ticks => None,
+        Time::Real => time_written(value, time),
+    }
+}
+
+/// The least delay of what goes by no link, where it is written.
+fn least_of_table(table: &Table, time: Time) -> Result<Option<WrittenTime>, ScenarioFault>
+    ensures { result ≡ wish Key.Least (as_least time) (table_view table.now) }
+{
+    let Some(value) = value_at(table, Key::Least) else {
+        return Ok(None);
+    };
+    let least = least_written(value, time).ok_or(ScenarioFault::Shape(Key::Least))?;
+    Ok(Some(least))
 }
 
 fn is_one_of(word: &str, keys: &[Key]) -> bool
@@ -440,6 +486,7 @@ pub fn written_of_table(
             Key::Time,
             Key::Tick,
             Key::Delay,
+            Key::Least,
             Key::Groups,
             Key::Multicast,
             Key::Target,
@@ -466,7 +513,8 @@ fn scenario_of_table(
 {
     let time = time_of_table(table)?;
     let tick = tick_of_table(table, time)?;
-    let delay = when(table, Key::Delay, time)?;
+    let delay = delay_of_table(table, time)?;
+    let least = least_of_table(table, time)?;
     let groups = names(alloc, table, Key::Groups)?;
     let tables = tables(alloc, table, Key::Multicast)?;
     let multicasts = multicasts_of(alloc, &tables, time)?;
@@ -476,6 +524,7 @@ fn scenario_of_table(
         time,
         tick,
         delay,
+        least,
         groups,
         links,
         multicasts,

@@ -1,15 +1,16 @@
-ghost use Rattle.std.specs.Prelude.{◌≡◌, ◌≤◌, ◌++◌, map, flat_map, option_map, IfOk, OnOk};
+ghost use Rattle.std.specs.Prelude.{◌≡◌, ◌≤◌, ◌++◌, map, flat_map, option_map, pos, IfOk, OnOk};
 ghost use Rattle.convoy_draft.specs.declared.duration.TheConstants.{LONGEST_DURATION};
 ghost use Rattle.std.specs.List.{list_all};
 ghost use Rattle.convoy_scenario.specs.Memory.{IsUnlessMemory};
 ghost use Rattle.convoy_toml.specs.Shape.{listed};
-ghost use Rattle.convoy_toml.specs.Times.{times_of_message, times_of_links, is_count, is_lasting, length_of, divisor_of_all, times_of, tick_between, tick_of, ticks_in, ticks_of, whole, last_tick, draft_message_of, draft_messages_of, bundle_of, bundles_of, draft_of_written};
+ghost use Rattle.convoy_toml.specs.Times.{if_written, whole_if_written, greatest_most, delay_or_greatest, is_least, times_of_message, times_of_links, is_count, is_lasting, length_of, divisor_of_all, times_of, tick_between, tick_of, ticks_in, ticks_of, whole, last_tick, draft_message_of, draft_messages_of, bundle_of, bundles_of, draft_of_written};
 
 use super::bundle::Bundle;
 use super::divisor::common_divisor;
 use super::links::links_of_bundles;
+use super::ways::with_least;
 use super::written::{LinkEnds, WrittenLink, WrittenMulticast, WrittenScenario, WrittenTime};
-use convoy_scenario::{DraftMulticast, DraftScenario, Duration, Key, Name, ScenarioFault};
+use convoy_scenario::{DraftMulticast, DraftScenario, Duration, Key, Limit, Name, ScenarioFault};
 use std::alloc::{AllocError, Global};
 
 impl WrittenTime {
@@ -42,10 +43,21 @@ fn times_of(alloc: Global, scenario: &WrittenScenario) -> Result<Vec<WrittenTime
     ensures { IfOk result (λ times. times.items ≡ times_of scenario.now) }
 {
     let mut times = Vec::new(alloc);
-    times.push(scenario.delay)?;
+    push_written(&mut times, scenario.delay)?;
+    push_written(&mut times, scenario.least)?;
     push_issues(&mut times, &scenario.multicasts)?;
     push_ranges(&mut times, &scenario.links)?;
     Ok(times)
+}
+
+/// Appends the time, where one is written.
+fn push_written(times: &mut Vec<WrittenTime>, time: Option<WrittenTime>) -> Result<(), AllocError>
+    ensures { OnOk result (times.new.items ≡ times.old.items ++ if_written time) }
+{
+    if let Some(time) = time {
+        times.push(time)?;
+    }
+    Ok(())
 }
 
 /// Appends the times between which each message may be issued.
@@ -66,10 +78,7 @@ fn push_issue(times: &mut Vec<WrittenTime>, multicast: &WrittenMulticast) -> Res
     ensures { OnOk result (times.new.items ≡ times.old.items ++ times_of_message multicast.now) }
 {
     times.push(multicast.at)?;
-    if let Some(until) = multicast.until {
-        times.push(until)?;
-    }
-    Ok(())
+    push_written(times, multicast.until)
 }
 
 /// Appends the least and the greatest delay of each table of links.
@@ -172,6 +181,23 @@ fn whole(tick: Option<u64>, key: Key, time: WrittenTime) -> Result<i64, Scenario
     ticks_of(tick, time).ok_or(ScenarioFault::NotWhole(key))
 }
 
+/// The ticks of the time at a key that may be left out.
+fn whole_if_written(
+    tick: Option<u64>,
+    key: Key,
+    time: Option<WrittenTime>,
+) -> Result<Option<i64>, ScenarioFault>
+    ensures { result ≡ whole_if_written tick key time }
+{
+    match time {
+        Some(time) => {
+            let ticks = whole(tick, key, time)?;
+            Ok(Some(ticks))
+        }
+        None => Ok(None),
+    }
+}
+
 /// The last tick at which a message may be issued: where none is written, the first one.
 fn last_tick(tick: Option<u64>, at: i64, until: Option<WrittenTime>) -> Result<i64, ScenarioFault>
     ensures { result ≡ last_tick tick at until }
@@ -243,8 +269,42 @@ fn bundles_of(
     Ok(bundles)
 }
 
-/// The scenario in ticks, with each link that its tables write; or the first time that is no whole number
-/// of ticks, or that there are too many links (docs/FORMATS.md, "How faults are found").
+/// The greatest of the greatest delays of all tables of links, in ticks, or 0 where there are none.
+fn greatest_most(bundles: &[Bundle]) -> i64
+    ensures { result ≡ greatest_most (pos 0) bundles.now }
+{
+    let mut greatest = 0;
+    for bundle in bundles {
+        if greatest <= bundle.most {
+            greatest = bundle.most;
+        }
+    }
+    greatest
+}
+
+/// Whether the least delay of what goes by no link is within 1 to D, where it is written.
+fn is_least(delay: i64, least: Option<i64>) -> bool
+    ensures { result ≡ is_least delay least }
+{
+    match least {
+        Some(least) => 1 <= least && least <= delay,
+        None => true,
+    }
+}
+
+/// D in ticks: what is written, or else the greatest delay of all links.
+fn delay_or_greatest(written: Option<i64>, bundles: &[Bundle]) -> i64
+    ensures { result ≡ delay_or_greatest written bundles.now }
+{
+    match written {
+        Some(delay) => delay,
+        None => greatest_most(bundles),
+    }
+}
+
+/// The scenario in ticks, with each link that its tables write, and where a least delay of what goes by none is written,
+/// a link with it for each way of that; or the first time that is no whole number of ticks, or that there are too many
+/// links, or that the least delay is beyond its limits (docs/FORMATS.md, "How faults are found").
 pub fn draft_of_written(
     alloc: Global,
     scenario: WrittenScenario,
@@ -253,11 +313,16 @@ pub fn draft_of_written(
 {
     let tick = tick_of(alloc, &scenario)?;
     let length = length_of(&tick);
-    let delay = whole(length, Key::Delay, scenario.delay)?;
+    let written = whole_if_written(length, Key::Delay, scenario.delay)?;
+    let least = whole_if_written(length, Key::Least, scenario.least)?;
     let multicasts = draft_multicasts_of(alloc, length, &scenario.multicasts)?;
     let bundles = bundles_of(alloc, length, &scenario.links)?;
     let links = links_of_bundles(alloc, &bundles)?;
-    Ok(DraftScenario {
+    let delay = delay_or_greatest(written, &bundles);
+    if !is_least(delay, least) {
+        return Err(ScenarioFault::OverLimit(Limit::Least));
+    }
+    let draft = DraftScenario {
         time: scenario.time,
         tick,
         delay,
@@ -266,7 +331,8 @@ pub fn draft_of_written(
         multicasts,
         target_message: scenario.target_message,
         target_group: scenario.target_group,
-    })
+    };
+    Ok(with_least(alloc, least, draft)?)
 }
 
 /// The same name, in memory of its own, if there is one.

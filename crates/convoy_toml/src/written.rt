@@ -98,8 +98,10 @@ pub struct WrittenScenario {
     pub time: Time,
     /// The length of a tick, where it is written: above 0.
     pub tick: Option<Duration>,
-    /// D, the greatest delay of a packet.
-    pub delay: WrittenTime,
+    /// D, the greatest delay of a packet, where it is written.
+    pub delay: Option<WrittenTime>,
+    /// The least delay of what goes by no link, where it is written.
+    pub least: Option<WrittenTime>,
     /// The names of the groups, in the order of their numbers.
     pub groups: Vec<Name>,
     /// The tables of links, in their order.
@@ -121,6 +123,7 @@ impl Model for WrittenScenario {
       time = s.time;
       tick = s.tick;
       delay = s.delay;
+      least = s.least;
       groups = s.groups.items;
       links = s.links.items;
       messages = s.multicasts.items;
