@@ -15,8 +15,8 @@ use convoy_hints::{
     hint_for_batch, hint_for_both, hint_for_ceiling, hint_for_certificate, hint_for_explained,
     hint_for_first, hint_for_given_order, hint_for_given_schedule, hint_for_greatest,
     hint_for_jobs, hint_for_leads, hint_for_length, hint_for_limit, hint_for_named_group,
-    hint_for_order_in_ticks, hint_for_reading, hint_for_real_time, hint_for_scenario,
-    hint_for_tickets, hint_for_writing, is_in_real_time, line_for_file,
+    hint_for_order_in_ticks, hint_for_plain_numbers, hint_for_reading, hint_for_real_time,
+    hint_for_scenario, hint_for_tickets, hint_for_writing, is_in_real_time, line_for_file,
 };
 use std::alloc::{AllocError, Global};
 use std::io::{Error, Write};
@@ -351,9 +351,26 @@ fn names_bounds(verdict: &Verdict) -> bool {
     }
 }
 
-/// The hint for a run that gave its answer: the blocks of a batch have the faults of its jobs, without a
-/// command word the answer is that of one schedule, and a greatest latency may be the ceiling.
+/// The hints for a run that gave its answer: that for its kind, and what a plain number among durations of its scenario
+/// was taken for.
 fn hint_for_answer<R, W>(
+    alloc: Global,
+    ended: &Ended<'_, R, W>,
+) -> Result<Option<String>, AllocError> {
+    let hint = hint_for_kind_of_answer(alloc, ended)?;
+    if is_batch(ended.verdict) || !ended.reader.is_whole() {
+        return Ok(hint);
+    }
+    let more = hint_for_plain_numbers(alloc, ended.reader.text())?;
+    match (hint, more) {
+        (Some(hint), Some(more)) => format!(in alloc; "{hint}{more}").map(Some),
+        (hint, more) => Ok(hint.or(more)),
+    }
+}
+
+/// The hint for the kind of answer: the blocks of a batch have the faults of its jobs, without a command word the
+/// answer is that of one schedule, and a greatest latency may be the ceiling.
+fn hint_for_kind_of_answer<R, W>(
     alloc: Global,
     ended: &Ended<'_, R, W>,
 ) -> Result<Option<String>, AllocError> {

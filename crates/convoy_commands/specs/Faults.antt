@@ -18,6 +18,7 @@ use Rattle.convoy_commands.specs.declared.fault.Fault.TheVariants.{Scenario, Sch
 -- a limit's word
 abbrev pub limit_word : Limit → List ℕ
 limit_word limits.Delay = codes "delay"
+limit_word limits.Least = codes "least"
 limit_word limits.Groups = codes "groups"
 limit_word limits.Multicasts = codes "multicasts"
 limit_word limits.At = codes "at"
@@ -44,6 +45,7 @@ row_of_scenario scenario.UnknownTarget = (9, codes "unknown target")
 row_of_scenario scenario.TargetNotAddressed = (10, codes "target not addressed")
 row_of_scenario scenario.LinkToItself = (14, codes "link to itself")
 row_of_scenario scenario.TargetWaits = (19, codes "target with until")
+row_of_scenario scenario.NoRange = (20, codes "no range")
 row_of_scenario scenario.Memory = memory_row
 
 -- a fault's number and its text

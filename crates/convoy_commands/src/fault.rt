@@ -203,6 +203,7 @@ pub(crate) fn scenario_row(fault: ScenarioFault) -> (u8, &'static str, FaultEndi
         ScenarioFault::TargetNotAddressed => (10, "target not addressed", NOTHING),
         ScenarioFault::LinkToItself => (14, "link to itself", NOTHING),
         ScenarioFault::TargetWaits => (19, "target with until", NOTHING),
+        ScenarioFault::NoRange => (20, "no range", NOTHING),
         ScenarioFault::Memory => (11, "out of memory", NOTHING),
     }
 }
@@ -212,6 +213,7 @@ fn word_of_limit(limit: Limit) -> &'static str
 {
     match limit {
         Limit::Delay => "delay",
+        Limit::Least => "least",
         Limit::Groups => "groups",
         Limit::Multicasts => "multicasts",
         Limit::At => "at",

@@ -6,7 +6,7 @@
 pub use certificate_hints::hint_for_certificate;
 pub use convoy_scenario_hints::{
     hint_for_given_order, hint_for_given_schedule, hint_for_named_group, hint_for_order_in_ticks,
-    hint_for_scenario,
+    hint_for_plain_numbers, hint_for_scenario,
 };
 pub use device_hints::{
     hint_for_jobs, hint_for_length, hint_for_reading, hint_for_writing, line_for_file,

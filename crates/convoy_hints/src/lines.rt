@@ -11,6 +11,7 @@ pub(crate) fn sketch_of_lines(alloc: Global, text: &str) -> Result<Sketch<'_>, A
         time: Time::Ticks,
         tick: None,
         delay: 0,
+        least: None,
         groups: Vec::new(alloc),
         multicasts: Vec::new(alloc),
         links: Vec::new(alloc),

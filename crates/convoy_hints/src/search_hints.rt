@@ -28,8 +28,8 @@ pub fn hint_for_ceiling(alloc: Global, simulations: u64, most: u64) -> Result<St
 }
 
 /// What the greatest latency of a scenario text says where messages may wait for their issue and it is the
-/// ceiling of their system, in one line `hint: ..`: that only narrower windows change it. None where it is
-/// below the ceiling, or each issue is known.
+/// ceiling of messages of these kinds at the target's group, in one line `hint: ..`: that only narrower windows change
+/// it. None where it is below the ceiling, or each issue is known.
 pub fn hint_for_greatest(
     alloc: Global,
     text: &[u8],
@@ -60,7 +60,7 @@ fn hint_at_ceiling(
     }
     let hint = String::from_str(
         alloc,
-        "hint: this is the ceiling of the system: wider windows and further messages of these kinds give no more, and narrower windows may give less\n",
+        "hint: this is the ceiling of messages of these kinds at the target's group: wider windows and further such messages give no more there, and narrower windows may give less\n",
     )?;
     Ok(Some(hint))
 }

@@ -7,7 +7,9 @@
 pub use damage::{hint_for_bytes, hint_for_damage};
 pub use inputs::{is_meant_as_certificate, is_meant_as_scenario};
 pub use runs::{hint_for_given_order, hint_for_given_schedule, hint_for_order_in_ticks};
-pub use scenario_hints::{hint_for_fault, hint_for_scenario, hint_for_sketch, with_label};
+pub use scenario_hints::{
+    hint_for_fault, hint_for_plain_numbers, hint_for_scenario, hint_for_sketch, with_label,
+};
 pub use schedules::{has_waits, hint_for_order, hint_for_schedule};
 pub use targets::hint_for_named_group;
 
@@ -15,6 +17,7 @@ mod damage;
 mod inputs;
 mod names;
 mod numbers;
+mod ranges;
 mod references;
 mod runs;
 mod scenario_hints;

@@ -13,6 +13,7 @@ pub(crate) fn hint_for_limit(
 ) -> Result<Option<String>, AllocError> {
     match limit {
         Limit::Delay => hint_for_delay(alloc, sketch).map(Some),
+        Limit::Least => hint_for_least_of_all(alloc, sketch),
         Limit::Groups => {
             let count = sketch.groups.len();
             format!(in alloc; "there are {count} groups, and there may be 1 to {MOST_GROUPS}").map(
@@ -196,6 +197,30 @@ fn hint_for_range(alloc: Global, sketch: &Sketch<'_>) -> Result<Option<String>, 
         Some(tick) if link.least == 0 => Ok(Some(hint_for_least(alloc, link, tick)?)),
         _ => Ok(Some(hint_for_ends(alloc, link, delay)?)),
     }
+}
+
+/// That the least delay of what goes by no link is below a tick, or above the greatest delay.
+fn hint_for_least_of_all(alloc: Global, sketch: &Sketch<'_>) -> Result<Option<String>, AllocError> {
+    let Some(least) = sketch.least else {
+        return Ok(None);
+    };
+    let delay = shown_time(alloc, sketch.delay, sketch.tick)?;
+    let shown = shown_time(alloc, least, sketch.tick)?;
+    let hint = match sketch.tick {
+        Some(tick) if least < 1 => {
+            let tick = Length(tick);
+            format!(in alloc;
+                "'least' is {shown}, and a packet takes at least a tick, which lasts {tick}: write that, or a smaller tick and its length"
+            )?
+        }
+        None if least < 1 => format!(in alloc;
+            "'least' is {shown}, and a packet takes at least 1 tick"
+        )?,
+        _ => format!(in alloc;
+            "'least' is {shown}, and 'delay' is {delay}: it may be at most that"
+        )?,
+    };
+    Ok(Some(hint))
 }
 
 /// That a packet takes at least a tick.

@@ -2,6 +2,7 @@ use super::damage::{hint_for_bytes, hint_for_damage};
 use super::inputs::is_meant_as_certificate;
 use super::names::{hint_for_bad_name, hint_for_double_name};
 use super::numbers::hint_for_limit;
+use super::ranges::hint_for_no_range;
 use super::references::{
     hint_for_double_destination, hint_for_link_to_itself, hint_for_no_destination,
     hint_for_target_not_addressed, hint_for_unknown_group, hint_for_unknown_target,
@@ -10,7 +11,8 @@ use super::references::{
 use convoy_certificate::{Form, form_of};
 use convoy_scenario::ScenarioFault;
 use convoy_sketch::{
-    Quoted, Sketch, hint_for_part_of_tick, hint_for_shape, sketch_of_table, spot_at,
+    Quoted, Sketch, hint_for_part_of_tick, hint_for_plain_number, hint_for_shape, sketch_of_table,
+    spot_at,
 };
 use std::alloc::{AllocError, Global};
 use toml::de::Error;
@@ -38,6 +40,19 @@ pub fn hint_for_fault(
         ScenarioFault::NotToml => hint_for_text(alloc, text),
         fault => hint_for_table(alloc, text, fault),
     }
+}
+
+/// What a plain number beside durations is taken for, in a text that is read as a scenario, in one line `hint: ..`. None
+/// where there is none, or the text is no scenario's.
+pub fn hint_for_plain_numbers(alloc: Global, text: &[u8]) -> Result<Option<String>, AllocError> {
+    let Ok(text) = std::str::from_utf8(text) else {
+        return Ok(None);
+    };
+    let Ok(table) = toml::table_from_str(alloc, text) else {
+        return Ok(None);
+    };
+    let hint = hint_for_plain_number(alloc, text, &table)?;
+    with_label(alloc, hint)
 }
 
 /// A hint as a line of its own, `hint: ` before it and byte 10 at its end; None where there is none.
@@ -118,6 +133,7 @@ fn hint_for_table(
     match fault {
         ScenarioFault::Shape(key) => hint_for_shape(alloc, text, &table, key),
         ScenarioFault::NotWhole(_) => hint_for_part_of_tick(alloc, text, &table),
+        ScenarioFault::NoRange => hint_for_no_range(alloc, text),
         fault => hint_for_sketch(alloc, &sketch_of_table(alloc, text, &table)?, fault),
     }
 }
@@ -144,6 +160,7 @@ pub fn hint_for_sketch(
         ScenarioFault::NotToml
         | ScenarioFault::Shape(_)
         | ScenarioFault::NotWhole(_)
+        | ScenarioFault::NoRange
         | ScenarioFault::Memory => Ok(None),
     }
 }

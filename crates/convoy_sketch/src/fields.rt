@@ -40,14 +40,24 @@ pub(crate) const TICK: Field = Field {
     sample: "tick = \"50 us\"",
 };
 
+/// The key of the greatest delay, which is asked for next.
+pub(crate) const DELAY: Field = Field {
+    key: "delay",
+    kind: Kind::Time,
+    is_needed: true,
+    sample: "delay = 3",
+};
+
+/// The key of the least delay of what goes by no link, which is asked for next.
+pub(crate) const LEAST: [Field; 1] = [Field {
+    key: "least",
+    kind: Kind::Time,
+    is_needed: false,
+    sample: "least = 1",
+}];
+
 /// The keys at the top that are asked for then.
-pub(crate) const HEAD: [Field; 3] = [
-    Field {
-        key: "delay",
-        kind: Kind::Time,
-        is_needed: true,
-        sample: "delay = 3",
-    },
+pub(crate) const HEAD: [Field; 2] = [
     Field {
         key: "groups",
         kind: Kind::Texts,
@@ -182,10 +192,11 @@ pub(crate) const SCHEDULE: [Field; 2] = [
 ];
 
 /// The words of the keys at the top.
-pub(crate) const TOP_WORDS: [&str; 9] = [
+pub(crate) const TOP_WORDS: [&str; 10] = [
     "time",
     "tick",
     "delay",
+    "least",
     "groups",
     "multicast",
     "target",

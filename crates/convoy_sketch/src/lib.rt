@@ -13,7 +13,7 @@ pub use quoting::{Names, Ordinal, Quoted};
 pub use shape::hint_for_shape;
 pub use sketch::{Link, Multicast, Sketch, sketch_of_table};
 pub use spot::{Spot, spot_at};
-pub use times::hint_for_part_of_tick;
+pub use times::{hint_for_part_of_tick, hint_for_plain_number};
 
 mod counting;
 mod durations;

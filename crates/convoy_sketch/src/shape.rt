@@ -1,7 +1,7 @@
 use super::durations::hint_for_duration;
 use super::fields::{
-    Field, HEAD, Kind, LINK_KEYS, LINKS, MULTICAST_KEYS, SCHEDULE, TARGET, TARGET_KEYS, TICK, TIME,
-    TOP_WORDS, UNTIL,
+    DELAY, Field, HEAD, Kind, LEAST, LINK_KEYS, LINKS, MULTICAST_KEYS, SCHEDULE, TARGET,
+    TARGET_KEYS, TICK, TIME, TOP_WORDS, UNTIL,
 };
 use super::headers::header_line;
 use super::near::nearest;
@@ -19,6 +19,8 @@ enum Step {
     TimeKey,
     Time,
     Tick,
+    Delay,
+    Least,
     Head,
     Multicasts,
     TargetKey,
@@ -31,10 +33,12 @@ enum Step {
 }
 
 /// The steps in the order in which keys are asked for.
-const STEPS: [Step; 12] = [
+const STEPS: [Step; 14] = [
     Step::TimeKey,
     Step::Time,
     Step::Tick,
+    Step::Delay,
+    Step::Least,
     Step::Head,
     Step::Multicasts,
     Step::TargetKey,
@@ -83,6 +87,8 @@ fn hint_for_step(
         Step::TimeKey => hint_for_keys(alloc, table, &TIME, &top, table),
         Step::Time => hint_for_time(alloc, table),
         Step::Tick => hint_for_tick(alloc, table, &top),
+        Step::Delay => hint_for_delay(alloc, table, &top),
+        Step::Least => hint_for_least(alloc, table, &top),
         Step::Head => hint_for_keys(alloc, table, &HEAD, &top, table),
         Step::Multicasts => {
             hint_for_tables(alloc, text, table, PartKind::Multicast, &MULTICAST_KEYS)
@@ -95,6 +101,34 @@ fn hint_for_step(
         Step::Unknown => hint_for_unknown(alloc, table, &TOP_WORDS, &top),
         Step::Mixture => hint_for_mixture(alloc, text, table),
     }
+}
+
+/// What is wrong with the greatest delay. In real time it need not be there where links are, and no least delay of what
+/// goes by none.
+fn hint_for_delay(
+    alloc: Global,
+    table: &Table,
+    top: &Part<'_>,
+) -> Result<Option<String>, AllocError> {
+    let is_needed = time_of_table(table) == Time::Ticks
+        || !table.contains_key("link")
+        || table.contains_key("least");
+    let field = Field { is_needed, ..DELAY };
+    hint_for_keys(alloc, table, &[field], top, table)
+}
+
+/// What is wrong with the least delay of what goes by no link, where one is written.
+fn hint_for_least(
+    alloc: Global,
+    table: &Table,
+    top: &Part<'_>,
+) -> Result<Option<String>, AllocError> {
+    if time_of_table(table) == Time::Real || !table.contains_key("least") {
+        return hint_for_keys(alloc, table, &LEAST, top, table);
+    }
+    let hint =
+        "'least' is the least delay of what goes by no link where time is real, and in whole ticks that is 1 tick: write 'time = \"real\"', or leave it out";
+    String::from_str(alloc, hint).map(Some)
 }
 
 /// What is wrong with the length of a tick, where one is written.

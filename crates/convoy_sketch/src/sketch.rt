@@ -15,8 +15,10 @@ pub struct Sketch<'a> {
     pub time: Time,
     /// The length of a tick, where it is known.
     pub tick: Option<Duration>,
-    /// The greatest delay, in ticks.
+    /// The greatest delay, in ticks: where it is not written, that of all links.
     pub delay: i64,
+    /// The least delay of what goes by no link, in ticks; None where it is not written.
+    pub least: Option<i64>,
     /// The names of the groups, in their order.
     pub groups: Vec<&'a str>,
     /// The messages, in their order.
@@ -72,16 +74,35 @@ pub fn sketch_of_table<'a>(
         Some(tick) => tick.nanoseconds(),
         None => 0,
     };
+    let links = links_of_table(alloc, text, table, length)?;
     Ok(Sketch {
         time: time_of_table(table),
         tick,
-        delay: ticks_at(table, "delay", length),
+        delay: delay_of_table(table, &links, length),
+        least: least_of_table(table, length),
         groups: texts_of(alloc, array_at(table, "groups"))?,
         multicasts: multicasts_of_table(alloc, text, table, length)?,
-        links: links_of_table(alloc, text, table, length)?,
+        links,
         target_message: target_text(table, "message"),
         target_group: target_text(table, "group"),
     })
+}
+
+/// The greatest delay: where it is not written, that of all links.
+fn delay_of_table(table: &Table, links: &[Link<'_>], tick: u64) -> i64 {
+    if table.contains_key("delay") {
+        return ticks_at(table, "delay", tick);
+    }
+    links.iter().map(|link| link.most).max().unwrap_or(0)
+}
+
+/// The least delay of what goes by no link, where it is written.
+fn least_of_table(table: &Table, tick: u64) -> Option<i64> {
+    if table.contains_key("least") {
+        Some(ticks_at(table, "least", tick))
+    } else {
+        None
+    }
 }
 
 /// The text at a key of the target; empty where there is none.

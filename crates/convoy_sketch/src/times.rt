@@ -1,4 +1,4 @@
-use super::durations::Length;
+use super::durations::{Length, shown_time};
 use super::part::{Part, PartKind};
 use super::quoting::Quoted;
 use super::shape::part_of;
@@ -39,7 +39,7 @@ pub(crate) fn spells_of_table<'a>(
         name: None,
         line: None,
     };
-    add_spell(&mut spells, table, "delay", top)?;
+    add_each(&mut spells, table, &["delay", "least"], top)?;
     add_spells(
         &mut spells,
         text,
@@ -269,6 +269,50 @@ fn most_ticks(key: &str, before: u64) -> u64 {
         "until" => before.saturating_add(u64::from(LONGEST_WAIT)),
         _ => u64::from(GREATEST_DELAY),
     }
+}
+
+/// What a plain number is taken for that stands beside durations, in a text in which a tick is written: the first time
+/// that is such a number. 0, and the least delay of a tick, are none, since they are the same however long a tick is.
+pub fn hint_for_plain_number(
+    alloc: Global,
+    text: &str,
+    table: &Table,
+) -> Result<Option<String>, AllocError> {
+    let (Time::Real, Some(tick)) = (time_of_table(table), written_tick(table)) else {
+        return Ok(None);
+    };
+    let spells = spells_of_table(alloc, text, table)?;
+    match (first_plain(&spells), first_lasting(&spells)) {
+        (Some((spell, ticks)), Some(_)) => hint_for_ticks(alloc, spell, ticks, tick).map(Some),
+        _ => Ok(None),
+    }
+}
+
+/// The first time that is a number of ticks which says more than 0, or than the least delay of all.
+fn first_plain<'s, 'a>(spells: &'s [Spell<'a>]) -> Option<(&'s Spell<'a>, i64)> {
+    for spell in spells {
+        let least = if spell.key == "least" { 1 } else { 0 };
+        match spell.value.as_integer() {
+            Some(ticks) if ticks != least => return Some((spell, ticks)),
+            _ => {}
+        }
+    }
+    None
+}
+
+/// How long so many ticks are that are written as a plain number.
+fn hint_for_ticks(
+    alloc: Global,
+    spell: &Spell<'_>,
+    ticks: i64,
+    tick: Duration,
+) -> Result<String, AllocError> {
+    let (key, part) = (spell.key, spell.part);
+    let time = shown_time(alloc, ticks, Some(tick))?;
+    let each = Length(tick);
+    format!(in alloc;
+        "'{key}' in {part} is the plain number {ticks}, which counts ticks of {each}: {time}"
+    )
 }
 
 /// Which times are a number of ticks and a duration, where no tick says how they go together.

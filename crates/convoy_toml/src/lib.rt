@@ -5,7 +5,7 @@
 pub use divisor::common_divisor;
 pub use input::Input;
 pub use links::MOST_WRITTEN_LINKS;
-pub use read::{read_toml, read_toml_any_target};
+pub use read::{read_toml, read_toml_any_target, ways_without_range};
 pub use target::TargetKey;
 pub use ways::Way;
 

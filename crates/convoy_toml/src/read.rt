@@ -3,13 +3,14 @@ ghost use Rattle.std.specs.Result.{result_map_both};
 ghost use Rattle.toml.specs.View.{table_view};
 ghost use Rattle.convoy_scenario.specs.Memory.{IsUnlessMemory};
 ghost use Rattle.convoy_toml.specs.declared.target.TargetKey.TheVariants.{Optional};
-ghost use Rattle.convoy_toml.specs.Reading.{table_of_text, input_of_text, input_of_text_by, input_read, scenario_of_text, scenario_of_text_by, scenario_read};
+ghost use Rattle.convoy_toml.specs.Reading.{table_of_text, input_of_text, input_of_text_by, input_read, scenario_of_text, scenario_of_text_by, scenario_read, ways_of_text};
+ghost use Rattle.convoy_toml.specs.Shape.{listed};
 
 use super::input::Input;
 use super::shape::written_of_table;
 use super::target::TargetKey;
 use super::times::draft_of_written;
-use super::ways::has_ranges;
+use super::ways::{Way, has_ranges, ways_without_link};
 use super::written::WrittenInput;
 use convoy_scenario::{Scenario, ScenarioFault};
 use std::alloc::Global;
@@ -81,6 +82,20 @@ fn read_by(alloc: Global, text: &[u8], target: TargetKey) -> Result<Input, Scena
         schedule,
         order,
     })
+}
+
+/// The ways on which something goes without a link, by a scenario text, in which the target need not be written: where
+/// time is real and no least delay is written, these have no range. Those of clients come first, and then by sender and
+/// receiver, in the order of the groups.
+///
+/// Of a text that is no draft of a scenario the first fault is told, as by [`read_toml_any_target`].
+pub fn ways_without_range(alloc: Global, text: &[u8]) -> Result<Vec<Way>, ScenarioFault>
+    ensures { IsUnlessMemory ScenarioFault.Memory (ways_of_text text.now) (listed result) }
+{
+    let table = read_table(alloc, text)?;
+    let written = written_of_table(alloc, &table, TargetKey::Optional)?;
+    let draft = draft_of_written(alloc, written.scenario)?;
+    Ok(ways_without_link(alloc, &draft)?)
 }
 
 fn read_table(alloc: Global, text: &[u8]) -> Result<Table, ScenarioFault>
