@@ -1,5 +1,5 @@
 -- The scenario of a TOML table, and of a text, with the schedule and the order of its ties that are given beside it.
-use Rattle.std.specs.Prelude.{ℕ, ℤ, if◌then◌else◌, List, Option, option_map, is_some, ok_or, Result, Ok, Err}
+use Rattle.std.specs.Prelude.{ℕ, ℤ, Bool, if◌then◌else◌, List, Option, option_map, is_some, ok_or, Result, Ok, Err}
 use Rattle.std.specs.Result.{result_map_both}
 use Rattle.std.specs.Str.{is_utf8}
 use Rattle.toml.specs.Data.{Members}
