@@ -2,14 +2,14 @@
 use Rattle.std.proofs.Common.{◌≡◌, refl, true, false, pos, negsuc, [], ◌∷◌, Option, Some, None, ℕ, ℤ, List, Result, Ok, Err, codes}
 use Rattle.toml.specs.Data.{Data, Items, no_items, item, Members, no_members, member, string, integer, boolean, array, table}
 use Rattle.convoy_draft.specs.declared.fault.ScenarioFault.{ScenarioFault}
-use Rattle.convoy_draft.specs.declared.fault.ScenarioFault.TheVariants.{Shape, NotWhole, OverLimit, NoDestination, LinkToItself, TargetWaits}
+use Rattle.convoy_draft.specs.declared.fault.ScenarioFault.TheVariants.{Shape, NotWhole, OverLimit, NoDestination, LinkToItself, TargetWaits, NoRange}
 use Rattle.convoy_draft.specs.declared.fault.Key.TheVariants as key
 use Rattle.convoy_draft.specs.declared.fault.Limit.TheVariants as limit
 use Rattle.convoy_scenario.specs.declared.sender.Sender.TheVariants.{Client}
 use Rattle.convoy_draft.specs.declared.time.Time.{Time}
 use Rattle.convoy_draft.specs.declared.time.Time.TheVariants.{Ticks, Real}
 use Rattle.convoy_draft.specs.Durations.{duration_of}
-use Rattle.convoy_scenario.specs.Scenario.{Scenario, message_at}
+use Rattle.convoy_scenario.specs.Scenario.{Link, Scenario, message_at}
 use Rattle.convoy_scenario.proofs.RowScenarios.{of_two}
 use Rattle.convoy_lines.specs.Results.{◌>>=◌}
 use Rattle.convoy_toml.specs.declared.target.TargetKey.TheVariants.{Required, Optional}
@@ -180,7 +180,11 @@ timed value = member (codes "time") value (top (one (message_table no_members)) 
 abbrev time_read : Members → Result Time ScenarioFault
 time_read members = scenario_of_table members >>= λ scenario. Ok scenario.time
 
-time_real : time_read (timed (string (codes "real"))) ≡ Ok Real
+-- the least delay of what goes by no link, before further members
+abbrev least_of : Data → Members → Members
+least_of least more = member (codes "least") least more
+
+time_real : time_read (least_of (integer (pos 1)) (timed (string (codes "real")))) ≡ Ok Real
 time_real = refl
 
 time_ticks : time_read (timed (string (codes "ticks"))) ≡ Ok Ticks
@@ -194,6 +198,56 @@ time_in_capitals = refl
 
 time_no_text : time_read (timed (boolean true)) ≡ Err (Shape key.Time)
 time_no_text = refl
+
+-- ---- ranges in real time
+
+no_range : time_read (timed (string (codes "real"))) ≡ Err NoRange
+no_range = refl
+
+-- the links of a scenario
+abbrev links_read : Members → Result (List Link) ScenarioFault
+links_read members = scenario_of_table members >>= λ scenario. Ok scenario.links
+
+-- from clients to the first group, with this range
+abbrev from_clients : ℕ → ℕ → Link
+from_clients least most = record { sender = Client; to = 0; least = least; most = most }
+
+least_of_all : links_read (least_of (integer (pos 2)) (timed (string (codes "real")))) ≡ Ok (from_clients 2 3 ∷ [])
+least_of_all = refl
+
+least_of_a_tick : links_read (least_of (integer (pos 1)) (timed (string (codes "real")))) ≡ Ok []
+least_of_a_tick = refl
+
+least_of_nothing : links_read (least_of (integer (pos 0)) (timed (string (codes "real")))) ≡ Err (OverLimit limit.Least)
+least_of_nothing = refl
+
+least_above_delay : links_read (least_of (integer (pos 4)) (timed (string (codes "real")))) ≡ Err (OverLimit limit.Least)
+least_above_delay = refl
+
+least_in_whole_ticks : links_read (least_of (integer (pos 1)) (timed (string (codes "ticks")))) ≡ Err (Shape key.Least)
+least_in_whole_ticks = refl
+
+-- a group that sends to itself alone, in real time
+to_itself : time_read (member (codes "time") (string (codes "real")) (top (one (member (codes "from") (string (codes "a")) (message_table no_members))) (target_table no_members) no_members)) ≡ Ok Real
+to_itself = refl
+
+-- a message of a client in real time, without a greatest delay, with a link that has a range, and further members
+abbrev linked_alone : Members → Members
+linked_alone more =
+    member (codes "time") (string (codes "real")) (member (codes "groups") (array (item (string (codes "a")) no_items))
+    (member (codes "multicast") (array (one (message_table no_members))) (member (codes "target") (table (target_table no_members))
+    (member (codes "link") (array (one (member (codes "least") (integer (pos 2)) (member (codes "most") (integer (pos 5)) (member (codes "to") (string (codes "a")) no_members))))) more))))
+
+-- D of a scenario
+abbrev delay_read : Members → Result ℕ ScenarioFault
+delay_read members = scenario_of_table members >>= λ scenario. Ok scenario.delay
+
+greatest_of_links : (delay_read (linked_alone no_members) ≡ Ok 5) × (links_read (linked_alone no_members) ≡ Ok (from_clients 2 5 ∷ []))
+unfolding link_of_table
+greatest_of_links = (refl, refl)
+
+delay_beside_least : links_read (linked_alone (least_of (integer (pos 1)) no_members)) ≡ Err (Shape key.Delay)
+delay_beside_least = refl
 
 time_before_delay : time_read (member (codes "time") (integer (pos 0)) no_members) ≡ Err (Shape key.Time)
 time_before_delay = refl
@@ -227,12 +281,12 @@ order_after_schedule = refl
 
 -- ---- durations
 
--- a scenario of one message in real time, with this D, this tick of issue and further members at the top
+-- a scenario of one message in real time, with this D, which each packet takes, this tick of issue and further members at the top
 abbrev lasting : Data → Data → Members → Members
 lasting delay at more =
-    member (codes "time") (string (codes "real")) (member (codes "delay") delay (member (codes "groups") (array (item (string (codes "a")) no_items))
+    member (codes "time") (string (codes "real")) (member (codes "delay") delay (least_of delay (member (codes "groups") (array (item (string (codes "a")) no_items))
     (member (codes "multicast") (array (one (member (codes "at") at (member (codes "name") (string (codes "t")) (member (codes "to") (array (item (string (codes "a")) no_items)) no_members)))))
-    (member (codes "target") (table (target_table no_members)) more))))
+    (member (codes "target") (table (target_table no_members)) more)))))
 
 -- the nanoseconds of a tick, D and the tick of issue
 abbrev ticks_read : Members → Result (Option ℕ × ℕ × ℕ) ScenarioFault
@@ -340,10 +394,10 @@ target_until_its_tick = refl
 -- in real time, the nanoseconds of a tick, the first tick at which the second message may be issued, and how long it waits at most
 abbrev lasting_window : Data → Data → Members → Result (Option ℕ × ℕ × ℕ) ScenarioFault
 lasting_window at until more =
-    scenario_of_table (member (codes "time") (string (codes "real")) (member (codes "delay") (string (codes "80 ns")) (member (codes "groups") (array (item (string (codes "a")) no_items))
+    scenario_of_table (member (codes "time") (string (codes "real")) (member (codes "delay") (string (codes "80 ns")) (least_of (string (codes "80 ns")) (member (codes "groups") (array (item (string (codes "a")) no_items))
     (member (codes "multicast")
     (array (item (table (member (codes "at") (string (codes "0 s")) (member (codes "name") (string (codes "t")) (member (codes "to") (array (item (string (codes "a")) no_items)) no_members)))) (one (window_table at until no_members))))
-    (member (codes "target") (table (target_table no_members)) more)))))
+    (member (codes "target") (table (target_table no_members)) more))))))
     >>= λ scenario. Ok (scenario.tick, (message_at scenario 1).at, (message_at scenario 1).longest_wait)
 
 divisor_of_window : lasting_window (string (codes "20 ns")) (string (codes "35 ns")) no_members ≡ Ok (Some 5, 4, 3)
