@@ -52,11 +52,14 @@ class Scenario:
         """All that is told in ticks: D, when each message may be issued, and the ends of each link's range."""
         return [self.delay, *itertools.chain.from_iterable([*self.issues(), *self.links.values()])]
 
-    def text(self, tick=None, told=str):
-        """The scenario as TOML, with this value of the key `tick`, and each time told so."""
+    def text(self, tick=None, told=str, least=1):
+        """The scenario as TOML, with this value of the key `tick`, and each time told so. In real time the least delay
+        of what goes by no link is told as well, which is a tick, however many of those it is that `told` counts."""
         lines = ['time = "real"'] if self.real else []
         lines += [f"tick = {tick}"] if tick else []
-        lines += [f"delay = {told(self.delay)}", f"groups = {quoted(range(self.groups))}", ""]
+        lines += [f"delay = {told(self.delay)}"]
+        lines += [f"least = {told(least)}"] if self.real else []
+        lines += [f"groups = {quoted(range(self.groups))}", ""]
         tables = zip(itertools.count(), self.messages, self.issues())
         lines += itertools.chain.from_iterable(message_lines(*each, told) for each in tables)
         lines += ["[target]", f'message = "m{self.target}"', f'group = "g{self.at}"', ""]

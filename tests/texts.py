@@ -377,26 +377,28 @@ multicast s client 16 a b c
 target t c
 """)
 
-# In real time, where moments of one tick come in any order.
-REAL_BASE = 'time = "real"\n' + BASE
-REAL_SWAPPED = 'time = "real"\n' + SWAPPED
+# What stands above a scenario in real time, where moments of one tick come in any order, and what goes by no link takes a
+# tick at least.
+REAL = 'time = "real"\nleast = 1\n'
+REAL_BASE = REAL + BASE
+REAL_SWAPPED = REAL + SWAPPED
 
 # Each packet takes one tick, and t is listed before x: in whole ticks it comes to b before x, in real time it need not.
 TIED_IN_TICKS = RIVALS.replace("delay = 3", "delay = 1").replace("at = 1", "at = 0").replace("at = 5", "at = 2")
-TIED = 'time = "real"\n' + TIED_IN_TICKS
+TIED = REAL + TIED_IN_TICKS
 
 # The same in durations: a tick lasts 50 us.
-MEASURED = 'time = "real"\ntick = "50 us"\n' + (
+MEASURED = 'time = "real"\ntick = "50 us"\nleast = "50 us"\n' + (
     TIED_IN_TICKS.replace("delay = 1", 'delay = "0.05 ms"').replace("at = 0", 'at = "0 ms"', 1).replace("at = 2", 'at = "100us"')
 )
 
 # In real time, where y may be issued at any time from the first tick to the last.
-REAL_WINDOW = 'time = "real"\n' + WINDOW
+REAL_WINDOW = REAL + WINDOW
 
 # The base in milliseconds, without the length of a tick: it is the greatest that goes into all times, and 3 ms; with y a
-# millisecond later it is 1 ms.
-MILLISECONDS = 'time = "real"\n' + BASE.replace("delay = 3", 'delay = "3 ms"').replace("at = 0", 'at = "0 ms"').replace("at = 6", 'at = "6 ms"')
-LATER_MILLISECONDS = MILLISECONDS.replace("6 ms", "7 ms")
+# millisecond later, and packets that may take a millisecond, it is 1 ms.
+MILLISECONDS = 'time = "real"\n' + BASE.replace("delay = 3", 'delay = "3 ms"\nleast = "3 ms"').replace("at = 0", 'at = "0 ms"').replace("at = 6", 'at = "6 ms"')
+LATER_MILLISECONDS = MILLISECONDS.replace("6 ms", "7 ms").replace('least = "3 ms"', 'least = "1 ms"')
 
 # The base's certificate in real time, of version 4.
 REAL_CERTIFICATE = """\
