@@ -1,8 +1,11 @@
 """What the program tells of itself: its help and that of each command, read into values."""
 
+import os
 import re
 import subprocess
 import typing
+
+from placing import shown
 
 # What stands above the lists of a help, each of which has its entries below, with two spaces before them or more.
 LISTS = ("Commands:", "Arguments:", "Options:")
@@ -47,13 +50,19 @@ class Help(typing.NamedTuple):
 
 def ask(program, words):
     """What the program writes for these words."""
+    name = shown(program)
     try:
-        done = subprocess.run([program, *words], stdin=subprocess.DEVNULL, capture_output=True, text=True)
+        # (by its name alone, since Convoy does not start by a path that is no UTF-8)
+        done = subprocess.run([os.path.basename(program), *words], executable=program, stdin=subprocess.DEVNULL, capture_output=True)
+        told = done.stdout.decode("utf-8")
     except OSError as fault:
-        raise NoHelp(f"{program} does not start: {fault.strerror}") from fault
-    if done.returncode or not done.stdout:
-        raise NoHelp(f"{program} {' '.join(words)} ends with status {done.returncode}")
-    return done.stdout
+        raise NoHelp(f"{name} does not start: {fault.strerror}") from fault
+    except UnicodeDecodeError as fault:
+        raise NoHelp(f"{name} {' '.join(words)} writes what is no text") from fault
+    if done.returncode or not told:
+        said = f": {shown(line)}" if (line := done.stderr.partition(b"\n")[0]) else ""
+        raise NoHelp(f"{name} {' '.join(words)} ends with status {done.returncode}{said}")
+    return told
 
 
 def parts_of(text):
@@ -91,6 +100,8 @@ def options_of(text):
     for line in text.splitlines():
         if OPTION.match(line):
             entries.append([])
+        if not entries:
+            raise NoHelp(f"below \"Options:\" the help has a line that is no option: {shown(line.strip())}")
         entries[-1].append(line)
     return [option_of(lines) for lines in entries]
 
@@ -99,7 +110,7 @@ def help_of(program, words=()):
     """The help of the program, or of the command that the words name."""
     parts = parts_of(ask(program, [*words, "--help"]))
     if not {"usage", "Options:"} <= parts.keys():
-        raise NoHelp(f"{program} {' '.join([*words, '--help'])} tells no usage, or no options")
+        raise NoHelp(f"{shown(program)} {' '.join([*words, '--help'])} tells no usage, or no options")
     return Help(
         short=ask(program, [*words, "-h"]).splitlines()[0],
         text=parts[""],

@@ -10,6 +10,8 @@ AS_IT_STANDS = re.compile(r"((?:^  .*\n(?:\n+(?=  ))?)+)", re.MULTILINE)
 # A heading in the text below the options, with what stands below it as it is.
 HEADING = re.compile(r"(?:\A|(?<=\n\n))(\S.*):\n(?=  )")
 STATUS = re.compile(r"  (\d+) +(.*)")
+# What SOURCE_DATE_EPOCH may be: seconds since 1970, for some centuries.
+DATE = re.compile(r"[0-9]{1,11}")
 # What the help does not say.
 SEE_ALSO = """\
 The pages of Convoy's repository: docs/USING.md says how to get from a system to a scenario, docs/FORMATS.md has all
@@ -124,7 +126,8 @@ def below_options(text):
 
 def day(program):
     """The day that stands below the page: that of SOURCE_DATE_EPOCH, or else of the program."""
-    seconds = float(os.environ.get("SOURCE_DATE_EPOCH") or os.stat(program.path).st_mtime)
+    told = os.environ.get("SOURCE_DATE_EPOCH", "")
+    seconds = int(told) if DATE.fullmatch(told) else os.stat(program.path).st_mtime
     return datetime.datetime.fromtimestamp(seconds, datetime.timezone.utc).strftime("%Y-%m-%d")
 
 
