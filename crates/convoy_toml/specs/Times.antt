@@ -1,5 +1,5 @@
 -- What the times of a scenario are in ticks, where they are written as durations. Nothing is rounded.
-use Rattle.std.specs.Prelude.{ℕ, suc, zero, ◌+◌, ℤ, pos, int_le, ◌%◌, ◌/◌, ◌==◌, max, Bool, true, false, ◌&&◌, if◌then◌else◌, List, [], ◌∷◌, ◌++◌, map, flat_map, Option, Some, None, option_and_then, ok_or, unwrap_or, Result, Ok, Err}
+use Rattle.std.specs.Prelude.{ℕ, suc, zero, ◌+◌, ℤ, pos, int_le, ◌%◌, ◌/◌, ◌==◌, max, Bool, true, false, ◌&&◌, ◌||◌, not, if◌then◌else◌, List, [], ◌∷◌, ◌++◌, map, flat_map, Option, Some, None, option_and_then, ok_or, unwrap_or, Result, Ok, Err}
 use Rattle.std.specs.List.{list_all}
 use Rattle.convoy_lines.specs.Results.{◌>>=◌}
 use Rattle.convoy_draft.specs.declared.fault.Key.{Key}
@@ -7,7 +7,10 @@ use Rattle.convoy_draft.specs.declared.fault.Key.TheVariants.{Tick, Delay, At, U
 use Rattle.convoy_draft.specs.declared.fault.ScenarioFault.{ScenarioFault}
 use Rattle.convoy_draft.specs.declared.fault.ScenarioFault.TheVariants.{Shape, NotWhole, OverLimit}
 use Rattle.convoy_draft.specs.declared.fault.Limit.TheVariants as limits
+use Rattle.convoy_draft.specs.declared.time.Time.{Time as AnyTime}
+use Rattle.convoy_draft.specs.Checks.{is_within}
 use Rattle.convoy_draft.specs.Draft.{Draft, DraftMessage}
+use Rattle.convoy_draft.specs.Limits.{greatest_delay}
 use Rattle.convoy_toml.specs.declared.written.WrittenTime.{WrittenTime}
 use Rattle.convoy_toml.specs.declared.written.WrittenTime.TheVariants.{Count, Lasting}
 use Rattle.convoy_toml.specs.Links.{Bundle, links_of_bundles}
@@ -138,13 +141,13 @@ greatest_most so_far (bundle ∷ bundles) = greatest_most (if int_le so_far bund
 abbrev pub delay_or_greatest : Option ℤ → List Bundle → ℤ
 delay_or_greatest written bundles = unwrap_or written (greatest_most (pos 0) bundles)
 
--- the least delay of what goes by no link is within 1 to D, where it is written
-abbrev pub is_least : ℤ → Option ℤ → Bool
-is_least delay None = true
-is_least delay (Some least) = int_le (pos 1) least && int_le least delay
+-- the least delay of what goes by no link is within 1 to D, where it is written; a D beyond its own limits is told later
+abbrev pub is_least : AnyTime → ℤ → Option ℤ → Bool
+is_least time delay None = true
+is_least time delay (Some least) = not (is_within 1 (greatest_delay time) delay) || (int_le (pos 1) least && int_le least delay)
 
-abbrev pub need_least : ℤ → Option ℤ → Result (Unit {0}) ScenarioFault
-need_least delay least = if is_least delay least then Ok tt else Err (OverLimit limits.Least)
+abbrev pub need_least : AnyTime → ℤ → Option ℤ → Result (Unit {0}) ScenarioFault
+need_least time delay least = if is_least time delay least then Ok tt else Err (OverLimit limits.Least)
 
 -- the scenario in ticks, with each link that its tables write, and where a least delay of what goes by none is written, a link with it for each way of that; or the first time that is no whole number of ticks; or too many links; or a least delay beyond its limits
 abbrev pub draft_of_written : WrittenScenario → Result Draft ScenarioFault
@@ -155,5 +158,5 @@ draft_of_written scenario = do
   messages ← draft_messages_of tick scenario.messages
   bundles ← bundles_of tick scenario.links
   links ← links_of_bundles bundles
-  _ ← need_least (delay_or_greatest written bundles) least
+  _ ← need_least scenario.time (delay_or_greatest written bundles) least
   Ok (with_least least (record { time = scenario.time; tick = tick; delay = delay_or_greatest written bundles; groups = scenario.groups; links = links; messages = messages; target_message = scenario.target_message; target_group = scenario.target_group }))

@@ -10,7 +10,9 @@ use super::divisor::common_divisor;
 use super::links::links_of_bundles;
 use super::ways::with_least;
 use super::written::{LinkEnds, WrittenLink, WrittenMulticast, WrittenScenario, WrittenTime};
-use convoy_scenario::{DraftMulticast, DraftScenario, Duration, Key, Limit, Name, ScenarioFault};
+use convoy_scenario::{
+    DraftMulticast, DraftScenario, Duration, Key, Limit, Name, ScenarioFault, Time, is_within,
+};
 use std::alloc::{AllocError, Global};
 
 impl WrittenTime {
@@ -282,14 +284,15 @@ fn greatest_most(bundles: &[Bundle]) -> i64
     greatest
 }
 
-/// Whether the least delay of what goes by no link is within 1 to D, where it is written.
-fn is_least(delay: i64, least: Option<i64>) -> bool
-    ensures { result ≡ is_least delay least }
+/// Whether the least delay of what goes by no link is within 1 to D, where it is written. A D beyond its own limits is
+/// told later.
+fn is_least(time: Time, delay: i64, least: Option<i64>) -> bool
+    ensures { result ≡ is_least time delay least }
 {
-    match least {
-        Some(least) => 1 <= least && least <= delay,
-        None => true,
-    }
+    let Some(least) = least else {
+        return true;
+    };
+    !is_within(delay, 1, u32::from(time.greatest_delay())) || (1 <= least && least <= delay)
 }
 
 /// D in ticks: what is written, or else the greatest delay of all links.
@@ -319,7 +322,7 @@ pub fn draft_of_written(
     let bundles = bundles_of(alloc, length, &scenario.links)?;
     let links = links_of_bundles(alloc, &bundles)?;
     let delay = delay_or_greatest(written, &bundles);
-    if !is_least(delay, least) {
+    if !is_least(scenario.time, delay, least) {
         return Err(ScenarioFault::OverLimit(Limit::Least));
     }
     let draft = DraftScenario {
