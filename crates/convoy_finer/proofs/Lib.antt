@@ -12,4 +12,9 @@ pub mod Rounded
 pub mod Delivered
 pub mod Matched
 pub mod Stretched
+pub mod Travelled
+pub mod FinerRanges
+pub mod FinerScenarios
+pub mod SameTexts
 pub mod Rows
+mod TextRows

@@ -1,6 +1,8 @@
-//! Why whole ticks are enough in real time. Each law is the one clause of a function that does nothing;
-//! a caller that needs the law calls the function.
+//! Why whole ticks are enough in real time, and why an answer does not depend on the tick that its text
+//! counts in. Each law is the one clause of a function that does nothing; a caller that needs the law calls
+//! the function.
 
+ghost use Rattle.convoy_finer.specs.FinerTexts.{GreatestOfFinerTexts};
 ghost use Rattle.convoy_finer.specs.FinerTicks.{
   FinerRunsAreMatched,
   GreatestInFinerTicks,
@@ -11,6 +13,7 @@ ghost use Rattle.convoy_finer.specs.FinerTicks.{
 use convoy_packets::laws::{
     delays_are_within, packets_are_those_sent, places_lead_back, unsent_takes_no_time,
 };
+use convoy_scenario::laws::{drafts_give_scenarios, order_keeps_ranges};
 use convoy_sim::laws::{
     arrives_before_commit, delivery_is_least, issued_at_its_tick, issued_within_its_wait,
     latency_is_never_negative,
@@ -61,4 +64,16 @@ pub fn greatest_is_whole()
     packets_are_those_sent();
     delivery_is_least();
     latency_is_never_negative();
+}
+
+/// In real time the greatest latency of what a text says does not depend on the tick that the text counts
+/// in: where all times are durations, the same text with a tick that is a number of times as fine has as
+/// many times the number, which is the same time.
+pub fn greatest_of_finer_texts()
+    ensures { GreatestOfFinerTexts }
+{
+    greatest_in_finer_ticks();
+    greatest_is_whole();
+    order_keeps_ranges();
+    drafts_give_scenarios();
 }

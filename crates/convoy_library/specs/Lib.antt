@@ -31,6 +31,7 @@ pub use Rattle.convoy_sim.specs.Record
 pub use Rattle.convoy_sim.specs.Greatest
 -- one scenario in ticks and in finer ones
 pub use Rattle.convoy_finer.specs.FinerTicks
+pub use Rattle.convoy_finer.specs.FinerTexts
 -- the ceiling, in traffic of a scenario's kinds of messages
 pub use Rattle.convoy_ceiling.specs.Ceiling
 pub use Rattle.convoy_ceiling.specs.Targets

@@ -17,7 +17,8 @@ use Rattle.convoy_scenario.proofs.PlaceLemmas.{place_within, place_passes, name_
 same_ok : {A : Type 0} (x y : A) → ◌≡◌ {A = Result A ScenarioFault} (Ok x) (Ok y) → x ≡ y
 same_ok x y e = cc
 
-passed : (r : Result (Unit {0}) ScenarioFault) (made scenario : Scenario) → result_and r (Ok made) ≡ Ok scenario → (r ≡ Ok tt) × (made ≡ scenario)
+-- a draft of which no check has a fault gives the scenario that it is with numbers
+pub passed : (r : Result (Unit {0}) ScenarioFault) (made scenario : Scenario) → result_and r (Ok made) ≡ Ok scenario → (r ≡ Ok tt) × (made ≡ scenario)
 passed (Ok u) made scenario e = (refl, same_ok made scenario e)
 passed (Err fault) made scenario e = absurd cc
 

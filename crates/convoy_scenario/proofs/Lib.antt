@@ -5,6 +5,7 @@ pub mod LinkPlaces
 pub mod NumberLemmas
 pub mod NumberedLemmas
 pub mod GivenScenarios
+pub mod KeptRanges
 pub mod PlaceLemmas
 pub mod NumberedAgain
 pub mod OtherTargets

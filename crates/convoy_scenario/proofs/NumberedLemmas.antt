@@ -18,33 +18,34 @@ use Rattle.convoy_scenario.specs.declared.sender.Sender.TheVariants.{Group}
 use Rattle.convoy_draft.specs.declared.time.Time.{Time}
 use Rattle.convoy_draft.specs.declared.time.Time.TheVariants.{Ticks, Real}
 use Rattle.convoy_draft.specs.Draft.{Draft, DraftLink, DraftMessage}
-use Rattle.convoy_draft.specs.Checks.{is_within, ticks, has_wait, is_count, is_among, all_differ, is_message, messages_differ, is_known_sender, knows, is_named_alike, has_range, knows_link, leads_elsewhere, is_target_addressed, is_target_fixed, checks, judge, Check}
+use Rattle.convoy_draft.specs.Checks.{is_within, ticks, has_wait, is_count, is_among, all_differ, is_message, messages_differ, links_differ, is_known_sender, knows, is_named_alike, has_range, knows_link, leads_elsewhere, is_target_addressed, is_target_fixed, checks, judge, Check}
 use Rattle.convoy_scenario.specs.Numbering.{place, message_place, sender_of, numbers_of, link_of, message_of, in_order, delay_of_draft, links_of_draft, scenario_of}
 use Rattle.convoy_scenario.proofs.LinkLemmas.{ticks_again, in_order_all, in_order_ascends}
 use Rattle.convoy_scenario.proofs.NumberLemmas.{numbers_have, numbers_some, numbers_rise, numbers_below}
 use Rattle.convoy_scenario.proofs.PlaceLemmas.{place_within, find_place, name_at_place}
 
 -- all the checks hold
-record Passes (draft : Draft) : Type 0 where
-  delay : is_within 1 (greatest_delay draft.time) draft.delay ≡ true
-  groups : is_count MOST_GROUPS draft.groups ≡ true
-  messages : is_count MOST_MULTICASTS draft.messages ≡ true
-  at : list_all (λ m. is_within 0 GREATEST_AT m.at) draft.messages ≡ true
-  waits : list_all has_wait draft.messages ≡ true
-  ranges : list_all (has_range draft.delay) draft.links ≡ true
-  tick : is_tick draft.time draft.tick ≡ true
-  group_names : list_all is_group_name draft.groups ≡ true
-  message_names : list_all (λ m. is_name m.name) draft.messages ≡ true
-  groups_differ : all_differ draft.groups ≡ true
-  messages_differ : messages_differ draft.messages ≡ true
-  known : list_all (knows draft.groups) draft.messages ≡ true
-  ends : list_all (knows_link draft.groups) draft.links ≡ true
-  target_group : is_among draft.target_group draft.groups ≡ true
-  somewhere : list_all (λ m. nat_le 1 (length m.to)) draft.messages ≡ true
-  target : is_message draft.target_message draft.messages ≡ true
-  addressed : is_target_addressed draft ≡ true
-  elsewhere : list_all leads_elsewhere draft.links ≡ true
-  fixed : is_target_fixed draft ≡ true
+pub record Passes (draft : Draft) : Type 0 where
+  pub delay : is_within 1 (greatest_delay draft.time) draft.delay ≡ true
+  pub groups : is_count MOST_GROUPS draft.groups ≡ true
+  pub messages : is_count MOST_MULTICASTS draft.messages ≡ true
+  pub at : list_all (λ m. is_within 0 GREATEST_AT m.at) draft.messages ≡ true
+  pub waits : list_all has_wait draft.messages ≡ true
+  pub ranges : list_all (has_range draft.delay) draft.links ≡ true
+  pub tick : is_tick draft.time draft.tick ≡ true
+  pub group_names : list_all is_group_name draft.groups ≡ true
+  pub message_names : list_all (λ m. is_name m.name) draft.messages ≡ true
+  pub groups_differ : all_differ draft.groups ≡ true
+  pub messages_differ : messages_differ draft.messages ≡ true
+  pub links_differ : links_differ draft.links ≡ true
+  pub known : list_all (knows draft.groups) draft.messages ≡ true
+  pub ends : list_all (knows_link draft.groups) draft.links ≡ true
+  pub target_group : is_among draft.target_group draft.groups ≡ true
+  pub somewhere : list_all (λ m. nat_le 1 (length m.to)) draft.messages ≡ true
+  pub target : is_message draft.target_message draft.messages ≡ true
+  pub addressed : is_target_addressed draft ≡ true
+  pub elsewhere : list_all leads_elsewhere draft.links ≡ true
+  pub fixed : is_target_fixed draft ≡ true
 
 next_holds : (b : Bool) (fault : ScenarioFault) (rest : Result (Unit {0}) ScenarioFault) → cond b rest (Err fault) ≡ Ok tt → (b ≡ true) × (rest ≡ Ok tt)
 next_holds true fault rest h = (refl, h)
@@ -56,7 +57,7 @@ all_hold (c ∷ cs) h =
     let next = next_holds c.0 c.1 (judge cs) h in
     (next.0, all_hold cs next.1)
 
-passes : (draft : Draft) → judge (checks draft) ≡ Ok tt → Passes draft
+pub passes : (draft : Draft) → judge (checks draft) ≡ Ok tt → Passes draft
 passes draft h =
     let a = all_hold (checks draft) h in
     let b = a.1.1.1.1.1.1.1 in
@@ -73,6 +74,7 @@ passes draft h =
       message_names = b.1.0;
       groups_differ = b.1.1.0;
       messages_differ = b.1.1.1.0;
+      links_differ = b.1.1.1.1.0;
       known = c.0;
       target_group = c.1.0;
       ends = c.1.1.0;
@@ -111,7 +113,7 @@ no-wait (pos m) (negsuc n) h within = omega arith
 no-wait (negsuc m) until h within = absurd (false≢true within)
 
 -- no name is told twice
-apart : {A : Type 0} (p : A → Bool) (xs : List A) → not (list_any p xs) ≡ true → AllByRecursion (λ x. p x ≡ false) xs
+pub apart : {A : Type 0} (p : A → Bool) (xs : List A) → not (list_any p xs) ≡ true → AllByRecursion (λ x. p x ≡ false) xs
 apart p [] h = tt
 apart p (x ∷ xs) h =
     let e : p x ≡ false = elim (p x) as (λ b. not (b || list_any p xs) ≡ true → b ≡ false) [ true ↦ λ g. absurd (false≢true g) | false ↦ λ g. refl ] h in

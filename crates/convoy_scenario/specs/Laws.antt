@@ -7,7 +7,8 @@ use Rattle.convoy_draft.specs.Checks.{Check, all_differ, is_among, judge}
 use Rattle.convoy_draft.specs.Draft.{Draft}
 use Rattle.convoy_scenario.specs.Naming.{draft_for}
 use Rattle.convoy_scenario.specs.Numbering.{in_order, links_of_draft, place, scenario_of_draft}
-use Rattle.convoy_scenario.specs.Scenario.{Link, Scenario, group_name_at, message_at}
+use Rattle.convoy_scenario.specs.declared.sender.Sender.{Sender}
+use Rattle.convoy_scenario.specs.Scenario.{Link, Scenario, group_name_at, message_at, range_between}
 use Rattle.convoy_scenario.specs.WellFormed.{IsScenario, ascend_after, is_whole}
 
 -- what is made of a draft is a well-formed scenario
@@ -54,3 +55,9 @@ TargetsAreNamed = (draft : Draft) (scenario : Scenario) → scenario_of_draft dr
 abbrev pub OrderedLinksStay : Type 0
 OrderedLinksStay =
     (delay : ℕ) (links : List Link) → IsTrue (ascend_after None links) → AllByRecursion (λ link. is_whole delay link ≡ false) links → in_order delay links ≡ links
+
+-- the range between two places is that of the link that is written between them, and 1 to D where none is: putting links in order and leaving out those that have the whole range changes none
+abbrev pub OrderKeepsRanges : Type 0
+OrderKeepsRanges =
+    (draft : Draft) (scenario : Scenario) (sender : Sender) (to : ℕ) → scenario_of_draft draft ≡ Ok scenario
+    → range_between scenario sender to ≡ range_between (record scenario { links = links_of_draft draft }) sender to

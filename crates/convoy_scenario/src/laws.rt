@@ -2,7 +2,7 @@
 //! that needs the law calls the function.
 
 ghost use Rattle.convoy_scenario.specs.Laws.{DraftsGiveScenarios, ScenariosHaveDrafts, LinksHaveDrafts, TargetsAreGroups, LinksAreFew};
-ghost use Rattle.convoy_scenario.specs.Laws.{JudgedRulesHold, DifferentNamesAreDistinct, NamesHavePlaces, TargetsAreNamed, OrderedLinksStay};
+ghost use Rattle.convoy_scenario.specs.Laws.{JudgedRulesHold, DifferentNamesAreDistinct, NamesHavePlaces, TargetsAreNamed, OrderedLinksStay, OrderKeepsRanges};
 
 /// What is made of a draft is a well-formed scenario.
 pub fn drafts_give_scenarios()
@@ -52,4 +52,10 @@ pub fn targets_are_named()
 /// Links that ascend, of which none has the whole range, stay as they are where they are put in order.
 pub fn ordered_links_stay()
     ensures { OrderedLinksStay }
+{}
+
+/// What goes from one place to another has the range of the link that is written between them, and 1 to D
+/// where none is, though the links of a scenario stand in order and those with the whole range are left out.
+pub fn order_keeps_ranges()
+    ensures { OrderKeepsRanges }
 {}

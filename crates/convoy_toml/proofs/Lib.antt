@@ -4,3 +4,4 @@ pub mod KeyLemmas
 pub mod GivenTexts
 pub mod SaidTargets
 pub mod Divisors
+pub mod FinerDrafts

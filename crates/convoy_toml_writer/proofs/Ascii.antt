@@ -17,7 +17,7 @@ use Rattle.convoy_scenario.specs.Scenario.{Link, Message, Scenario, group_name_a
 use Rattle.convoy_packets.specs.Assignment.{Schedule}
 use Rattle.convoy_packets.specs.Order.{Order}
 use Rattle.convoy_packets.specs.OrderLists.{is_no_order, ranks_of}
-use Rattle.convoy_toml_writer.specs.Text.{further, listed, quoted, time_text, tick_text, order_text, head_text, sender_text, link_text, until_text, message_text, target_text, toml_text}
+use Rattle.convoy_toml_writer.specs.Text.{further, listed, quoted, time_text, least_text, tick_text, order_text, head_text, sender_text, link_text, until_text, message_text, target_text, toml_text}
 use Rattle.convoy_toml_writer.proofs.Plain.{are_plain, plain_ascii, ascii}
 use Rattle.convoy_toml_writer.proofs.Items.{always, each}
 use Rattle.convoy_toml_writer.proofs.Written.{AreSmall, IsWritable, IsWritableLink, IsWritableMessage}
@@ -52,6 +52,10 @@ numbers_ascii ns small = listed_ascii decimal ns (each ns number_ascii small)
 time_ascii : (time : Time) → IsAscii (time_text time)
 time_ascii Ticks = IsAscii-nil
 time_ascii Real = ascii (codes "time = \"real\"\n") refl
+
+least_ascii : (time : Time) → IsAscii (least_text time)
+least_ascii Ticks = IsAscii-nil
+least_ascii Real = ascii (codes "least = 1\n") refl
 
 unit_ascii : (duration : ℕ) → IsAscii (unit_word (unit_of duration) ++ codes "\"\n")
 unit_ascii duration =
@@ -105,8 +109,9 @@ module _ (scenario : Scenario) (schedule : Schedule) (is : IsWritable scenario s
   head_ascii short =
       let order = order_ascii scenario schedule.order is.ranks in
       let schedule_on = between (codes "]\nschedule = [") (listed (map decimal schedule.delays)) _ (ascii (codes "]\nschedule = [") refl) (numbers_ascii schedule.delays is.delays) (after (codes "]\n") _ (ascii (codes "]\n") refl) order) in
-      let groups_on = between (codes "\ngroups = [") (listed (map quoted scenario.groups)) _ (ascii (codes "\ngroups = [") refl) (listed_ascii quoted scenario.groups (each scenario.groups quoted_ascii is.groups)) schedule_on in
-      let delay_on = between (codes "delay = ") (decimal scenario.delay) _ (ascii (codes "delay = ") refl) (number_ascii scenario.delay is.delay) groups_on in
+      let groups_on = between (codes "groups = [") (listed (map quoted scenario.groups)) _ (ascii (codes "groups = [") refl) (listed_ascii quoted scenario.groups (each scenario.groups quoted_ascii is.groups)) schedule_on in
+      let least_on = between (codes "\n") (least_text scenario.time) _ (ascii (codes "\n") refl) (least_ascii scenario.time) groups_on in
+      let delay_on = between (codes "delay = ") (decimal scenario.delay) _ (ascii (codes "delay = ") refl) (number_ascii scenario.delay is.delay) least_on in
       after (time_text scenario.time) _ (time_ascii scenario.time) (after (tick_text scenario.tick) _ (tick_ascii scenario.tick short) delay_on)
 
   link_ascii : (link : Link) → IsWritableLink link → IsAscii (link_text scenario link)

@@ -67,6 +67,11 @@ abbrev pub time_data : Time → Option Data
 time_data Ticks = None
 time_data Real = Some (string (codes "real"))
 
+-- the least delay of what goes by no link
+abbrev pub least_data : Time → Option Data
+least_data Ticks = None
+least_data Real = Some (number 1)
+
 abbrev pub tick_data : Option ℕ → Option Data
 tick_data None = None
 tick_data (Some tick) = Some (string (duration_text tick))
@@ -89,6 +94,7 @@ pub record Head : Type 0 where
   pub time : Option Data
   pub tick : Option Data
   pub delay : Data
+  pub least : Option Data
   pub groups : Data
   pub schedule : Data
   pub order : Option Data
@@ -98,6 +104,7 @@ head_of scenario schedule = record {
   time = time_data scenario.time;
   tick = tick_data scenario.tick;
   delay = number scenario.delay;
+  least = least_data scenario.time;
   groups = strings scenario.groups;
   schedule = numbers schedule.delays;
   order = order_data scenario schedule.order;
@@ -107,8 +114,8 @@ head_of scenario schedule = record {
 
 abbrev pub head_pairs : Head → Pairs
 head_pairs head =
-    (codes "time", head.time) ∷ (codes "tick", head.tick) ∷ (codes "delay", Some head.delay) ∷ (codes "groups", Some head.groups)
-    ∷ (codes "schedule", Some head.schedule) ∷ (codes "order", head.order) ∷ []
+    (codes "time", head.time) ∷ (codes "tick", head.tick) ∷ (codes "delay", Some head.delay) ∷ (codes "least", head.least)
+    ∷ (codes "groups", Some head.groups) ∷ (codes "schedule", Some head.schedule) ∷ (codes "order", head.order) ∷ []
 
 abbrev pub link_pairs : Scenario → Link → Pairs
 link_pairs scenario link =
@@ -155,9 +162,9 @@ target_table scenario =
 -- the whole table, where the tables of links, of messages and of the target are these
 abbrev pub whole_table : Head → List Members → List Members → Members → Members
 whole_table head links messages target =
-    member (codes "delay") head.delay (member (codes "groups") head.groups (with_member (codes "link") (some_tables links)
+    member (codes "delay") head.delay (member (codes "groups") head.groups (with_member (codes "least") head.least (with_member (codes "link") (some_tables links)
     (with_member (codes "multicast") (some_tables messages) (with_member (codes "order") head.order (member (codes "schedule") head.schedule
-    (member (codes "target") (table target) (with_member (codes "tick") head.tick (with_member (codes "time") head.time no_members))))))))
+    (member (codes "target") (table target) (with_member (codes "tick") head.tick (with_member (codes "time") head.time no_members)))))))))
 
 abbrev pub document_table : Scenario → Schedule → Members
 document_table scenario schedule =

@@ -1,13 +1,16 @@
 -- The draft of what is written of a scenario is the scenario by names.
-use Rattle.std.proofs.Common.{◌≡◌, ℕ, ◌+◌, ◌≤◌, leb, true, List, [], ◌∷◌, ◌++◌, map, flat_map, length, pos, Option, Some, None, Ok, refl, ap, ◌∙◌, arith, inl, inr}
+use Rattle.std.proofs.Common.{◌≡◌, ℕ, ◌+◌, ◌≤◌, leb, true, List, [], ◌∷◌, ◌++◌, map, flat_map, length, pos, ℤ, Option, Some, None, Ok, refl, ap, ◌∙◌, arith, inl, inr}
 use Rattle.std.specs.List.{list_all, sum_by}
 use Rattle.std.proofs.lemmas.Bool.{cases_Bool, le-leb, ltb-false, false≢true}
 use Rattle.std.proofs.lemmas.List.Sums.{sum_by-cons}
 use Rattle.convoy_draft.specs.declared.limits.TheConstants.{MOST_LINKS}
+use Rattle.convoy_draft.specs.declared.fault.Key.TheVariants.{Least}
+use Rattle.convoy_draft.specs.declared.time.Time.{Time}
+use Rattle.convoy_draft.specs.declared.time.Time.TheVariants.{Ticks, Real}
 use Rattle.convoy_scenario.specs.declared.sender.Sender.{Sender}
 use Rattle.convoy_scenario.specs.declared.sender.Sender.TheVariants.{Client, Group}
 use Rattle.convoy_draft.specs.Checks.{leads_elsewhere}
-use Rattle.convoy_draft.specs.Draft.{DraftLink, DraftMessage}
+use Rattle.convoy_draft.specs.Draft.{Draft, DraftLink, DraftMessage}
 use Rattle.convoy_scenario.specs.Naming.{draft_for, draft_link, draft_message}
 use Rattle.convoy_scenario.specs.Scenario.{Link, Message, Scenario, may_wait}
 use Rattle.convoy_toml.specs.declared.links.TheConstants.{MOST_WRITTEN_LINKS}
@@ -15,8 +18,9 @@ use Rattle.convoy_toml.specs.declared.written.WrittenTime.{WrittenTime}
 use Rattle.convoy_toml.specs.declared.written.WrittenTime.TheVariants.{Count}
 use Rattle.convoy_toml.specs.Links.{Bundle, apart, ways_of, count_of, links_of_bundle, links_of_bundles}
 use Rattle.convoy_toml.specs.Shape.{WrittenScenario}
-use Rattle.convoy_toml.specs.Times.{is_count, times_of_message, times_of_links, times_of, tick_of, last_tick, draft_messages_of, bundles_of, draft_of_written}
-use Rattle.convoy_toml_writer.proofs.Shaped.{written_link, written_until, written_message, written_scenario}
+use Rattle.convoy_toml.specs.Times.{is_count, if_written, times_of_message, times_of_links, times_of, tick_of, last_tick, whole_if_written, need_least, draft_messages_of, bundles_of, draft_of_written}
+use Rattle.convoy_toml.specs.Ways.{with_least}
+use Rattle.convoy_toml_writer.proofs.Shaped.{written_least, written_link, written_until, written_message, written_scenario}
 
 -- ---- times
 
@@ -38,6 +42,10 @@ link_counts : (scenario : Scenario) (links : List Link) → list_all is_count (t
 link_counts scenario [] = refl
 link_counts scenario (link ∷ links) = link_counts scenario links
 
+least_counts : (time : Time) → list_all is_count (if_written (written_least time)) ≡ true
+least_counts Ticks = refl
+least_counts Real = refl
+
 -- all times are numbers of ticks, so that a tick's length is known only where it is written
 tick_same : (scenario : Scenario) → tick_of (written_scenario scenario) ≡ Ok scenario.tick
 tick_same scenario = by_tick scenario.tick where
@@ -45,7 +53,10 @@ tick_same scenario = by_tick scenario.tick where
   times = times_of (written_scenario scenario)
 
   all : list_all is_count (times_of (written_scenario scenario)) ≡ true
-  all = counts_append (flat_map times_of_message (map (written_message scenario) scenario.multicasts)) (times_of_links (map (written_link scenario) scenario.links)) (message_counts scenario scenario.multicasts) (link_counts scenario scenario.links)
+  all =
+      counts_append (Count (pos scenario.delay) ∷ if_written (written_least scenario.time) ++ flat_map times_of_message (map (written_message scenario) scenario.multicasts)) (times_of_links (map (written_link scenario) scenario.links))
+      (counts_append (Count (pos scenario.delay) ∷ if_written (written_least scenario.time)) (flat_map times_of_message (map (written_message scenario) scenario.multicasts)) (least_counts scenario.time) (message_counts scenario scenario.multicasts))
+      (link_counts scenario scenario.links)
 
   by_tick : (tick : Option ℕ) → tick_of (record (written_scenario scenario) { tick = tick }) ≡ Ok tick
   by_tick (Some tick) = refl
@@ -113,14 +124,34 @@ links_same scenario links few =
     let small : leb (sum_by count_of (map (bundle scenario) links)) MOST_WRITTEN_LINKS ≡ true = le-leb _ _ (omega (arith, counted scenario links, few)) in
     rw (small, each_way scenario links) refl
 
+-- ---- the least delay of what goes by no link: the tick that it is where none is written
+
+abbrev least_ticks : Time → Option ℤ
+least_ticks Ticks = None
+least_ticks Real = Some (pos 1)
+
+least_whole : (tick : Option ℕ) (time : Time) → whole_if_written tick Least (written_least time) ≡ Ok (least_ticks time)
+least_whole tick Ticks = refl
+least_whole tick Real = refl
+
+least_within : (delay : ℕ) (time : Time) → 1 ≤ delay → need_least (pos delay) (least_ticks time) ≡ Ok tt
+least_within delay Ticks some = refl
+least_within delay Real some = rw (le-leb 1 delay some) refl
+
+least_adds_none : (time : Time) (draft : Draft) → with_least (least_ticks time) draft ≡ draft
+least_adds_none Ticks draft = refl
+least_adds_none Real draft = refl
+
 -- step by step
-in_steps : (scenario : WrittenScenario) (tick : Option ℕ) (delay : ℕ) (messages : List DraftMessage) (bundles : List Bundle) (links : List DraftLink) → tick_of scenario ≡ Ok tick → scenario.delay ≡ Count (pos delay)
-    → draft_messages_of tick scenario.messages ≡ Ok messages → bundles_of tick scenario.links ≡ Ok bundles → links_of_bundles bundles ≡ Ok links
-    → draft_of_written scenario ≡ Ok (record { time = scenario.time; tick = tick; delay = pos delay; groups = scenario.groups; links = links; messages = messages; target_message = scenario.target_message; target_group = scenario.target_group })
-in_steps scenario tick delay messages bundles links has_tick has_delay has_messages has_bundles has_links = rw (has_tick, has_delay, has_messages, has_bundles, has_links) refl
+in_steps : (scenario : WrittenScenario) (tick : Option ℕ) (delay : ℕ) (least : Option ℤ) (messages : List DraftMessage) (bundles : List Bundle) (links : List DraftLink) → tick_of scenario ≡ Ok tick → scenario.delay ≡ Some (Count (pos delay))
+    → whole_if_written tick Least scenario.least ≡ Ok least → draft_messages_of tick scenario.messages ≡ Ok messages → bundles_of tick scenario.links ≡ Ok bundles → links_of_bundles bundles ≡ Ok links → need_least (pos delay) least ≡ Ok tt
+    → let draft : Draft = record { time = scenario.time; tick = tick; delay = pos delay; groups = scenario.groups; links = links; messages = messages; target_message = scenario.target_message; target_group = scenario.target_group } in
+    draft_of_written scenario ≡ Ok (with_least least draft)
+in_steps scenario tick delay least messages bundles links has_tick has_delay has_least has_messages has_bundles has_links within = rw (has_tick, has_delay, has_least, has_messages, has_bundles, has_links, within) refl
 
 -- the draft of what is written
-pub draft_same : (scenario : Scenario) → length scenario.links ≤ MOST_LINKS → draft_of_written (written_scenario scenario) ≡ Ok (draft_for scenario)
-draft_same scenario few =
-    in_steps (written_scenario scenario) scenario.tick scenario.delay (map (draft_message scenario) scenario.multicasts) (map (bundle scenario) scenario.links) (map (draft_link scenario) scenario.links)
-    (tick_same scenario) refl (messages_same scenario.tick scenario scenario.multicasts) (bundles_same scenario.tick scenario scenario.links) (links_same scenario scenario.links few)
+pub draft_same : (scenario : Scenario) → 1 ≤ scenario.delay → length scenario.links ≤ MOST_LINKS → draft_of_written (written_scenario scenario) ≡ Ok (draft_for scenario)
+draft_same scenario some few =
+    in_steps (written_scenario scenario) scenario.tick scenario.delay (least_ticks scenario.time) (map (draft_message scenario) scenario.multicasts) (map (bundle scenario) scenario.links) (map (draft_link scenario) scenario.links)
+    (tick_same scenario) refl (least_whole scenario.tick scenario.time) (messages_same scenario.tick scenario scenario.multicasts) (bundles_same scenario.tick scenario scenario.links) (links_same scenario scenario.links few) (least_within scenario.delay scenario.time some)
+    ∙ ap Ok (least_adds_none scenario.time (draft_for scenario))

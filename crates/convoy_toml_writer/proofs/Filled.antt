@@ -225,21 +225,29 @@ target_made scenario = refl
 -- the root, with the nodes of its tables of links, of messages and of the target
 abbrev root_of : Head → Option Node → Option Node → Option Node → Nodes
 root_of head links messages target =
-    node (codes "delay") (value head.delay) (node (codes "groups") (value head.groups) (with_node (codes "link") links (with_node (codes "multicast") messages
+    node (codes "delay") (value head.delay) (node (codes "groups") (value head.groups) (with_node (codes "least") (option_map value head.least) (with_node (codes "link") links (with_node (codes "multicast") messages
     (with_node (codes "order") (option_map value head.order) (node (codes "schedule") (value head.schedule) (with_node (codes "target") target
-    (with_node (codes "tick") (option_map value head.tick) (with_node (codes "time") (option_map value head.time) no_nodes))))))))
+    (with_node (codes "tick") (option_map value head.tick) (with_node (codes "time") (option_map value head.time) no_nodes)))))))))
 
-head_run : (time tick order : Option Data) (delay groups schedule : Data) (es : List Expression) → let head : Head = record { time = time; tick = tick; delay = delay; groups = groups; schedule = schedule; order = order } in
+head_run : (time tick least order : Option Data) (delay groups schedule : Data) (es : List Expression) → let head : Head = record { time = time; tick = tick; delay = delay; least = least; groups = groups; schedule = schedule; order = order } in
     run (no_nodes, []) (pair_lines (head_pairs head) ++ es) ≡ run (root_of head None None None, []) es
 unfolding define along_header along_dots at_key
-head_run None None None delay groups schedule es = refl
-head_run None None (Some o) delay groups schedule es = refl
-head_run None (Some k) None delay groups schedule es = refl
-head_run None (Some k) (Some o) delay groups schedule es = refl
-head_run (Some t) None None delay groups schedule es = refl
-head_run (Some t) None (Some o) delay groups schedule es = refl
-head_run (Some t) (Some k) None delay groups schedule es = refl
-head_run (Some t) (Some k) (Some o) delay groups schedule es = refl
+head_run None None None None delay groups schedule es = refl
+head_run None None None (Some o) delay groups schedule es = refl
+head_run None None (Some l) None delay groups schedule es = refl
+head_run None None (Some l) (Some o) delay groups schedule es = refl
+head_run None (Some k) None None delay groups schedule es = refl
+head_run None (Some k) None (Some o) delay groups schedule es = refl
+head_run None (Some k) (Some l) None delay groups schedule es = refl
+head_run None (Some k) (Some l) (Some o) delay groups schedule es = refl
+head_run (Some t) None None None delay groups schedule es = refl
+head_run (Some t) None None (Some o) delay groups schedule es = refl
+head_run (Some t) None (Some l) None delay groups schedule es = refl
+head_run (Some t) None (Some l) (Some o) delay groups schedule es = refl
+head_run (Some t) (Some k) None None delay groups schedule es = refl
+head_run (Some t) (Some k) None (Some o) delay groups schedule es = refl
+head_run (Some t) (Some k) (Some l) None delay groups schedule es = refl
+head_run (Some t) (Some k) (Some l) (Some o) delay groups schedule es = refl
 
 -- a key that is not that of a first node
 get_past : (j k : List ℕ) (o : Option Node) (ns : Nodes) → ((x : Node) → get_node j (node k x ns) ≡ get_node j ns) → get_node j (with_node k o ns) ≡ get_node j ns
@@ -276,38 +284,44 @@ none_after j head order schedule tick time =
     ∙ get_past j (codes "time") (option_map value head.time) no_nodes (λ x. time x no_nodes)
 
 no_link : (head : Head) → get_node (codes "link") (root_of head None None None) ≡ None
-no_link head = none_after (codes "link") head (λ x ns. refl) (λ x ns. refl) (λ x ns. refl) (λ x ns. refl)
+no_link head =
+    get_past (codes "link") (codes "least") (option_map value head.least) _ (λ x. refl) ∙ none_after (codes "link") head (λ x ns. refl) (λ x ns. refl) (λ x ns. refl) (λ x ns. refl)
 
 no_message : (head : Head) (links : Option Node) → get_node (codes "multicast") (root_of head links None None) ≡ None
 no_message head links =
-    get_past (codes "multicast") (codes "link") links _ (λ x. refl) ∙ none_after (codes "multicast") head (λ x ns. refl) (λ x ns. refl) (λ x ns. refl) (λ x ns. refl)
+    get_past (codes "multicast") (codes "least") (option_map value head.least) _ (λ x. refl) ∙ get_past (codes "multicast") (codes "link") links _ (λ x. refl)
+    ∙ none_after (codes "multicast") head (λ x ns. refl) (λ x ns. refl) (λ x ns. refl) (λ x ns. refl)
 
 no_target : (head : Head) (links messages : Option Node) → get_node (codes "target") (root_of head links messages None) ≡ None
 no_target head links messages =
-    get_past (codes "target") (codes "link") links _ (λ x. refl) ∙ get_past (codes "target") (codes "multicast") messages _ (λ x. refl)
+    get_past (codes "target") (codes "least") (option_map value head.least) _ (λ x. refl) ∙ get_past (codes "target") (codes "link") links _ (λ x. refl) ∙ get_past (codes "target") (codes "multicast") messages _ (λ x. refl)
     ∙ none_after (codes "target") head (λ x ns. refl) (λ x ns. refl) (λ x ns. refl) (λ x ns. refl)
 
 link_put : (head : Head) (links : Option Node) → insert_some (codes "link") links (root_of head None None None) ≡ root_of head links None None
 link_put head None = refl
 link_put head (Some x) =
-    ap (λ rest. node (codes "delay") (value head.delay) (node (codes "groups") (value head.groups) rest)) (insert_before (codes "link") (codes "order") x (option_map value head.order) _ (λ y. refl) refl)
+    ap (λ rest. node (codes "delay") (value head.delay) (node (codes "groups") (value head.groups) rest))
+    (insert_past (codes "link") (codes "least") x (option_map value head.least) _ (λ y. refl)
+    ∙ ap (with_node (codes "least") (option_map value head.least)) (insert_before (codes "link") (codes "order") x (option_map value head.order) _ (λ y. refl) refl))
 
 message_put : (head : Head) (links messages : Option Node) → insert_some (codes "multicast") messages (root_of head links None None) ≡ root_of head links messages None
 message_put head links None = refl
 message_put head links (Some x) =
     ap (λ rest. node (codes "delay") (value head.delay) (node (codes "groups") (value head.groups) rest))
-    (insert_past (codes "multicast") (codes "link") x links _ (λ y. refl)
-    ∙ ap (with_node (codes "link") links) (insert_before (codes "multicast") (codes "order") x (option_map value head.order) _ (λ y. refl) refl))
+    (insert_past (codes "multicast") (codes "least") x (option_map value head.least) _ (λ y. refl)
+    ∙ ap (with_node (codes "least") (option_map value head.least)) (insert_past (codes "multicast") (codes "link") x links _ (λ y. refl)
+    ∙ ap (with_node (codes "link") links) (insert_before (codes "multicast") (codes "order") x (option_map value head.order) _ (λ y. refl) refl)))
 
 target_put : (head : Head) (links messages : Option Node) (x : Node) → insert (codes "target") x (root_of head links messages None) ≡ root_of head links messages (Some x)
 target_put head links messages x =
     let at_time = insert_before (codes "target") (codes "time") x (option_map value head.time) no_nodes (λ y. refl) refl in
     let at_tick = insert_before (codes "target") (codes "tick") x (option_map value head.tick) (with_node (codes "time") (option_map value head.time) no_nodes) (λ y. refl) at_time in
     ap (λ rest. node (codes "delay") (value head.delay) (node (codes "groups") (value head.groups) rest))
-    (insert_past (codes "target") (codes "link") x links _ (λ y. refl)
+    (insert_past (codes "target") (codes "least") x (option_map value head.least) _ (λ y. refl)
+    ∙ ap (with_node (codes "least") (option_map value head.least)) (insert_past (codes "target") (codes "link") x links _ (λ y. refl)
     ∙ ap (with_node (codes "link") links) (insert_past (codes "target") (codes "multicast") x messages _ (λ y. refl)
     ∙ ap (with_node (codes "multicast") messages) (insert_past (codes "target") (codes "order") x (option_map value head.order) _ (λ y. refl)
-    ∙ ap (λ rest. with_node (codes "order") (option_map value head.order) (node (codes "schedule") (value head.schedule) rest)) at_tick)))
+    ∙ ap (λ rest. with_node (codes "order") (option_map value head.order) (node (codes "schedule") (value head.schedule) rest)) at_tick))))
 
 -- the table of the root
 root_closed : (head : Head) (links messages : Option Node) (target : Nodes) (link_rows message_rows : List Members)
@@ -315,11 +329,13 @@ root_closed : (head : Head) (links messages : Option Node) (target : Nodes) (lin
     → close (root_of head links messages (Some (open_table header target))) ≡ whole_table head link_rows message_rows (close target)
 root_closed head links messages target link_rows message_rows same_links same_messages =
     rw (
+      close_with (codes "least") (option_map value head.least) _,
       close_with (codes "link") links _,
       close_with (codes "multicast") messages _,
       close_with (codes "order") (option_map value head.order) _,
       close_with (codes "tick") (option_map value head.tick) _,
       close_with (codes "time") (option_map value head.time) _,
+      close_value head.least,
       close_value head.order,
       close_value head.tick,
       close_value head.time,
@@ -341,7 +357,7 @@ document_filled scenario schedule =
     let link_rows = map_same (λ link. close (link_nodes scenario link)) (link_table scenario) scenario.links (link_closed scenario) in
     let message_rows = map_same (λ message. close (message_nodes scenario message)) (message_table scenario) scenario.multicasts (message_closed scenario) in (
       (full, codes "target" ∷ []),
-      head_run head.time head.tick head.order head.delay head.groups head.schedule _
+      head_run head.time head.tick head.least head.order head.delay head.groups head.schedule _
           ∙ links.ran (message_lines ++ target_lines) ∙ ap (λ ns. run (ns, links.path_now) (message_lines ++ target_lines)) (link_put head links.array_now)
           ∙ messages.ran target_lines ∙ ap (λ ns. run (ns, messages.path_now) target_lines) (message_put head links.array_now messages.array_now)
           ∙ target_ran ∙ ap (λ ns. Some (ns, codes "target" ∷ [])) (target_put head links.array_now messages.array_now (open_table header (target_nodes scenario))),

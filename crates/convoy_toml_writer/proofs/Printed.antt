@@ -14,7 +14,7 @@ use Rattle.convoy_scenario.specs.Scenario.{Message, Scenario, may_wait}
 use Rattle.convoy_packets.specs.Assignment.{Schedule}
 use Rattle.convoy_packets.specs.Order.{Order}
 use Rattle.convoy_packets.specs.OrderLists.{is_no_order}
-use Rattle.convoy_toml_writer.proofs.Document.{Pairs, pair_lines, array_lines, time_data, tick_data, order_data, sender_data, until_data, head_of, head_pairs, link_pairs, message_pairs, target_pairs, document_lines}
+use Rattle.convoy_toml_writer.proofs.Document.{Pairs, pair_lines, array_lines, time_data, least_data, tick_data, order_data, sender_data, until_data, head_of, head_pairs, link_pairs, message_pairs, target_pairs, document_lines}
 
 -- a value that is a text, a number or an array of such
 abbrev IsShallow : Data → Type 0
@@ -52,6 +52,10 @@ time_shallow : (time : Time) → IfSome (time_data time) IsShallow
 time_shallow Ticks = tt
 time_shallow Real = text_shallow (codes "real")
 
+least_shallow : (time : Time) → IfSome (least_data time) IsShallow
+least_shallow Ticks = tt
+least_shallow Real = (omega arith, refl)
+
 tick_shallow : (tick : Option ℕ) → IfSome (tick_data tick) IsShallow
 tick_shallow None = tt
 tick_shallow (Some tick) = (omega arith, refl)
@@ -79,7 +83,7 @@ pub document_printed : (scenario : Scenario) (schedule : Schedule) → AllPrinte
 document_printed scenario schedule =
     AllPrinted-append _ _
     (pairs_printed (head_pairs (head_of scenario schedule))
-    (time_shallow scenario.time, (tick_shallow scenario.tick, ((omega arith, refl), (array_shallow string scenario.groups (λ x. refl) (λ x. refl), (array_shallow _ schedule.delays (λ n. refl) (λ n. refl), (order_shallow scenario schedule.order, tt)))))))
+    (time_shallow scenario.time, (tick_shallow scenario.tick, ((omega arith, refl), (least_shallow scenario.time, (array_shallow string scenario.groups (λ x. refl) (λ x. refl), (array_shallow _ schedule.delays (λ n. refl) (λ n. refl), (order_shallow scenario schedule.order, tt))))))))
     (AllPrinted-append _ _
     (tables_printed (codes "link") (link_pairs scenario) scenario.links (λ link. (sender_shallow scenario link.sender, ((omega arith, refl), ((omega arith, refl), ((omega arith, refl), tt))))))
     (AllPrinted-append _ _

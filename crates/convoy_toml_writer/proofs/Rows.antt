@@ -33,7 +33,7 @@ abbrev schedule : Schedule
 schedule = record { delays = 2 ∷ 5 ∷ 4 ∷ 40 ∷ 40 ∷ []; order = order }
 
 abbrev text : List ℕ
-text = codes "time = \"real\"\ntick = \"50 us\"\ndelay = 40\ngroups = [\"a\", \"b-2\"]\nschedule = [2, 5, 4, 40, 40]\norder = [0, 0, 0, 7, 0, 0]\n\n[[link]]\nto = \"a\"\nleast = 2\nmost = 3\n\n[[link]]\nfrom = \"a\"\nto = \"b-2\"\nleast = 4\nmost = 40\n\n[[multicast]]\nname = \"t\"\nto = [\"a\", \"b-2\"]\nat = 0\n\n[[multicast]]\nname = \"y\"\nfrom = \"a\"\nto = [\"b-2\"]\nat = 12\n\n[target]\nmessage = \"t\"\ngroup = \"b-2\"\n"
+text = codes "time = \"real\"\ntick = \"50 us\"\ndelay = 40\nleast = 1\ngroups = [\"a\", \"b-2\"]\nschedule = [2, 5, 4, 40, 40]\norder = [0, 0, 0, 7, 0, 0]\n\n[[link]]\nto = \"a\"\nleast = 2\nmost = 3\n\n[[link]]\nfrom = \"a\"\nto = \"b-2\"\nleast = 4\nmost = 40\n\n[[multicast]]\nname = \"t\"\nto = [\"a\", \"b-2\"]\nat = 0\n\n[[multicast]]\nname = \"y\"\nfrom = \"a\"\nto = [\"b-2\"]\nat = 12\n\n[target]\nmessage = \"t\"\ngroup = \"b-2\"\n"
 
 written : toml_text scenario schedule ≡ text
 unfolding toml_text head_text tick_text order_text link_text until_text message_text sender_text target_text digits marks_of

@@ -1,12 +1,13 @@
 -- What is written in the document's table.
-use Rattle.std.proofs.Common.{◌≡◌, ℕ, ◌+◌, ◌≤◌, true, false, if◌then◌else◌, List, [], ◌∷◌, map, codes, pos, ℤ, Option, Some, None, option_map, Ok, refl, sym, ap, ◌∙◌, IfSome, inl, inr}
+use Rattle.std.proofs.Common.{◌≡◌, ℕ, ◌+◌, ◌≤◌, Bool, true, false, if◌then◌else◌, List, [], ◌∷◌, map, codes, pos, ℤ, Option, Some, None, option_map, Ok, refl, sym, ap, ◌∙◌, IfSome, inl, inr}
 use Rattle.std.specs.Option.{unwrap_or}
 use Rattle.std.proofs.lemmas.Bool.{cases_Bool, le-leb}
 use Rattle.std.proofs.lemmas.List.{map-id}
 use Rattle.toml.specs.Data.{Data, string, array, table, Items, Members, get_member, as_str, as_integer, as_table}
 use Rattle.toml.specs.View.{items_of}
+use Rattle.convoy_lines.specs.Results.{◌>>=◌}
 use Rattle.convoy_draft.specs.declared.fault.Key.{Key}
-use Rattle.convoy_draft.specs.declared.fault.Key.TheVariants.{Time, Tick, Delay, Groups, Multicast, Target, Link, Schedule, Order}
+use Rattle.convoy_draft.specs.declared.fault.Key.TheVariants.{Time, Tick, Delay, Least, Groups, Multicast, Target, Link, Schedule, Order}
 use Rattle.convoy_scenario.specs.declared.sender.Sender.{Sender}
 use Rattle.convoy_scenario.specs.declared.sender.Sender.TheVariants.{Client, Group}
 use Rattle.convoy_draft.specs.declared.time.Time.{Time as AnyTime}
@@ -21,11 +22,11 @@ use Rattle.convoy_packets.specs.OrderLists.{is_no_order, ranks_of}
 use Rattle.convoy_toml.specs.declared.target.TargetKey.TheVariants.{Required}
 use Rattle.convoy_toml.specs.declared.written.WrittenTime.{WrittenTime}
 use Rattle.convoy_toml.specs.declared.written.WrittenTime.TheVariants.{Count}
-use Rattle.convoy_toml.specs.Shape.{all_of, need, need_all, wish, wish_all, has_only, time_of_table, as_time, as_tick, as_when, WrittenMessage, WrittenLink, WrittenScenario, WrittenTarget, message_of_table, messages_of, link_of_table, links_of, written_target, written_of_table}
+use Rattle.convoy_toml.specs.Shape.{all_of, need, need_all, wish, wish_all, has_only, time_of_table, as_time, as_tick, as_when, delay_of_table, needs_delay, as_least, WrittenMessage, WrittenLink, WrittenScenario, WrittenTarget, message_of_table, messages_of, link_of_table, links_of, written_target, written_of_table}
 use Rattle.convoy_toml_writer.specs.Laws.{ranks_for}
-use Rattle.convoy_toml_writer.proofs.Document.{number, some_tables, time_data, tick_data, order_data, head_of, link_table, message_table, target_table, document_table}
+use Rattle.convoy_toml_writer.proofs.Document.{number, some_tables, time_data, least_data, tick_data, order_data, head_of, link_table, message_table, target_table, document_table}
 use Rattle.convoy_toml_writer.proofs.Durations.{duration_text}
-use Rattle.convoy_toml_writer.proofs.Looked.{delay_found, groups_found, time_found, tick_found, order_found, schedule_found, target_found, messages_found, links_found, only_known}
+use Rattle.convoy_toml_writer.proofs.Looked.{delay_found, least_found, groups_found, time_found, tick_found, order_found, schedule_found, target_found, messages_found, links_found, only_known}
 
 -- ---- one key
 
@@ -114,6 +115,22 @@ time_shaped : (time : AnyTime) (rows : Members) → get_member (codes "time") ro
 time_shaped Ticks rows e = rw (wish_none Time as_time rows e) refl
 time_shaped Real rows e = rw (wish_found Time as_time rows (string (codes "real")) Real e refl) refl
 
+-- D is read as it is, whether it may be left out or not
+delay_shaped : (time : AnyTime) (delay : ℕ) (rows : Members) → get_member (codes "delay") rows ≡ Some (number delay) → delay_of_table time rows ≡ Ok (Some (Count (pos delay)))
+delay_shaped time delay rows e = by_need (needs_delay time rows) where
+  by_need : (needed : Bool) → (if needed then (need Delay (as_when time) rows >>= λ d. Ok (Some d)) else wish Delay (as_when time) rows) ≡ Ok (Some (Count (pos delay)))
+  by_need true = rw (need_found Delay (as_when time) rows (number delay) (Count (pos delay)) e refl) refl
+  by_need false = wish_found Delay (as_when time) rows (number delay) (Count (pos delay)) e refl
+
+-- the least delay of what goes by no link, where it is written
+abbrev pub written_least : AnyTime → Option WrittenTime
+written_least Ticks = None
+written_least Real = Some (Count (pos 1))
+
+least_shaped : (time : AnyTime) (rows : Members) → get_member (codes "least") rows ≡ least_data time → wish Least (as_least time) rows ≡ Ok (written_least time)
+least_shaped Ticks rows e = wish_none Least (as_least Ticks) rows e
+least_shaped Real rows e = wish_found Least (as_least Real) rows (number 1) (Count (pos 1)) e refl
+
 -- a tick's length that is known is one of real time, and is read as it is
 pub record IsReadable (time : AnyTime) (tick : ℕ) : Type 0 where
   pub real : time ≡ Real
@@ -140,7 +157,8 @@ abbrev pub written_scenario : Scenario → WrittenScenario
 written_scenario scenario = record {
   time = scenario.time;
   tick = scenario.tick;
-  delay = Count (pos scenario.delay);
+  delay = Some (Count (pos scenario.delay));
+  least = written_least scenario.time;
   groups = scenario.groups;
   links = map (written_link scenario) scenario.links;
   messages = map (written_message scenario) scenario.multicasts;
@@ -150,14 +168,14 @@ written_scenario scenario = record {
 
 -- step by step, from what each key gives
 in_steps : (rows : Members) (scenario : WrittenScenario) (message_rows : List Members) (target : WrittenTarget) (schedule order : Option (List ℤ)) (rows_of_links : Option (List Members))
-    → time_of_table rows ≡ Ok scenario.time → wish Tick (as_tick scenario.time) rows ≡ Ok scenario.tick → need Delay (as_when scenario.time) rows ≡ Ok scenario.delay → need_all Groups as_str rows ≡ Ok scenario.groups
+    → time_of_table rows ≡ Ok scenario.time → wish Tick (as_tick scenario.time) rows ≡ Ok scenario.tick → delay_of_table scenario.time rows ≡ Ok scenario.delay → wish Least (as_least scenario.time) rows ≡ Ok scenario.least → need_all Groups as_str rows ≡ Ok scenario.groups
     → need_all Multicast as_table rows ≡ Ok message_rows → messages_of scenario.time message_rows ≡ Ok scenario.messages → written_target rows ≡ Ok target
     → wish_all Link as_table rows ≡ Ok rows_of_links → links_of scenario.time (unwrap_or rows_of_links []) ≡ Ok scenario.links
-    → wish_all Schedule as_integer rows ≡ Ok schedule → wish_all Order as_integer rows ≡ Ok order → has_only (Time ∷ Tick ∷ Delay ∷ Groups ∷ Multicast ∷ Target ∷ Link ∷ Schedule ∷ Order ∷ []) rows ≡ true
+    → wish_all Schedule as_integer rows ≡ Ok schedule → wish_all Order as_integer rows ≡ Ok order → has_only (Time ∷ Tick ∷ Delay ∷ Least ∷ Groups ∷ Multicast ∷ Target ∷ Link ∷ Schedule ∷ Order ∷ []) rows ≡ true
     → target.message ≡ scenario.target_message → target.group ≡ scenario.target_group
     → written_of_table Required rows ≡ Ok (record { scenario = scenario; schedule = schedule; order = order })
-in_steps rows scenario message_rows target schedule order rows_of_links time tick delay groups tables_there messages target_there links_there links scheduled ordered known named at_group =
-    rw (time, tick, delay, groups, tables_there, messages, target_there, links_there, links, scheduled, ordered, known, named, at_group) refl
+in_steps rows scenario message_rows target schedule order rows_of_links time tick delay least groups tables_there messages target_there links_there links scheduled ordered known named at_group =
+    rw (time, tick, delay, least, groups, tables_there, messages, target_there, links_there, links, scheduled, ordered, known, named, at_group) refl
 
 -- what is written in the document's table
 pub document_shaped : (scenario : Scenario) (schedule : ScenarioSchedule) (first_message : Message) (others : List Message) → scenario.multicasts ≡ first_message ∷ others → IfSome scenario.tick (IsReadable scenario.time)
@@ -175,7 +193,8 @@ document_shaped scenario schedule first_message others some tick =
     (Some (map pos schedule.delays)) (ranks_for scenario schedule.order) rows_of_links
     (time_shaped scenario.time rows (time_found head links messages target))
     (tick_shaped scenario.time scenario.tick rows tick (tick_found head links messages target))
-    (need_found Delay (as_when scenario.time) rows (number scenario.delay) (Count (pos scenario.delay)) (delay_found head links messages target) refl)
+    (delay_shaped scenario.time scenario.delay rows (delay_found head links messages target))
+    (least_shaped scenario.time rows (least_found head links messages target))
     (need_all_found Groups as_str rows _ scenario.groups (groups_found head links messages target) (all_given as_str string (λ name. name) scenario.groups (λ name. refl) ∙ ap Some (map-id scenario.groups)))
     (tables_needed rows (message_table scenario first_message) (map (message_table scenario) others) (messages_found head links messages target ∙ message_rows) ∙ ap Ok (sym same_rows))
     (messages_shaped scenario.time scenario scenario.multicasts)

@@ -1,5 +1,6 @@
 -- The text of a scenario with a schedule has the lines of its document.
-use Rattle.std.proofs.Common.{◌≡◌, ℕ, ◌+◌, ◌<◌, ◌^◌, true, false, List, [], ◌∷◌, ◌++◌, codes, decimal, Option, Some, None, refl, append_assoc, IfSome, inl, inr}
+use Rattle.std.proofs.Common.{◌≡◌, ℕ, ◌+◌, ◌<◌, ◌^◌, true, false, List, [], ◌∷◌, ◌++◌, codes, decimal, Option, Some, None, refl, append_assoc, arith, IfSome, inl, inr}
+use Rattle.std.specs.Fmt.{digits}
 use Rattle.std.specs.List.{AllByRecursion}
 use Rattle.std.proofs.lemmas.Bool.{cases_Bool}
 use Rattle.toml.specs.Data.{Data, string}
@@ -13,11 +14,11 @@ use Rattle.convoy_scenario.specs.Scenario.{Link, Message, Scenario, group_name_a
 use Rattle.convoy_packets.specs.Assignment.{Schedule}
 use Rattle.convoy_packets.specs.Order.{Order}
 use Rattle.convoy_packets.specs.OrderLists.{is_no_order, ranks_of}
-use Rattle.convoy_toml_writer.specs.Text.{quoted, time_text, tick_text, order_text, head_text, sender_text, link_text, until_text, message_text, target_text, toml_text}
+use Rattle.convoy_toml_writer.specs.Text.{quoted, time_text, least_text, tick_text, order_text, head_text, sender_text, link_text, until_text, message_text, target_text, toml_text}
 use Rattle.convoy_toml_writer.proofs.Plain.{are_plain}
 use Rattle.convoy_toml_writer.proofs.Durations.{duration_text}
 use Rattle.convoy_toml_writer.proofs.Items.{each}
-use Rattle.convoy_toml_writer.proofs.Document.{number, pair, with_pair, pair_lines, array_lines, time_data, tick_data, order_data, sender_data, until_data, head_of, head_pairs, link_pairs, message_pairs, target_pairs, document_lines}
+use Rattle.convoy_toml_writer.proofs.Document.{number, pair, with_pair, pair_lines, array_lines, time_data, least_data, tick_data, order_data, sender_data, until_data, head_of, head_pairs, link_pairs, message_pairs, target_pairs, document_lines}
 use Rattle.convoy_toml_writer.proofs.Lines.{AreLines, no_lines, number_text, name_text, numbers_are, names_are, AreWords, pair_line, text_line, array_line, array_header, table_header, more_lines, all_lines}
 
 -- numbers of 32 bits
@@ -51,6 +52,11 @@ time_line : (time : Time) (rest : List ℕ) (es : List Expression) → AreLines 
 time_line Ticks rest es more = more
 time_line Real rest es more = text_line true (codes "time") (codes "real") rest es refl refl more
 
+least_line : (time : Time) (rest : List ℕ) (es : List Expression) → AreLines true es rest → AreLines true (with_pair (codes "least") (least_data time) es) (least_text time ++ rest)
+unfolding digits
+least_line Ticks rest es more = more
+least_line Real rest es more = pair_line true (codes "least") (codes "1") rest (number 1) es refl (number_text 1 (omega arith)) more
+
 regroup : (a b c d rest : List ℕ) → (a ++ (b ++ (c ++ d))) ++ rest ≡ (a ++ (b ++ c)) ++ (d ++ rest)
 regroup a b c d rest = simp append_assoc refl
 
@@ -75,7 +81,8 @@ unfolding head_text
 head_lines scenario schedule is =
     let after_schedule = order_line scenario schedule.order is.ranks in
     let after_groups = array_line number decimal true (codes "schedule") (order_text scenario schedule.order) schedule.delays _ refl (numbers_are schedule.delays is.delays) after_schedule in
-    let after_delay = array_line string quoted true (codes "groups") _ scenario.groups _ refl (names_are scenario.groups is.groups) after_groups in
+    let after_least = array_line string quoted true (codes "groups") _ scenario.groups _ refl (names_are scenario.groups is.groups) after_groups in
+    let after_delay = least_line scenario.time _ _ after_least in
     let after_tick = pair_line true (codes "delay") (decimal scenario.delay) _ (number scenario.delay) _ refl (number_text scenario.delay is.delay) after_delay in
     time_line scenario.time _ _ (tick_line scenario.tick _ _ is.tick after_tick)
 
@@ -144,4 +151,4 @@ document_written scenario schedule is =
     let links = all_lines (λ link. array_lines (codes "link") (link_pairs scenario link)) (link_text scenario) scenario.links (each scenario.links (λ link writable. link_lines scenario link name writable) is.links) in
     let all = more_lines _ _ _ _ (head_lines scenario schedule is) (more_lines _ _ _ _ links (more_lines _ _ _ _ messages (target_lines scenario name is.target))) in
     let head = head_of scenario schedule in
-    from_the_start head.time head.tick head.delay (pair_lines ((codes "groups", Some head.groups) ∷ (codes "schedule", Some head.schedule) ∷ (codes "order", head.order) ∷ [])) _ _ all
+    from_the_start head.time head.tick head.delay (pair_lines ((codes "least", head.least) ∷ (codes "groups", Some head.groups) ∷ (codes "schedule", Some head.schedule) ∷ (codes "order", head.order) ∷ [])) _ _ all

@@ -37,6 +37,11 @@ abbrev pub time_text : Time → List ℕ
 time_text Ticks = []
 time_text Real = codes "time = \"real\"\n"
 
+-- the line of the least delay of what goes by no link: a tick, where time is real; whole ticks have none
+abbrev pub least_text : Time → List ℕ
+least_text Ticks = []
+least_text Real = codes "least = 1\n"
+
 -- the line of the length of a tick, where that is known
 unfoldable pub tick_text : Option ℕ → List ℕ
 tick_text None = []
@@ -46,15 +51,16 @@ tick_text (Some tick) = codes "tick = \"" ++ (decimal (count_of tick) ++ (codes 
 unfoldable pub order_text : Scenario → Order → List ℕ
 order_text scenario order = if is_no_order order then [] else codes "order = [" ++ (numbers_text (ranks_of scenario order) ++ codes "]\n")
 
--- the lines above all tables: how time goes, D, the groups, and the schedule; all times are numbers of ticks
+-- the lines above all tables: how time goes, D and the least delay without a link, the groups, and the schedule; all times are numbers of ticks
 unfoldable pub head_text : Scenario → Schedule → List ℕ
 head_text scenario schedule =
     time_text scenario.time
     ++ (tick_text scenario.tick
     ++ (codes "delay = " ++ (decimal scenario.delay
-    ++ (codes "\ngroups = [" ++ (listed (map quoted scenario.groups)
+    ++ (codes "\n" ++ (least_text scenario.time
+    ++ (codes "groups = [" ++ (listed (map quoted scenario.groups)
     ++ (codes "]\nschedule = [" ++ (numbers_text schedule.delays
-    ++ (codes "]\n" ++ order_text scenario schedule.order))))))))
+    ++ (codes "]\n" ++ order_text scenario schedule.order))))))))))
 
 -- the line of the group that sends; a client has none
 unfoldable pub sender_text : Scenario → Sender → List ℕ

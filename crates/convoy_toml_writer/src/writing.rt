@@ -3,6 +3,7 @@ ghost use Rattle.std.specs.List.{flat_map};
 ghost use Rattle.convoy_scenario.specs.Scenario.{message_at};
 ghost use Rattle.convoy_toml_writer.specs.Text.{
   head_text,
+  least_text,
   link_text,
   message_text,
   order_text,
@@ -21,9 +22,9 @@ use convoy_scenario::{Duration, Link, Scenario, Sender, Time};
 use std::alloc::{AllocError, Global};
 
 /// Appends the text of a scenario with a schedule, which reads as that scenario with that schedule
-/// (docs/FORMATS.md, "Scenario text"): all times are numbers of ticks. The keys `schedule` and `order`
-/// stand above the tables, `order` only where a rank of it is not 0. Where memory runs out, `out` stays as
-/// it was.
+/// (docs/FORMATS.md, "Scenario text"): all times are numbers of ticks, and where time is real what goes by no
+/// link takes 1 tick at least. The keys `schedule` and `order` stand above the tables, `order` only where a
+/// rank of it is not 0. Where memory runs out, `out` stays as it was.
 pub fn write_toml(
     scenario: &Scenario,
     schedule: &Schedule,
@@ -56,11 +57,12 @@ fn head_text(alloc: Global, scenario: &Scenario, schedule: &Schedule) -> Result<
     let time = time_text(scenario.time());
     let tick = tick_text(alloc, scenario.tick())?;
     let delay = scenario.delay();
+    let least = least_text(scenario.time());
     let groups = all_names_text(alloc, scenario)?;
     let delays = numbers_text(alloc, schedule.delays())?;
     let order = order_text(alloc, scenario, schedule.order())?;
     format!(in alloc;
-        "{time}{tick}delay = {delay}\ngroups = [{groups}]\nschedule = [{delays}]\n{order}"
+        "{time}{tick}delay = {delay}\n{least}groups = [{groups}]\nschedule = [{delays}]\n{order}"
     )
 }
 
@@ -71,6 +73,16 @@ fn time_text(time: Time) -> &'static str
     match time {
         Time::Ticks => "",
         Time::Real => "time = \"real\"\n",
+    }
+}
+
+/// The line of the least delay of what goes by no link: a tick, where time is real; whole ticks have none.
+fn least_text(time: Time) -> &'static str
+    ensures { result.now ≡ least_text time }
+{
+    match time {
+        Time::Ticks => "",
+        Time::Real => "least = 1\n",
     }
 }
 
