@@ -5,10 +5,11 @@ ghost use Rattle.std.specs.List.{All};
 ghost use Rattle.convoy_machine.specs.Replays.{IsEventOf};
 
 use self::Move::{Close, Draw, Look, Publish, Put, Split, Take};
-use crate::scenarios::base;
+use crate::scenarios::{base, counted_twice, swapped_in};
 use crate::schedules::given;
 use convoy_machine::{Event, ReplayFault, replay};
-use convoy_packets::Instance;
+use convoy_packets::{Instance, ListFault};
+use convoy_scenario::Time;
 use convoy_sim::Record;
 use std::alloc::{AllocError, Global};
 use std::test::Fail;
@@ -17,7 +18,7 @@ use std::test::Fail;
 #[derive(Clone, Copy)]
 enum Move {
     Look(usize),
-    /// Of the record of eight delays of 3 ticks, whose latency is 12.
+    /// Of the one record that the test has found.
     Publish(usize),
     Draw(usize),
     Put(usize, usize),
@@ -26,14 +27,14 @@ enum Move {
     Close(usize, usize),
 }
 
-fn event_of(chosen: Move, threes: &Record) -> Result<Event, AllocError>
-    ensures { IfOk result (IsEventOf threes.now.scenario) }
+fn event_of(chosen: Move, found: &Record) -> Result<Event, AllocError>
+    ensures { IfOk result (IsEventOf found.now.scenario) }
 {
     let event = match chosen {
         Look(worker) => Event::Look { worker },
         Publish(worker) => Event::Publish {
             worker,
-            found: threes.copy()?,
+            found: found.copy()?,
         },
         Draw(worker) => Event::Draw { worker },
         Put(worker, branch) => Event::Put { worker, branch },
@@ -49,12 +50,12 @@ fn event_of(chosen: Move, threes: &Record) -> Result<Event, AllocError>
     Ok(event)
 }
 
-fn events_of(alloc: Global, moves: &[Move], threes: &Record) -> Result<Vec<Event>, AllocError>
-    ensures { IfOk result (λ events. All (IsEventOf threes.now.scenario) events.items) }
+fn events_of(alloc: Global, moves: &[Move], found: &Record) -> Result<Vec<Event>, AllocError>
+    ensures { IfOk result (λ events. All (IsEventOf found.now.scenario) events.items) }
 {
     let mut events = Vec::new(alloc);
     for chosen in moves {
-        events.push(event_of(*chosen, threes)?)?;
+        events.push(event_of(*chosen, found)?)?;
     }
     Ok(events)
 }
@@ -64,12 +65,12 @@ fn events_of(alloc: Global, moves: &[Move], threes: &Record) -> Result<Vec<Event
 fn told(
     alloc: Global,
     instance: &Instance,
-    threes: &Record,
+    found: &Record,
     moves: &[Move],
 ) -> Result<(u32, usize, u64, u64), ReplayFault>
-    requires threes { threes.now.scenario ≡ instance.now }
+    requires found { found.now.scenario ≡ instance.now }
 {
-    let events = events_of(alloc, moves, threes)?;
+    let events = events_of(alloc, moves, found)?;
     let core = replay(alloc, instance, &events)?;
     Ok((
         core.best().latency(),
@@ -129,5 +130,41 @@ fn core_machine(rt: HostRuntime) -> Result<(), Fail> {
     ] {
         assert!(rt; told(alloc, &instance, &threes, moves) == want);
     }
+    Ok(())
+}
+
+/// What comes of a search in which that worker publishes the schedule of those delays, and worker 0
+/// closes the root box.
+fn root_closed(
+    alloc: Global,
+    instance: &Instance,
+    worker: usize,
+    delays: &[i64],
+) -> Result<Result<(u32, usize, u64, u64), ReplayFault>, ListFault> {
+    let found = Record::of(instance, given(alloc, instance, delays)?);
+    let moves = [Draw(0), Publish(worker), Close(0, 0)];
+    Ok(told(alloc, instance, &found, &moves))
+}
+
+/// Stamps close the root box for a latency for which leads leave it open, in whole ticks alone.
+#[test]
+fn closed_by_stamps(rt: HostRuntime) -> Result<(), Fail> {
+    let alloc = rt.alloc();
+    let (ticks, real) = (
+        counted_twice(alloc, Time::Ticks)?,
+        counted_twice(alloc, Time::Real)?,
+    );
+    assert!(rt; root_closed(alloc, &ticks, 0, &[6; 14])? == Ok((12, 0, 1, 0)));
+    assert!(rt; root_closed(alloc, &real, 0, &[6; 14])? == Err(ReplayFault::Unlawful(2)));
+    Ok(())
+}
+
+/// In real time leads alone close the root box, for a latency that its worker has seen.
+#[test]
+fn closed_by_leads(rt: HostRuntime) -> Result<(), Fail> {
+    let alloc = rt.alloc();
+    let real = swapped_in(alloc, Time::Real)?;
+    assert!(rt; root_closed(alloc, &real, 0, &[3; 8])? == Ok((6, 0, 1, 0)));
+    assert!(rt; root_closed(alloc, &real, 1, &[3; 8])? == Err(ReplayFault::Unlawful(2)));
     Ok(())
 }

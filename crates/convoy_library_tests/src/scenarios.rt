@@ -4,16 +4,17 @@ use convoy_packets::Instance;
 use convoy_scenario::{MessageParts, Scenario, ScenarioFault, ScenarioParts, Time};
 use std::alloc::Global;
 
-/// A scenario in whole ticks without links, that asks for the latency of a message at a group, as `target` names them.
+/// A scenario without links, that asks for the latency of a message at a group, as `target` names them.
 fn instance_of(
     alloc: Global,
+    time: Time,
     delay: u32,
     groups: &[&str],
     messages: &[MessageParts],
     target: (&str, &str),
 ) -> Result<Instance, ScenarioFault> {
     let parts = ScenarioParts {
-        time: Time::Ticks,
+        time,
         tick: None,
         delay,
         groups,
@@ -42,28 +43,47 @@ fn message<'a>(
 }
 
 /// The base scenario of docs/PROTOCOL.md, with its groups in that order.
-fn base_with(alloc: Global, groups: &[&str]) -> Result<Instance, ScenarioFault> {
+fn base_with(alloc: Global, time: Time, groups: &[&str]) -> Result<Instance, ScenarioFault> {
     let messages = [
         message("x", None, &["b"], 0),
         message("t", None, &["a", "b"], 0),
         message("y", Some("a"), &["a", "b"], 6),
     ];
-    instance_of(alloc, 3, groups, &messages, ("t", "a"))
+    instance_of(alloc, time, 3, groups, &messages, ("t", "a"))
 }
 
 /// The base scenario of docs/PROTOCOL.md.
 pub(crate) fn base(alloc: Global) -> Result<Instance, ScenarioFault> {
-    base_with(alloc, &["a", "b"])
+    base_with(alloc, Time::Ticks, &["a", "b"])
 }
 
 /// The base scenario with its groups the other way round.
 pub(crate) fn swapped(alloc: Global) -> Result<Instance, ScenarioFault> {
-    base_with(alloc, &["b", "a"])
+    swapped_in(alloc, Time::Ticks)
+}
+
+/// The same in either kind of time.
+pub(crate) fn swapped_in(alloc: Global, time: Time) -> Result<Instance, ScenarioFault> {
+    base_with(alloc, time, &["b", "a"])
+}
+
+/// The scenario of docs/LEADS.md of which leads do not close the root box for its stamp bound.
+pub(crate) fn counted_twice(alloc: Global, time: Time) -> Result<Instance, ScenarioFault> {
+    let messages = [
+        message("t", Some("c"), &["a", "c"], 0),
+        message("k", Some("c"), &["c"], 0),
+        message("l", Some("c"), &["c"], 0),
+        message("m", Some("c"), &["c"], 0),
+        message("x", None, &["a", "b"], 0),
+        message("y", None, &["a", "b"], 0),
+        message("n", Some("c"), &["b", "c"], 6),
+    ];
+    instance_of(alloc, time, 6, &["a", "b", "c"], &messages, ("t", "c"))
 }
 
 /// A message from a client to a and to b. Its packets are those to a and to b, and the proposals from a to b and from
 /// b to a.
 pub(crate) fn lone(alloc: Global) -> Result<Instance, ScenarioFault> {
     let messages = [message("m", None, &["a", "b"], 7)];
-    instance_of(alloc, 5, &["a", "b"], &messages, ("m", "a"))
+    instance_of(alloc, Time::Ticks, 5, &["a", "b"], &messages, ("m", "a"))
 }

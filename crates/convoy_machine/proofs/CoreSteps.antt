@@ -16,7 +16,6 @@ use Rattle.convoy_sim.specs.Delivery.{latency_of}
 use Rattle.convoy_sim.specs.Record.{Record, IsAttained, attained_by}
 use Rattle.convoy_intervals.specs.Boxes.{Box, CanSplit, IsBox, IsIn, root_of, lower_half, upper_half}
 use Rattle.convoy_intervals.specs.Laws.{HalvesAreBoxes, HalvesPartition, RootHoldsAll, RootIsBox}
-use Rattle.convoy_checker.specs.Laws.{BoundLeavesCover, PointLeavesCover}
 use Rattle.convoy_machine.specs.declared.parts.TheConstants.{WORKERS}
 use Rattle.convoy_machine.specs.declared.parts.Worker.{Worker}
 use Rattle.convoy_machine.specs.declared.parts.Branch.{Branch}
@@ -27,7 +26,8 @@ use Rattle.convoy_machine.specs.declared.event.Event.TheVariants.{Look, Publish,
 use Rattle.convoy_machine.specs.Machine.{Core, after, allows, best_after, branch_at, branches_after, halves_taken, is_left, stands, start, taken, turned, worker_after, worker_at, worker_of}
 use Rattle.convoy_machine.specs.Replays.{IsEventOf, IsFound, IsLeftIn, ends, is_done, tickets_spent}
 use Rattle.convoy_machine.proofs.BranchLists.{Any-append_left, Any-append_right, Any-set_cases, count_done-turned, stands-append, stands-set_other, stands-set_same}
-use Rattle.convoy_machine.proofs.LawfulEvents.{ClosesBranch, IsOpen, SplitsBranch, close_told, closed_covers, free_is_open, held_is_open, split_told}
+use Rattle.convoy_machine.proofs.Closing.{LeafGrounds, closed_covers}
+use Rattle.convoy_machine.proofs.LawfulEvents.{ClosesBranch, IsOpen, SplitsBranch, close_told, free_is_open, held_is_open, split_told}
 
 -- what the machine rests on
 pub record Grounds : Type 0 where
@@ -35,8 +35,7 @@ pub record Grounds : Type 0 where
   pub all : RootHoldsAll
   pub halves : HalvesAreBoxes
   pub part : HalvesPartition
-  pub bound : BoundLeavesCover
-  pub point : PointLeavesCover
+  pub leaves : LeafGrounds
 
 -- a worker has seen no latency above the best, and spent no ticket that it did not draw
 pub record IsWorker (latency : ℕ) (worker : Worker) : Type 0 where
@@ -234,7 +233,7 @@ covered_after plan core (Close worker branch) schedule grounds lawful order soun
     let Boxed : Branch → Type 0 = λ b. IsBox plan b.delay_box in
     let inside : IsBox plan box = All-get_or Boxed core.branches branch (record { delay_box = []; state = states.Closed }) told.is_open.within sound.boxes in
     let seen : IsWorker core.best.latency doer = All-get_or (IsWorker core.best.latency) core.workers worker (record { seen = 0; drawn = 0; spent = 0 }) (omega (arith, known, sound.workers)) sound.each in
-    left_closed plan schedule core.branches branch core.best.latency (λ member. omega (arith, seen.seen, closed_covers plan doer.seen box schedule grounds.bound grounds.point lawful inside told.closed member order)) is
+    left_closed plan schedule core.branches branch core.best.latency (λ member. omega (arith, seen.seen, closed_covers plan doer.seen box schedule grounds.leaves lawful inside told.closed member order)) is
 
 -- ---- The whole state
 

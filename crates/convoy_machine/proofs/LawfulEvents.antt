@@ -1,23 +1,14 @@
 -- What a lawful event tells of the state in which it is lawful.
-use Rattle.std.specs.Prelude.{◌≡◌, ℕ, ◌<◌, ◌≤◌, ◌==◌, nat_le, nat_lt, Bool, true, false, ◌&&◌, ◌||◌, List, length}
-use Rattle.std.proofs.Common.{arith, refl, sym, subst, ◌∙◌, inl, inr}
-use Rattle.std.proofs.lemmas.Bool.{and_parts, false≢true, or_cases, leb-true, ltb-true}
+use Rattle.std.specs.Prelude.{◌≡◌, ℕ, ◌<◌, nat_lt, true, ◌&&◌, List, length}
+use Rattle.std.proofs.lemmas.Bool.{and_parts, ltb-true}
 use Rattle.convoy_scenario.specs.Scenario.{Scenario}
-use Rattle.convoy_draft.specs.declared.time.Time.{Time}
-use Rattle.convoy_draft.specs.declared.time.Time.TheVariants.{Ticks, Real}
-use Rattle.convoy_packets.specs.Assignment.{Schedule}
-use Rattle.convoy_packets.specs.Order.{IsOrder}
-use Rattle.convoy_scenario.specs.WellFormed.{IsScenario}
-use Rattle.convoy_sim.specs.Delivery.{latency_of}
-use Rattle.convoy_intervals.specs.Bounds.{plain_bound}
-use Rattle.convoy_intervals.specs.Boxes.{Box, CanSplit, IsBox, IsIn, can_split, is_point, greatest_of}
-use Rattle.convoy_intervals.proofs.BoxTests.{Decides-can_split, Decides-is_point}
-use Rattle.convoy_checker.specs.Laws.{BoundLeavesCover, PointLeavesCover}
+use Rattle.convoy_intervals.specs.Boxes.{CanSplit, can_split}
+use Rattle.convoy_intervals.proofs.BoxTests.{Decides-can_split}
 use Rattle.convoy_machine.specs.declared.parts.TheConstants.{WORKERS}
 use Rattle.convoy_machine.specs.declared.parts.Branch.{Branch}
 use Rattle.convoy_machine.specs.declared.event.Event.{Event}
 use Rattle.convoy_machine.specs.declared.event.Event.TheVariants.{Look, Publish, Draw, Put, Take, Split, Close}
-use Rattle.convoy_machine.specs.Machine.{Core, HasBranch, allows, branch_at, closes, has_ticket, in_ticks, is_free, is_lawful, is_left, is_with, stands, worker_at, worker_of}
+use Rattle.convoy_machine.specs.Machine.{Core, HasBranch, allows, branch_at, closes, has_ticket, is_free, is_lawful, is_left, is_with, stands, worker_at, worker_of}
 use Rattle.convoy_machine.proofs.BranchLists.{left_since_free, left_since_with, stands_told}
 
 -- the branch is there, and is left
@@ -72,26 +63,6 @@ close_told plan core worker branch allowed =
       ticket = ltb-true doer.spent doer.drawn inner.1;
       closed = outer.1;
     }
-
--- time goes in whole ticks where the test says so
-ticks_since : (time : Time) → in_ticks time ≡ true → time ≡ Ticks
-ticks_since Ticks is = refl
-ticks_since Real is = absurd (false≢true is)
-
--- no member of a box that is closed has a greater latency, whatever the order of its ties
-pub closed_covers : (plan : Scenario) (latency : ℕ) (box : Box) (schedule : Schedule) → BoundLeavesCover → PointLeavesCover → IsScenario plan → IsBox plan box → closes plan latency box ≡ true → IsIn box schedule → IsOrder plan schedule.order → latency_of plan schedule ≤ latency
-closed_covers plan latency box schedule bound point lawful inside closed member order =
-    let by_bound = nat_le (plain_bound plan box) latency in
-    let ticks = in_ticks plan.time in
-    let low = nat_le (latency_of plan (greatest_of box)) latency in
-    elim (or_cases by_bound (ticks && is_point box && low) closed) [
-      | inl within ↦ bound plan latency box schedule lawful inside (leb-true (plain_bound plan box) latency within) member order
-      | inr tried ↦ (
-          let outer = and_parts (ticks && is_point box) low tried in
-          let both = and_parts ticks (is_point box) outer.0 in
-          point plan latency box schedule lawful inside (ticks_since plan.time both.0, (Decides-is_point box).0 both.1, leb-true (latency_of plan (greatest_of box)) latency outer.1) member order
-          )
-    ]
 
 -- the branch of an event that is allowed
 pub allowed_has_branch : (plan : Scenario) (core : Core) (event : Event) → allows plan core event ≡ true → HasBranch core.branches event

@@ -1,4 +1,5 @@
 pub mod BranchLists
+pub mod Closing
 pub mod LawfulEvents
 pub mod CoreSteps
 pub mod Endings

@@ -5,7 +5,11 @@ pub use Rattle.convoy_packets.specs.Table
 pub use Rattle.convoy_sim.specs.Delivery
 pub use Rattle.convoy_sim.specs.Record
 pub use Rattle.convoy_intervals.specs.Boxes
-pub use Rattle.convoy_intervals.specs.Bounds
--- The search of many workers as a machine, and what holds in each state that it comes to.
+pub use Rattle.convoy_certificate.specs.Certificate
+pub use Rattle.convoy_checker.specs.Checks
+pub use Rattle.convoy_checker.specs.Leaves
+pub use Rattle.convoy_checker.specs.Trees
+-- The search of many workers as a machine, what holds in each state that it comes to, and which boxes may be closed.
 pub mod Machine
 pub mod Replays
+pub mod Laws

@@ -1,15 +1,15 @@
 -- The search of many workers as a machine of its own, with no threads: a list of events, in any order that the rules allow.
-use Rattle.std.specs.Prelude.{ℕ, ◌+◌, ◌<◌, ◌==◌, nat_le, nat_lt, Bool, true, false, ◌&&◌, ◌||◌, if◌then◌else◌, List, [], ◌∷◌, ◌++◌, length, replicate, slice_get, slice_index_or, slice_set, Result, Ok, Err}
-use Rattle.std.specs.Option.{option_map_or}
+use Rattle.std.specs.Prelude.{ℕ, ◌+◌, ◌<◌, ◌==◌, nat_lt, Bool, true, false, ◌&&◌, if◌then◌else◌, List, [], ◌∷◌, ◌++◌, length, replicate, slice_get, slice_index_or, slice_set, Result, Ok, Err}
+use Rattle.std.specs.List.{list_any}
+use Rattle.std.specs.Option.{is_none, option_map_or}
 use Rattle.convoy_scenario.specs.Scenario.{Scenario}
-use Rattle.convoy_draft.specs.declared.time.Time.{Time}
-use Rattle.convoy_draft.specs.declared.time.Time.TheVariants.{Ticks, Real}
 use Rattle.convoy_packets.specs.Assignment.{ranges_of}
 use Rattle.convoy_packets.specs.Table.{least_of}
-use Rattle.convoy_sim.specs.Delivery.{latency_of}
 use Rattle.convoy_sim.specs.Record.{Record, attained_by}
-use Rattle.convoy_intervals.specs.Bounds.{plain_bound}
-use Rattle.convoy_intervals.specs.Boxes.{Box, CanSplit, can_split, is_point, root_of, lower_half, upper_half, greatest_of}
+use Rattle.convoy_intervals.specs.Boxes.{Box, CanSplit, can_split, root_of, lower_half, upper_half}
+use Rattle.convoy_certificate.specs.declared.node.Node.{Node}
+use Rattle.convoy_certificate.specs.declared.node.Node.TheVariants as nodes
+use Rattle.convoy_checker.specs.Checks.{node_fault}
 use Rattle.convoy_machine.specs.declared.parts.TheConstants.{WORKERS}
 use Rattle.convoy_machine.specs.declared.parts.Worker.{Worker}
 use Rattle.convoy_machine.specs.declared.parts.Branch.{Branch}
@@ -81,16 +81,13 @@ stands test branches number = option_map_or (λ branch. test branch.state) (slic
 abbrev pub has_ticket : Worker → Bool
 has_ticket worker = nat_lt worker.spent worker.drawn
 
--- whether time goes in whole ticks
-abbrev pub in_ticks : Time → Bool
-in_ticks Ticks = true
-in_ticks Real = false
+-- the leaves that may close a box for a latency, one of each kind
+abbrev pub leaves_for : ℕ → List Node
+leaves_for latency = nodes.Bound ∷ nodes.Point ∷ nodes.Stamp ∷ nodes.Lead latency ∷ []
 
--- whether the bound of the box, or in whole ticks the latency of its only member, is at most that latency
+-- whether the box is closed for that latency: in a certificate that states it, one of these leaves would have no fault over the box
 abbrev pub closes : Scenario → ℕ → Box → Bool
-closes scenario latency box =
-    nat_le (plain_bound scenario box) latency
-    || (in_ticks scenario.time && is_point box && nat_le (latency_of scenario (greatest_of box)) latency)
+closes scenario latency box = list_any (λ leaf. is_none (node_fault scenario latency 0 leaf box)) (leaves_for latency)
 
 -- whether the state allows the event, where there is a worker of its number
 abbrev pub allows : Scenario → Core → Event → Bool

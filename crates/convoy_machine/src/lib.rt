@@ -8,6 +8,7 @@ pub use parts::WORKERS;
 pub use replaying::{ReplayFault, replay};
 
 mod event;
+pub mod laws;
 mod machine;
 mod parts;
 mod replaying;

@@ -1,14 +1,19 @@
 //! The search of many workers as a machine of its own: which events are lawful, and what becomes of
 //! the state.
 
-ghost use Rattle.std.specs.Prelude.{◌≡◌, ◌+◌, ◌<◌, ◌≤◌, ◌^◌, Bool, List, length, slice_set};
+ghost use Rattle.std.specs.Prelude.{◌≡◌, ◌+◌, ◌<◌, ◌≤◌, ◌^◌, ◌&&◌, ◌||◌, nat_le};
+ghost use Rattle.std.specs.Prelude.{Bool, List, length, slice_set};
 ghost use Rattle.std.specs.Prelude.{IfNone, IfOk, IfSome, IsFalse, IsTrue, OnOk};
 ghost use Rattle.std.specs.List.{All};
 ghost use Rattle.convoy_scenario.specs.Scenario.{Scenario};
+ghost use Rattle.convoy_sim.specs.Delivery.{latency_of};
 ghost use Rattle.convoy_sim.specs.Record.{IsAttained};
-ghost use Rattle.convoy_intervals.specs.Boxes.{CanSplit, IsBox, lower_half, upper_half};
+ghost use Rattle.convoy_intervals.specs.Boxes.{CanSplit, IsBox, greatest_of, is_point};
+ghost use Rattle.convoy_intervals.specs.Boxes.{lower_half, upper_half};
+ghost use Rattle.convoy_stamps.specs.StampBounds.{stamp_bound};
+ghost use Rattle.convoy_checker.specs.Checks.{in_ticks};
 ghost use Rattle.convoy_machine.specs.Machine.{after, allows, best_after, branch_at, branches_after};
-ghost use Rattle.convoy_machine.specs.Machine.{closes, in_ticks, is_free, is_lawful, taken, HasBranch};
+ghost use Rattle.convoy_machine.specs.Machine.{closes, is_free, is_lawful, taken, HasBranch};
 ghost use Rattle.convoy_machine.specs.Machine.{is_with, stands, start, worker_after, worker_at};
 ghost use Rattle.convoy_machine.specs.Machine.{worker_of};
 ghost use Rattle.convoy_machine.specs.Replays.{IsFound, left_of};
@@ -16,10 +21,12 @@ ghost use Rattle.convoy_machine.specs.Replays.{IsFound, left_of};
 use super::event::Event;
 use super::parts::{Branch, BranchState, WORKERS, Worker};
 use convoy_intervals::{DelayBox, bound};
+use convoy_leads::closes_by_leads;
 use convoy_packets::laws::least_is_assignment;
 use convoy_packets::{Instance, Schedule};
 use convoy_scenario::{Scenario, Time};
 use convoy_sim::Record;
+use convoy_stamps::stamp_bound;
 use std::alloc::{AllocError, Global};
 use std::marker::Model;
 
@@ -107,25 +114,36 @@ impl Core {
         })
     }
 
-    /// Whether the state allows an event.
-    pub(crate) fn is_lawful(&self, instance: &Instance, event: &Event) -> bool
+    /// Whether the state allows an event. The error is that memory ran out.
+    pub(crate) fn is_lawful(
+        &self,
+        alloc: Global,
+        instance: &Instance,
+        event: &Event,
+    ) -> Result<bool, AllocError>
         requires boxes { All (λ branch. IsBox instance.now branch.delay_box) self.now.branches }
-        ensures { result ≡ is_lawful instance.now self.now event.now }
+        ensures { IfOk result (λ lawful. lawful ≡ is_lawful instance.now self.now event.now) }
     {
         let worker = event.worker();
         if worker >= WORKERS {
-            return false;
+            return Ok(false);
         }
-        self.allows(instance, &self.workers[worker], event)
+        self.allows(alloc, instance, &self.workers[worker], event)
     }
 
-    /// Whether the state allows an event of that worker.
-    fn allows(&self, instance: &Instance, doer: &Worker, event: &Event) -> bool
+    /// Whether the state allows an event of that worker. The error is that memory ran out.
+    fn allows(
+        &self,
+        alloc: Global,
+        instance: &Instance,
+        doer: &Worker,
+        event: &Event,
+    ) -> Result<bool, AllocError>
         requires boxes { All (λ branch. IsBox instance.now branch.delay_box) self.now.branches }
         requires doer { doer.now ≡ worker_at self.now.workers (worker_of event.now) }
-        ensures { result ≡ allows instance.now self.now event.now }
+        ensures { IfOk result (λ allowed. allowed ≡ allows instance.now self.now event.now) }
     {
-        match event {
+        let allowed = match event {
             Event::Look { .. } | Event::Publish { .. } | Event::Draw { .. } => true,
             Event::Put { worker, branch } => self.held_by(*worker, *branch).is_some(),
             Event::Take { branch, .. } => self.is_free(*branch),
@@ -146,11 +164,12 @@ impl Core {
                 match self.held_by(*worker, *branch) {
                     None => false,
                     Some(delay_box) => {
-                        doer.has_ticket() && closes(instance, doer.seen, delay_box)
+                        doer.has_ticket() && closes(alloc, instance, doer.seen, delay_box)?
                     }
                 }
             }
-        }
+        };
+        Ok(allowed)
     }
 
     /// The box of a branch that the worker has, where it has that branch.
@@ -255,16 +274,44 @@ fn halves_of(delay_box: &DelayBox, packet: u16, at: u16) -> Result<(DelayBox, De
     }
 }
 
-/// Whether the bound of the box, or in whole ticks the latency of its only member, is at most that
-/// latency, in ticks.
-fn closes(instance: &Instance, latency: u32, delay_box: &DelayBox) -> bool
+/// Whether a leaf of some kind closes the box for that latency, in ticks. Each kind is asked for where
+/// those that take less time do not close it. The error is that memory ran out.
+#[tactic(auto, using(crate::proofs::Closing::closes_is))]
+fn closes(
+    alloc: Global,
+    instance: &Instance,
+    latency: u32,
+    delay_box: &DelayBox,
+) -> Result<bool, AllocError>
     requires inside { IsBox instance.now delay_box.now }
-    ensures { result ≡ closes instance.now latency delay_box.now }
+    ensures { IfOk result (λ closed. closed ≡ closes instance.now latency delay_box.now) }
 {
-    bound(instance, delay_box) <= latency
-        || in_ticks(instance)
-            && delay_box.is_point()
-            && delay_box.greatest_latency(instance) <= latency
+    if bound(instance, delay_box) <= latency {
+        return Ok(true);
+    }
+    if in_ticks(instance) && closes_in_ticks(alloc, instance, latency, delay_box)? {
+        return Ok(true);
+    }
+    closes_by_leads(alloc, instance, delay_box, latency)
+}
+
+/// Whether the latency of the only member of the box, or its stamp bound, is at most that latency, in
+/// ticks: in whole ticks either closes it. The error is that memory ran out.
+fn closes_in_ticks(
+    alloc: Global,
+    instance: &Instance,
+    latency: u32,
+    delay_box: &DelayBox,
+) -> Result<bool, AllocError>
+    requires inside { IsBox instance.now delay_box.now }
+    ensures { IfOk result (λ closed. closed
+        ≡ (is_point delay_box.now && nat_le (latency_of instance.now (greatest_of delay_box.now)) latency
+        || nat_le (stamp_bound instance.now delay_box.now) latency)) }
+{
+    if delay_box.is_point() && delay_box.greatest_latency(instance) <= latency {
+        return Ok(true);
+    }
+    Ok(stamp_bound(alloc, instance, delay_box)? <= latency)
 }
 
 /// Whether time goes in whole ticks.

@@ -6,7 +6,9 @@ ghost use Rattle.convoy_machine.specs.Replays.{IsEventOf, IsReplayed};
 
 use super::event::Event;
 use super::machine::Core;
-use convoy_checker::laws::{bound_leaves_cover, point_leaves_cover};
+use convoy_checker::laws::{
+    bound_leaves_cover, lead_leaves_cover, point_leaves_cover, stamp_leaves_cover,
+};
 use convoy_intervals::laws::{halves_are_boxes, halves_partition, root_holds_all, root_is_box};
 use convoy_packets::Instance;
 use std::alloc::{AllocError, Global};
@@ -52,9 +54,11 @@ pub fn replay(alloc: Global, instance: &Instance, events: &[Event]) -> Result<Co
     halves_partition();
     bound_leaves_cover();
     point_leaves_cover();
+    stamp_leaves_cover();
+    lead_leaves_cover();
     let mut core = Core::start(alloc, instance)?;
     for (place, event) in events.iter().enumerate() {
-        if !core.is_lawful(instance, event) {
+        if !core.is_lawful(alloc, instance, event)? {
             return Err(ReplayFault::Unlawful(place));
         }
         core.follow(event)?;

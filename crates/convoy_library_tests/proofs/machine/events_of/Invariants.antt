@@ -3,4 +3,4 @@ use Rattle.convoy_machine.specs.Replays.{IsEventOf}
 use Rattle.convoy_library_tests.proofs.machine.events_of.Given as goal
 
 abbrev pub invariant-loop-chosen : goal.invariant-loop-chosen
-invariant-loop-chosen l = All (IsEventOf l.threes.scenario) l.events.items
+invariant-loop-chosen l = All (IsEventOf l.found.scenario) l.events.items

@@ -1,0 +1,114 @@
+-- The leaves that close a box: in one test, and that no member of the box has a greater latency.
+use Rattle.std.specs.Prelude.{◌≡◌, ℕ, ◌≤◌, nat_le, Bool, true, false, ◌&&◌, ◌||◌, [], Option, Some, None}
+use Rattle.std.specs.Option.{is_none}
+use Rattle.std.proofs.Common.{arith, refl, ap, ◌∙◌, inl, inr}
+use Rattle.std.proofs.lemmas.Bool.{false≢true, or_cases, le-leb}
+use Rattle.convoy_scenario.specs.Scenario.{Scenario}
+use Rattle.convoy_scenario.specs.WellFormed.{IsScenario}
+use Rattle.convoy_packets.specs.Assignment.{Schedule, ranges_of}
+use Rattle.convoy_packets.specs.Order.{IsOrder}
+use Rattle.convoy_sim.specs.Delivery.{latency_of}
+use Rattle.convoy_intervals.specs.Bounds.{plain_bound}
+use Rattle.convoy_intervals.proofs.Members.{AreRanges-box}
+use Rattle.convoy_intervals.specs.Boxes.{Box, IsBox, IsIn, is_point, greatest_of}
+use Rattle.convoy_stamps.specs.StampBounds.{stamp_bound}
+use Rattle.convoy_leads.specs.Closing.{closes_by_leads}
+use Rattle.convoy_certificate.specs.declared.node.Node.{Node}
+use Rattle.convoy_certificate.specs.declared.node.Node.TheVariants.{Split, Bound, Point, Stamp, Lead}
+use Rattle.convoy_checker.specs.declared.refused.Refused.{Refused}
+use Rattle.convoy_checker.specs.declared.refused.Refused.TheVariants as refused
+use Rattle.convoy_checker.specs.Checks.{fault_unless, in_ticks, node_fault}
+use Rattle.convoy_checker.specs.Laws.{BoundLeavesCover, LeadLeavesCover, PointLeavesCover, StampLeavesCover}
+use Rattle.convoy_checker.specs.Leaves.{ClosesByLeads, IsRight}
+use Rattle.convoy_checker.specs.Trees.{boxes_below}
+use Rattle.convoy_checker.proofs.Faults.{node_none}
+use Rattle.convoy_monotone.specs.Laws.{LeadsCloseForMore}
+use Rattle.convoy_machine.specs.Laws.{RightLeavesClose}
+use Rattle.convoy_machine.specs.Machine.{closes}
+
+-- the tests of four faults, of which the second and the third are asked for in whole ticks alone
+four_tests : (bound ticks point stamp lead : Bool) (first second third fourth : Refused) → (is_none (fault_unless bound first) || (is_none (fault_unless (ticks && point) second) || (is_none (fault_unless (ticks && stamp) third) || (is_none (fault_unless lead fourth) || false)))) ≡ (bound || (ticks && (point || stamp) || lead))
+four_tests true ticks point stamp lead first second third fourth = refl
+four_tests false true true stamp lead first second third fourth = refl
+four_tests false true false true lead first second third fourth = refl
+four_tests false true false false true first second third fourth = refl
+four_tests false true false false false first second third fourth = refl
+four_tests false false point stamp true first second third fourth = refl
+four_tests false false point stamp false first second third fourth = refl
+
+-- the test of all kinds of leaves, in the order of what they take
+pub closes_is : (plan : Scenario) (latency : ℕ) (box : Box) → closes plan latency box ≡ (nat_le (plain_bound plan box) latency || (in_ticks plan.time && (is_point box && nat_le (latency_of plan (greatest_of box)) latency || nat_le (stamp_bound plan box) latency) || closes_by_leads plan box latency))
+closes_is plan latency box =
+    let bound = plain_bound plan box in
+    let low = nat_le bound latency in
+    let ticks = in_ticks plan.time in
+    let point = is_point box && nat_le (latency_of plan (greatest_of box)) latency in
+    let stamp = nat_le (stamp_bound plan box) latency in
+    let lead = closes_by_leads plan box latency in
+    four_tests low ticks point stamp (nat_le latency latency && lead) (refused.BoundLeaf 0 bound) (refused.PointLeaf 0) (refused.StampLeaf 0 (stamp_bound plan box)) (refused.LeadLeaf 0)
+    ∙ ap (λ (itself : Bool). low || (ticks && (point || stamp) || (itself && lead))) (le-leb latency latency (omega arith))
+
+-- what rests on the kinds of leaves: a law for each
+pub record LeafGrounds : Type 0 where
+  pub bound : BoundLeavesCover
+  pub point : PointLeavesCover
+  pub stamp : StampLeavesCover
+  pub lead : LeadLeavesCover
+
+none_told : (fault : Option Refused) → is_none fault ≡ true → fault ≡ None
+none_told None none = refl
+none_told (Some fault) none = absurd (false≢true none)
+
+-- no member of a box that is closed has a greater latency, whatever the order of its ties
+pub closed_covers : (plan : Scenario) (latency : ℕ) (box : Box) (schedule : Schedule) → LeafGrounds → IsScenario plan → IsBox plan box → closes plan latency box ≡ true → IsIn box schedule → IsOrder plan schedule.order → latency_of plan schedule ≤ latency
+closed_covers plan latency box schedule grounds lawful inside closed member order =
+    let fits : Node → Bool = λ leaf. is_none (node_fault plan latency 0 leaf box) in
+    elim (or_cases (fits Bound) (fits Point || (fits Stamp || (fits (Lead latency) || false))) closed) [
+      | inl by_bound ↦ grounds.bound plan latency box schedule lawful inside (right Bound by_bound) member order
+      | inr others ↦ elim (or_cases (fits Point) (fits Stamp || (fits (Lead latency) || false)) others) [
+        | inl as_point ↦ grounds.point plan latency box schedule lawful inside (right Point as_point) member order
+        | inr further ↦ elim (or_cases (fits Stamp) (fits (Lead latency) || false) further) [
+          | inl by_stamps ↦ grounds.stamp plan latency box schedule lawful inside (right Stamp by_stamps) member order
+          | inr last ↦ elim (or_cases (fits (Lead latency)) false last) [
+            | inl by_leads ↦ grounds.lead plan latency box schedule lawful inside (right (Lead latency) by_leads).1 member order
+            | inr none ↦ absurd (false≢true none)
+          ]
+        ]
+      ]
+    ] where
+      right : (leaf : Node) → is_none (node_fault plan latency 0 leaf box) ≡ true → IsRight plan latency leaf box
+      right leaf fits = (node_none plan latency 0 leaf box).0 (none_told (node_fault plan latency 0 leaf box) fits)
+
+-- ---- Which boxes are closed
+
+or_true : (test : Bool) → (test || true) ≡ true
+or_true true = refl
+or_true false = refl
+
+-- where one of four tests says yes, one of them does
+second_of : (first second rest : Bool) → second ≡ true → (first || (second || rest)) ≡ true
+second_of first second rest yes' = ap (λ test. first || (test || rest)) yes' ∙ or_true first
+
+third_of : (first second third rest : Bool) → third ≡ true → (first || (second || (third || rest))) ≡ true
+third_of first second third rest yes' = ap (λ tests. first || tests) (second_of second third rest yes') ∙ or_true first
+
+fourth_of : (first second third fourth rest : Bool) → fourth ≡ true → (first || (second || (third || (fourth || rest)))) ≡ true
+fourth_of first second third fourth rest yes' = ap (λ tests. first || tests) (third_of second third fourth rest yes') ∙ or_true first
+
+-- a leaf that is right closes its box, a lead leaf also for what is above the latency that it names
+pub right_closes : LeadsCloseForMore → RightLeavesClose
+right_closes more plan latency leaf box lawful inside below right = by_leaf leaf below right where
+  fits : Node → Bool
+  fits leaf = is_none (node_fault plan latency 0 leaf box)
+
+  fitting : (leaf : Node) → IsRight plan latency leaf box → fits leaf ≡ true
+  fitting leaf right = ap is_none ((node_none plan latency 0 leaf box).1 right)
+
+  by_leaf : (leaf : Node) → boxes_below leaf box ≡ [] → IsRight plan latency leaf box → closes plan latency box ≡ true
+  by_leaf (Split packet at) below right = absurd cc
+  by_leaf Bound below right = ap (λ test. test || (fits Point || (fits Stamp || (fits (Lead latency) || false)))) (fitting Bound right)
+  by_leaf Point below right = second_of (fits Bound) (fits Point) (fits Stamp || (fits (Lead latency) || false)) (fitting Point right)
+  by_leaf Stamp below right = third_of (fits Bound) (fits Point) (fits Stamp) (fits (Lead latency) || false) (fitting Stamp right)
+  by_leaf (Lead named) below right =
+      let closed : ClosesByLeads plan latency box = more plan box named latency lawful (AreRanges-box (ranges_of plan) box inside) right.0 right.1 in
+      fourth_of (fits Bound) (fits Point) (fits Stamp) (fits (Lead latency)) false (fitting (Lead latency) (omega arith, closed))
