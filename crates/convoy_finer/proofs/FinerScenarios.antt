@@ -50,15 +50,23 @@ when_ok true fault u e = refl
 when_ok false fault u e = absurd cc
 
 -- it is within the limit, as D is
-least_within : (least : ℕ) (delay : ℤ) → is_within 1 GREATEST_DELAY delay ≡ true → need_least delay (Some (pos least)) ≡ Ok tt → (1 ≤ least) × (is_within 0 GREATEST_DELAY (pos least) ≡ true)
+least_within : (least : ℕ) (delay : ℤ) → is_within 1 GREATEST_DELAY delay ≡ true → need_least Real delay (Some (pos least)) ≡ Ok tt → (1 ≤ least) × (is_within 0 GREATEST_DELAY (pos least) ≡ true)
 least_within least (pos d) within e =
-    let holds = when_ok (leb 1 least && leb least d) (OverLimit limits.Least) tt e in
+    let either = when_ok (is_least Real (pos d) (Some (pos least))) (OverLimit limits.Least) tt e in
+    let holds : (leb 1 least && leb least d) ≡ true = rw within at either in
     let parts = and_parts (leb 1 least) (leb least d) holds in
     let low = leb-true 1 least parts.0 in
     let high = leb-true least d parts.1 in
     let top = leb-true d GREATEST_DELAY (and_parts (leb 1 d) (leb d GREATEST_DELAY) within).1 in
     (low, within_from GREATEST_DELAY least (omega arith))
 least_within least (negsuc d) within e = absurd (false≢true within)
+
+-- nor is it below 0
+not_negative : (least : ℕ) (delay : ℤ) → is_within 1 GREATEST_DELAY delay ≡ true → need_least Real delay (Some (negsuc least)) ≡ Ok tt → ⊥
+not_negative least delay within e =
+    let either = when_ok (is_least Real delay (Some (negsuc least))) (OverLimit limits.Least) tt e in
+    let never : false ≡ true = rw within at either in
+    false≢true never
 
 delay_within : (delay : ℤ) → is_within 1 GREATEST_DELAY delay ≡ true → is_within 0 GREATEST_DELAY delay ≡ true
 delay_within (pos d) within = within_from GREATEST_DELAY d (leb-true d GREATEST_DELAY (and_parts (leb 1 d) (leb d GREATEST_DELAY) within).1)
@@ -116,7 +124,7 @@ module _ (times tick : ℕ) (plain : Draft) (way : Way) where
       finer ∙ ap (finer_range times) (sym coarse)
 
   by_least : (least : ℕ) → 1 ≤ times → AreAsFine times plain.groups plain.links → is_within 1 GREATEST_DELAY plain.delay ≡ true → is_within 1 GREATEST_DELAY fine.delay ≡ true
-      → need_least plain.delay (Some (pos least)) ≡ Ok tt → need_least fine.delay (Some (pos (times * least))) ≡ Ok tt
+      → need_least Real plain.delay (Some (pos least)) ≡ Ok tt → need_least Real fine.delay (Some (pos (times * least))) ≡ Ok tt
       → IsIn way (ways_between (take MOST_GROUPS plain.groups)) → list_any (carries way) plain.messages ≡ true → found plain.links ≡ None → fine_range (Some (pos least)) ≡ finer_range times (range (Some (pos least)))
   by_least least some are within fine_within low fine_low between carried none =
       let (at_least, least_in) = least_within least plain.delay within low in
@@ -134,14 +142,14 @@ module _ (times tick : ℕ) (plain : Draft) (way : Way) where
 
   -- what goes that way has so many times the range
   along : (least : Option ℤ) (link : Option Link) → found plain.links ≡ link → 1 ≤ times → AreAsFine times plain.groups plain.links → is_within 1 GREATEST_DELAY plain.delay ≡ true → is_within 1 GREATEST_DELAY fine.delay ≡ true
-      → need_least plain.delay least ≡ Ok tt → need_least fine.delay (option_map (finer_ticks times) least) ≡ Ok tt → plain.time ≡ Real → has_ranges (is_some least) (with_least least plain) ≡ true
+      → need_least Real plain.delay least ≡ Ok tt → need_least Real fine.delay (option_map (finer_ticks times) least) ≡ Ok tt → plain.time ≡ Real → has_ranges (is_some least) (with_least least plain) ≡ true
       → IsIn way (ways_between (take MOST_GROUPS plain.groups)) → list_any (carries way) plain.messages ≡ true → fine_range least ≡ finer_range times (range least)
   along least (Some link) e some are within fine_within low fine_low real ranged between carried = by_link least link are e
   along None None e some are within fine_within low fine_low real ranged between carried =
       absurd (none_lacks plain way real ranged (lacks plain way between carried (none_leads plain.groups way plain.links (sender_itself from) e)))
   along (Some (pos least)) None e some are within fine_within low fine_low real ranged between carried = by_least least some are within fine_within low fine_low between carried e
   along (Some (negsuc least)) None e some are within fine_within low fine_low real ranged between carried =
-      absurd (false≢true (when_ok (is_least plain.delay (Some (negsuc least))) (OverLimit limits.Least) tt low))
+      absurd (not_negative least plain.delay within low)
 
 -- ---- the two scenarios
 
@@ -173,8 +181,8 @@ finer_messages times (x ∷ xs) (y ∷ ys) h =
 pub record AreRead (times tick : ℕ) (plain : Draft) (least : Option ℤ) : Type 0 where
   pub some : 1 ≤ times
   pub real : plain.time ≡ Real
-  pub low : need_least plain.delay least ≡ Ok tt
-  pub fine_low : need_least (finer_ticks times plain.delay) (option_map (finer_ticks times) least) ≡ Ok tt
+  pub low : need_least Real plain.delay least ≡ Ok tt
+  pub fine_low : need_least Real (finer_ticks times plain.delay) (option_map (finer_ticks times) least) ≡ Ok tt
   pub ranged : has_ranges (is_some least) (with_least least plain) ≡ true
   pub holds : judge (checks (record plain { links = (with_least least plain).links })) ≡ Ok tt
   pub fine_holds : judge (checks (record (finer_draft times tick plain) { links = (with_least (option_map (finer_ticks times) least) (finer_draft times tick plain)).links })) ≡ Ok tt

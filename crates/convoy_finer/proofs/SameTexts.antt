@@ -19,7 +19,7 @@ use Rattle.convoy_scenario.proofs.NumberedLemmas.{passes}
 use Rattle.convoy_toml.specs.declared.target.TargetKey.TheVariants.{Required}
 use Rattle.convoy_toml.specs.Reading.{InputView, input_of_table, input_of_text, input_of_written, need_ranges, scenario_of_input, scenario_of_text, table_of_text}
 use Rattle.convoy_toml.specs.Shape.{Written, WrittenScenario, written_of_table}
-use Rattle.convoy_toml.specs.Times.{draft_of_written, tick_of}
+use Rattle.convoy_toml.specs.Times.{draft_of_written, need_least, tick_of}
 use Rattle.convoy_toml.specs.Ways.{has_ranges, with_least}
 use Rattle.convoy_toml.proofs.FinerDrafts.{after_ok, drafts_finer, finer_ticks, of_tick, plain_draft, same_ok, tick_kept}
 use Rattle.convoy_finer.specs.FinerTexts.{GreatestOfFinerTexts, HaveSameGreatest, written_of_text}
@@ -123,8 +123,8 @@ texts_same grounds times text finer_text scenario finer say e f real =
     let read : AreRead times tick plain made.least = record {
       some = say.some;
       real = written_real;
-      low = made.within;
-      fine_low = are.finer_within;
+      low = subst (λ (t : Time). need_least t made.delay made.least ≡ Ok tt) written_real made.within;
+      fine_low = subst (λ (t : Time). need_least t (finer_ticks times made.delay) more ≡ Ok tt) written_real are.finer_within;
       ranged = ranged;
       holds = subst (λ (d : Draft). judge (checks d) ≡ Ok tt) draft_is p.0;
       fine_holds = subst (λ (d : Draft). judge (checks d) ≡ Ok tt) finer_is q.0;

@@ -252,19 +252,19 @@ pub record Made (written : WrittenScenario) (tick : Option ℕ) (draft : Draft) 
   pub links : List DraftLink
   pub messages : List DraftMessage
   pub told : is_some least ≡ is_some written.least
-  pub within : need_least delay least ≡ Ok tt
+  pub within : need_least written.time delay least ≡ Ok tt
   pub is : draft ≡ with_least least (plain_draft written tick delay links messages)
 
 -- one draft, and that of the same in ticks so many times as fine
 pub record AreMade (written : WrittenScenario) (times tick : ℕ) (draft finer : Draft) : Type 0 where
   pub made : Made written (Some (times * tick)) draft
-  pub finer_within : need_least (finer_ticks times made.delay) (option_map (finer_ticks times) made.least) ≡ Ok tt
+  pub finer_within : need_least written.time (finer_ticks times made.delay) (option_map (finer_ticks times) made.least) ≡ Ok tt
   pub finer_is : finer ≡ with_least (option_map (finer_ticks times) made.least) (plain_draft written (Some tick) (finer_ticks times made.delay) (map (finer_link times) made.links) (map (finer_message times) made.messages))
 
 -- what is left to do after each step
 abbrev of_links : WrittenScenario → Option ℕ → Option ℤ → Option ℤ → List DraftMessage → List Bundle → List DraftLink → Result Draft ScenarioFault
 of_links written tick delay least messages bundles links =
-    need_least (delay_or_greatest delay bundles) least >>= λ within. Ok (with_least least (plain_draft written tick (delay_or_greatest delay bundles) links messages))
+    need_least written.time (delay_or_greatest delay bundles) least >>= λ within. Ok (with_least least (plain_draft written tick (delay_or_greatest delay bundles) links messages))
 
 abbrev of_bundles : WrittenScenario → Option ℕ → Option ℤ → Option ℤ → List DraftMessage → List Bundle → Result Draft ScenarioFault
 of_bundles written tick delay least messages bundles = links_of_bundles bundles >>= of_links written tick delay least messages bundles
@@ -307,7 +307,7 @@ drafts_finer written times tick draft finer some lasts lasting e f =
     let bundles = after_ok (bundles_of coarse written.links) (of_bundles written coarse delay.0 least.0 messages.0) draft messages.2 in
     let links = after_ok (links_of_bundles bundles.0) (of_links written coarse delay.0 least.0 messages.0 bundles.0) draft bundles.2 in
     let d = delay_or_greatest delay.0 bundles.0 in
-    let within = after_ok (need_least d least.0) (λ u. Ok (with_least least.0 (plain_draft written coarse d links.0 messages.0))) draft links.2 in
+    let within = after_ok (need_least written.time d least.0) (λ u. Ok (with_least least.0 (plain_draft written coarse d links.0 messages.0))) draft links.2 in
     let more = option_map (finer_ticks times) least.0 in
     let fine_delay = written_finer times tick lasts Delay written.delay delay.0 two.0 delay.1 in
     let fine_least = written_finer times tick lasts Least written.least least.0 two.1 least.1 in
@@ -316,8 +316,8 @@ drafts_finer written times tick draft finer some lasts lasting e f =
     let fine_links = links_finer times bundles.0 links.0 links.1 in
     let fine_d = delay_finer times some delay.0 bundles.0 in
     let made : Draft = plain_draft written (Some tick) (finer_ticks times d) (map (finer_link times) links.0) (map (finer_message times) messages.0) in
-    let as_fine : (need_least (finer_ticks times d) more >>= λ u. Ok (with_least more made)) ≡ Ok finer = rw (fine_delay, fine_least, fine_messages, fine_bundles, fine_links, fine_d) at f in
-    let fine_within = after_ok (need_least (finer_ticks times d) more) (λ u. Ok (with_least more made)) finer as_fine in
+    let as_fine : (need_least written.time (finer_ticks times d) more >>= λ u. Ok (with_least more made)) ≡ Ok finer = rw (fine_delay, fine_least, fine_messages, fine_bundles, fine_links, fine_d) at f in
+    let fine_within = after_ok (need_least written.time (finer_ticks times d) more) (λ u. Ok (with_least more made)) finer as_fine in
     record {
       made = record { least = least.0; delay = d; links = links.0; messages = messages.0; told = least_told coarse Least written.least least.0 least.1; within = within.1; is = sym (same_ok (with_least least.0 (plain_draft written coarse d links.0 messages.0)) draft within.2) };
       finer_within = fine_within.1;
@@ -342,7 +342,7 @@ tick_kept written tick draft e =
     let bundles = after_ok (bundles_of tick written.links) (of_bundles written tick delay.0 least.0 messages.0) draft messages.2 in
     let links = after_ok (links_of_bundles bundles.0) (of_links written tick delay.0 least.0 messages.0 bundles.0) draft bundles.2 in
     let plain = plain_draft written tick (delay_or_greatest delay.0 bundles.0) links.0 messages.0 in
-    let within = after_ok (need_least (delay_or_greatest delay.0 bundles.0) least.0) (λ u. Ok (with_least least.0 plain)) draft links.2 in
+    let within = after_ok (need_least written.time (delay_or_greatest delay.0 bundles.0) least.0) (λ u. Ok (with_least least.0 plain)) draft links.2 in
     let is : with_least least.0 plain ≡ draft = same_ok (with_least least.0 plain) draft within.2 in
     let kept = least_ticks least.0 plain in
     (ap (λ (d : Draft). d.time) (sym is) ∙ kept.0, ap (λ (d : Draft). d.tick) (sym is) ∙ kept.1)

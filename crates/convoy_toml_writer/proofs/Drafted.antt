@@ -1,15 +1,15 @@
 -- The draft of what is written of a scenario is the scenario by names.
-use Rattle.std.proofs.Common.{◌≡◌, ℕ, ◌+◌, ◌≤◌, leb, true, List, [], ◌∷◌, ◌++◌, map, flat_map, length, pos, ℤ, Option, Some, None, Ok, refl, ap, ◌∙◌, arith, inl, inr}
+use Rattle.std.proofs.Common.{◌≡◌, ℕ, ◌+◌, ◌≤◌, leb, true, not, List, [], ◌∷◌, ◌++◌, map, flat_map, length, pos, ℤ, Option, Some, None, Ok, refl, ap, ◌∙◌, arith, inl, inr}
 use Rattle.std.specs.List.{list_all, sum_by}
-use Rattle.std.proofs.lemmas.Bool.{cases_Bool, le-leb, ltb-false, false≢true}
+use Rattle.std.proofs.lemmas.Bool.{cases_Bool, le-leb, ltb-false, false≢true, or_right}
 use Rattle.std.proofs.lemmas.List.Sums.{sum_by-cons}
-use Rattle.convoy_draft.specs.declared.limits.TheConstants.{MOST_LINKS}
+use Rattle.convoy_draft.specs.declared.limits.TheConstants.{GREATEST_DELAY, MOST_LINKS}
 use Rattle.convoy_draft.specs.declared.fault.Key.TheVariants.{Least}
 use Rattle.convoy_draft.specs.declared.time.Time.{Time}
 use Rattle.convoy_draft.specs.declared.time.Time.TheVariants.{Ticks, Real}
 use Rattle.convoy_scenario.specs.declared.sender.Sender.{Sender}
 use Rattle.convoy_scenario.specs.declared.sender.Sender.TheVariants.{Client, Group}
-use Rattle.convoy_draft.specs.Checks.{leads_elsewhere}
+use Rattle.convoy_draft.specs.Checks.{is_within, leads_elsewhere}
 use Rattle.convoy_draft.specs.Draft.{Draft, DraftLink, DraftMessage}
 use Rattle.convoy_scenario.specs.Naming.{draft_for, draft_link, draft_message}
 use Rattle.convoy_scenario.specs.Scenario.{Link, Message, Scenario, may_wait}
@@ -18,7 +18,7 @@ use Rattle.convoy_toml.specs.declared.written.WrittenTime.{WrittenTime}
 use Rattle.convoy_toml.specs.declared.written.WrittenTime.TheVariants.{Count}
 use Rattle.convoy_toml.specs.Links.{Bundle, apart, ways_of, count_of, links_of_bundle, links_of_bundles}
 use Rattle.convoy_toml.specs.Shape.{WrittenScenario}
-use Rattle.convoy_toml.specs.Times.{is_count, if_written, times_of_message, times_of_links, times_of, tick_of, last_tick, whole_if_written, need_least, draft_messages_of, bundles_of, draft_of_written}
+use Rattle.convoy_toml.specs.Times.{is_count, if_written, times_of_message, times_of_links, times_of, tick_of, last_tick, whole_if_written, is_least, need_least, draft_messages_of, bundles_of, draft_of_written}
 use Rattle.convoy_toml.specs.Ways.{with_least}
 use Rattle.convoy_toml_writer.proofs.Shaped.{written_least, written_link, written_until, written_message, written_scenario}
 
@@ -134,9 +134,11 @@ least_whole : (tick : Option ℕ) (time : Time) → whole_if_written tick Least 
 least_whole tick Ticks = refl
 least_whole tick Real = refl
 
-least_within : (delay : ℕ) (time : Time) → 1 ≤ delay → need_least (pos delay) (least_ticks time) ≡ Ok tt
+least_within : (delay : ℕ) (time : Time) → 1 ≤ delay → need_least time (pos delay) (least_ticks time) ≡ Ok tt
 least_within delay Ticks some = refl
-least_within delay Real some = rw (le-leb 1 delay some) refl
+least_within delay Real some =
+    let holds : is_least Real (pos delay) (Some (pos 1)) ≡ true = or_right (not (is_within 1 GREATEST_DELAY (pos delay))) (leb 1 delay) (le-leb 1 delay some) in
+    rw holds refl
 
 least_adds_none : (time : Time) (draft : Draft) → with_least (least_ticks time) draft ≡ draft
 least_adds_none Ticks draft = refl
@@ -144,7 +146,7 @@ least_adds_none Real draft = refl
 
 -- step by step
 in_steps : (scenario : WrittenScenario) (tick : Option ℕ) (delay : ℕ) (least : Option ℤ) (messages : List DraftMessage) (bundles : List Bundle) (links : List DraftLink) → tick_of scenario ≡ Ok tick → scenario.delay ≡ Some (Count (pos delay))
-    → whole_if_written tick Least scenario.least ≡ Ok least → draft_messages_of tick scenario.messages ≡ Ok messages → bundles_of tick scenario.links ≡ Ok bundles → links_of_bundles bundles ≡ Ok links → need_least (pos delay) least ≡ Ok tt
+    → whole_if_written tick Least scenario.least ≡ Ok least → draft_messages_of tick scenario.messages ≡ Ok messages → bundles_of tick scenario.links ≡ Ok bundles → links_of_bundles bundles ≡ Ok links → need_least scenario.time (pos delay) least ≡ Ok tt
     → let draft : Draft = record { time = scenario.time; tick = tick; delay = pos delay; groups = scenario.groups; links = links; messages = messages; target_message = scenario.target_message; target_group = scenario.target_group } in
     draft_of_written scenario ≡ Ok (with_least least draft)
 in_steps scenario tick delay least messages bundles links has_tick has_delay has_least has_messages has_bundles has_links within = rw (has_tick, has_delay, has_least, has_messages, has_bundles, has_links, within) refl
