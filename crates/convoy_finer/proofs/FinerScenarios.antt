@@ -52,14 +52,21 @@ when_ok false fault u e = absurd cc
 -- it is within the limit, as D is
 least_within : (least : ℕ) (delay : ℤ) → is_within 1 GREATEST_DELAY delay ≡ true → need_least Real delay (Some (pos least)) ≡ Ok tt → (1 ≤ least) × (is_within 0 GREATEST_DELAY (pos least) ≡ true)
 least_within least (pos d) within e =
-    let told = when_ok (is_least Real (pos d) (Some (pos least))) (OverLimit limits.Least) tt e in
-    let holds : (leb 1 least && leb least d) ≡ true = rw within at told in
+    let either = when_ok (is_least Real (pos d) (Some (pos least))) (OverLimit limits.Least) tt e in
+    let holds : (leb 1 least && leb least d) ≡ true = rw within at either in
     let parts = and_parts (leb 1 least) (leb least d) holds in
     let low = leb-true 1 least parts.0 in
     let high = leb-true least d parts.1 in
     let top = leb-true d GREATEST_DELAY (and_parts (leb 1 d) (leb d GREATEST_DELAY) within).1 in
     (low, within_from GREATEST_DELAY least (omega arith))
 least_within least (negsuc d) within e = absurd (false≢true within)
+
+-- nor is it below 0
+not_negative : (least : ℕ) (delay : ℤ) → is_within 1 GREATEST_DELAY delay ≡ true → need_least Real delay (Some (negsuc least)) ≡ Ok tt → ⊥
+not_negative least delay within e =
+    let either = when_ok (is_least Real delay (Some (negsuc least))) (OverLimit limits.Least) tt e in
+    let never : false ≡ true = rw within at either in
+    false≢true never
 
 delay_within : (delay : ℤ) → is_within 1 GREATEST_DELAY delay ≡ true → is_within 0 GREATEST_DELAY delay ≡ true
 delay_within (pos d) within = within_from GREATEST_DELAY d (leb-true d GREATEST_DELAY (and_parts (leb 1 d) (leb d GREATEST_DELAY) within).1)
@@ -142,9 +149,7 @@ module _ (times tick : ℕ) (plain : Draft) (way : Way) where
       absurd (none_lacks plain way real ranged (lacks plain way between carried (none_leads plain.groups way plain.links (sender_itself from) e)))
   along (Some (pos least)) None e some are within fine_within low fine_low real ranged between carried = by_least least some are within fine_within low fine_low between carried e
   along (Some (negsuc least)) None e some are within fine_within low fine_low real ranged between carried =
-      let told = when_ok (is_least Real plain.delay (Some (negsuc least))) (OverLimit limits.Least) tt low in
-      let never : false ≡ true = rw within at told in
-      absurd (false≢true never)
+      absurd (not_negative least plain.delay within low)
 
 -- ---- the two scenarios
 

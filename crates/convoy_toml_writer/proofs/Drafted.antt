@@ -1,11 +1,9 @@
 -- The draft of what is written of a scenario is the scenario by names.
-use Rattle.std.proofs.Common.{◌≡◌, ℕ, ◌+◌, ◌≤◌, leb, Bool, true, false, not, ◌||◌, cond, List, [], ◌∷◌, ◌++◌, map, flat_map, length, pos, ℤ, Option, Some, None, Ok, Err, refl, ap, ◌∙◌, arith, inl, inr}
+use Rattle.std.proofs.Common.{◌≡◌, ℕ, ◌+◌, ◌≤◌, leb, true, not, List, [], ◌∷◌, ◌++◌, map, flat_map, length, pos, ℤ, Option, Some, None, Ok, refl, ap, ◌∙◌, arith, inl, inr}
 use Rattle.std.specs.List.{list_all, sum_by}
-use Rattle.std.proofs.lemmas.Bool.{cases_Bool, le-leb, ltb-false, false≢true}
+use Rattle.std.proofs.lemmas.Bool.{cases_Bool, le-leb, ltb-false, false≢true, or_right}
 use Rattle.std.proofs.lemmas.List.Sums.{sum_by-cons}
 use Rattle.convoy_draft.specs.declared.limits.TheConstants.{GREATEST_DELAY, MOST_LINKS}
-use Rattle.convoy_draft.specs.declared.fault.ScenarioFault.TheVariants.{OverLimit}
-use Rattle.convoy_draft.specs.declared.fault.Limit.TheVariants as limits
 use Rattle.convoy_draft.specs.declared.fault.Key.TheVariants.{Least}
 use Rattle.convoy_draft.specs.declared.time.Time.{Time}
 use Rattle.convoy_draft.specs.declared.time.Time.TheVariants.{Ticks, Real}
@@ -20,7 +18,7 @@ use Rattle.convoy_toml.specs.declared.written.WrittenTime.{WrittenTime}
 use Rattle.convoy_toml.specs.declared.written.WrittenTime.TheVariants.{Count}
 use Rattle.convoy_toml.specs.Links.{Bundle, apart, ways_of, count_of, links_of_bundle, links_of_bundles}
 use Rattle.convoy_toml.specs.Shape.{WrittenScenario}
-use Rattle.convoy_toml.specs.Times.{is_count, if_written, times_of_message, times_of_links, times_of, tick_of, last_tick, whole_if_written, need_least, draft_messages_of, bundles_of, draft_of_written}
+use Rattle.convoy_toml.specs.Times.{is_count, if_written, times_of_message, times_of_links, times_of, tick_of, last_tick, whole_if_written, is_least, need_least, draft_messages_of, bundles_of, draft_of_written}
 use Rattle.convoy_toml.specs.Ways.{with_least}
 use Rattle.convoy_toml_writer.proofs.Shaped.{written_least, written_link, written_until, written_message, written_scenario}
 
@@ -138,10 +136,9 @@ least_whole tick Real = refl
 
 least_within : (delay : ℕ) (time : Time) → 1 ≤ delay → need_least time (pos delay) (least_ticks time) ≡ Ok tt
 least_within delay Ticks some = refl
-least_within delay Real some = rw (le-leb 1 delay some) (either (not (is_within 1 GREATEST_DELAY (pos delay)))) where
-  either : (b : Bool) → cond (b || true) (Ok tt) (Err (OverLimit limits.Least)) ≡ Ok tt
-  either true = refl
-  either false = refl
+least_within delay Real some =
+    let holds : is_least Real (pos delay) (Some (pos 1)) ≡ true = or_right (not (is_within 1 GREATEST_DELAY (pos delay))) (leb 1 delay) (le-leb 1 delay some) in
+    rw holds refl
 
 least_adds_none : (time : Time) (draft : Draft) → with_least (least_ticks time) draft ≡ draft
 least_adds_none Ticks draft = refl
