@@ -9,7 +9,7 @@ use convoy_arguments::Verdict;
 use convoy_commands::{Fault, Sink, Watch};
 use convoy_inputs::{InputSource, Opener, source_of};
 use std::alloc::Global;
-use std::io::{Read, Stdin};
+use std::io::Stdin;
 use std::sync::Wait;
 use std::thread::Threads;
 
