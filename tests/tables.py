@@ -65,9 +65,9 @@ def rows_of_text(out):
 
 
 def rows_of_csv(out):
-    """The rows of CSV."""
+    """The rows of CSV. An apostrophe at the head of a cell is no part of it."""
     for row in csv.DictReader(io.StringIO(out, newline=""), strict=True):
-        yield {name: None if cell == "" else int(cell) if cell.isdecimal() else cell for name, cell in row.items()}
+        yield {name: None if cell == "" else int(cell) if cell.isdecimal() else cell.removeprefix("'") for name, cell in row.items()}
 
 
 def aligned(out):

@@ -3,7 +3,7 @@
 //! (docs/HINTS.md).
 
 use super::ending::End;
-use super::kept::{KeptReader, KeptWriter};
+use super::kept::KeptWriter;
 use convoy_arguments::{Input, REJECTED, Task, Verdict, hint_for_words};
 use convoy_batch::MOST_JOBS;
 use convoy_commands::{
@@ -18,6 +18,7 @@ use convoy_hints::{
     hint_for_order_in_ticks, hint_for_plain_numbers, hint_for_reading, hint_for_real_time,
     hint_for_scenario, hint_for_tickets, hint_for_writing, is_in_real_time, line_for_file,
 };
+use convoy_inputs::KeptReader;
 use std::alloc::{AllocError, Global};
 use std::io::{Error, Write};
 

@@ -27,23 +27,24 @@ ghost use Rattle.convoy.specs.Verdicts.{
 
 mod ending;
 mod hinting;
-mod input;
 mod kept;
+mod obeying;
 mod progress;
 
 use convoy_about::{read_scenario, run_check_about};
 use convoy_arguments::{Input, MOST_READS, Task, Verdict, judge, judge_bytes};
 use convoy_batch::{run_batch, run_batch_table};
 use convoy_commands::{
-    Command, DeviceFailed, Fault, Options, SearchEnd, Sink, Source, StreamSink, StreamSource,
-    Watch, fault_line, run, run_search, write_all,
+    Command, DeviceFailed, Fault, Options, SearchEnd, Sink, Source, StreamSink, Watch, fault_line,
+    run, run_search, write_all,
 };
+use convoy_inputs::hold_closed;
 use convoy_survey::{Format, run_ceilings, run_survey};
 use convoy_what_if::run_what_if;
 use ending::End;
 use hinting::{Ended, greeting, reads_standard, tell_ended, write_line};
-use input::open_input;
-use kept::{KeptReader, KeptWriter};
+use kept::KeptWriter;
+use obeying::open_and_obey;
 use progress::{Progress, screen_for};
 use std::alloc::Global;
 use std::io::{ErrorKind, IsTerminal};
@@ -66,6 +67,7 @@ const OPEN: u8 = 3;
 const REFUSED: u8 = 4;
 
 fn main(rt: HostRuntime) -> ExitCode {
+    let _held = hold_closed(&rt);
     let alloc = rt.alloc();
     let words = words(&rt);
     let verdict = verdict(alloc, &words);
@@ -73,29 +75,13 @@ fn main(rt: HostRuntime) -> ExitCode {
     if !verdict.is_quiet() && reads_standard(&verdict) && rt.stdin().is_terminal() {
         write_line(&mut rt.stderr(), greeting(alloc, &verdict));
     }
-    let input = open_input(&rt, rt.stdin(), verdict.file());
-    let mut source = StreamSource {
-        reader: KeptReader::new(alloc, input),
-    };
-    let scenario = open_input(&rt, rt.stdin(), verdict.scenario_file());
-    let mut scenario_source = StreamSource {
-        reader: KeptReader::new(alloc, scenario),
-    };
     let mut sink = StreamSink {
         writer: KeptWriter::new(rt.stdout()),
     };
     let screen = screen_for(&verdict, rt.stderr().is_terminal());
     let progress = Progress::new(&rt, alloc, rt.stderr(), screen);
-    let result = obey(
-        &rt,
-        alloc,
-        &verdict,
-        &mut source,
-        &mut scenario_source,
-        &mut sink,
-        &progress,
-    );
-    let status = match &result {
+    let obeyed = open_and_obey(&rt, alloc, rt.stdin(), &verdict, &mut sink, &progress);
+    let status = match &obeyed.result {
         Ok(end) => end.status(),
         Err(fault) => {
             tell(alloc, fault, &mut sink);
@@ -105,9 +91,9 @@ fn main(rt: HostRuntime) -> ExitCode {
     let ended = Ended {
         verdict: &verdict,
         words: &words,
-        result: &result,
-        reader: &source.reader,
-        scenario_reader: &scenario_source.reader,
+        result: &obeyed.result,
+        reader: &obeyed.source.reader,
+        scenario_reader: &obeyed.other.reader,
         writer: &sink.writer,
         greatest: progress.greatest(),
     };

@@ -1,5 +1,5 @@
 -- What a command line asks for.
-use Rattle.std.specs.Prelude.{◌≡◌, ◌⊎◌, ℕ, List, Option, Some, None}
+use Rattle.std.specs.Prelude.{◌≡◌, ◌⊎◌, ℕ, List, Option, Some, None, IsTrue, string_bytes}
 use Rattle.convoy_commands.specs.declared.command.Command.TheVariants.{Direct, Search}
 use Rattle.convoy_arguments.specs.declared.limits.TheConstants.{MOST_READS}
 use Rattle.convoy_arguments.specs.declared.task.Task.{Task}
@@ -9,6 +9,7 @@ use Rattle.convoy_arguments.specs.declared.input.Input.TheVariants.{Standard}
 use Rattle.convoy_arguments.specs.declared.verdict.Verdict.{Verdict}
 use Rattle.convoy_arguments.specs.declared.verdict.Verdict.TheVariants.{Ask, Text, Memory}
 use Rattle.convoy_arguments.specs.Inputs.{file_in}
+use Rattle.convoy_arguments.specs.Texts.{are_shown}
 
 -- where the task has options of a search, they allow as many reads as all tasks have
 abbrev pub HasReads : Task → Type 0
@@ -27,10 +28,10 @@ AreApart (CheckAbout (Some Standard) tells) Standard = ⊥
 AreApart task input = Unit {0}
 
 -- The program ends at once: with a text, which has the status of help or of a command line that is
--- rejected, or for want of memory.
+-- rejected, and no character that a terminal would obey; or for want of memory.
 abbrev pub EndsAtOnce : Verdict → Type 0
 EndsAtOnce (Ask task input manner) = ⊥
-EndsAtOnce (Text text status is_quiet) = (status ≡ 0) ⊎ (status ≡ 2)
+EndsAtOnce (Text text status is_quiet) = ((status ≡ 0) ⊎ (status ≡ 2)) × IsTrue (are_shown (string_bytes text))
 EndsAtOnce Memory = Unit {0}
 
 -- a task on an input, or an end at once

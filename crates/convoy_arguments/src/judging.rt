@@ -1,6 +1,7 @@
-ghost use Rattle.std.specs.Prelude.{IfOk};
+ghost use Rattle.std.specs.Prelude.{◌≡◌, ◌⊎◌, IfOk};
 ghost use Rattle.convoy_arguments.specs.Verdicts.{EndsAtOnce, HasReads, IsVerdict};
 
+use super::escaping::{are_shown, with_escapes};
 use super::input::Input;
 use super::limits::{HELP, REJECTED};
 use super::manner::Manner;
@@ -27,7 +28,25 @@ pub fn judge<S: AsStr>(alloc: Global, words: &[S]) -> Verdict
 {
     match verdict_of(alloc, words) {
         Ok(verdict) => verdict,
-        Err(error) => rejection(alloc, &error, asks_for_quiet(words)),
+        Err(error) => rejection(
+            alloc,
+            &error_to_show(alloc, words, error),
+            asks_for_quiet(words),
+        ),
+    }
+}
+
+/// Why words are rejected, told of these words with escapes in place of control characters. They are rejected as the
+/// words themselves are, since no command and no option has a backslash in its name, and no value but that of a name.
+fn error_to_show<S: AsStr>(alloc: Global, words: &[S], error: Error) -> Error {
+    let escaped = match with_escapes(alloc, words) {
+        Ok(None) => return error,
+        Ok(Some(escaped)) => escaped,
+        Err(failed) => return Error::from(failed),
+    };
+    match verdict_of(alloc, &escaped) {
+        Ok(_) => error,
+        Err(error) => error,
     }
 }
 
@@ -40,11 +59,27 @@ fn asks_for_quiet<S: AsStr>(words: &[S]) -> bool {
 pub fn judge_bytes(alloc: Global) -> Verdict
     ensures { EndsAtOnce result }
 {
-    match String::from_str(alloc, "error: the command line is not UTF-8\n") {
+    told(
+        alloc,
+        "error: the command line is not UTF-8\n",
+        REJECTED,
+        false,
+    )
+}
+
+/// The verdict that ends the program with that text. A text that a terminal might obey is left out: since words are
+/// told with escapes, there is none.
+#[tactic(auto, using(crate::proofs::Shown::nothing_is_shown))]
+fn told(alloc: Global, text: &str, status: u8, is_quiet: bool) -> Verdict
+    requires { (status ≡ 0) ⊎ (status ≡ 2) }
+    ensures { EndsAtOnce result }
+{
+    let shown = if are_shown(text) { text } else { "" };
+    match String::from_str(alloc, shown) {
         Ok(text) => Verdict::Text {
             text,
-            status: REJECTED,
-            is_quiet: false,
+            status,
+            is_quiet,
         },
         Err(AllocError) => Verdict::Memory,
     }
@@ -114,11 +149,7 @@ fn asked(alloc: Global, task: Task, input: Input, manner: Manner) -> Result<Verd
         Input::Standard,
     ) = (&task, &input)
     {
-        return Ok(Verdict::Text {
-            text: String::from_str(alloc, BOTH_STANDARD)?,
-            status: REJECTED,
-            is_quiet: manner.is_quiet,
-        });
+        return Ok(told(alloc, BOTH_STANDARD, REJECTED, manner.is_quiet));
     }
     Ok(Verdict::Ask {
         task,
@@ -240,11 +271,7 @@ fn rejection(alloc: Global, error: &Error, is_quiet: bool) -> Verdict
         REJECTED
     };
     match error.to_string(alloc) {
-        Ok(text) => Verdict::Text {
-            text,
-            status,
-            is_quiet,
-        },
+        Ok(text) => told(alloc, text.as_str(), status, is_quiet),
         Err(_) => Verdict::Memory,
     }
 }

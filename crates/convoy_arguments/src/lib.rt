@@ -10,6 +10,7 @@ pub use task::Task;
 pub use verdict::Verdict;
 pub use word_hints::hint_for_words;
 
+mod escaping;
 mod help;
 mod input;
 mod judging;

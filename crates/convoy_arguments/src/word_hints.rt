@@ -250,14 +250,14 @@ fn hint_for_option(alloc: Global, sorted: &Sorted<'_>) -> Result<Option<String>,
     }
 }
 
-/// Words that go on with a command line, each after a space.
+/// Words that go on with a command line, each after a space: in quotes where they need them.
 #[derive(Clone, Copy, Drop)]
 struct Following<'a>(&'a [&'a str]);
 
 impl fmt::Display for Following<'_> {
     fn fmt<W: fmt::Write>(&self, f: &mut fmt::Formatter<W>) -> fmt::Result {
         for word in self.0 {
-            write!(f, " {word}")?;
+            write_word(f, " ", word)?;
         }
         Ok(())
     }
@@ -270,21 +270,29 @@ struct Named<'a>(&'static str, Option<&'a str>);
 
 impl fmt::Display for Named<'_> {
     fn fmt<W: fmt::Write>(&self, f: &mut fmt::Formatter<W>) -> fmt::Result {
-        let before = self.0;
         match self.1 {
-            Some(file) if is_plain(file) => write!(f, "{before}{file}"),
-            Some(file) => {
-                let file = Quoted(file);
-                write!(f, "{before}{file}")
-            }
+            Some(file) => write_word(f, self.0, file),
             None => Ok(()),
         }
     }
 }
 
-/// Whether the name of a file can stand in a command line as it is.
-fn is_plain(file: &str) -> bool {
-    !file.is_empty() && file.bytes().all(|byte| byte.is_ascii_graphic())
+/// Writes a word as it goes on with a command line, after that text: in quotes where it needs them.
+fn write_word<W: fmt::Write>(
+    formatter: &mut fmt::Formatter<W>,
+    before: &str,
+    word: &str,
+) -> fmt::Result {
+    if is_plain(word) {
+        return write!(formatter, "{before}{word}");
+    }
+    let word = Quoted(word);
+    write!(formatter, "{before}{word}")
+}
+
+/// Whether a word can stand in a command line as it is.
+fn is_plain(word: &str) -> bool {
+    !word.is_empty() && word.bytes().all(|byte| byte.is_ascii_graphic())
 }
 
 /// The format that an option is, by which other programs let it be chosen.

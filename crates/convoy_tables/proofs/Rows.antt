@@ -30,3 +30,9 @@ as_json = refl
 -- a table without rows
 no_rows : table_text Json (record table { rows = [] }) ≡ codes "[\n]\n"
 no_rows = refl
+
+-- a text that a spreadsheet would take for a formula, and one that begins with the apostrophe
+as_no_formula : table_text Csv (record table { rows = (word (codes "=1+1") ∷ nothing ∷ word (codes "-\"a\"") ∷ []) ∷ (word (codes "'b") ∷ number 3 ∷ word (codes "a-b") ∷ []) ∷ [] }) ≡
+    codes "name,n,x\n\"'=1+1\",,\"'-\"\"a\"\"\"\n\"''b\",3,a-b\n"
+unfolding digits
+as_no_formula = refl

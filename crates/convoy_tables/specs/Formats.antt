@@ -1,5 +1,5 @@
 -- How a table is written, in each of the three formats.
-use Rattle.std.specs.Prelude.{ℕ, ◌+◌, ◌-◌, ◌/◌, ◌%◌, ◌==◌, nat_lt, max, Bool, ◌||◌, if◌then◌else◌, List, [], ◌∷◌, ◌++◌, length, map, codes, replicate, slice_index_or}
+use Rattle.std.specs.Prelude.{ℕ, ◌+◌, ◌-◌, ◌/◌, ◌%◌, ◌==◌, nat_lt, max, Bool, false, ◌||◌, if◌then◌else◌, List, [], ◌∷◌, ◌++◌, length, map, codes, replicate, slice_index_or}
 use Rattle.std.specs.List.{enumerate_from, flat_map, fold, list_any, range_with_len}
 use Rattle.convoy_tables.specs.declared.cell.Kind.{Kind}
 use Rattle.convoy_tables.specs.declared.cell.Kind.TheVariants.{Word, Number, Nothing}
@@ -43,12 +43,30 @@ aligned width is_last cell =
 abbrev pub needs_quotes : ℕ → Bool
 needs_quotes c = c == 34 || c == 44 || c == 10 || c == 13
 
+-- a byte that, at the head of a field, has a spreadsheet take it for a formula (`=`, `+`, `-`, `@`, a tab, a carriage
+-- return), or the apostrophe that keeps it from that
+abbrev pub is_telling : ℕ → Bool
+is_telling c = c == 61 || c == 43 || c == 45 || c == 64 || c == 9 || c == 13 || c == 39
+
+-- the text begins with such a byte
+abbrev pub begins_telling : List ℕ → Bool
+begins_telling [] = false
+begins_telling (c ∷ others) = is_telling c
+
 -- a quote in a field is doubled
 abbrev pub csv_byte : ℕ → List ℕ
 csv_byte c = if c == 34 then 34 ∷ 34 ∷ [] else c ∷ []
 
+-- a text between quotes
+abbrev pub csv_quoted : List ℕ → List ℕ
+csv_quoted text = 34 ∷ (flat_map csv_byte text ++ 34 ∷ [])
+
+-- the text of a cell: after an apostrophe, in quotes, where a spreadsheet would take it for a formula
 abbrev pub csv_field : List ℕ → List ℕ
-csv_field text = if list_any needs_quotes text then 34 ∷ (flat_map csv_byte text ++ 34 ∷ []) else text
+csv_field text =
+    if begins_telling text then csv_quoted (39 ∷ text)
+    else if list_any needs_quotes text then csv_quoted text
+    else text
 
 -- JSON
 abbrev pub hex_digit : ℕ → ℕ
