@@ -1,6 +1,6 @@
--- What is told of a picture in words: the answer, each packet on its way, and what happens at each group.
-use Rattle.std.specs.Prelude.{ℕ, List, ◌∷◌, ◌++◌, codes, decimal}
-use Rattle.convoy_scenario.specs.Scenario.{Scenario, group_name_at}
+-- What is told of a picture in words: the answer and its reason, each packet on its way, and what happens at each group.
+use Rattle.std.specs.Prelude.{ℕ, List, ◌∷◌, ◌++◌, Option, None, Some, codes, decimal}
+use Rattle.convoy_scenario.specs.Scenario.{Scenario, group_name_at, message_at}
 use Rattle.convoy_packets.specs.Assignment.{receiver_of}
 use Rattle.convoy_packets.specs.declared.packet.Packet.{Packet}
 use Rattle.convoy_packets.specs.declared.packet.Packet.TheVariants.{Wait, Multicast, Propose as Proposal}
@@ -9,6 +9,7 @@ use Rattle.convoy_timeline.specs.declared.entry.EntryKind.{EntryKind}
 use Rattle.convoy_timeline.specs.declared.entry.EntryKind.TheVariants.{Propose, Commit, Deliver}
 use Rattle.convoy_explain.specs.Explanations.{message_name_at, sender_text, stamp_text, ticks_text}
 use Rattle.convoy_explain.specs.declared.explanation.Explanation.{Explanation}
+use Rattle.convoy_explain.specs.declared.explanation.Holder.{Holder}
 use Rattle.convoy_picture.specs.declared.flight.Flight.{Flight}
 
 -- how late the target is at worst, and in the unit of a tick where its length is known
@@ -17,6 +18,22 @@ answer_text scenario why =
     message_name_at scenario scenario.target_message
     ++ (codes " at " ++ (group_name_at scenario scenario.target_group
     ++ (codes ": at worst " ++ ticks_text scenario.tick why.latency)))
+
+-- when the target is committed and delivered, and what it waits for between the two
+abbrev pub outcome_text : Scenario → Explanation → Option Holder → List ℕ
+outcome_text scenario why None = codes "; it is delivered as it is committed, at tick " ++ decimal why.delivered
+outcome_text scenario why (Some holder) =
+    codes "; committed at tick " ++ (decimal why.committed
+    ++ (codes ", it waits for " ++ (message_name_at scenario holder.message
+    ++ (codes ", and is delivered at tick " ++ decimal why.delivered))))
+
+-- why the target is so late: who issues it and when, and what becomes of it
+unfoldable pub reason_text : Scenario → Explanation → List ℕ
+reason_text scenario why =
+    let target = message_at scenario scenario.target_message in
+    sender_text scenario target.sender
+    ++ (codes " issues " ++ (target.name
+    ++ (codes " at tick " ++ (decimal target.at ++ outcome_text scenario why why.holder))))
 
 -- what a packet brings
 abbrev pub load_text : Scenario → Packet → List ℕ

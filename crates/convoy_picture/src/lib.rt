@@ -5,7 +5,7 @@
 pub use flight::Flight;
 pub use picture::Picture;
 pub use role::Role;
-pub use told::{answer_words, entry_words, flight_words, receiver_of};
+pub use told::{answer_words, entry_words, flight_words, reason_words, receiver_of};
 
 mod flight;
 mod picture;

@@ -1,11 +1,12 @@
 ghost use Rattle.std.specs.Prelude.{◌≡◌, IfOk, string_bytes};
-ghost use Rattle.convoy_picture.specs.Words.{answer_text, doing_text, entry_text, flight_text, load_text};
+ghost use Rattle.convoy_picture.specs.Words.{answer_text, doing_text, entry_text, flight_text, load_text, outcome_text, reason_text};
 ghost use Rattle.convoy_packets.specs.Assignment.{receiver_of};
 
 use super::flight::Flight;
 use convoy_explain::{Explanation, sender_name, stamp_text, ticks_text};
 use convoy_packets::Packet;
 use convoy_scenario::Scenario;
+use convoy_scenario::lookup::{first_tick, sender_of};
 use convoy_scenario::naming::{group_name, message_name};
 use convoy_timeline::{Entry, EntryKind};
 use std::alloc::{AllocError, Global};
@@ -24,6 +25,50 @@ pub fn answer_words(
     let group = group_name(scenario, scenario.target_group());
     let latency = ticks_text(alloc, scenario, why.latency)?;
     format!(in alloc; "{message} at {group}: at worst {latency}")
+}
+
+/// Why the target of the scenario is so late, in a line: who issues it and when, what it waits for by the
+/// explanation of a run, and the tick at which it is delivered (docs/FORMATS.md, "What `draw` writes").
+/// Fails where memory runs out, and else never.
+#[tactic(auto, unfolding(crate::specs::Words::reason_text))]
+pub fn reason_words(
+    alloc: Global,
+    scenario: &Scenario,
+    why: &Explanation,
+) -> Result<String, AllocError>
+    ensures { IfOk result (λ words. string_bytes words ≡ reason_text scenario.now why.now) }
+{
+    let target = scenario.target_message();
+    let sender = sender_name(scenario, sender_of(scenario, target));
+    let name = message_name(scenario, target);
+    let at = first_tick(scenario, target);
+    let outcome = outcome_words(alloc, scenario, why)?;
+    format!(in alloc; "{sender} issues {name} at tick {at}{outcome}")
+}
+
+/// When the target is committed and delivered, and what it waits for between the two.
+fn outcome_words(
+    alloc: Global,
+    scenario: &Scenario,
+    why: &Explanation,
+) -> Result<String, AllocError>
+    ensures { IfOk result (λ words. string_bytes words ≡ outcome_text scenario.now why.now why.now.holder) }
+{
+    match &why.holder {
+        Some(holder) => {
+            let holder = message_name(scenario, holder.message);
+            format!(in alloc;
+                "; committed at tick {}, it waits for {holder}, and is delivered at tick {}",
+                why.committed, why.delivered,
+            )
+        }
+        None => {
+            format!(in alloc;
+                "; it is delivered as it is committed, at tick {}",
+                why.delivered,
+            )
+        }
+    }
 }
 
 /// A packet on its way in a run of the scenario, in words: its number, what it brings, from where to
