@@ -1,5 +1,5 @@
 -- The ways that packets go, and which of them have no link.
-use Rattle.std.specs.Prelude.{ℕ, ℤ, pos, int_le, if◌then◌else◌, Bool, true, false, ◌&&◌, ◌||◌, not, List, [], ◌∷◌, ◌++◌, map, flat_map, filter, take, Option, Some, None, length, ◌==◌}
+use Rattle.std.specs.Prelude.{ℕ, ℤ, pos, int_le, if◌then◌else◌, Bool, true, false, ◌&&◌, ◌||◌, not, List, ◌++◌, map, flat_map, filter, take, Option, Some, None, length, ◌==◌}
 use Rattle.std.specs.List.{list_any}
 use Rattle.std.specs.Str.{bytes_eq}
 use Rattle.convoy_draft.specs.declared.limits.TheConstants.{MOST_GROUPS}

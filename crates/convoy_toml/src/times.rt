@@ -3,7 +3,7 @@ ghost use Rattle.convoy_draft.specs.declared.duration.TheConstants.{LONGEST_DURA
 ghost use Rattle.std.specs.List.{list_all};
 ghost use Rattle.convoy_scenario.specs.Memory.{IsUnlessMemory};
 ghost use Rattle.convoy_toml.specs.Shape.{listed};
-ghost use Rattle.convoy_toml.specs.Times.{if_written, whole_if_written, greatest_most, delay_or_greatest, is_least, times_of_message, times_of_links, is_count, is_lasting, length_of, divisor_of_all, times_of, tick_between, tick_of, ticks_in, ticks_of, whole, last_tick, draft_message_of, draft_messages_of, bundle_of, bundles_of, draft_of_written};
+ghost use Rattle.convoy_toml.specs.Times.{if_written, whole_if_written, greatest_most, delay_or_greatest, is_least, need_least, times_of_message, times_of_links, is_count, is_lasting, length_of, divisor_of_all, times_of, tick_between, tick_of, ticks_in, ticks_of, whole, last_tick, draft_message_of, draft_messages_of, bundle_of, bundles_of, draft_of_written};
 
 use super::bundle::Bundle;
 use super::divisor::common_divisor;
@@ -295,6 +295,17 @@ fn is_least(time: Time, delay: i64, least: Option<i64>) -> bool
     !is_within(delay, 1, u32::from(time.greatest_delay())) || (1 <= least && least <= delay)
 }
 
+/// A least delay of what goes by no link that is not within 1 to D is a fault.
+fn need_least(time: Time, delay: i64, least: Option<i64>) -> Result<(), ScenarioFault>
+    ensures { result ≡ need_least time delay least }
+{
+    if is_least(time, delay, least) {
+        Ok(())
+    } else {
+        Err(ScenarioFault::OverLimit(Limit::Least))
+    }
+}
+
 /// D in ticks: what is written, or else the greatest delay of all links.
 fn delay_or_greatest(written: Option<i64>, bundles: &[Bundle]) -> i64
     ensures { result ≡ delay_or_greatest written bundles.now }
@@ -322,9 +333,7 @@ pub fn draft_of_written(
     let bundles = bundles_of(alloc, length, &scenario.links)?;
     let links = links_of_bundles(alloc, &bundles)?;
     let delay = delay_or_greatest(written, &bundles);
-    if !is_least(scenario.time, delay, least) {
-        return Err(ScenarioFault::OverLimit(Limit::Least));
-    }
+    need_least(scenario.time, delay, least)?;
     let draft = DraftScenario {
         time: scenario.time,
         tick,
