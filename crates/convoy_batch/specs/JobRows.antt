@@ -9,17 +9,16 @@ use Rattle.convoy_commands.specs.declared.fault.Fault.{Fault}
 use Rattle.convoy_commands.specs.declared.fault.Fault.TheVariants.{Memory, Reading}
 use Rattle.convoy_commands.specs.declared.limits.TheConstants.{LONGEST_JOB}
 use Rattle.convoy_commands.specs.Searches.{IsFaulty}
-use Rattle.convoy_survey.specs.Findings.{IsFinding, is_fault, is_open}
+use Rattle.convoy_survey.specs.Findings.{IsFinding, is_open}
 use Rattle.convoy_batch.specs.declared.job_row.JobFinding.{JobFinding}
 use Rattle.convoy_batch.specs.declared.job_row.JobRow.{JobRow}
 
--- A search for the scenario of a text found that of the latency that is asked there. Where memory runs out in the search, that is a fault and nothing found.
+-- A search for the scenario of a text found that of the latency that is asked there.
 pub record IsSearched (settings : Settings) (text : List ℕ) (found : JobFinding) : Type 0 where
   pub read : scenario_of_text text ≡ Ok found.instance
   pub finding : IsFinding settings found.instance found.finding
-  pub known : is_fault found.finding ≡ false
 
--- what may be found for a text: by a search, or the fault of the text, or that memory ran out
+-- what may be found for a text: by a search, or the fault of the text; or, as with each command, that memory ran out
 abbrev pub JobFinds : Settings → List ℕ → Result JobFinding Fault → Type 0
 JobFinds settings text (Ok found) = IsSearched settings text found
 JobFinds settings text (Err fault) = IsFaulty text fault ⊎ (fault ≡ Memory)

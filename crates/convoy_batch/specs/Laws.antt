@@ -11,6 +11,7 @@ use Rattle.convoy_commands.specs.Lines.{greatest_line}
 use Rattle.convoy_commands.specs.Searches.{LatencySays}
 use Rattle.convoy_survey.specs.declared.finding.Cause.{Cause}
 use Rattle.convoy_survey.specs.declared.finding.Finding.TheVariants.{Greatest}
+use Rattle.convoy_survey.specs.Findings.{Encloses, least_of, most_of}
 use Rattle.convoy_batch.specs.declared.job_row.JobFinding.{JobFinding}
 use Rattle.convoy_batch.specs.Batches.{BatchRunsTo}
 use Rattle.convoy_batch.specs.JobRows.{IsSearched}
@@ -32,3 +33,9 @@ JobRowsAreLatencies =
     (settings other : Settings) (text out : List ℕ) (found : JobFinding) (latency nodes : ℕ) (cause : Cause) →
     IsSearched settings text found → found.finding ≡ Greatest latency cause nodes → LatencySays other text (Ok (Fine, out)) →
     out ≡ greatest_line found.instance.tick latency
+
+-- The two numbers of a job's row, `least` and `most`, enclose the greatest latency of the job's scenario, whether or not the search ended.
+abbrev pub JobRowsEnclose : Type 0
+JobRowsEnclose =
+    (settings : Settings) (text : List ℕ) (found : JobFinding) → IsSearched settings text found →
+    Encloses found.instance (least_of found.finding) (most_of found.finding)

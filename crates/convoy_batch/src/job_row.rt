@@ -100,8 +100,6 @@ fn find_text<R: Threads + Wait + Sync>(
 {
     let scenario = read_toml(alloc, text)?.scenario;
     let instance = Instance::of(alloc, scenario)?;
-    match find(rt, alloc, &instance, options, &NoGate) {
-        Finding::OutOfMemory => Err(Fault::Memory),
-        finding => Ok(JobFinding { instance, finding }),
-    }
+    let finding = find(rt, alloc, &instance, options, &NoGate)?;
+    Ok(JobFinding { instance, finding })
 }

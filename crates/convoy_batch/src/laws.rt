@@ -1,7 +1,7 @@
 //! What follows from the contracts of batches, as calls that do nothing.
 
 ghost use Rattle.convoy_branch.specs.Options.{Settings};
-ghost use Rattle.convoy_batch.specs.Laws.{BatchFailuresAreTold, JobRowsAreLatencies};
+ghost use Rattle.convoy_batch.specs.Laws.{BatchFailuresAreTold, JobRowsAreLatencies, JobRowsEnclose};
 
 use convoy_survey::laws::rows_are_latencies;
 
@@ -19,3 +19,10 @@ pub fn job_rows_are_latencies()
 {
     rows_are_latencies();
 }
+
+/// In a batch that is answered as a table, the two numbers in the row of a job enclose the greatest latency of the
+/// job's scenario, also where the search did not end: some schedule has the least, and none has a latency above the
+/// most.
+pub fn job_rows_enclose()
+    ensures { JobRowsEnclose }
+{}

@@ -1,4 +1,4 @@
-pub mod Targets
 pub mod Numbers
 pub mod CeilingFaults
 pub mod KnownMessages
+pub mod CeilingRows

@@ -1,5 +1,6 @@
 -- The numbers of a row, and those that `latency` answers. This file is open to the crates above.
-use Rattle.std.proofs.Common.{◌≡◌, ◌≤◌, ℕ, List, Result, Ok, ap, sym, ◌∙◌, arith}
+use Rattle.std.proofs.Common.{◌≡◌, ◌≤◌, ℕ, List, Result, Ok, Err, IfOk, ap, subst, sym, ◌∙◌, arith}
+use Rattle.std.specs.declared.alloc.AllocError.{AllocError}
 use Rattle.convoy_scenario.specs.Scenario.{Scenario}
 use Rattle.convoy_draft.specs.declared.fault.ScenarioFault.{ScenarioFault}
 use Rattle.convoy_scenario.specs.Targets.{with_target}
@@ -9,6 +10,9 @@ use Rattle.convoy_branch.specs.Options.{Settings}
 use Rattle.convoy_commands.specs.declared.done.Done.TheVariants.{Fine}
 use Rattle.convoy_commands.specs.Lines.{greatest_line}
 use Rattle.convoy_commands.specs.Searches.{LatencySays}
+use Rattle.convoy_survey.specs.declared.finding.Finding.{Finding}
+use Rattle.convoy_survey.specs.declared.finding.Finding.TheVariants.{Greatest, Open, OutOfMemory}
+use Rattle.convoy_survey.specs.Findings.{Encloses, IsFinding, least_of, most_of, told_finding}
 use Rattle.convoy_survey.specs.Laws.{RowsAreLatencies, RowsEnclose}
 
 -- what is reached is no more than what is an upper bound
@@ -37,8 +41,31 @@ pub rows_are_latencies : RowsAreLatencies
 rows_are_latencies settings other scenario m g latency nodes cause text out found read told =
     latency_told other (with_target scenario m g) latency text out found.greatest read told
 
+-- what a search finds encloses the greatest latency
+pub finding_encloses : (settings : Settings) (scenario : Scenario) (finding : Finding) → IsFinding settings scenario finding →
+    Encloses scenario (least_of finding) (most_of finding)
+finding_encloses settings scenario (Greatest latency cause nodes) found = record {
+  reached = found.greatest.reached;
+  upper = found.greatest.upper;
+  between = λ other greatest. (no_more scenario latency other found.greatest greatest, no_more scenario other latency greatest found.greatest);
+}
+finding_encloses settings scenario (Open least most cause) found = record {
+  reached = (found.schedule, found.assigned, found.reached);
+  upper = found.upper;
+  between = λ other greatest. (
+    rw found.reached at (greatest.upper found.schedule found.assigned),
+    rw greatest.reached.2 at (found.upper greatest.reached.0 greatest.reached.1),
+  );
+}
+finding_encloses settings scenario OutOfMemory found = absurd found
+
+-- and so does what is told of it
+pub told_encloses : (settings : Settings) (scenario : Scenario) (answer : Result Finding AllocError) → IfOk answer (IsFinding settings scenario) →
+    Encloses scenario (least_of (told_finding answer)) (most_of (told_finding answer))
+told_encloses settings scenario (Ok finding) found = finding_encloses settings scenario finding found
+told_encloses settings scenario (Err error) found = record { reached = tt; upper = tt; between = λ latency greatest. (tt, tt) }
+
 pub rows_enclose : RowsEnclose
-rows_enclose settings scenario m g least most latency cause found greatest = (
-  rw found.reached at (greatest.upper found.schedule found.assigned),
-  rw greatest.reached.2 at (found.upper greatest.reached.0 greatest.reached.1),
-)
+rows_enclose settings scenario row is =
+    let asked : Scenario = with_target scenario row.message row.group in
+    subst (λ (finding : Finding). Encloses asked (least_of finding) (most_of finding)) (sym is.told) (told_encloses settings asked is.answer is.given)

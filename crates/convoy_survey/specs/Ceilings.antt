@@ -1,8 +1,9 @@
 -- The ceilings of a scenario's targets, and how near to them traffic was found to come.
-use Rattle.std.specs.Prelude.{◌≡◌, ℕ, ◌≤◌, ◌==◌, Bool, true, false, not, List, filter, map, Option, Some, None, is_none, IfSome}
+use Rattle.std.specs.Prelude.{◌≡◌, ℕ, ◌≤◌, ◌==◌, Bool, true, false, not, List, filter, map, Option, Some, None, is_none, Result, Ok, Err, IfOk}
 use Rattle.std.specs.List.{All}
 use Rattle.std.specs.Option.{option_map_or}
 use Rattle.std.specs.Str.{bytes_eq}
+use Rattle.std.specs.declared.alloc.AllocError.{AllocError}
 use Rattle.convoy_draft.specs.Checks.{is_among}
 use Rattle.convoy_scenario.specs.Scenario.{Scenario, group_name_at}
 use Rattle.convoy_scenario.specs.Targets.{targets_of, with_target}
@@ -17,12 +18,27 @@ pub record IsAttainedInTraffic (scenario : Scenario) (latency : ℕ) : Type 0 wh
   pub found : IsFound scenario traffic.scenario traffic
   pub stated : traffic.latency ≡ latency
 
--- The row tells the ceiling of its message at its group, above which no message of the kind has a latency there in traffic of the scenario's kinds; and where it tells a latency, traffic with that target attains it, and it is no more than the ceiling.
-pub record IsCeilingFound (scenario : Scenario) (row : Ceiled) : Type 0 where
-  pub told : row.ceiling ≡ ceiling_at scenario row.message row.group
+-- the latency that is told where a search for traffic answered so: none where the answer was that memory ran out
+abbrev pub told_latency : Result ℕ AllocError → Option ℕ
+told_latency (Ok latency) = Some latency
+told_latency (Err error) = None
+
+-- The row tells the ceiling of its message at its group, above which no message of the kind has a latency there in traffic of the scenario's kinds, and what the search for traffic with that target answered, where such answers may be given: so it tells no latency just where the answer was that memory ran out.
+pub record IsCeiledBy (scenario : Scenario) (may_answer : ℕ → ℕ → Result ℕ AllocError → Type 0) (row : Ceiled) : Type 0 where
+  pub ceiling : row.ceiling ≡ ceiling_at scenario row.message row.group
   pub safe : IsUpperInTraffic scenario row.message row.group row.ceiling
-  pub attained : IfSome row.attained (IsAttainedInTraffic (with_target scenario row.message row.group))
-  pub within : IfSome row.attained (λ latency. latency ≤ row.ceiling)
+  pub answer : Result ℕ AllocError
+  pub given : may_answer row.message row.group answer
+  pub told : row.attained ≡ told_latency answer
+
+-- what a search for traffic with that target may answer: a latency that traffic attains, no more than the ceiling; or, as with each command, that memory ran out
+abbrev pub MaySeek : Scenario → ℕ → ℕ → Result ℕ AllocError → Type 0
+MaySeek scenario m g answer =
+    IfOk answer (IsAttainedInTraffic (with_target scenario m g)) × IfOk answer (λ latency. latency ≤ ceiling_at scenario m g)
+
+-- the row tells what a search for traffic answered for its target
+abbrev pub IsCeiled : Scenario → Ceiled → Type 0
+IsCeiled scenario row = IsCeiledBy scenario (MaySeek scenario) row
 
 -- the message and the group
 abbrev pub ceiled_target : Ceiled → ℕ × ℕ
@@ -42,10 +58,14 @@ abbrev pub has_group : Scenario → Option (List ℕ) → Bool
 has_group scenario None = true
 has_group scenario (Some name) = is_among name scenario.groups
 
--- There is a row for each target that is asked for, in their order, and each tells the ceiling of its target.
-pub record AreCeiled (scenario : Scenario) (group : Option (List ℕ)) (rows : List Ceiled) : Type 0 where
+-- There is a row for each target that is asked for, in their order, and each tells the ceiling of its target and what the search for traffic answered, where such answers may be given.
+pub record AreCeiledBy (scenario : Scenario) (group : Option (List ℕ)) (may_answer : ℕ → ℕ → Result ℕ AllocError → Type 0) (rows : List Ceiled) : Type 0 where
   pub targets : map ceiled_target rows ≡ targets_asked scenario group
-  pub found : All (IsCeilingFound scenario) rows
+  pub told : All (IsCeiledBy scenario may_answer) rows
+
+-- they are the rows by searches for traffic
+abbrev pub AreCeiled : Scenario → Option (List ℕ) → List Ceiled → Type 0
+AreCeiled scenario group rows = AreCeiledBy scenario group (MaySeek scenario) rows
 
 -- memory ran out while traffic was sought
 abbrev pub is_unsought : Ceiled → Bool

@@ -1,11 +1,12 @@
--- What a survey finds of the latency of one message at one group.
-use Rattle.std.specs.Prelude.{◌≡◌, ℕ, Bool, true, false, List, length, Option, Some, None, codes}
+-- What a survey finds of the latency of one message at one group, and what it tells where memory runs out.
+use Rattle.std.specs.Prelude.{◌≡◌, ℕ, ◌≤◌, Bool, true, false, List, length, Option, Some, None, IfSome, Result, Ok, Err, IfOk, codes}
 use Rattle.std.specs.Option.{option_map}
+use Rattle.std.specs.declared.alloc.AllocError.{AllocError}
 use Rattle.convoy_scenario.specs.Scenario.{Scenario}
 use Rattle.convoy_scenario.specs.Targets.{with_target}
 use Rattle.convoy_packets.specs.Assignment.{Schedule, IsAssignment}
 use Rattle.convoy_sim.specs.Delivery.{latency_of}
-use Rattle.convoy_sim.specs.Greatest.{IsGreatest, IsUpper}
+use Rattle.convoy_sim.specs.Greatest.{IsGreatest, IsReached, IsUpper}
 use Rattle.convoy_certificate.specs.Certificate.{Certificate}
 use Rattle.convoy_checker.specs.Validity.{IsValid}
 use Rattle.convoy_explain.specs.Causes.{explanation_of}
@@ -41,19 +42,34 @@ pub record IsFrontFound (settings : Settings) (scenario : Scenario) (least most 
   pub front : IsFrontBy settings.ways scenario least most settings.limit
   pub told_cause : cause ≡ cause_in scenario schedule
 
--- what is found of a scenario's target by a search with these settings, as `latency` finds it
+-- what a search with these settings finds of a scenario's target, as `latency` finds it: that memory ran out is no such finding
 abbrev pub IsFinding : Settings → Scenario → Finding → Type 0
 IsFinding settings scenario (Greatest latency cause nodes) = IsGreatestFound scenario latency cause nodes
 IsFinding settings scenario (Open least most cause) = IsFrontFound settings scenario least most cause
-IsFinding settings scenario OutOfMemory = Unit {0}
+IsFinding settings scenario OutOfMemory = ⊥
 
 -- the message and the group
 abbrev pub target_of : Surveyed → ℕ × ℕ
 target_of row = (row.message, row.group)
 
--- what was found is of the scenario with that message at that group as its target
+-- what is told where a search answered so: what it found; or that memory ran out, where that was the answer
+abbrev pub told_finding : Result Finding AllocError → Finding
+told_finding (Ok finding) = finding
+told_finding (Err error) = OutOfMemory
+
+-- The row tells what the search for its target answered, where such answers may be given for a message at a group: so it tells that memory ran out just where that was the answer.
+pub record IsRowBy (may_answer : ℕ → ℕ → Result Finding AllocError → Type 0) (row : Surveyed) : Type 0 where
+  pub answer : Result Finding AllocError
+  pub given : may_answer row.message row.group answer
+  pub told : row.finding ≡ told_finding answer
+
+-- what a search with these settings may answer for a message at a group of the scenario: what it finds of that target, or, as with each command, that memory ran out
+abbrev pub MayAnswer : Settings → Scenario → ℕ → ℕ → Result Finding AllocError → Type 0
+MayAnswer settings scenario m g answer = IfOk answer (IsFinding settings (with_target scenario m g))
+
+-- the row tells what a search with these settings answered for its target
 abbrev pub IsSurveyed : Settings → Scenario → Surveyed → Type 0
-IsSurveyed settings scenario row = IsFinding settings (with_target scenario row.message row.group) row.finding
+IsSurveyed settings scenario row = IsRowBy (MayAnswer settings scenario) row
 
 -- the words for what is known: of a fault those of its line
 abbrev pub answer_word : Finding → List ℕ
@@ -93,3 +109,9 @@ abbrev pub is_fault : Finding → Bool
 is_fault (Greatest latency cause nodes) = false
 is_fault (Open least most cause) = false
 is_fault OutOfMemory = true
+
+-- Some schedule has the least, none has a latency above the most, and so the greatest latency lies between them: of one that is not known nothing is said.
+pub record Encloses (scenario : Scenario) (least most : Option ℕ) : Type 0 where
+  pub reached : IfSome least (IsReached scenario)
+  pub upper : IfSome most (IsUpper scenario)
+  pub between : (latency : ℕ) → IsGreatest scenario latency → IfSome least (λ n. n ≤ latency) × IfSome most (λ n. latency ≤ n)

@@ -1,7 +1,8 @@
 -- What a survey of a scenario writes.
-use Rattle.std.specs.Prelude.{◌≡◌, ℕ, Bool, List, map, Ok, Err}
+use Rattle.std.specs.Prelude.{◌≡◌, ℕ, ◌<◌, Bool, List, length, map, Result, Ok, Err}
 use Rattle.std.specs.List.{All, list_any}
-use Rattle.convoy_scenario.specs.Scenario.{Scenario}
+use Rattle.std.specs.declared.alloc.AllocError.{AllocError}
+use Rattle.convoy_scenario.specs.Scenario.{Scenario, GoesTo, message_at}
 use Rattle.convoy_scenario.specs.Targets.{targets_of}
 use Rattle.convoy_scenario.specs.WellFormed.{IsScenario}
 use Rattle.convoy_toml.specs.declared.target.TargetKey.TheVariants.{Optional}
@@ -13,14 +14,24 @@ use Rattle.convoy_commands.specs.declared.search_end.SearchEnd.{SearchEnd}
 use Rattle.convoy_commands.specs.Replies.{RuleOf}
 use Rattle.convoy_commands.specs.SearchEnds.{end_by}
 use Rattle.convoy_commands.specs.Searches.{IsFaultyBy}
+use Rattle.convoy_survey.specs.declared.finding.Finding.{Finding}
 use Rattle.convoy_survey.specs.declared.finding.Surveyed.{Surveyed}
 use Rattle.convoy_survey.specs.Cells.{table_of}
-use Rattle.convoy_survey.specs.Findings.{IsSurveyed, is_fault, is_open, target_of}
+use Rattle.convoy_survey.specs.Findings.{IsRowBy, MayAnswer, is_fault, is_open, target_of}
 
--- There is a row for each message at each group that it goes to, in their order, and each has what was found of that target.
-pub record AreSurveyed (settings : Settings) (scenario : Scenario) (rows : List Surveyed) : Type 0 where
+-- a call on these terms may be made for each target of the scenario: each message that does not wait, at each group that it goes to
+abbrev pub TakesTargets : Scenario → (ℕ → ℕ → Type 0) → Type 0
+TakesTargets scenario may_call =
+    (m g : ℕ) → m < length scenario.multicasts → GoesTo scenario m g → (message_at scenario m).longest_wait ≡ 0 → may_call m g
+
+-- There is a row for each message that does not wait, at each group that it goes to, in their order, and each tells what the search for that target answered, where such answers may be given.
+pub record AreRowsBy (scenario : Scenario) (may_answer : ℕ → ℕ → Result Finding AllocError → Type 0) (rows : List Surveyed) : Type 0 where
   pub targets : map target_of rows ≡ targets_of scenario
-  pub found : All (IsSurveyed settings scenario) rows
+  pub told : All (IsRowBy may_answer) rows
+
+-- they are the rows by searches with these settings
+abbrev pub AreSurveyed : Settings → Scenario → List Surveyed → Type 0
+AreSurveyed settings scenario rows = AreRowsBy scenario (MayAnswer settings scenario) rows
 
 -- how a survey with these rows ends: a fault comes before a search that did not end
 abbrev pub end_of : List Surveyed → SearchEnd

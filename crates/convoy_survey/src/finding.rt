@@ -1,5 +1,7 @@
 ghost use Rattle.std.specs.Prelude.{◌≡◌};
-ghost use Rattle.convoy_survey.specs.Findings.{answer_word, cause_of, is_fault, is_open, least_of, most_of, nodes_of};
+ghost use Rattle.convoy_survey.specs.Findings.{answer_word, cause_of, is_fault, is_open, least_of, most_of, nodes_of, told_finding};
+
+use std::alloc::AllocError;
 
 /// Why the target is late in the run of one schedule.
 #[derive(Clone, Copy)]
@@ -42,6 +44,16 @@ pub struct Surveyed {
 }
 
 impl Finding {
+    /// What is told where a search answered so: what it found, or that memory ran out, where that was the answer.
+    pub fn told(answer: Result<Finding, AllocError>) -> Finding
+        ensures { result ≡ told_finding answer }
+    {
+        match answer {
+            Ok(finding) => finding,
+            Err(AllocError) => Finding::OutOfMemory,
+        }
+    }
+
     /// The words for what is known: of a fault those of its line.
     pub fn answer(self) -> &'static str
         ensures { result.now ≡ answer_word self }

@@ -4,11 +4,11 @@
 
 pub use ceiled::Ceiled;
 pub use ceiling_run::run_ceilings;
-pub use ceilings::ceilings_of;
+pub use ceilings::{ceilings_by, ceilings_of};
 pub use cells::{push_cause, push_finding, push_name, push_ticks};
 pub use convoy_tables::Format;
 pub use finding::{Cause, Finding, Surveyed};
-pub use rows::survey;
+pub use rows::{survey, survey_by};
 pub use running::run_survey;
 pub use searching::find;
 pub use table::push_finding_columns;

@@ -2,7 +2,7 @@ ghost use Rattle.std.specs.Prelude.{◌≡◌, ◌<◌, length, IfOk};
 ghost use Rattle.convoy_scenario.specs.Scenario.{GoesTo, message_at};
 ghost use Rattle.convoy_scenario.specs.Targets.{with_target};
 ghost use Rattle.convoy_commands.specs.Searches.{IsEnd};
-ghost use Rattle.convoy_survey.specs.Findings.{IsFinding};
+ghost use Rattle.convoy_survey.specs.Findings.{IsFinding, MayAnswer};
 
 use super::cause::cause_of;
 use super::finding::Finding;
@@ -16,23 +16,22 @@ use std::thread::Threads;
 
 /// What a search finds of the latency of an instance's target, as [`latency`](convoy_commands::run_latency)
 /// does with these options: by their limit of tickets, by their bounds or both ways, and with their number of
-/// workers. The search is watched. Where memory runs out, that is what is found.
+/// workers. The search is watched. Fails where memory runs out, and else never.
 pub fn find<R: Threads + Wait + Sync, W: Watch + Sync>(
     rt: &R,
     alloc: Global,
     instance: &Instance,
     options: &Options,
     watch: &W,
-) -> Finding
-    ensures { IsFinding options.now instance.now result }
+) -> Result<Finding, AllocError>
+    ensures { IfOk result (IsFinding options.now instance.now) }
 {
-    match search(rt, alloc, instance, options, watch) {
-        Ok(finding) => finding,
-        Err(AllocError) => Finding::OutOfMemory,
-    }
+    let outcome = search_instance(rt, alloc, instance, options, watch)?;
+    finding_of(alloc, instance, options, &outcome)
 }
 
-/// What a search finds of the latency of a message at a group that it goes to.
+/// What a search finds of the latency of a message at a group that it goes to. Fails where memory runs out, and
+/// else never.
 pub(crate) fn find_target<R: Threads + Wait + Sync, W: Watch + Sync>(
     rt: &R,
     alloc: Global,
@@ -41,16 +40,14 @@ pub(crate) fn find_target<R: Threads + Wait + Sync, W: Watch + Sync>(
     group: usize,
     options: &Options,
     watch: &W,
-) -> Finding
+) -> Result<Finding, AllocError>
     requires known { message < length scenario.now.multicasts }
     requires addressed { GoesTo scenario.now message group }
     requires fixed { (message_at scenario.now message).longest_wait ≡ 0 }
-    ensures { IsFinding options.now (with_target scenario.now message group) result }
+    ensures { MayAnswer options.now scenario.now message group result }
 {
-    match target_instance(alloc, scenario, message, group) {
-        Ok(instance) => find(rt, alloc, &instance, options, watch),
-        Err(AllocError) => Finding::OutOfMemory,
-    }
+    let instance = target_instance(alloc, scenario, message, group)?;
+    find(rt, alloc, &instance, options, watch)
 }
 
 /// The instance of a scenario of which the latency of that message at that group is asked.
@@ -66,20 +63,6 @@ fn target_instance(
     ensures { IfOk result (λ instance. instance ≡ with_target scenario.now message group) }
 {
     Instance::of(alloc, scenario.with_target(message, group)?)
-}
-
-/// What a search finds of an instance, where there is memory for it.
-fn search<R: Threads + Wait + Sync, W: Watch + Sync>(
-    rt: &R,
-    alloc: Global,
-    instance: &Instance,
-    options: &Options,
-    watch: &W,
-) -> Result<Finding, AllocError>
-    ensures { IfOk result (IsFinding options.now instance.now) }
-{
-    let outcome = search_instance(rt, alloc, instance, options, watch)?;
-    finding_of(alloc, instance, options, &outcome)
 }
 
 /// What was found of an instance by a search that ended so.

@@ -10,6 +10,7 @@ use Rattle.convoy_commands.specs.Lines.{greatest_line}
 use Rattle.convoy_commands.specs.Searches.{LatencySays}
 use Rattle.convoy_survey.specs.declared.finding.Cause.{Cause}
 use Rattle.convoy_survey.specs.declared.finding.Finding.TheVariants.{Greatest}
+use Rattle.convoy_survey.specs.Findings.{Encloses, least_of, most_of}
 use Rattle.convoy_what_if.specs.declared.kinds.Change.{Change}
 use Rattle.convoy_what_if.specs.Changes.{changed}
 use Rattle.convoy_what_if.specs.declared.tried.Tried.{Tried}
@@ -34,3 +35,9 @@ RowsAreLatencies =
     (settings other : Settings) (scenario another : Scenario) (row : Tried) (latency nodes : ℕ) (cause : Cause) (text out : List ℕ) →
     IsTried settings scenario row → row.finding ≡ Greatest latency cause nodes → changed scenario row.change ≡ Ok another →
     scenario_of_text text ≡ Ok another → LatencySays other text (Ok (Fine, out)) → out ≡ greatest_line another.tick latency
+
+-- The two numbers of a row, `least` and `most`, enclose the greatest latency of the scenario that its change makes, whether or not the search ended.
+abbrev pub RowsEnclose : Type 0
+RowsEnclose =
+    (settings : Settings) (scenario another : Scenario) (row : Tried) → IsTried settings scenario row → changed scenario row.change ≡ Ok another →
+    Encloses another (least_of row.finding) (most_of row.finding)

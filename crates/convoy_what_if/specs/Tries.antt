@@ -1,7 +1,8 @@
 -- What is tried of a scenario: a change, and a search of the scenario that it makes.
-use Rattle.std.specs.Prelude.{◌≡◌, ◌⊎◌, Ok, Err, List}
+use Rattle.std.specs.Prelude.{◌≡◌, ◌≢◌, ◌⊎◌, Ok, Err, List, Result}
 use Rattle.std.specs.List.{Contains}
 use Rattle.convoy_draft.specs.declared.fault.ScenarioFault.{ScenarioFault}
+use Rattle.convoy_draft.specs.declared.fault.ScenarioFault.TheVariants.{Memory}
 use Rattle.convoy_scenario.specs.Scenario.{Scenario}
 use Rattle.convoy_branch.specs.Options.{Settings}
 use Rattle.convoy_commands.specs.declared.fault.Fault.{Fault}
@@ -10,24 +11,57 @@ use Rattle.convoy_survey.specs.declared.finding.Finding.TheVariants.{OutOfMemory
 use Rattle.convoy_survey.specs.Findings.{IsFinding}
 use Rattle.convoy_what_if.specs.declared.kinds.Change.{Change}
 use Rattle.convoy_what_if.specs.Changes.{changed}
+use Rattle.convoy_what_if.specs.declared.tried.Searched.{Searched}
 use Rattle.convoy_what_if.specs.declared.tried.Tried.{Tried}
 use Rattle.convoy_what_if.specs.Cells.{row_cells}
 
--- The change makes another scenario. What was found is of that one, and its messages have the names that they have there.
-pub record IsSearched (settings : Settings) (scenario : Scenario) (row : Tried) : Type 0 where
-  pub other : Scenario
-  pub made : changed scenario row.change ≡ Ok other
-  pub found : IsFinding settings other row.finding
-  pub told : row.cells ≡ row_cells scenario row.change other row.finding
+-- The row tells what was found in the scenario that the change makes, whose messages have the names that they have there.
+pub record TellsFound (scenario : Scenario) (row : Tried) (searched : Searched) : Type 0 where
+  pub found : row.finding ≡ searched.finding
+  pub told : row.cells ≡ row_cells scenario row.change searched.instance searched.finding
 
--- Memory ran out before the search, and the row tells that.
-pub record IsUnsearched (scenario : Scenario) (row : Tried) : Type 0 where
+-- The row tells that memory ran out.
+pub record TellsMemory (scenario : Scenario) (row : Tried) : Type 0 where
   pub found : row.finding ≡ OutOfMemory
   pub told : row.cells ≡ row_cells scenario row.change scenario OutOfMemory
 
--- the row tells what was found of its change
+-- The row tells what was answered where its change was tried: what was found; or that memory ran out, just where that was the answer.
+abbrev pub TellsAnswer : Scenario → Tried → Result Searched ScenarioFault → Type 0
+TellsAnswer scenario row (Ok searched) = TellsFound scenario row searched
+TellsAnswer scenario row (Err fault) = (fault ≡ Memory) × TellsMemory scenario row
+
+-- The row tells what was answered where its change was tried, where such answers may be given for a change.
+pub record IsTriedBy (scenario : Scenario) (may_answer : Change → Result Searched ScenarioFault → Type 0) (row : Tried) : Type 0 where
+  pub answer : Result Searched ScenarioFault
+  pub given : may_answer row.change answer
+  pub told : TellsAnswer scenario row answer
+
+-- The change makes that scenario, and a search with these settings found that there.
+pub record IsSearched (settings : Settings) (scenario : Scenario) (change : Change) (searched : Searched) : Type 0 where
+  pub made : changed scenario change ≡ Ok searched.instance
+  pub found : IsFinding settings searched.instance searched.finding
+
+-- what may be answered where a change is tried by a search with these settings: what it finds in the scenario that the change makes; or why that makes none; or, as with each command, that memory ran out
+abbrev pub MayAnswer : Settings → Scenario → Change → Result Searched ScenarioFault → Type 0
+MayAnswer settings scenario change (Ok searched) = IsSearched settings scenario change searched
+MayAnswer settings scenario change (Err fault) = (changed scenario change ≡ Err fault) ⊎ (fault ≡ Memory)
+
+-- the row tells what was answered where its change was tried by a search with these settings
 abbrev pub IsTried : Settings → Scenario → Tried → Type 0
-IsTried settings scenario row = IsSearched settings scenario row ⊎ IsUnsearched scenario row
+IsTried settings scenario row = IsTriedBy scenario (MayAnswer settings scenario) row
+
+-- Where such answers may be given for a change, the answer for this one may be a fault other than that memory ran out, and this fault tells it.
+pub record IsRefusedBy (may_answer : Change → Result Searched ScenarioFault → Type 0) (change : Change) (fault : Fault) : Type 0 where
+  pub cause : ScenarioFault
+  pub answered : may_answer change (Err cause)
+  pub no_memory : cause ≢ Memory
+  pub told : fault ≡ faults.Scenario cause
+
+-- It is so of one of these changes.
+pub record HasRefusedBy (may_answer : Change → Result Searched ScenarioFault → Type 0) (changes : List Change) (fault : Fault) : Type 0 where
+  pub change : Change
+  pub listed : Contains changes change
+  pub refused : IsRefusedBy may_answer change fault
 
 -- The change makes no scenario, for the cause that the fault tells.
 pub record MakesNone (scenario : Scenario) (change : Change) (fault : Fault) : Type 0 where

@@ -1,4 +1,4 @@
--- What `survey --without` writes: what would become of the greatest latency with each change of one thing.
+-- What `survey --without` writes: what would become of the greatest latency with each change of one thing: a message left out, or a link at its least or at its most.
 use Rattle.std.specs.Prelude.{◌≡◌, ◌⊎◌, ℕ, List, Ok, Err}
 use Rattle.std.specs.List.{list_any}
 use Rattle.convoy_scenario.specs.Scenario.{Scenario}

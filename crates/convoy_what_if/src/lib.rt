@@ -6,9 +6,9 @@ pub use convoy_tables::Format;
 pub use drafting::change;
 pub use kinds::Change;
 pub use listing::changes_of;
-pub use rows::what_if;
+pub use rows::{what_if, what_if_by};
 pub use running::run_what_if;
-pub use tried::Tried;
+pub use tried::{Searched, Tried};
 
 mod cells;
 mod drafting;

@@ -1,13 +1,22 @@
 use super::kinds::Change;
+use convoy_packets::Instance;
 use convoy_survey::Finding;
 use convoy_tables::Row;
+
+/// The scenario that a change makes, and what a search found of the latency that is asked there.
+#[derive(Drop)]
+pub struct Searched {
+    pub instance: Instance,
+    pub finding: Finding,
+}
 
 /// A change of a scenario that was tried.
 #[derive(Drop)]
 pub struct Tried {
     /// What is changed.
     pub change: Change,
-    /// What a search found of the latency in the scenario that is changed so: its messages are numbered as there.
+    /// What a search found of the latency in the scenario that is changed so, whose messages are numbered as there; or
+    /// that memory ran out.
     pub finding: Finding,
     /// Its row of the table: the change, and what was found, with the names of messages as they are after
     /// the change.

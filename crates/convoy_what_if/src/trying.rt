@@ -1,14 +1,14 @@
 //! One change, tried.
 
-ghost use Rattle.std.specs.Prelude.{◌≡◌, ◌⊎◌, IfOk, IfErr, Ok};
+ghost use Rattle.std.specs.Prelude.{◌≡◌, ◌⊎◌, IfOk, IfErr};
 ghost use Rattle.convoy_scenario.specs.Memory.{IsUnlessMemory};
 ghost use Rattle.convoy_what_if.specs.Changes.{changed};
-ghost use Rattle.convoy_what_if.specs.Tries.{IsSearched, IsTried, IsUnsearched, MakesNone};
+ghost use Rattle.convoy_what_if.specs.Tries.{IsRefusedBy, IsTriedBy, MayAnswer, TellsFound, TellsMemory};
 
 use super::cells::row_cells;
 use super::drafting;
 use super::kinds::Change;
-use super::tried::Tried;
+use super::tried::{Searched, Tried};
 use convoy_branch::Options;
 use convoy_commands::{Fault, Watch};
 use convoy_packets::Instance;
@@ -18,25 +18,21 @@ use std::alloc::{AllocError, Global};
 use std::sync::Wait;
 use std::thread::Threads;
 
-/// A change of a scenario, tried by a search of the scenario that it makes. Where there is no memory for that
-/// scenario, the row tells so.
-pub(crate) fn try_change<R: Threads + Wait + Sync, W: Watch + Sync>(
+/// Searches the scenario that a change makes. Fails with the fault of a change that makes none, and where memory
+/// runs out with `ScenarioFault::Memory`.
+pub(crate) fn search_change<R: Threads + Wait + Sync, W: Watch + Sync>(
     rt: &R,
     alloc: Global,
     scenario: &Scenario,
     change: Change,
     options: &Options,
     watch: &W,
-) -> Result<Tried, Fault>
-    ensures change { IfOk result (λ row. row.change ≡ change) }
-    ensures tried { IfOk result (IsTried options.now scenario.now) }
-    ensures err { IfErr result (λ fault. MakesNone scenario.now change fault ⊎ (fault ≡ Fault.Memory)) }
+) -> Result<Searched, ScenarioFault>
+    ensures { MayAnswer options.now scenario.now change result }
 {
-    match changed_instance(alloc, scenario, change) {
-        Ok(other) => Ok(searched(rt, alloc, scenario, change, &other, options, watch)?),
-        Err(ScenarioFault::Memory) => Ok(unsearched(alloc, scenario, change)?),
-        Err(cause) => Err(Fault::Scenario(cause)),
-    }
+    let instance = changed_instance(alloc, scenario, change)?;
+    let finding = find(rt, alloc, &instance, options, watch)?;
+    Ok(Searched { instance, finding })
 }
 
 /// The instance of the scenario that is changed so.
@@ -51,22 +47,44 @@ fn changed_instance(
     Ok(Instance::of(alloc, other)?)
 }
 
-/// The row of a change, by a search of the instance that it makes.
-fn searched<R: Threads + Wait + Sync, W: Watch + Sync>(
-    rt: &R,
+/// The row of a change that is tried by `search`: what that answers, and that memory ran out just where it answers
+/// so. Fails with the fault that it answers else, and with `Fault::Memory` where there is no memory for the row.
+pub(crate) fn try_change<F: Fn(Change) -> Result<Searched, ScenarioFault>>(
     alloc: Global,
     scenario: &Scenario,
     change: Change,
-    other: &Instance,
-    options: &Options,
-    watch: &W,
-) -> Result<Tried, AllocError>
-    requires { changed scenario.now change ≡ Ok other.now }
+    search: &F,
+) -> Result<Tried, Fault>
+    requires { F.pre search.now change }
     ensures change { IfOk result (λ row. row.change ≡ change) }
-    ensures searched { IfOk result (IsSearched options.now scenario.now) }
+    ensures tried { IfOk result (IsTriedBy scenario.now (F.post search.now)) }
+    ensures err { IfErr result (λ fault. IsRefusedBy (F.post search.now) change fault ⊎ (fault ≡ Fault.Memory)) }
 {
-    let finding = find(rt, alloc, other, options, watch);
-    let cells = row_cells(alloc, scenario, change, other.scenario(), finding)?;
+    match search(change) {
+        Ok(searched) => Ok(row_of(alloc, scenario, change, &searched)?),
+        Err(ScenarioFault::Memory) => Ok(row_without(alloc, scenario, change)?),
+        Err(cause) => Err(Fault::Scenario(cause)),
+    }
+}
+
+/// The row of a change, by what was found in the scenario that it makes.
+fn row_of(
+    alloc: Global,
+    scenario: &Scenario,
+    change: Change,
+    searched: &Searched,
+) -> Result<Tried, AllocError>
+    ensures change { IfOk result (λ row. row.change ≡ change) }
+    ensures told { IfOk result (λ row. TellsFound scenario.now row searched.now) }
+{
+    let finding = searched.finding;
+    let cells = row_cells(
+        alloc,
+        scenario,
+        change,
+        searched.instance.scenario(),
+        finding,
+    )?;
     Ok(Tried {
         change,
         finding,
@@ -74,10 +92,10 @@ fn searched<R: Threads + Wait + Sync, W: Watch + Sync>(
     })
 }
 
-/// The row of a change for which there is no memory.
-fn unsearched(alloc: Global, scenario: &Scenario, change: Change) -> Result<Tried, AllocError>
+/// The row of a change for which memory ran out.
+fn row_without(alloc: Global, scenario: &Scenario, change: Change) -> Result<Tried, AllocError>
     ensures change { IfOk result (λ row. row.change ≡ change) }
-    ensures unsearched { IfOk result (IsUnsearched scenario.now) }
+    ensures told { IfOk result (TellsMemory scenario.now) }
 {
     let finding = Finding::OutOfMemory;
     let cells = row_cells(alloc, scenario, change, scenario, finding)?;

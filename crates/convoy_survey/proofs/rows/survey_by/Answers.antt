@@ -1,7 +1,7 @@
 use Rattle.std.proofs.Common.{ℕ, List, ◌++◌, sym, ap, ◌∙◌}
 use Rattle.convoy_scenario.specs.Targets.{targets_at}
 use Rattle.convoy_stamps.proofs.Loops.{flat_map_range_more}
-use Rattle.convoy_survey.proofs.rows.survey.Goals as goal
+use Rattle.convoy_survey.proofs.rows.survey_by.Goals as goal
 
 pub loop-message-preserved : goal.loop-message-preserved
 loop-message-preserved g c =
@@ -10,5 +10,5 @@ loop-message-preserved g c =
     record {
       targets = c.in_ok-survey_message.ensures.targets
           ∙ ap (λ (rows : List (ℕ × ℕ)). rows ++ of m) c.loop-message.invariant.targets ∙ sym (flat_map_range_more of m);
-      found = c.in_ok-survey_message.ensures.found;
+      told = c.in_ok-survey_message.ensures.told;
     }
