@@ -26,7 +26,7 @@ use Rattle.convoy_branch.specs.Fronts.{AreFronts, FrontNode, Left, Spent, IsFron
 use Rattle.convoy_branch.specs.Laws.{FrontsBound}
 use Rattle.convoy_branch.specs.Outcomes.{AreTicketsByWorker, IsProved, IsOpen}
 use Rattle.convoy_branch.specs.Searching.{HasEndedAt, IsSearching, front_of, front_nodes}
-use Rattle.convoy_branch.specs.Steps.{IsRealPoint}
+use Rattle.convoy_branch.specs.Steps.{IsOpenPoint}
 use Rattle.convoy_branch.proofs.FrontTrees.{AreTrees-spent, no_leads-spent, no_stamps-spent}
 use Rattle.convoy_branch.proofs.Readable.{AreReadable-spent}
 use Rattle.convoy_branch.proofs.FrontCounts.{spent_in-spent, left_in-append, left_in-append_spent}
@@ -119,12 +119,12 @@ front_left bounds plan best work pushed branch tried nodes tickets latency upper
     }
 
 -- the box before which a search has ended is the last that is left
-last_left : (plan : Scenario) (work : List Work) (branch : Tracked) (tried : Bool) (nodes : List Node) → IsRealPoint plan branch.delay_box → Any (IsRealPoint plan) (left_in (front_nodes (work ++ Branch branch tried ∷ []) nodes))
-last_left plan work branch tried nodes point =
+last_left : (P : Box → Type 0) (work : List Work) (branch : Tracked) (tried : Bool) (nodes : List Node) → P branch.delay_box → Any P (left_in (front_nodes (work ++ Branch branch tried ∷ []) nodes))
+last_left P work branch tried nodes point =
     let same : left_in (front_nodes (work ++ Branch branch tried ∷ []) nodes) ≡ left_in (map front_of work) ++ branch.delay_box ∷ [] = left work branch tried nodes ∙ last_of work branch tried in
-    subst (λ (bs : List Box). Any (IsRealPoint plan) bs) (sym same) (Any-push (IsRealPoint plan) (left_in (map front_of work)) branch.delay_box point)
+    subst (λ (bs : List Box). Any P bs) (sym same) (Any-push P (left_in (map front_of work)) branch.delay_box point)
 
-pub IsOpen-left : (bounds : Bounds) (plan : Scenario) (best : Record) (work pushed : List Work) (branch : Tracked) (tried : Bool) (nodes : List Node) (tickets limit latency upper : ℕ) (by_worker : List ℕ) → FrontsBound → IsScenario plan → IsAttained best → IsSearching bounds plan best (work ++ Branch branch tried ∷ []) nodes tickets → HasEndedAt plan tickets branch.delay_box limit → pushed ≡ work ++ Branch branch tried ∷ [] → latency ≡ best.latency → IsUpperOf bounds plan latency (left_in (map front_of pushed)) upper → by_worker ≡ tickets ∷ [] → IsOpen bounds plan 1 limit best upper tickets by_worker
+pub IsOpen-left : (bounds : Bounds) (plan : Scenario) (best : Record) (work pushed : List Work) (branch : Tracked) (tried : Bool) (nodes : List Node) (tickets limit latency upper : ℕ) (by_worker : List ℕ) → FrontsBound → IsScenario plan → IsAttained best → IsSearching bounds plan best (work ++ Branch branch tried ∷ []) nodes tickets → HasEndedAt bounds plan best.latency tickets branch.delay_box limit → pushed ≡ work ++ Branch branch tried ∷ [] → latency ≡ best.latency → IsUpperOf bounds plan latency (left_in (map front_of pushed)) upper → by_worker ≡ tickets ∷ [] → IsOpen bounds plan 1 limit best upper tickets by_worker
 unfolding front_left
 IsOpen-left bounds plan best work pushed branch tried nodes tickets limit latency upper by_worker bound lawful attained searching ended pushed_is latency_is upper_is workers =
     let front = front_left bounds plan best work pushed branch tried nodes tickets latency upper attained searching pushed_is latency_is upper_is in
@@ -136,7 +136,7 @@ IsOpen-left bounds plan best work pushed branch tried nodes tickets limit latenc
         tickets = tickets;
         front = front;
         few = ended.few;
-        all = elim ended.all [ inl spent ↦ inl spent | inr point ↦ inr (last_left plan work branch tried nodes point) ];
+        all = elim ended.all [ inl spent ↦ inl spent | inr point ↦ inr (last_left (IsOpenPoint bounds plan best.latency) work branch tried nodes point) ];
       };
       all = refl;
       shares = one_share tickets by_worker workers;

@@ -24,7 +24,7 @@ use Rattle.convoy_branch.specs.declared.step.Fate.TheVariants.{Stays}
 use Rattle.convoy_branch.specs.declared.step.Turn.{Turn}
 use Rattle.convoy_branch.specs.declared.step.Turn.TheVariants.{Closed, Halves}
 use Rattle.convoy_branch.specs.Fronts.{AreFronts, FrontNode, Spent, Left, front_after, spent_in}
-use Rattle.convoy_branch.specs.Steps.{IsFate, IsTurn, found_in, known_after}
+use Rattle.convoy_branch.specs.Steps.{IsFate, IsOpenPoint, IsTurn, found_in, known_after}
 use Rattle.convoy_branch.specs.Searching.{HasStayed, HasTurned, IsSearching, IsWork, front_of, front_nodes, work_after, nodes_after}
 use Rattle.convoy_branch.proofs.FrontTrees.{AreFronts-better, AreFronts-filled, AreFronts-turned}
 use Rattle.convoy_branch.proofs.FrontCounts.{spent_in-turned}
@@ -199,10 +199,11 @@ next_of_scenario bounds plan best work nodes tickets branch tried searching =
 pub HasStayed-taken : (bounds : Bounds) (plan : Scenario) (old new : Search) (seen : ℕ) (branch left : Tracked) (tried : Bool) (noted : Option Record) → seen ≡ old.best.latency → noted ≡ found_in bounds plan branch.delay_box seen → IsFate bounds plan branch.delay_box (known_after seen noted) (Stays left) → new ≡ record old { best = unwrap_or noted old.best } → IsSearching bounds plan old.best (old.work.items ++ Branch branch tried ∷ []) old.nodes.items old.tickets → HasStayed bounds plan old new tried left
 HasStayed-taken bounds plan old new seen branch left tried noted seen_is found_is is new_is searching =
     let found_is' : noted ≡ found_in bounds plan branch.delay_box old.best.latency = found_is ∙ ap (λ (n : ℕ). found_in bounds plan branch.delay_box n) seen_is in
-    let same : left ≡ branch = is.2 ∙ sym (next_of_scenario bounds plan old.best old.work.items old.nodes.items old.tickets branch tried searching) in
+    let same : left ≡ branch = is.1 ∙ sym (next_of_scenario bounds plan old.best old.work.items old.nodes.items old.tickets branch tried searching) in
+    let no_worse = IsNoWorse-found bounds plan old.best branch.delay_box noted searching.of_scenario found_is' in
     let here : HasStayed bounds plan old (record old { best = unwrap_or noted old.best }) tried branch = record {
       searching = found bounds plan old.best (old.work.items ++ Branch branch tried ∷ []) old.nodes.items old.tickets branch.delay_box noted found_is' searching;
-      point = is.1;
+      stays = subst (λ (n : ℕ). IsOpenPoint bounds plan n branch.delay_box) (ap (λ (n : ℕ). known_after n noted) seen_is ∙ no_worse.known) is.0;
       same = refl;
     } in
     let moved : HasStayed bounds plan old (record old { best = unwrap_or noted old.best }) tried left = subst (λ (b : Tracked). HasStayed bounds plan old (record old { best = unwrap_or noted old.best }) tried b) (sym same) here in

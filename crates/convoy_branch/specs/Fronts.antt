@@ -17,7 +17,7 @@ use Rattle.convoy_checker.specs.Leaves.{ClosesByBound, ClosesByLeads, ClosesByPo
 use Rattle.convoy_checker.specs.Trees.{AreTrees, boxes_below}
 use Rattle.convoy_sim.specs.Greatest.{IsReached}
 use Rattle.convoy_branch.specs.SearchBounds.{closes_for}
-use Rattle.convoy_branch.specs.Steps.{IsRealPoint}
+use Rattle.convoy_branch.specs.Steps.{IsOpenPoint}
 use Rattle.convoy_branch.specs.Uppers.{IsUpperOf}
 
 -- a node of a front: one of the tree, for which a ticket was spent, or a box that is left to be searched
@@ -89,9 +89,9 @@ pub record IsFront (bounds : Bounds) (scenario : Scenario) (best upper tickets :
   -- the upper bound is that of the best latency and of the boxes that are left
   pub upper_is : IsUpperOf bounds scenario best (left_in nodes) upper
 
--- The front of a search that has stopped with boxes left, where at most `limit` tickets may be spent: all of them were, or else in real time one of the boxes is a point, for which none is spent.
+-- The front of a search that has stopped with boxes left, where at most `limit` tickets may be spent: all of them were, or else one of the boxes is an open point for the best latency, for which none is spent.
 pub record HasStopped (bounds : Bounds) (scenario : Scenario) (best upper limit : ℕ) : Type 0 where
   pub tickets : ℕ
   pub front : IsFront bounds scenario best upper tickets
   pub few : tickets ≤ limit
-  pub all : (tickets ≡ limit) ⊎ Any (IsRealPoint scenario) (left_in front.nodes)
+  pub all : (tickets ≡ limit) ⊎ Any (IsOpenPoint bounds scenario best) (left_in front.nodes)

@@ -35,7 +35,7 @@ pub record IsProved (bounds : Bounds) (scenario : Scenario) (workers limit : ℕ
   pub readable : limit ≤ most_nodes bounds → AreReadable certificate.nodes
   pub shares : AreTicketsByWorker workers tickets by_worker
 
--- An open outcome: boxes are left, and as many tickets as there may be were spent, or else in real time one of the boxes is a point.
+-- An open outcome: boxes are left, and as many tickets as there may be were spent, or else one of the boxes is a point in real time that the search does not close for the best latency.
 pub record IsOpen (bounds : Bounds) (scenario : Scenario) (workers limit : ℕ) (best : Record) (upper tickets : ℕ) (by_worker : List ℕ) : Type 0 where
   pub of_scenario : best.scenario ≡ scenario
   -- some assignment has the best latency, and none has one above the upper bound

@@ -18,7 +18,7 @@ use Rattle.convoy_branch.specs.declared.search.Work.TheVariants.{Branch, Write}
 use Rattle.convoy_branch.specs.declared.step.Turn.{Turn}
 use Rattle.convoy_branch.specs.declared.step.Turn.TheVariants.{Closed, Halves}
 use Rattle.convoy_branch.specs.Fronts.{AreFronts, FrontNode, Spent, Left, spent_in}
-use Rattle.convoy_branch.specs.Steps.{IsRealPoint, IsTriedIf}
+use Rattle.convoy_branch.specs.Steps.{IsOpenPoint, IsTriedIf}
 use Rattle.convoy_branch.specs.Uppers.{IsRaised}
 
 -- the node of the front that a piece of work stands for
@@ -52,16 +52,16 @@ pub record HasTurned (bounds : Bounds) (scenario : Scenario) (old new : Search) 
   pub ticket : new.tickets ≡ old.tickets + 1
   pub few : length new.work.items ≤ length old.work.items + 3
 
--- the box that was next is a point in real time, and still is next
+-- the box that was next is an open point for the best latency, and still is next
 pub record HasStayed (bounds : Bounds) (scenario : Scenario) (old new : Search) (tried : Bool) (branch : Tracked) : Type 0 where
   pub searching : IsSearching bounds scenario new.best (new.work.items ++ Branch branch tried ∷ []) new.nodes.items new.tickets
-  pub point : IsRealPoint scenario branch.delay_box
+  pub stays : IsOpenPoint bounds scenario new.best.latency branch.delay_box
   pub same : new.tickets ≡ old.tickets
 
--- a search ends before that box: it has spent all tickets, or the box is a point in real time
-pub record HasEndedAt (scenario : Scenario) (tickets : ℕ) (box : Box) (limit : ℕ) : Type 0 where
+-- a search with that best latency ends before that box: it has spent all tickets, or the box is an open point
+pub record HasEndedAt (bounds : Bounds) (scenario : Scenario) (best tickets : ℕ) (box : Box) (limit : ℕ) : Type 0 where
   pub few : tickets ≤ limit
-  pub all : (tickets ≡ limit) ⊎ IsRealPoint scenario box
+  pub all : (tickets ≡ limit) ⊎ IsOpenPoint bounds scenario best box
 
 -- the work that is left, and the nodes that are written, after a turn; the upper half has the greatest delays of the box, which were tried
 abbrev pub work_after : List Work → Turn → List Work

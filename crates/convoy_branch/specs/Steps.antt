@@ -73,11 +73,16 @@ pub record IsRealPoint (scenario : Scenario) (box : Box) : Type 0 where
   pub real : scenario.time ≡ Real
   pub point : IsPoint box
 
--- the turn of the box; or else it is a point in real time that the search does not close, and stays as it is
+-- an open point: a point in real time that the search does not close for the latency known, which is no less than that of the point's greatest delays
+pub record IsOpenPoint (bounds : Bounds) (scenario : Scenario) (known : ℕ) (box : Box) : Type 0 where
+  pub point : IsRealPoint scenario box
+  pub stays : StaysOpen bounds scenario box known
+
+-- the turn of the box; or else it is an open point, and stays as it is
 abbrev pub IsFate : Bounds → Scenario → Box → ℕ → Fate → Type 0
 IsFate bounds scenario box known (Turned turn) = IsTurn bounds scenario box known turn
 IsFate bounds scenario box known (Stays left) =
-    StaysOpen bounds scenario box known × IsRealPoint scenario box × (left ≡ tracked_of scenario box)
+    IsOpenPoint bounds scenario known box × (left ≡ tracked_of scenario box)
 
 -- a step over the box, where a record of that latency was seen
 pub record IsStep (bounds : Bounds) (scenario : Scenario) (box : Box) (seen : ℕ) (step : Step) : Type 0 where
@@ -94,4 +99,4 @@ pub record IsProspect (bounds : Bounds) (scenario : Scenario) (box : Box) (seen 
   pub known : prospect.known ≡ known_after seen prospect.found
   pub above : seen ≤ prospect.known
   pub turns : IsTrue prospect.turns → CanTurn bounds scenario box prospect.known
-  pub stays : IsFalse prospect.turns → IsRealPoint scenario box
+  pub stays : IsFalse prospect.turns → IsOpenPoint bounds scenario prospect.known box

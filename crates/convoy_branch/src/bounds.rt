@@ -1,5 +1,7 @@
-ghost use Rattle.std.specs.Prelude.{◌≡◌, ◌≤◌, IfOk};
-ghost use Rattle.convoy_branch.specs.SearchBounds.{further_leaf, leaf_for, least_bound, most_nodes};
+ghost use Rattle.std.specs.Prelude.{◌≡◌, ◌≤◌, false, IfNone, IfOk, IfSome};
+ghost use Rattle.convoy_branch.specs.declared.step.Turn.TheVariants.{Closed};
+ghost use Rattle.convoy_branch.specs.SearchBounds.{closes_for, further_leaf, leaf_for, least_bound, most_nodes};
+ghost use Rattle.convoy_branch.specs.Steps.{IsTurn};
 ghost use Rattle.convoy_branch.specs.Uppers.{IsRaised, IsRaisedByLeads};
 
 use convoy_certificate::{MOST_LEADS, MOST_NODES, Node};
@@ -7,6 +9,7 @@ use convoy_intervals::Tracked;
 use convoy_leads::closes_by_leads;
 use convoy_packets::Instance;
 use convoy_scenario::Time;
+use convoy_stamps::laws::stamp_bound_at_most_plain;
 use convoy_stamps::stamp_bound_of;
 use std::alloc::{AllocError, Global};
 
@@ -33,6 +36,25 @@ impl Bounds {
             Bounds::Plain | Bounds::Stamp => MOST_NODES,
             Bounds::Lead => MOST_LEADS,
         }
+    }
+
+    /// The leaf with which a search closes a box for a latency in ticks; none where it does not. The error is
+    /// that memory ran out.
+    pub fn closing_leaf(
+        self,
+        alloc: Global,
+        instance: &Instance,
+        branch: &Tracked,
+        latency: u32,
+    ) -> Result<Option<Node>, AllocError>
+        requires of_scenario { branch.now.scenario ≡ instance.now }
+        ensures some { IfOk result (λ leaf. IfSome leaf
+            (λ node. IsTurn self instance.now branch.now.delay_box latency (Closed node))) }
+        ensures none { IfOk result (λ leaf. IfNone leaf
+            (closes_for self instance.now branch.now.delay_box latency ≡ false)) }
+    {
+        stamp_bound_at_most_plain();
+        self.leaf_for(alloc, instance, branch, latency)
     }
 
     /// The leaf that closes a box for a latency in ticks, if there is one: that of the plain bound,

@@ -33,8 +33,9 @@ use std::alloc::{AllocError, Global};
 /// by leads is one a lead leaf, which names the latency that was known where it closed its box.
 ///
 /// `Outcome::Open` is the answer only where a box is left when all tickets are spent, or in real time
-/// where one of the boxes left is a point: the search ends at a point that it does not close, since it
-/// can't close the root then. The error is that memory ran out.
+/// where one of the boxes left is a point that the bounds do not close for the best latency, which is no
+/// less than that of the point's greatest delays: the search ends there, since it can't close the root
+/// then. The error is that memory ran out.
 pub fn search_alone(
     alloc: Global,
     instance: &Instance,
@@ -234,7 +235,7 @@ impl Search {
         })
     }
 
-    /// The outcome of a search that has no ticket left for a box, or for which the box stays.
+    /// The outcome of a search that has no ticket left for a box, or that leaves the box as an open point.
     fn into_open(
         mut self,
         alloc: Global,
@@ -245,7 +246,8 @@ impl Search {
     ) -> Result<Outcome, AllocError>
         requires searching { IsSearching bounds instance.now self.best
             (self.work.items ++ Work.Branch branch tried ∷ []) self.nodes.items self.tickets }
-        ensures value { (limit : ℕ) → HasEndedAt instance.now self.tickets branch.delay_box limit
+        ensures value { (limit : ℕ) → HasEndedAt bounds instance.now self.best.latency
+            self.tickets branch.delay_box limit
             → IfOk result (λ outcome. IsOutcome bounds instance.now 1 limit outcome) }
         ensures best { IfOk result (λ outcome. best_of outcome ≡ self.best.latency) }
     {

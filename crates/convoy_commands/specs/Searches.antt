@@ -57,7 +57,7 @@ abbrev pub tickets_of : Outcome → ℕ
 tickets_of (outcomes.Proved certificate tickets by_worker) = tickets
 tickets_of (outcomes.Open best upper tickets by_worker) = tickets
 
--- A search with these settings for the scenario ended so. It had just as many workers as they say, or one where its first ticket was enough.
+-- A search with these settings for the scenario ended so. It tells a number of tickets for each of as many workers as they say, or for one where its first ticket was enough; the numbers add up to all its tickets, and more is not said of the workers.
 pub record IsEnd (settings : Settings) (scenario : Scenario) (outcome : Outcome) : Type 0 where
   pub workers : ℕ
   pub as_said : (workers ≡ settings.workers) ⊎ ((workers ≡ 1) × (tickets_of outcome ≤ 1))

@@ -116,10 +116,12 @@ pub fn run_check<S: Source, K: Sink>(
 ///
 /// At `Done::Fine` what was written is the text of a certificate of the scenario that was read. Its
 /// schedule has the stated latency, and no assignment of delays to the packets has a greater one. The
-/// command `check` accepts the text. At `Done::Open` boxes are left: the search spent as many tickets
-/// as the options allow, or in real time it left a point that nothing closes. What was written is the
-/// line `open LEAST MOST`, where the greatest latency is at least LEAST ticks and at most MOST, and then
-/// the lines of a schedule that has the latency LEAST.
+/// command `check` accepts the text. At `Done::Open` boxes are left: the search spent all tickets that
+/// the options give it, both ways as many as [`plain_share`](super::plain_share) and
+/// [`lead_share`](super::lead_share) say, or in real time it left a point that its bounds do not close
+/// for the latency that it found. What was written is the line `open LEAST MOST`, where the greatest
+/// latency is at least LEAST ticks and at most MOST, and then the lines of a schedule that has the
+/// latency LEAST.
 ///
 /// At most `options.most_reads()` reads are made. Nothing is written before the answer is known. The
 /// faults are those of [`run_first`](super::run_first).

@@ -5,12 +5,12 @@ use Rattle.std.proofs.Common.{arith, ap, sym, subst, ◌∙◌, inl, inr}
 use Rattle.std.proofs.lemmas.List.Elements.{All-nil}
 use Rattle.convoy_sim.specs.Record.{IsAttained}
 use Rattle.convoy_intervals.specs.Boxes.{Box}
-use Rattle.convoy_incumbent.specs.Boards.{BoardId, Holding}
+use Rattle.convoy_incumbent.specs.Boards.{Holding}
 use Rattle.convoy_shares.specs.Shares.{whole}
 use Rattle.convoy_ledger.specs.Tickets.{LedgerId, Account, HasAll}
 use Rattle.convoy_branch.specs.Fronts.{left_in}
 use Rattle.convoy_branch.specs.Laws.{FrontsBetter}
-use Rattle.convoy_branch.specs.Steps.{IsRealPoint}
+use Rattle.convoy_branch.specs.Steps.{IsOpenPoint}
 use Rattle.convoy_deque.specs.Tasks.{AreAllTaken}
 use Rattle.convoy_share.specs.declared.ending.Ended.{Ended}
 use Rattle.convoy_share.specs.declared.means.Means.{Means}
@@ -19,14 +19,16 @@ use Rattle.convoy_share.specs.declared.piece.Piece.{Piece}
 use Rattle.convoy_share.specs.declared.searching.Closed.{Closed}
 use Rattle.convoy_share.specs.declared.thief.ThiefWorker.{ThiefWorker}
 use Rattle.convoy_share.specs.Common.{Common}
-use Rattle.convoy_share.specs.Ended.{IsClosed, IsEnded}
+use Rattle.convoy_share.specs.Ended.{IsClosed, IsEnded, IsTreeAtEnd}
 use Rattle.convoy_share.specs.Filling.{CanBeFilled, IsFilling}
 use Rattle.convoy_share.specs.Finishing.{IsFinishing}
-use Rattle.convoy_share.specs.Means.{IsLater, drawn}
+use Rattle.convoy_share.specs.Means.{IsLater, IsTriedPoint, drawn}
 use Rattle.convoy_share.specs.Opening.{AreOpened}
 use Rattle.convoy_share.specs.Pieces.{front}
 use Rattle.convoy_share.specs.Workers.{HasJoined, StaysOwner}
 use Rattle.convoy_share.proofs.Fillings.{IsFilling-better}
+use Rattle.convoy_share.proofs.Grown.{tried_later}
+use Rattle.convoy_share.proofs.Outcomes.{left_boxes_in}
 
 -- each branch was taken: all trees can be put together
 pub can_fill : (shared : Common) (before worker : OwnerWorker) (count : ℕ) → StaysOwner shared before worker → AreAllTaken worker.end.put worker.end.taken → count ≡ length worker.end.put → CanBeFilled shared.bounds shared.scenario worker.means.hand.seen (drawn worker.means) count worker.end.put worker.end.taken worker.trees.items
@@ -35,7 +37,7 @@ can_fill shared before worker count is all count_is =
 
 pub IsFinishing-start : (shared : Common) (put : List Box) (means : Means) (done rest : List Piece) (slots : List (List Piece)) → done ≡ [] → IsFilling shared.bounds shared.scenario means.hand.seen (drawn means) put done rest slots → IsFinishing shared put means done rest slots
 IsFinishing-start shared put means done rest slots none filling =
-    record { filling = filling; left = inl (subst (λ (ps : List Piece). All (IsRealPoint shared.scenario) (left_in (front put ps))) (sym none) (All-nil (IsRealPoint shared.scenario))) }
+    record { filling = filling; left = inl (subst (λ (ps : List Piece). All (IsTriedPoint shared.scenario means.hand.seen) (left_in (front put ps))) (sym none) (All-nil (IsTriedPoint shared.scenario means.hand.seen))) }
 
 -- all places are filled, and what was left is searched as far as there are tickets
 pub IsEnded-finished : (shared : Common) (before worker : OwnerWorker) (after : Means) (done : List Piece) (slots : List (List Piece)) (ended : Ended) → StaysOwner shared before worker → IsLater worker.means after → drawn worker.means ≤ drawn after → IsFinishing shared worker.end.put after done [] slots → ended.hand ≡ after.hand → ended.clerk ≡ after.clerk → ended.pieces.items ≡ done → ended.drawn_by_thieves.items ≡ worker.drawn_by_thieves.items → IsEnded shared before.means.hand.share before.means.clerk.share (length before.drawn_by_thieves.items) before.means.hand.seen ended
@@ -58,7 +60,9 @@ IsEnded-finished shared before worker after done slots ended is later more finis
         filling = subst (λ (ps : List Piece). IsFilling shared.bounds shared.scenario ended.hand.seen (length ended.clerk.tickets) worker.end.put ps [] slots) (sym pieces) at_tickets;
       };
       left = elim finished.left [
-        | inl points ↦ inl (subst (λ (ps : List Piece). All (IsRealPoint shared.scenario) (left_in (front worker.end.put ps))) (sym pieces) points)
+        | inl points ↦ (
+            let at_end = subst (λ (n : ℕ). All (IsTriedPoint shared.scenario n) (left_in (front worker.end.put done))) seen points in
+            inl (subst (λ (ps : List Piece). All (IsTriedPoint shared.scenario ended.hand.seen) (left_in (front worker.end.put ps))) (sym pieces) at_end))
         | inr all ↦ inr (ap (λ (a : Account). a.done) clerk ∙ all)
       ];
     }
@@ -78,28 +82,35 @@ IsEnded-opened shared workers least owner joined thieves ended opened has is =
       left = is.left;
     }
 
--- board and ledger are closed
-pub IsClosed-ended : (better : FrontsBetter) (shared : Common) (joined least : ℕ) (ended : Ended) (closed : Closed) (board : BoardId) (ledger : LedgerId) → shared.board ≡ board → shared.ledger ≡ ledger → board.scenario ≡ shared.scenario → IsEnded shared whole whole joined least ended → closed.best.scenario ≡ board.scenario → IsAttained closed.best → ended.hand.seen ≤ closed.best.latency → HasAll ended.clerk closed.tickets → length closed.by_worker.items ≡ length ended.drawn_by_thieves.items + 1 → sum closed.by_worker.items ≡ closed.tickets → closed.pieces.items ≡ ended.pieces.items → IsClosed shared.bounds shared.scenario (joined + 1) ledger.most closed
-IsClosed-ended better shared joined least ended closed board ledger board_is ledger_is plan_is is scenario attained above all count sum_is pieces =
+-- board and ledger are closed: what the workers have brought is whole for the best latency
+pub IsTreeAtEnd-ended : (better : FrontsBetter) (shared : Common) (joined least : ℕ) (ended : Ended) (best tickets limit : ℕ) (ledger : LedgerId) → shared.ledger ≡ ledger → limit ≡ ledger.most → IsEnded shared whole whole joined least ended → ended.hand.seen ≤ best → HasAll ended.clerk tickets → IsTreeAtEnd (IsTriedPoint shared.scenario best) shared.bounds shared.scenario best tickets limit ended.pieces.items
+IsTreeAtEnd-ended better shared joined least ended best tickets limit ledger ledger_is limit_is is above all =
     let plan = shared.scenario in
-    let latency = closed.best.latency in
     let put = is.whole.put in
     let slots = is.whole.slots in
-    let most : ended.clerk.ledger.most ≡ ledger.most = ap (λ (id : LedgerId). id.most) (is.ledger_is ∙ ledger_is) in
-    let now = IsFilling-better better shared.bounds plan ended.hand.seen latency (length ended.clerk.tickets) put ended.pieces.items [] slots above is.whole.filling in
-    let at_tickets = subst (λ (n : ℕ). IsFilling shared.bounds plan latency n put ended.pieces.items [] slots) all.count now in
+    let pieces = ended.pieces.items in
+    let most : ended.clerk.ledger.most ≡ limit = ap (λ (id : LedgerId). id.most) (is.ledger_is ∙ ledger_is) ∙ sym limit_is in
+    let now = IsFilling-better better shared.bounds plan ended.hand.seen best (length ended.clerk.tickets) put pieces [] slots above is.whole.filling in
     record {
-      of_scenario = scenario ∙ plan_is;
-      attained = attained;
-      few = omega (arith, all.within, most);
-      tickets_by_worker = record { each = omega (arith, count, is.joined_is); all = sum_is };
       whole = record {
         put = put;
         slots = slots;
-        filling = subst (λ (ps : List Piece). IsFilling shared.bounds plan latency closed.tickets put ps [] slots) (sym pieces) at_tickets;
+        filling = subst (λ (n : ℕ). IsFilling shared.bounds plan best n put pieces [] slots) all.count now;
       };
+      few = omega (arith, all.within, most);
       left = elim is.left [
-        | inl points ↦ inl (subst (λ (ps : List Piece). All (IsRealPoint plan) (left_in (front put ps))) (sym pieces) points)
+        | inl points ↦ (
+            let later = tried_later plan ended.hand.seen best (left_in (front put pieces)) above points in
+            inl (subst (λ (bs : List Box). All (IsTriedPoint plan best) bs) (left_boxes_in put pieces is.whole.filling.settled) later))
         | inr done ↦ inr (all.done done ∙ most)
       ];
     }
+
+-- and what is left was looked at once more
+pub IsClosed-settled : (shared : Common) (joined least limit : ℕ) (ended : Ended) (closed : Closed) → IsEnded shared whole whole joined least ended → closed.best.scenario ≡ shared.scenario → IsAttained closed.best → length closed.by_worker.items ≡ length ended.drawn_by_thieves.items + 1 → sum closed.by_worker.items ≡ closed.tickets → IsTreeAtEnd (IsOpenPoint shared.bounds shared.scenario closed.best.latency) shared.bounds shared.scenario closed.best.latency closed.tickets limit closed.pieces.items → IsClosed shared.bounds shared.scenario (joined + 1) limit closed
+IsClosed-settled shared joined least limit ended closed is scenario attained count sum_is tree = record {
+  of_scenario = scenario;
+  attained = attained;
+  tickets_by_worker = record { each = omega (arith, count, is.joined_is); all = sum_is };
+  tree = tree;
+}

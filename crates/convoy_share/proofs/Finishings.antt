@@ -10,16 +10,16 @@ use Rattle.convoy_intervals.specs.Tracked.{Tracked}
 use Rattle.convoy_branch.specs.declared.bounds.Bounds.{Bounds}
 use Rattle.convoy_branch.specs.Fronts.{FrontNode, left_box, left_in}
 use Rattle.convoy_branch.specs.Laws.{FrontsBetter}
-use Rattle.convoy_branch.specs.Steps.{IsRealPoint}
 use Rattle.convoy_share.specs.declared.means.Means.{Means}
 use Rattle.convoy_share.specs.declared.piece.Piece.{Piece}
 use Rattle.convoy_share.specs.declared.piece.Piece.TheVariants.{Todo}
 use Rattle.convoy_share.specs.Common.{Common}
 use Rattle.convoy_share.specs.Filling.{IsFilling}
 use Rattle.convoy_share.specs.Finishing.{IsFinishing}
-use Rattle.convoy_share.specs.Means.{IsGrown, IsLeftAtEnd, drawn}
+use Rattle.convoy_share.specs.Means.{IsGrown, IsLeftAtEnd, IsTriedPoint, drawn}
 use Rattle.convoy_share.specs.Pieces.{front, front_of, IsPiece}
 use Rattle.convoy_share.proofs.Fillings.{IsFilling-better, IsFilling-searched}
+use Rattle.convoy_share.proofs.Grown.{tried_later}
 use Rattle.convoy_share.proofs.Outcomes.{left_boxes_in}
 use Rattle.convoy_share.proofs.Places.{places_none}
 
@@ -41,9 +41,10 @@ IsFinishing-searched better shared put before after done rest slots branch tried
       left = elim is.left [
         | inl points ↦ elim left [
           | inl here ↦ (
-              let P = IsRealPoint plan in
+              let P = IsTriedPoint plan seen in
+              let old = tried_later plan before.hand.seen seen (left_in (front put done)) grown.later.seen points in
               let more : All P (left_in (front put pieces)) = subst (λ (bs : List Box). All P bs) (sym (left_boxes_in put pieces none)) here in
-              inl (subst (λ (bs : List Box). All P bs) (sym (left_append put done pieces)) (All-append P (left_in (front put done)) (left_in (front put pieces)) points more)))
+              inl (subst (λ (bs : List Box). All P bs) (sym (left_append put done pieces)) (All-append P (left_in (front put done)) (left_in (front put pieces)) old more)))
           | inr ended ↦ inr ended
         ]
         | inr ended ↦ inr (grown.later.done ended)
@@ -55,7 +56,7 @@ pub IsFinishing-next : (shared : Common) (put : List Box) (means : Means) (done 
 IsFinishing-next shared put means done done' rest rest' slots slots' same filling is = record {
   filling = filling;
   left = elim is.left [
-    | inl points ↦ inl (subst (λ (bs : List Box). All (IsRealPoint shared.scenario) bs) (sym same) points)
+    | inl points ↦ inl (subst (λ (bs : List Box). All (IsTriedPoint shared.scenario means.hand.seen) bs) (sym same) points)
     | inr all ↦ inr all
   ];
 }

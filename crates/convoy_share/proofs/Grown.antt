@@ -2,7 +2,7 @@
 use Rattle.std.specs.Prelude.{◌≡◌, ◌⊎◌, ℕ, ◌+◌, ◌≤◌, true, List, [], ◌∷◌, ◌++◌, length, Bool}
 use Rattle.std.specs.List.{All}
 use Rattle.std.proofs.Common.{arith, refl, sym, subst, ◌∙◌, inl, inr}
-use Rattle.std.proofs.lemmas.List.Elements.{All-cons, All-head, All-nil}
+use Rattle.std.proofs.lemmas.List.Elements.{All-cons, All-head, All-nil, All-weaker}
 use Rattle.convoy_scenario.specs.Scenario.{Scenario}
 use Rattle.convoy_intervals.specs.Boxes.{Box}
 use Rattle.convoy_intervals.specs.Tracked.{Tracked}
@@ -10,7 +10,6 @@ use Rattle.convoy_branch.specs.declared.bounds.Bounds.{Bounds}
 use Rattle.convoy_branch.specs.declared.step.Turn.{Turn}
 use Rattle.convoy_branch.specs.declared.step.Turn.TheVariants.{Halves}
 use Rattle.convoy_branch.specs.Laws.{FrontsBetter}
-use Rattle.convoy_branch.specs.Steps.{IsRealPoint}
 use Rattle.convoy_share.specs.declared.means.Means.{Means}
 use Rattle.convoy_share.specs.declared.means.TakenUp.TheVariants.{Turned, Left}
 use Rattle.convoy_share.specs.declared.piece.Piece.{Piece}
@@ -18,7 +17,7 @@ use Rattle.convoy_share.specs.declared.piece.Piece.TheVariants.{Todo, Pushed}
 use Rattle.convoy_share.specs.Pieces.{IsPiece, left_boxes}
 use Rattle.convoy_share.specs.Subtrees.{ArePieces}
 use Rattle.convoy_share.specs.Turns.{parted, pieces_of}
-use Rattle.convoy_share.specs.Means.{IsLater, IsTakenUp, IsGrown, IsLeftAtEnd}
+use Rattle.convoy_share.specs.Means.{IsLater, IsTakenUp, IsGrown, IsLeftAtEnd, IsTriedPoint}
 use Rattle.convoy_share.proofs.Counts.{All-parts}
 use Rattle.convoy_share.proofs.Places.{places_none}
 use Rattle.convoy_share.proofs.UnderWay.{IsUnderWay-start, IsUnderWay-better, IsUnderWay-turned, IsUnderWay-put}
@@ -103,25 +102,32 @@ IsGrown-kept bounds scenario before after low boxes pieces grown =
 -- other pieces may leave the same boxes
 pub IsLeftAtEnd-by : (scenario : Scenario) (means : Means) (pieces others : List Piece) → left_boxes others ≡ left_boxes pieces → IsLeftAtEnd scenario means pieces → IsLeftAtEnd scenario means others
 IsLeftAtEnd-by scenario means pieces others same left = elim left [
-  | inl points ↦ inl (subst (λ (bs : List Box). All (IsRealPoint scenario) bs) (sym same) points)
+  | inl points ↦ inl (subst (λ (bs : List Box). All (IsTriedPoint scenario means.hand.seen) bs) (sym same) points)
   | inr done ↦ inr done
 ]
 
--- a box more is left: all tickets were drawn, or it is a point in real time
-pub left_more : (bounds : Bounds) (scenario : Scenario) (most : ℕ) (between after : Means) (pieces : List Piece) (boxes : List Box) (branch left : Tracked) → IsTakenUp bounds scenario most branch between after (Left left) → boxes ≡ left.delay_box ∷ left_boxes pieces → IsLeftAtEnd scenario between pieces → All (IsRealPoint scenario) boxes ⊎ (after.clerk.done ≡ true)
+-- a greater latency is seen, and what was tried was
+pub tried_later : (scenario : Scenario) (seen more : ℕ) (boxes : List Box) → seen ≤ more → All (IsTriedPoint scenario seen) boxes → All (IsTriedPoint scenario more) boxes
+tried_later scenario seen more boxes above points =
+    All-weaker (IsTriedPoint scenario seen) (IsTriedPoint scenario more) (λ box is. record { point = is.point; tried = omega (arith, is.tried, above) }) boxes points
+
+-- a box more is left: all tickets were drawn, or it is a point in real time that was tried
+pub left_more : (bounds : Bounds) (scenario : Scenario) (most : ℕ) (between after : Means) (pieces : List Piece) (boxes : List Box) (branch left : Tracked) → IsTakenUp bounds scenario most branch between after (Left left) → boxes ≡ left.delay_box ∷ left_boxes pieces → IsLeftAtEnd scenario between pieces → All (IsTriedPoint scenario after.hand.seen) boxes ⊎ (after.clerk.done ≡ true)
 left_more bounds scenario most between after pieces boxes branch left taken more before = elim taken.ticket.2 [
   | inl done ↦ inr done
   | inr point ↦ elim before [
     | inl points ↦ (
-        let here : IsRealPoint scenario left.delay_box = subst (λ (b : Tracked). IsRealPoint scenario b.delay_box) (sym taken.ticket.0) point in
-        inl (subst (λ (bs : List Box). All (IsRealPoint scenario) bs) (sym more) (All-cons (IsRealPoint scenario) left.delay_box (left_boxes pieces) here points)))
+        let P = IsTriedPoint scenario after.hand.seen in
+        let here : P left.delay_box = subst (λ (b : Tracked). P b.delay_box) (sym taken.ticket.0) point in
+        let others = tried_later scenario between.hand.seen after.hand.seen (left_boxes pieces) taken.later.seen points in
+        inl (subst (λ (bs : List Box). All P bs) (sym more) (All-cons P left.delay_box (left_boxes pieces) here others)))
     | inr done ↦ inr (taken.later.done done)
   ]
 ]
 
 -- a ticket was spent, and no box more is left
-pub left_same : (bounds : Bounds) (scenario : Scenario) (most : ℕ) (between after : Means) (pieces : List Piece) (boxes : List Box) (branch : Tracked) (turn : Turn) → IsTakenUp bounds scenario most branch between after (Turned turn) → boxes ≡ left_boxes pieces → IsLeftAtEnd scenario between pieces → All (IsRealPoint scenario) boxes ⊎ (after.clerk.done ≡ true)
+pub left_same : (bounds : Bounds) (scenario : Scenario) (most : ℕ) (between after : Means) (pieces : List Piece) (boxes : List Box) (branch : Tracked) (turn : Turn) → IsTakenUp bounds scenario most branch between after (Turned turn) → boxes ≡ left_boxes pieces → IsLeftAtEnd scenario between pieces → All (IsTriedPoint scenario after.hand.seen) boxes ⊎ (after.clerk.done ≡ true)
 left_same bounds scenario most between after pieces boxes branch turn taken same before = elim before [
-  | inl points ↦ inl (subst (λ (bs : List Box). All (IsRealPoint scenario) bs) (sym same) points)
+  | inl points ↦ inl (subst (λ (bs : List Box). All (IsTriedPoint scenario after.hand.seen) bs) (sym same) (tried_later scenario between.hand.seen after.hand.seen (left_boxes pieces) taken.later.seen points))
   | inr done ↦ inr (taken.later.done done)
 ]

@@ -22,7 +22,7 @@ use Rattle.convoy_branch.specs.Uppers.{IsUpperOf}
 use Rattle.convoy_branch.specs.Fronts.{left_in}
 use Rattle.convoy_branch.specs.Laws.{FrontsBound, OnlyLeadsHaveLeadLeaves, PlainFrontsHaveNoStamps, WholeFrontsAreReadable, WholeFrontsAreTrees}
 use Rattle.convoy_branch.specs.Outcomes.{IsProved, IsOpen}
-use Rattle.convoy_branch.specs.Steps.{IsRealPoint}
+use Rattle.convoy_branch.specs.Steps.{IsOpenPoint}
 use Rattle.convoy_share.specs.declared.piece.Piece.{Piece}
 use Rattle.convoy_share.specs.declared.piece.Piece.TheVariants.{Done, Todo, Pushed}
 use Rattle.convoy_share.specs.declared.searching.Closed.{Closed}
@@ -37,7 +37,7 @@ left_boxes_in put (Done node ∷ pieces) none = left_boxes_in put pieces none
 left_boxes_in put (Todo branch tried ∷ pieces) none = ap (λ (bs : List Box). branch.delay_box ∷ bs) (left_boxes_in put pieces none)
 left_boxes_in put (Pushed number ∷ pieces) none = absurd (cc)
 
-none_left : (pieces : List Piece) → list_any is_left pieces ≡ false → left_boxes pieces ≡ []
+pub none_left : (pieces : List Piece) → list_any is_left pieces ≡ false → left_boxes pieces ≡ []
 none_left [] none = refl
 none_left (Done node ∷ pieces) none = none_left pieces none
 none_left (Todo branch tried ∷ pieces) none = absurd (cc)
@@ -62,7 +62,7 @@ nodes_right scenario seen put (Pushed number ∷ pieces) each =
 
 pub nodes_closed : (bounds : Bounds) (scenario : Scenario) (workers limit : ℕ) (closed : Closed) → IsClosed bounds scenario workers limit closed → All (IsNode scenario) (nodes_in closed.pieces.items)
 nodes_closed bounds scenario workers limit closed is =
-    nodes_right scenario closed.best.latency is.whole.put closed.pieces.items is.whole.filling.each_done
+    nodes_right scenario closed.best.latency is.tree.whole.put closed.pieces.items is.tree.whole.filling.each_done
 
 -- the schedule of the best record is an assignment of the scenario, and has its latency there
 pub best_assigned : (scenario : Scenario) (best : Record) → best.scenario ≡ scenario → IsAttained best → IsAssignment scenario best.schedule
@@ -105,12 +105,12 @@ IsProved-certificate : (trees : WholeFrontsAreTrees) (cover : TreesCover) (no_st
 IsProved-certificate trees cover no_stamps no_leads reads bounds scenario workers limit closed none is =
     let best = closed.best in
     let pieces = closed.pieces.items in
-    let put = is.whole.put in
-    let filling = is.whole.filling in
+    let put = is.tree.whole.put in
+    let filling = is.tree.whole.filling in
     let none_in : left_in (front put pieces) ≡ [] = left_boxes_in put pieces filling.settled ∙ none_left pieces none in
-    let tree = IsTree-filled trees bounds scenario best.latency closed.tickets put pieces is.whole.slots none_in filling in
+    let tree = IsTree-filled trees bounds scenario best.latency closed.tickets put pieces is.tree.whole.slots none_in filling in
     let lawful = best_lawful scenario best is.of_scenario is.attained in
-    let fronts = whole_tree bounds scenario best.latency closed.tickets put pieces is.whole.slots filling in
+    let fronts = whole_tree bounds scenario best.latency closed.tickets put pieces is.tree.whole.slots filling in
     record {
       of_scenario = refl;
       valid = record { latency = best_latency scenario best is.of_scenario is.attained; tree = tree.0 };
@@ -120,9 +120,9 @@ IsProved-certificate trees cover no_stamps no_leads reads bounds scenario worker
       };
       nodes = tree.1;
       plain = λ by_plain. subst (λ (ns : List Node). list_any is_stamp ns ≡ false) (spent_nodes put pieces) (no_stamps scenario best.latency (front put pieces) none_in (subst (λ (b : Bounds). AreTreesOf b scenario best.latency put (root_of scenario ∷ []) pieces) by_plain fronts));
-      few = is.few;
+      few = is.tree.few;
       no_leads = λ others. subst (λ (ns : List Node). list_any is_lead ns ≡ false) (spent_nodes put pieces) (no_leads bounds scenario best.latency (front put pieces) others none_in fronts);
-      readable = λ within. subst AreReadable (spent_nodes put pieces) (reads bounds scenario best.latency (front put pieces) none_in fronts (subst (λ (ns : List Node). length ns ≤ most_nodes bounds) (sym (spent_nodes put pieces)) (omega (arith, tree.1, is.few, within))));
+      readable = λ within. subst AreReadable (spent_nodes put pieces) (reads bounds scenario best.latency (front put pieces) none_in fronts (subst (λ (ns : List Node). length ns ≤ most_nodes bounds) (sym (spent_nodes put pieces)) (omega (arith, tree.1, is.tree.few, within))));
       shares = is.tickets_by_worker;
     }
 
@@ -135,19 +135,19 @@ some_of : {X : Type 0} (P : X → Type 0) (xs : List X) → 0 < length xs → Al
 some_of P [] some all = absurd (omega arith)
 some_of P (x ∷ xs) some all = (0, x, omega arith, refl, All-head P x xs all)
 
--- a box is left: all tickets were drawn, or it is a point in real time, and the tree is a front
+-- a box is left: all tickets were spent, or it is an open point, and the tree is a front
 pub IsOpen-closed : (bound : FrontsBound) (bounds : Bounds) (scenario : Scenario) (workers limit upper : ℕ) (closed : Closed) → list_any is_left closed.pieces.items ≡ true → latency_of scenario (least_of (ranges_of scenario)) ≤ closed.best.latency → IsUpperOf bounds scenario closed.best.latency (left_boxes closed.pieces.items) upper → IsClosed bounds scenario workers limit closed → IsOpen bounds scenario workers limit closed.best upper closed.tickets closed.by_worker.items
 unfolding IsFront-filled
 IsOpen-closed bound bounds scenario workers limit upper closed some least upper_is is =
     let best = closed.best in
     let pieces = closed.pieces.items in
-    let put = is.whole.put in
-    let filling = is.whole.filling in
+    let put = is.tree.whole.put in
+    let filling = is.tree.whole.filling in
     let boxes : left_in (front put pieces) ≡ left_boxes pieces = left_boxes_in put pieces filling.settled in
     let left : 0 < length (left_in (front put pieces)) = subst (λ (bs : List Box). 0 < length bs) (sym boxes) (some_left pieces some) in
     let reached = best_reached scenario best is.of_scenario is.attained in
     let over = subst (λ (bs : List Box). IsUpperOf bounds scenario best.latency bs upper) (sym boxes) upper_is in
-    let open_front = IsFront-filled bounds scenario best.latency closed.tickets upper put pieces is.whole.slots left reached least over filling in
+    let open_front = IsFront-filled bounds scenario best.latency closed.tickets upper put pieces is.tree.whole.slots left reached least over filling in
     record {
       of_scenario = is.of_scenario;
       reached = reached;
@@ -155,9 +155,9 @@ IsOpen-closed bound bounds scenario workers limit upper closed some least upper_
       front = record {
         tickets = closed.tickets;
         front = open_front;
-        few = is.few;
-        all = elim is.left [
-          | inl points ↦ inr (some_of (IsRealPoint scenario) (left_in (front put pieces)) left points)
+        few = is.tree.few;
+        all = elim is.tree.left [
+          | inl points ↦ inr (some_of (IsOpenPoint bounds scenario best.latency) (left_in (front put pieces)) left (subst (λ (bs : List Box). All (IsOpenPoint bounds scenario best.latency) bs) (sym boxes) points))
           | inr all ↦ inl all
         ];
       };

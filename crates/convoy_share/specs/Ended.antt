@@ -7,13 +7,14 @@ use Rattle.convoy_intervals.specs.Boxes.{Box}
 use Rattle.convoy_branch.specs.declared.bounds.Bounds.{Bounds}
 use Rattle.convoy_branch.specs.Fronts.{left_in}
 use Rattle.convoy_branch.specs.Outcomes.{AreTicketsByWorker}
-use Rattle.convoy_branch.specs.Steps.{IsRealPoint}
+use Rattle.convoy_branch.specs.Steps.{IsOpenPoint}
 use Rattle.convoy_share.specs.declared.ending.Ended.{Ended}
 use Rattle.convoy_share.specs.declared.piece.Piece.{Piece}
 use Rattle.convoy_share.specs.declared.searching.Closed.{Closed}
 use Rattle.convoy_share.specs.Common.{Common}
 use Rattle.convoy_share.specs.Filling.{IsFilling}
-use Rattle.convoy_share.specs.Pieces.{front}
+use Rattle.convoy_share.specs.Means.{IsTriedPoint}
+use Rattle.convoy_share.specs.Pieces.{front, left_boxes}
 
 -- A whole tree, where that latency was seen and so many tickets were drawn: each node is right, and there is one for each ticket.
 pub record IsWhole (bounds : Bounds) (scenario : Scenario) (seen tickets : ℕ) (pieces : List Piece) : Type 0 where
@@ -21,7 +22,7 @@ pub record IsWhole (bounds : Bounds) (scenario : Scenario) (seen tickets : ℕ) 
   pub slots : List (List Piece)
   pub filling : IsFilling bounds scenario seen tickets put pieces [] slots
 
--- what the owner and so many thieves have brought, with those shares of board and ledger; a latency no less than that one was seen, and unless all tickets were drawn, only points in real time are left
+-- what the owner and so many thieves have brought, with those shares of board and ledger; a latency no less than that one was seen, and unless all tickets were drawn, only points in real time that were tried are left
 pub record IsEnded (shared : Common) (hand clerk joined least : ℕ) (ended : Ended) : Type 0 where
   pub board_is : ended.hand.board ≡ shared.board
   pub ledger_is : ended.clerk.ledger ≡ shared.ledger
@@ -31,13 +32,17 @@ pub record IsEnded (shared : Common) (hand clerk joined least : ℕ) (ended : En
   pub joined_is : length ended.drawn_by_thieves.items ≡ joined
   pub theirs : sum ended.drawn_by_thieves.items ≤ length ended.clerk.tickets
   pub whole : IsWhole shared.bounds shared.scenario ended.hand.seen (length ended.clerk.tickets) ended.pieces.items
-  pub left : All (IsRealPoint shared.scenario) (left_in (front whole.put ended.pieces.items)) ⊎ (ended.clerk.done ≡ true)
+  pub left : All (IsTriedPoint shared.scenario ended.hand.seen) (left_in (front whole.put ended.pieces.items)) ⊎ (ended.clerk.done ≡ true)
 
--- what a search has come to
+-- A whole tree of a search that has ended with that best latency, where at most `limit` tickets may be spent: unless all of them were, what is left has that property.
+pub record IsTreeAtEnd (property : Box → Type 0) (bounds : Bounds) (scenario : Scenario) (best tickets limit : ℕ) (pieces : List Piece) : Type 0 where
+  pub whole : IsWhole bounds scenario best tickets pieces
+  pub few : tickets ≤ limit
+  pub left : All property (left_boxes pieces) ⊎ (tickets ≡ limit)
+
+-- what a search has come to: unless all tickets were spent, only open points are left
 pub record IsClosed (bounds : Bounds) (scenario : Scenario) (workers limit : ℕ) (closed : Closed) : Type 0 where
   pub of_scenario : closed.best.scenario ≡ scenario
   pub attained : IsAttained closed.best
-  pub few : closed.tickets ≤ limit
   pub tickets_by_worker : AreTicketsByWorker workers closed.tickets closed.by_worker.items
-  pub whole : IsWhole bounds scenario closed.best.latency closed.tickets closed.pieces.items
-  pub left : All (IsRealPoint scenario) (left_in (front whole.put closed.pieces.items)) ⊎ (closed.tickets ≡ limit)
+  pub tree : IsTreeAtEnd (IsOpenPoint bounds scenario closed.best.latency) bounds scenario closed.best.latency closed.tickets limit closed.pieces.items

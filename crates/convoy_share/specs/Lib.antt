@@ -19,4 +19,5 @@ pub mod Common
 pub mod Workers
 pub mod Opening
 pub mod Finishing
+pub mod Looks
 pub mod Ended

@@ -2,7 +2,8 @@
 use Rattle.std.specs.Prelude.{◌≡◌, ◌⊎◌, ℕ, ◌+◌, ◌≤◌, List, false, true, length}
 use Rattle.std.specs.List.{All}
 use Rattle.convoy_scenario.specs.Scenario.{Scenario}
-use Rattle.convoy_intervals.specs.Boxes.{Box}
+use Rattle.convoy_sim.specs.Delivery.{latency_of}
+use Rattle.convoy_intervals.specs.Boxes.{Box, greatest_of}
 use Rattle.convoy_intervals.specs.Tracked.{Tracked}
 use Rattle.convoy_branch.specs.declared.bounds.Bounds.{Bounds}
 use Rattle.convoy_branch.specs.Steps.{IsRealPoint}
@@ -27,12 +28,17 @@ pub record IsLater (before after : Means) : Type 0 where
 abbrev pub drawn : Means → ℕ
 drawn means = length means.clerk.tickets
 
--- what becomes of a branch that is taken up: a ticket is spent for its turn; or it is left, since there was none, or since it is a point in real time
+-- the box is a point in real time that was tried: the latency of its greatest delays is at most the one seen
+pub record IsTriedPoint (scenario : Scenario) (seen : ℕ) (box : Box) : Type 0 where
+  pub point : IsRealPoint scenario box
+  pub tried : latency_of scenario (greatest_of box) ≤ seen
+
+-- what becomes of a branch that is taken up: a ticket is spent for its turn; or it is left, since there was none, or since it is a point in real time, which was tried
 abbrev pub IsSpentFor : Bounds → Scenario → ℕ → Tracked → Means → Means → TakenUp → Type 0
 IsSpentFor bounds scenario most branch before after (Turned turn) =
     (drawn after ≡ drawn before + 1) × (drawn after ≤ most) × (before.clerk.done ≡ false) × IsTurned bounds scenario after.hand.seen branch.delay_box turn
 IsSpentFor bounds scenario most branch before after (Left left) =
-    (left ≡ branch) × (drawn after ≡ drawn before) × ((after.clerk.done ≡ true) ⊎ IsRealPoint scenario branch.delay_box)
+    (left ≡ branch) × (drawn after ≡ drawn before) × ((after.clerk.done ≡ true) ⊎ IsTriedPoint scenario after.hand.seen branch.delay_box)
 
 pub record IsTakenUp (bounds : Bounds) (scenario : Scenario) (most : ℕ) (branch : Tracked) (before after : Means) (taken : TakenUp) : Type 0 where
   pub later : IsLater before after
@@ -45,6 +51,7 @@ pub record IsGrown (bounds : Bounds) (scenario : Scenario) (before after : Means
   pub spent : drawn after ≡ drawn before + tickets
   pub way : IsUnderWay bounds scenario after.hand.seen first put low boxes pieces tickets
 
--- unless all tickets were drawn, only points in real time are left among the pieces
+-- unless all tickets were drawn, only points in real time that were tried are left among the pieces
 abbrev pub IsLeftAtEnd : Scenario → Means → List Piece → Type 0
-IsLeftAtEnd scenario means pieces = All (IsRealPoint scenario) (left_boxes pieces) ⊎ (means.clerk.done ≡ true)
+IsLeftAtEnd scenario means pieces =
+    All (IsTriedPoint scenario means.hand.seen) (left_boxes pieces) ⊎ (means.clerk.done ≡ true)

@@ -13,6 +13,7 @@ mod gathering;
 mod growing;
 mod halves;
 pub mod laws;
+mod looking;
 mod means;
 mod opening;
 mod owner;

@@ -2,8 +2,8 @@
 
 ghost use Rattle.std.specs.Prelude.{◌≡◌, ◌≤◌, ◌+◌, false, true, length, IfNone, IfOk, IfSome, OnOk};
 ghost use Rattle.std.specs.Bool.{OnFalse, OnTrue};
-ghost use Rattle.convoy_branch.specs.Steps.{CanTurn, IsRealPoint, IsTriedIf, IsTurn, found_in, known_after};
-ghost use Rattle.convoy_share.specs.Means.{IsTakenUp};
+ghost use Rattle.convoy_branch.specs.Steps.{CanTurn, IsTriedIf, IsTurn, found_in, known_after};
+ghost use Rattle.convoy_share.specs.Means.{IsTakenUp, IsTriedPoint};
 
 use super::shared::Shared;
 use convoy_branch::laws::{fronts_better, turns_are_fronts, turns_are_nodes};
@@ -107,8 +107,8 @@ fn known_for_step<R: Wait>(
     ensures turns { IfOk result (λ known. IfSome known (λ known. (seen ≤ known)
         × (known ≤ hand.new.seen)
         × CanTurn shared.now.bounds shared.now.instance.now branch.now.delay_box known)) }
-    ensures stays { IfOk result
-        (λ known. IfNone known (IsRealPoint shared.now.instance.now branch.now.delay_box)) }
+    ensures stays { IfOk result (λ known. IfNone known
+        (IsTriedPoint shared.now.instance.now hand.new.seen branch.now.delay_box)) }
 {
     let Shared {
         alloc,

@@ -9,11 +9,12 @@ ghost use Rattle.convoy_sim.specs.Delivery.{latency_of};
 ghost use Rattle.convoy_branch.specs.Outcomes.{IsOutcome, best_of};
 ghost use Rattle.convoy_shares.specs.Shares.{whole};
 ghost use Rattle.convoy_ledger.specs.Tickets.{most_tickets};
-ghost use Rattle.convoy_share.specs.Common.{Common, common_of};
+ghost use Rattle.convoy_share.specs.Common.{common_by, common_of};
 ghost use Rattle.convoy_share.specs.Ended.{IsClosed, IsEnded};
 ghost use Rattle.convoy_share.specs.Pieces.{is_left};
 
 use super::ending::{Ended, finish};
+use super::looking::settle_points;
 use super::opening::open_workers;
 use super::piece::Settled;
 use super::running::run;
@@ -105,7 +106,7 @@ pub fn search_from<'a, R: Threads + Wait + Sync, G: Gate + Sync>(
         workers,
     };
     let brought = search_together(rt, gate, &shared, hand, clerk)?;
-    let closed = close(alloc, board, ledger, brought)?;
+    let closed = close(alloc, instance, bounds, limit, board, ledger, brought)?;
     closed.into_outcome(alloc, instance, bounds)
 }
 
@@ -142,16 +143,26 @@ pub(crate) struct Closed {
     pieces: Vec<Settled>,
 }
 
-/// Ends board and ledger, of which all workers' shares are back.
-fn close(alloc: Global, board: Board, ledger: Ledger, ended: Ended) -> Result<Closed, AllocError>
+/// Ends board and ledger, of which all workers' shares are back, and looks at what is left once more.
+fn close(
+    alloc: Global,
+    instance: &Instance,
+    bounds: Bounds,
+    limit: u64,
+    board: Board,
+    ledger: Ledger,
+    ended: Ended,
+) -> Result<Closed, AllocError>
+    requires of_scenario { board.scenario ≡ instance.now }
+    requires limit { limit ≡ ledger.most }
     requires hand { (ended.hand.board ≡ board) × (ended.hand.share ≡ whole) }
     requires clerk { (ended.clerk.ledger ≡ ledger) × (ended.clerk.share ≡ whole) }
     requires theirs { sum ended.drawn_by_thieves.items ≤ length ended.clerk.tickets }
-    ensures closed { (common : Common) (joined least : ℕ)
-        → common.board ≡ board → common.ledger ≡ ledger → board.scenario ≡ common.scenario
-        → IsEnded common whole whole joined least ended
-        → IfOk result (λ closed. IsClosed common.bounds common.scenario (joined + 1) ledger.most
-        closed) }
+    requires ended { (joined : ℕ) × (least : ℕ)
+        × IsEnded (common_by bounds instance.now board ledger) whole whole joined least ended }
+    ensures closed { (joined least : ℕ)
+        → IsEnded (common_by bounds instance.now board ledger) whole whole joined least ended
+        → IfOk result (λ closed. IsClosed bounds instance.now (joined + 1) limit closed) }
     ensures no_less { IfOk result (λ closed. ended.hand.seen ≤ closed.best.latency) }
 {
     fronts_better();
@@ -164,12 +175,21 @@ fn close(alloc: Global, board: Board, ledger: Ledger, ended: Ended) -> Result<Cl
     let Ok(tickets) = ledger.close(clerk) else {
         unreachable!();
     };
-    let by_worker = tickets_by_worker(alloc, tickets, &drawn_by_thieves)?;
     let best = match board.close(hand) {
         Ok(best) => best,
         Err(CloseFault::Memory(_, _)) => return Err(AllocError),
         Err(CloseFault::HandsOut(_, _)) => unreachable!(),
     };
+    let (pieces, tickets) = settle_points(
+        alloc,
+        instance,
+        bounds,
+        pieces,
+        best.latency(),
+        tickets,
+        limit,
+    )?;
+    let by_worker = tickets_by_worker(alloc, tickets, &drawn_by_thieves)?;
     Ok(Closed {
         best,
         tickets,

@@ -20,7 +20,7 @@ loop-work-preserved-in-Continue-branch-2 g c = record {
 pub returns-in-Some-2-clause-value : goal.returns-in-Some-2-clause-value
 returns-in-Some-2-clause-value g c =
     let stays = rw c.in-Some-2.is at c.in_ok-branch-in-Branch.ensures.stays in
-    c.into_open.ensures.value c.args.limit (record { few = omega (arith, c.loop-work.invariant.few, stays.same); all = inr stays.point })
+    c.into_open.ensures.value c.args.limit (record { few = omega (arith, c.loop-work.invariant.few, stays.same); all = inr stays.stays })
 
 pub returns-in-Branch-2-clause-value : goal.returns-in-Branch-2-clause-value
 returns-in-Branch-2-clause-value g c =
