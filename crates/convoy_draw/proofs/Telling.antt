@@ -1,14 +1,16 @@
 -- What texts and layers tell that are put together of parts.
-use Rattle.std.proofs.Common.{◌≡◌, ℕ, List, [], ◌∷◌, ◌++◌, append_assoc, refl, codes}
+use Rattle.std.proofs.Common.{◌≡◌, ℕ, List, [], ◌∷◌, ◌++◌, IsTrue, append_assoc, refl, codes}
 use Rattle.std.proofs.lemmas.List.{append-nil}
 use Rattle.std.proofs.lemmas.List.Elements.{All-weaker}
 use Rattle.std.specs.List.{All}
 use Rattle.convoy_scenario.specs.Scenario.{Scenario}
 use Rattle.convoy_picture.specs.Pictures.{Picture}
-use Rattle.convoy_picture.specs.Words.{answer_text, entry_text, flight_text}
+use Rattle.convoy_picture.specs.Words.{answer_text, entry_text, flight_text, reason_text}
 use Rattle.convoy_picture.specs.declared.role.Role.{Role}
 use Rattle.convoy_picture.specs.declared.role.Role.TheVariants.{Target, Holder, Other}
-use Rattle.convoy_draw.specs.Drawings.{IsDrawing, Tells, TellsWindows, titled}
+use Rattle.convoy_draw.specs.Drawings.{IsDrawing, Tells, TellsWindows, head_text, titled}
+use Rattle.convoy_draw.specs.Legends.{legend_lines}
+use Rattle.convoy_draw.specs.Shown.{ShowsLines, heading_style, is_wordless, reason_style, shown}
 use Rattle.convoy_draw.specs.Layers.{IsToldIn, Layers, element_text, layer_of, with_element}
 
 -- a text tells what a part of it tells
@@ -102,21 +104,37 @@ pub joined_tells : (layers : Layers) (first second third text : List ℕ) → te
 joined_tells layers first second third text whole piece told =
     joined_tells_of layers first second third piece text whole told.role told.told
 
--- an image tells what its parts tell
-pub drawing_tells : (scenario : Scenario) (picture : Picture) (head ground windows packets signs labels foot text : List ℕ)
-    → text ≡ head ++ (ground ++ (windows ++ (packets ++ (signs ++ (labels ++ foot)))))
-    → Tells (answer_text scenario picture.why) head
+-- an image shows and tells what its parts do
+pub drawing_tells : (scenario : Scenario) (picture : Picture) (start head ground windows packets signs labels legend text : List ℕ) (wordless : ℕ)
+    → text ≡ start ++ (head ++ (ground ++ (windows ++ (packets ++ (signs ++ (labels ++ (legend ++ codes "</svg>\n")))))))
+    → IsTrue (is_wordless start)
+    → head ≡ head_text scenario picture.why
     → TellsWindows scenario windows
     → All (λ flight. Tells (flight_text scenario flight) packets) picture.flights
     → All (λ entry. Tells (entry_text scenario entry) signs) picture.entries
+    → ShowsLines (legend_lines scenario picture.why wordless) legend
     → IsDrawing scenario picture text
-drawing_tells scenario picture head ground windows packets signs labels foot text whole answer waits flights entries = record {
-  answer = tells_within _ head [] (ground ++ (windows ++ (packets ++ (signs ++ (labels ++ foot))))) text answer whole;
-  windows = λ m known may. tells_within _ windows (head ++ ground) (packets ++ (signs ++ (labels ++ foot))) text (waits m known may) (rw whole (simp append_assoc));
+drawing_tells scenario picture start head ground windows packets signs labels legend text wordless whole sized first waits flights entries lines = record {
+  shows = record {
+    size = start;
+    middle = ground ++ (windows ++ (packets ++ (signs ++ labels)));
+    legend = legend;
+    wordless = wordless;
+    whole = rw (whole, first) (simp append_assoc);
+    sized = sized;
+    lines = lines;
+  };
+  answer =
+      let answer = answer_text scenario picture.why in
+      let after = codes "\n" ++ (shown heading_style answer ++ shown reason_style (reason_text scenario picture.why)) in
+      let told : Tells answer head = record { before = []; after = after; whole = first } in
+      tells_within _ head start (ground ++ (windows ++ (packets ++ (signs ++ (labels ++ (legend ++ codes "</svg>\n")))))) text told whole;
+  windows = λ m known may.
+      tells_within _ windows (start ++ (head ++ ground)) (packets ++ (signs ++ (labels ++ (legend ++ codes "</svg>\n")))) text (waits m known may) (rw whole (simp append_assoc));
   flights = All-weaker (λ flight. Tells (flight_text scenario flight) packets) (λ flight. Tells (flight_text scenario flight) text)
-      (λ flight told. tells_within _ packets (head ++ (ground ++ windows)) (signs ++ (labels ++ foot)) text told (rw whole (simp append_assoc)))
+      (λ flight told. tells_within _ packets (start ++ (head ++ (ground ++ windows))) (signs ++ (labels ++ (legend ++ codes "</svg>\n"))) text told (rw whole (simp append_assoc)))
       picture.flights flights;
   entries = All-weaker (λ entry. Tells (entry_text scenario entry) signs) (λ entry. Tells (entry_text scenario entry) text)
-      (λ entry told. tells_within _ signs (head ++ (ground ++ (windows ++ packets))) (labels ++ foot) text told (rw whole (simp append_assoc)))
+      (λ entry told. tells_within _ signs (start ++ (head ++ (ground ++ (windows ++ packets)))) (labels ++ (legend ++ codes "</svg>\n")) text told (rw whole (simp append_assoc)))
       picture.entries entries;
 }

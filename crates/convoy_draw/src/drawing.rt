@@ -1,26 +1,33 @@
-ghost use Rattle.std.specs.Prelude.{◌≡◌, ◌++◌, IfOk, List, OnErr, OnOk, string_bytes, ℕ};
-ghost use Rattle.convoy_draw.specs.Drawings.{IsDrawing, Tells};
-ghost use Rattle.convoy_picture.specs.Words.{answer_text};
+ghost use Rattle.std.specs.Prelude.{◌≡◌, ◌++◌, IfOk, IsTrue, List, OnErr, OnOk, string_bytes, ℕ};
+ghost use Rattle.convoy_draw.specs.Drawings.{IsDrawing, head_of, head_text};
+ghost use Rattle.convoy_draw.specs.Shown.{is_wordless};
 
 use super::ground::ground;
 use super::legend::legend;
 use super::packets::packets;
 use super::scene::Scene;
+use super::shown::sized_words;
 use super::signs::{labels, signs};
 use super::windows::windows;
-use convoy_explain::sender_name;
-use convoy_picture::{Picture, answer_words};
-use convoy_scenario::naming::message_name;
-use convoy_scenario::{Scenario, Sender};
+use convoy_explain::Explanation;
+use convoy_picture::{Picture, answer_words, reason_words};
+use convoy_scenario::Scenario;
 use convoy_sheet::{MARGIN, Sheet, WIDTH};
 use std::alloc::{AllocError, Global};
+
+/// How large the heading is.
+const HEADING_SIZE: &str = r#" font-size="200" font-weight="bold""#;
+
+/// How large the reason is.
+const REASON_SIZE: &str = r#" font-size="130""#;
 
 /// Appends the picture of a run of the scenario as an image, the text of which is SVG and ASCII
 /// (docs/FORMATS.md, "What `draw` writes"). Where memory runs out the vector is as it was.
 ///
-/// What is drawn is what the picture tells, with each packet, all that happens at a group and the ticks at
-/// which a message may be issued that may wait told in words too. Of a picture of another scenario messages and groups that this one has not are drawn
-/// without a name.
+/// What is drawn is what the picture tells: above all else stand the answer and the reason, and below it the
+/// legend. Each packet, all that happens at a group and the ticks at which a message may be issued that may
+/// wait are told in words too. Of a picture of another scenario messages and groups that this one has not
+/// are drawn without a name.
 pub fn write_drawing(
     scenario: &Scenario,
     picture: &Picture,
@@ -45,77 +52,49 @@ fn drawing(alloc: Global, scenario: &Scenario, picture: &Picture) -> Result<Stri
         picture,
         sheet: &sheet,
     };
-    let head = head(&scene)?;
+    let start = start(alloc, WIDTH, sheet.height())?;
+    let head = head(alloc, scenario, picture.why())?;
     let ground = ground(&scene)?;
     let windows = windows(&scene)?;
     let packets = packets(&scene)?;
     let signs = signs(&scene)?;
     let labels = labels(&scene)?;
-    let foot = foot(&scene)?;
-    format!(in alloc; "{head}{ground}{windows}{packets}{signs}{labels}{foot}")
+    let legend = legend(&scene)?;
+    format!(in alloc; "{start}{head}{ground}{windows}{packets}{signs}{labels}{legend}</svg>\n")
 }
 
-/// The head of the image: its size, the answer, and why the target is so late.
-fn head(scene: &Scene) -> Result<String, AllocError>
-    ensures { IfOk result (λ text. Tells (answer_text scene.now.scenario.now scene.now.picture.now.why) (string_bytes text)) }
+/// The start of an image that is so wide and so high, in tenths of a pixel: its size, and a white ground.
+fn start(alloc: Global, wide: u32, high: u32) -> Result<String, AllocError>
+    ensures { IfOk result (λ text. IsTrue (is_wordless (string_bytes text))) }
 {
-    let answer = answer_words(scene.alloc, scene.scenario, scene.picture.why())?;
-    let start = start(scene)?;
-    let heading = heading(scene, &answer)?;
-    format!(in scene.alloc; "{start}<title>{answer}</title>{heading}")
-}
-
-/// The answer, and why the target is so late, above all else.
-fn heading(scene: &Scene, answer: &str) -> Result<String, AllocError> {
-    let reason = reason(scene)?;
-    format!(in scene.alloc;
-        "\n<text x=\"{MARGIN}\" y=\"360\" font-size=\"200\" font-weight=\"bold\">{answer}</text>\n<text x=\"{MARGIN}\" y=\"570\" font-size=\"130\">{reason}</text>\n"
+    let (width, height) = (wide / 10, high / 10);
+    let ground = white_ground(alloc, wide, high)?;
+    format!(in alloc;
+        "<svg xmlns=\"http://www.w3.org/2000/svg\" width=\"{width}\" height=\"{height}\" viewBox=\"0 0 {wide} {high}\" font-family=\"sans-serif\" font-size=\"110\">\n{ground}"
     )
 }
 
-/// The foot of the image: the legend, and the end.
-fn foot(scene: &Scene) -> Result<String, AllocError> {
-    let legend = legend(scene)?;
-    format!(in scene.alloc; "{legend}</svg>\n")
+/// A white ground that is so wide and so high.
+fn white_ground(alloc: Global, wide: u32, high: u32) -> Result<String, AllocError>
+    ensures { IfOk result (λ text. IsTrue (is_wordless (string_bytes text))) }
+{
+    format!(in alloc; "<rect width=\"{wide}\" height=\"{high}\" fill=\"#ffffff\"/>\n")
 }
 
-/// The start of the image: its size, and a white ground.
-fn start(scene: &Scene) -> Result<String, AllocError> {
-    let height = scene.sheet.height();
-    let (width, high) = (WIDTH / 10, height / 10);
-    format!(in scene.alloc;
-        "<svg xmlns=\"http://www.w3.org/2000/svg\" width=\"{width}\" height=\"{high}\" viewBox=\"0 0 {WIDTH} {height}\" font-family=\"sans-serif\" font-size=\"110\">\n<rect width=\"{WIDTH}\" height=\"{height}\" fill=\"#ffffff\"/>\n"
-    )
+/// What an image tells first: the answer as its title and as its heading, and why the target is so late.
+fn head(alloc: Global, scenario: &Scenario, why: &Explanation) -> Result<String, AllocError>
+    ensures { IfOk result (λ text. string_bytes text ≡ head_text scenario.now why.now) }
+{
+    let answer = answer_words(alloc, scenario, why)?;
+    let reason = reason_words(alloc, scenario, why)?;
+    head_of(alloc, &answer, &reason)
 }
 
-/// Why the target is so late, in a line.
-fn reason(scene: &Scene) -> Result<String, AllocError> {
-    let why = scene.picture.why();
-    let message = message_name(scene.scenario, scene.scenario.target_message());
-    let (sender, at) = issue_of(scene.scenario, scene.scenario.target_message());
-    let sender = sender_name(scene.scenario, sender);
-    match &why.holder {
-        Some(holder) => {
-            let holder = message_name(scene.scenario, holder.message);
-            format!(in scene.alloc;
-                "{sender} issues {message} at tick {at}; committed at tick {}, it waits for {holder}, and is delivered at tick {}",
-                why.committed, why.delivered,
-            )
-        }
-        None => {
-            format!(in scene.alloc;
-                "{sender} issues {message} at tick {at}; it is delivered as it is committed, at tick {}",
-                why.delivered,
-            )
-        }
-    }
-}
-
-/// Who issues a message, and when; a client at tick 0 where the scenario has no such message.
-fn issue_of(scenario: &Scenario, message: usize) -> (Sender, u32) {
-    if message < scenario.message_count() {
-        (scenario.sender(message), scenario.issue_tick(message))
-    } else {
-        (Sender::Client, 0)
-    }
+/// What an image tells first, of an answer and its reason.
+fn head_of(alloc: Global, answer: &str, reason: &str) -> Result<String, AllocError>
+    ensures { IfOk result (λ text. string_bytes text ≡ head_of answer.now reason.now) }
+{
+    let heading = sized_words(alloc, MARGIN, 360, HEADING_SIZE, answer)?;
+    let reason = sized_words(alloc, MARGIN, 570, REASON_SIZE, reason)?;
+    format!(in alloc; "<title>{answer}</title>\n{heading}{reason}")
 }

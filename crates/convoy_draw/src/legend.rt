@@ -1,12 +1,19 @@
+ghost use Rattle.std.specs.Prelude.{◌≡◌, IfOk, IsTrue, string_bytes, ℕ};
+ghost use Rattle.convoy_draw.specs.Legends.{has_windows, legend_lines};
+ghost use Rattle.convoy_draw.specs.Shown.{ShowsLines, is_wordless};
+
 use super::scene::Scene;
+use super::shown::placed_words;
 use super::signs::sign;
 use super::style::{BAR, color_of};
+use convoy_explain::Holder;
 use convoy_picture::Role;
 use convoy_scenario::Scenario;
 use convoy_scenario::lookup::may_wait;
 use convoy_scenario::naming::message_name;
 use convoy_sheet::{MARGIN, MarkKind, width_of};
 use std::alloc::{AllocError, Global};
+use std::marker::Model;
 
 /// How wide a sample is, with the gap after it.
 const SAMPLE: u32 = 350;
@@ -28,144 +35,235 @@ const NOTE: &str =
     "2.b is the stamp that group b gives at time 2 of its clock; of several messages the later ones have their signs a little to the right of their tick";
 
 /// The legend: the colours of messages, the lines of packets, the signs of what happens, and a note.
-pub(crate) fn legend(scene: &Scene) -> Result<String, AllocError> {
-    let mut text = String::new(scene.alloc);
-    write_legend(scene, &mut text)?;
-    Ok(text)
-}
-
-/// The parts of the legend, one below the other.
-fn write_legend(scene: &Scene, text: &mut String) -> Result<(), AllocError> {
-    let y = scene.sheet.bottom.saturating_add(400);
-    write_colors(scene, y, text)?;
-    write_lines(scene, y.saturating_add(LINE), text)?;
-    let waits = scene.picture.why().holder.is_some();
-    write_signs(scene.alloc, waits, y.saturating_add(LINE + LINE), text)?;
-    let y = y.saturating_add(LINE + LINE + LINE);
-    write!(text, "<text x=\"{MARGIN}\" y=\"{y}\">{NOTE}</text>\n")
-}
-
-/// The colours of the messages.
-fn write_colors(scene: &Scene, down: u32, text: &mut String) -> Result<(), AllocError> {
-    let name = message_name(scene.scenario, scene.scenario.target_message());
-    let words = format!(in scene.alloc; "{name}, whose delivery it is about")?;
-    let mut x = write_color(MARGIN, down, Role::Target, &words, text)?;
-    if let Some(holder) = &scene.picture.why().holder {
-        let name = message_name(scene.scenario, holder.message);
-        let words = format!(in scene.alloc; "{name}, which holds it back")?;
-        x = write_color(x, down, Role::Holder, &words, text)?;
-    }
-    let _ = write_color(x, down, Role::Other, "other messages", text)?;
-    Ok(())
-}
-
-/// A line in the colour of a role, with words; answers where the next sample stands.
-fn write_color(
-    across: u32,
-    down: u32,
-    role: Role,
-    words: &str,
-    text: &mut String,
-) -> Result<u32, AllocError> {
-    write_line(across, down, (color_of(role), PLAIN), words, text)
-}
-
-/// The lines of packets, the bar of a message that may wait, and how many signs have no words.
-fn write_lines(scene: &Scene, down: u32, text: &mut String) -> Result<(), AllocError> {
-    let x = write_samples(down, text)?;
-    let x = write_bar(scene.scenario, x, down, text)?;
-    let wordless = scene.sheet.wordless();
-    if wordless == 0 {
-        return Ok(());
-    }
-    write!(
-        text,
-        "<text x=\"{x}\" y=\"{down}\">signs without room for words: {wordless}</text>\n"
-    )
-}
-
-/// The lines of packets; answers where the next sample stands.
-fn write_samples(down: u32, text: &mut String) -> Result<u32, AllocError> {
-    let mut x = MARGIN;
-    for (style, words) in [
-        (PLAIN, "a message on its way"),
-        (DASHED, "a proposal on its way"),
-        (THICK, "what the delivery waits for"),
-    ] {
-        x = write_line(x, down, ("#000000", style), words, text)?;
-    }
-    Ok(x)
-}
-
-/// The bar along the ticks at which a message may be issued, where some message may wait; answers where the
-/// next sample stands.
-fn write_bar(
-    scenario: &Scenario,
-    across: u32,
-    down: u32,
-    text: &mut String,
-) -> Result<u32, AllocError> {
-    if is_any_waiting(scenario) {
-        write_line(
-            across,
-            down,
-            ("#000000", BAR),
-            "when it may be issued",
-            text,
-        )
-    } else {
-        Ok(across)
-    }
+pub(crate) fn legend(scene: &Scene) -> Result<String, AllocError>
+    ensures { IfOk result (λ legend. (wordless : ℕ)
+        × ShowsLines (legend_lines scene.now.scenario.now scene.now.picture.now.why wordless) (string_bytes legend)) }
+{
+    let holder = &scene.picture.why().holder;
+    let mut legend = LegendRows::new(scene.alloc, scene.sheet.bottom.saturating_add(400));
+    legend.push_colors(scene.scenario, holder)?;
+    legend.end_row();
+    legend.push_packets()?;
+    legend.push_bar(scene.scenario)?;
+    legend.push_wordless(scene.sheet.wordless())?;
+    legend.end_row();
+    legend.push_signs(holder)?;
+    legend.end_row();
+    legend.push_words(NOTE)?;
+    Ok(legend.text)
 }
 
 /// Whether some message may wait before its issue.
-fn is_any_waiting(scenario: &Scenario) -> bool {
-    for message in 0..scenario.message_count() {
-        if may_wait(scenario, message) {
-            return true;
-        }
-    }
-    false
+fn has_windows(scenario: &Scenario) -> bool
+    ensures { result ≡ has_windows scenario.now }
+{
+    (0..scenario.message_count()).any(|message| may_wait(scenario, message))
 }
 
-/// A line of that colour and style, with words; answers where the next sample stands.
-fn write_line(
+/// A legend that is written row by row, each from left to right.
+#[derive(Drop)]
+struct LegendRows {
+    text: String,
+    /// Where the next words stand, from the left.
+    across: u32,
+    /// Where they stand, from above.
+    down: u32,
+}
+
+impl Model for LegendRows {
+    ghost use Rattle.std.specs.Prelude.{List, string_bytes, ℕ};
+
+    ghost Value = { List ℕ };
+
+    ghost view = { λ l. string_bytes l.text };
+}
+
+impl LegendRows {
+    ghost use Rattle.std.specs.Prelude.{◌≡◌, IsTrue, List, OnOk, [], ◌∷◌, ℕ, codes};
+    ghost use Rattle.convoy_draw.specs.Legends.{bar_lines, color_lines, holder_lines, packet_lines, sign_lines, target_line, wait_lines, wordless_lines};
+    ghost use Rattle.convoy_draw.specs.Shown.{ShowsLines, ShowsMore, is_wordless};
+
+    /// A legend with nothing in it, that far down.
+    fn new(alloc: Global, down: u32) -> LegendRows
+        ensures { result ≡ [] }
+    {
+        LegendRows {
+            text: String::new(alloc),
+            across: MARGIN,
+            down,
+        }
+    }
+
+    /// Goes on at the left of the next row.
+    fn end_row(&mut self)
+        ensures { self.new ≡ self.old }
+    {
+        self.across = MARGIN;
+        self.down = self.down.saturating_add(LINE);
+    }
+
+    /// The colours of the messages.
+    #[tactic(auto, unfolding(crate::specs::Shown::no_words_after))]
+    fn push_colors(
+        &mut self,
+        scenario: &Scenario,
+        holder: &Option<Holder>,
+    ) -> Result<(), AllocError>
+        ensures { OnOk result (ShowsMore (color_lines scenario.now holder.now) self.old self.new) }
+    {
+        self.push_target(scenario)?;
+        self.push_holder(scenario, holder)?;
+        self.push_line(color_of(Role::Other), PLAIN, "other messages")
+    }
+
+    /// The colour of the target.
+    #[tactic(auto, unfolding(crate::specs::Shown::no_words_after))]
+    fn push_target(&mut self, scenario: &Scenario) -> Result<(), AllocError>
+        ensures { OnOk result (ShowsMore (target_line scenario.now ∷ []) self.old self.new) }
+    {
+        let name = message_name(scenario, scenario.target_message());
+        let words = format!(in *self.text.allocator(); "{name}, whose delivery it is about")?;
+        self.push_line(color_of(Role::Target), PLAIN, &words)
+    }
+
+    /// The colour of the message that holds the target back, if there is one.
+    #[tactic(auto, unfolding(crate::specs::Shown::no_words_after))]
+    fn push_holder(
+        &mut self,
+        scenario: &Scenario,
+        holder: &Option<Holder>,
+    ) -> Result<(), AllocError>
+        ensures { OnOk result (ShowsMore (holder_lines scenario.now holder.now) self.old self.new) }
+    {
+        match holder {
+            Some(holder) => {
+                let name = message_name(scenario, holder.message);
+                let words = format!(in *self.text.allocator(); "{name}, which holds it back")?;
+                self.push_line(color_of(Role::Holder), PLAIN, &words)
+            }
+            None => Ok(()),
+        }
+    }
+
+    /// The lines of packets.
+    #[tactic(auto, unfolding(crate::specs::Shown::no_words_after))]
+    fn push_packets(&mut self) -> Result<(), AllocError>
+        ensures { OnOk result (ShowsMore packet_lines self.old self.new) }
+    {
+        self.push_line("#000000", PLAIN, "a message on its way")?;
+        self.push_line("#000000", DASHED, "a proposal on its way")?;
+        self.push_line("#000000", THICK, "what the delivery waits for")
+    }
+
+    /// The bar along the ticks at which a message may be issued, where some message may wait.
+    #[tactic(auto, unfolding(crate::specs::Shown::no_words_after))]
+    fn push_bar(&mut self, scenario: &Scenario) -> Result<(), AllocError>
+        ensures { OnOk result (ShowsMore (bar_lines scenario.now) self.old self.new) }
+    {
+        if has_windows(scenario) {
+            self.push_line("#000000", BAR, "when it may be issued")
+        } else {
+            Ok(())
+        }
+    }
+
+    /// How many signs have no words, if there are any.
+    fn push_wordless(&mut self, count: usize) -> Result<(), AllocError>
+        ensures { OnOk result (ShowsMore (wordless_lines count) self.old self.new) }
+    {
+        if count == 0 {
+            return Ok(());
+        }
+        let words = format!(in *self.text.allocator(); "signs without room for words: {count}")?;
+        self.push_words(&words)
+    }
+
+    /// The signs of what happens; that of the target's wait only where it waits.
+    fn push_signs(&mut self, holder: &Option<Holder>) -> Result<(), AllocError>
+        ensures { OnOk result (ShowsMore (sign_lines holder.now) self.old self.new) }
+    {
+        self.push_sign(MarkKind::Issue, "issue")?;
+        self.push_sign(MarkKind::Arrival, "arrival, with the local stamp")?;
+        self.push_sign(MarkKind::Commit, "commit, with the final stamp")?;
+        self.push_wait(holder)?;
+        self.push_sign(MarkKind::Delivery, "delivery")
+    }
+
+    /// The sign of the target's wait, if it waits.
+    fn push_wait(&mut self, holder: &Option<Holder>) -> Result<(), AllocError>
+        ensures { OnOk result (ShowsMore (wait_lines holder.now) self.old self.new) }
+    {
+        match holder {
+            Some(_) => self.push_sign(MarkKind::Wait, "from its commit on the target waits"),
+            None => Ok(()),
+        }
+    }
+
+    /// A sign, with words.
+    fn push_sign(&mut self, kind: MarkKind, words: &str) -> Result<(), AllocError>
+        ensures { OnOk result (ShowsMore (words.now ∷ []) self.old self.new) }
+    {
+        let sample = sign_sample(*self.text.allocator(), kind, self.across, self.down)?;
+        self.push_sample(&sample, words)
+    }
+
+    /// A line of that colour and style, with words.
+    fn push_line(&mut self, color: &str, style: &str, words: &str) -> Result<(), AllocError>
+        requires color { IsTrue (is_wordless color.now) }
+        requires style { IsTrue (is_wordless style.now) }
+        ensures { OnOk result (ShowsMore (words.now ∷ []) self.old self.new) }
+    {
+        let sample = line_sample(*self.text.allocator(), self.across, self.down, color, style)?;
+        self.push_sample(&sample, words)
+    }
+
+    /// What is drawn as a sample, and words after it.
+    fn push_sample(&mut self, sample: &str, words: &str) -> Result<(), AllocError>
+        requires { IsTrue (is_wordless sample.now) }
+        ensures { OnOk result (ShowsMore (words.now ∷ []) self.old self.new) }
+    {
+        let left = self.across.saturating_add(SAMPLE);
+        let line = placed_words(*self.text.allocator(), left, self.down, words)?;
+        self.text.push_str(sample)?;
+        self.text.push_str(&line)?;
+        self.across = left.saturating_add(width_of(words)).saturating_add(200);
+        Ok(())
+    }
+
+    /// Words with no sample before them.
+    fn push_words(&mut self, words: &str) -> Result<(), AllocError>
+        ensures { OnOk result (ShowsMore (words.now ∷ []) self.old self.new) }
+    {
+        let line = placed_words(*self.text.allocator(), self.across, self.down, words)?;
+        self.text.push_str(&line)
+    }
+}
+
+/// A short line of that colour and style, in a row of the legend.
+fn line_sample(
+    alloc: Global,
     across: u32,
     down: u32,
-    (color, style): (&str, &str),
-    words: &str,
-    text: &mut String,
-) -> Result<u32, AllocError> {
+    color: &str,
+    style: &str,
+) -> Result<String, AllocError>
+    requires color { IsTrue (is_wordless color.now) }
+    requires style { IsTrue (is_wordless style.now) }
+    ensures { IfOk result (λ sample. IsTrue (is_wordless (string_bytes sample))) }
+{
     let middle = down.saturating_sub(40);
-    write!(
-        text,
-        "<path d=\"M{across} {middle}h280\" stroke=\"{color}\" {style}/>"
+    format!(in alloc; "<path d=\"M{across} {middle}h280\" stroke=\"{color}\" {style}/>")
+}
+
+/// The sign of a kind of mark, in a row of the legend.
+fn sign_sample(alloc: Global, kind: MarkKind, across: u32, down: u32) -> Result<String, AllocError>
+    ensures { IfOk result (λ sample. IsTrue (is_wordless (string_bytes sample))) }
+{
+    let sign = sign(
+        alloc,
+        kind,
+        across.saturating_add(240),
+        down.saturating_sub(40),
     )?;
-    write_words(across, down, words, text)
-}
-
-/// Words after a sample; answers where the next sample stands.
-fn write_words(across: u32, down: u32, words: &str, text: &mut String) -> Result<u32, AllocError> {
-    let left = across.saturating_add(SAMPLE);
-    write!(text, "<text x=\"{left}\" y=\"{down}\">{words}</text>\n")?;
-    Ok(left.saturating_add(width_of(words)).saturating_add(200))
-}
-
-/// The signs of what happens; that of the target's wait only where it waits.
-fn write_signs(alloc: Global, waits: bool, down: u32, text: &mut String) -> Result<(), AllocError> {
-    let mut x = MARGIN;
-    for (kind, words) in [
-        (MarkKind::Issue, "issue"),
-        (MarkKind::Arrival, "arrival, with the local stamp"),
-        (MarkKind::Commit, "commit, with the final stamp"),
-        (MarkKind::Wait, "from its commit on the target waits"),
-        (MarkKind::Delivery, "delivery"),
-    ] {
-        if kind != MarkKind::Wait || waits {
-            let sign = sign(alloc, kind, x.saturating_add(240), down.saturating_sub(40))?;
-            write!(text, "<g stroke=\"#000000\">{sign}</g>")?;
-            x = write_words(x, down, words, text)?;
-        }
-    }
-    Ok(())
+    format!(in alloc; "<g stroke=\"#000000\">{sign}</g>")
 }

@@ -10,6 +10,7 @@ mod layers;
 mod legend;
 mod packets;
 mod scene;
+mod shown;
 mod signs;
 mod style;
 mod windows;

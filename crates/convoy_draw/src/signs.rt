@@ -1,7 +1,8 @@
-ghost use Rattle.std.specs.Prelude.{IfOk, List, OnOk, string_bytes, ℕ};
+ghost use Rattle.std.specs.Prelude.{IfOk, IsTrue, List, OnOk, string_bytes, ℕ};
 ghost use Rattle.std.specs.List.{All};
 ghost use Rattle.convoy_draw.specs.Drawings.{Tells};
 ghost use Rattle.convoy_draw.specs.Layers.{IsToldIn};
+ghost use Rattle.convoy_draw.specs.Shown.{is_wordless};
 ghost use Rattle.convoy_picture.specs.Words.{entry_text};
 
 use super::layers::Layers;
@@ -100,7 +101,9 @@ pub(crate) fn sign(
     kind: MarkKind,
     across: u32,
     down: u32,
-) -> Result<String, AllocError> {
+) -> Result<String, AllocError>
+    ensures { IfOk result (λ sign. IsTrue (is_wordless (string_bytes sign))) }
+{
     let (left, top) = (across.saturating_sub(35), down.saturating_sub(35));
     match kind {
         MarkKind::Issue => {

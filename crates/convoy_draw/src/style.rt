@@ -1,3 +1,6 @@
+ghost use Rattle.std.specs.Prelude.{IsTrue};
+ghost use Rattle.convoy_draw.specs.Shown.{is_wordless};
+
 use convoy_picture::Role;
 
 /// How many packets there are at most in a picture that is not crowded.
@@ -7,7 +10,10 @@ const CROWD: usize = 200;
 pub(crate) const BAR: &str = r#"stroke-width="60" stroke-opacity="0.3""#;
 
 /// The colour of the lines, signs and words of a message.
-pub(crate) fn color_of(role: Role) -> &'static str {
+#[tactic(auto, unfolding(crate::specs::Shown::no_words_after))]
+pub(crate) fn color_of(role: Role) -> &'static str
+    ensures { IsTrue (is_wordless result.now) }
+{
     match role {
         Role::Target => "#0072b2",
         Role::Holder => "#d55e00",

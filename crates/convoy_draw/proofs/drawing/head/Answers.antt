@@ -1,15 +1,16 @@
-use Rattle.std.proofs.Common.{◌≡◌, ◌++◌, IfOk, codes, rules, string_bytes}
+use Rattle.std.proofs.Common.{◌≡◌, ◌∙◌, refl, string_bytes}
 use Rattle.std.proofs.lemmas.Result.{IfOk-weaker}
-use Rattle.convoy_picture.specs.Words.{answer_text}
-use Rattle.convoy_draw.specs.Drawings.{Tells}
-use Rattle.convoy_draw.proofs.Telling.{tells_title}
+use Rattle.convoy_picture.specs.Words.{answer_text, reason_text}
+use Rattle.convoy_draw.specs.Drawings.{head_of, head_text}
 use Rattle.convoy_draw.proofs.drawing.head.Goals as goal
 
 pub returns : goal.returns
 returns c =
-    let answer = answer_text c.args.scene.now.scenario.now c.args.scene.now.picture.now.why in
-    let start = string_bytes c.in_ok-start.start in
-    let heading = string_bytes c.in_ok-heading.heading in
-    let whole : IfOk c.format.result (λ text. string_bytes text ≡ start ++ (codes "<title>" ++ (answer ++ (codes "</title>" ++ heading)))) = search rules in
-    IfOk-weaker c.format.result _ (λ text. Tells answer (string_bytes text))
-    (λ text is. tells_title answer start heading (string_bytes text) is) whole
+    let scenario = c.args.scenario.now in
+    let why = c.args.why.now in
+    let answer : c.deref.result.now ≡ answer_text scenario why = c.deref.ensures ∙ c.in_ok-answer.ensures in
+    let reason : c.deref-2.result.now ≡ reason_text scenario why = c.deref-2.ensures ∙ c.in_ok-reason.ensures in
+    IfOk-weaker c.head_of.result (λ text. string_bytes text ≡ head_of c.deref.result.now c.deref-2.result.now)
+    (λ text. string_bytes text ≡ head_text scenario why)
+    (λ text whole. rw (whole, answer, reason) refl)
+    c.head_of.ensures
