@@ -40,6 +40,7 @@ pub(crate) const AFTER: &str = "\
 Example of a scenario:
   time = \"real\"
   delay = 3
+  least = 1
   groups = [\"a\", \"b\"]
 
   [[multicast]]
