@@ -4,7 +4,7 @@ use Rattle.std.specs.Option.{option_map}
 use Rattle.std.specs.Result.{result_map_both}
 use Rattle.convoy_arguments.specs.Options.{Settings}
 use Rattle.convoy_commands.specs.declared.done.Done.{Done}
-use Rattle.convoy_commands.specs.declared.done.Done.TheVariants.{Fine, Open, Refused}
+use Rattle.convoy_commands.specs.declared.done.Done.TheVariants.{Fine, Open, Refused, NotChecked}
 use Rattle.convoy_commands.specs.declared.search_end.SearchEnd.{SearchEnd}
 use Rattle.convoy_commands.specs.declared.search_end.SearchEnd.TheVariants as ends
 use Rattle.convoy_commands.specs.declared.fault.Fault.{Fault}
@@ -23,6 +23,7 @@ use Rattle.convoy_commands.specs.Devices.{Answer, HasRun}
 use Rattle.convoy_commands.specs.Faults.{fault_line_of}
 use Rattle.convoy_commands.specs.Replies.{RuleOf}
 use Rattle.convoy_commands.specs.Runs.{IsRun}
+use Rattle.convoy_commands.specs.Withins.{SaysWithin}
 use Rattle.convoy_commands.specs.Writes.{WritesAll, FailsWithin}
 use Rattle.convoy_survey.specs.CeilingTables.{CeilingsSay}
 use Rattle.convoy_survey.specs.Surveys.{SurveySays}
@@ -41,6 +42,7 @@ abbrev pub status_of : End → ℕ
 status_of (Answered Fine) = 0
 status_of (Answered Open) = 3
 status_of (Answered (Refused refusal)) = 4
+status_of (Answered NotChecked) = 6
 status_of (Searched ends.Exact) = 0
 status_of (Searched ends.Open) = 3
 status_of (Searched ends.Faulty) = 1
@@ -89,17 +91,17 @@ RunsBatch tells_status options may_read may_write source new_source sink new_sin
     × IsBatchRun options MOST_READS may_read may_write source new_source sink new_sink ended
     × (result ≡ end_of_batches tells_status ended)
 
--- A certificate is checked. Where another input is named it has to be of the scenario that is read there first, and else the other source stays as it is.
-abbrev pub ChecksAbout : {S K : Type 0} → Option Input → Bool → (S → Answer → S → Type 0) → (K → Answer → K → Type 0) →
+-- A certificate is checked, with no more steps than the limit, where there is one. Where another input is named it has to be of the scenario that is read there first, and else the other source stays as it is.
+abbrev pub ChecksAbout : {S K : Type 0} → Option Input → Bool → Option ℕ → (S → Answer → S → Type 0) → (K → Answer → K → Type 0) →
     S → S → S → S → K → K → Result End Fault → Type 0
-ChecksAbout None tells may_read may_write source new_source other new_other sink new_sink result =
+ChecksAbout None tells limit may_read may_write source new_source other new_other sink new_sink result =
     (new_other ≡ other)
-    × RunsSo end_of_checks LONGEST_CERTIFICATE (CheckAboutSays None tells) may_read may_write source new_source sink new_sink result
-ChecksAbout (Some input) tells may_read may_write source new_source other new_other sink new_sink result =
+    × RunsSo end_of_checks LONGEST_CERTIFICATE (SaysWithin limit (Checked NotChecked) (CheckAboutSays None tells)) may_read may_write source new_source sink new_sink result
+ChecksAbout (Some input) tells limit may_read may_write source new_source other new_other sink new_sink result =
     (read : Result Scenario Fault)
     × IsScenarioRead MOST_READS may_read other new_other read
     × MatchResult read
-    (λ wanted. RunsSo end_of_checks LONGEST_CERTIFICATE (CheckAboutSays (Some wanted) tells) may_read may_write source new_source sink new_sink result)
+    (λ wanted. RunsSo end_of_checks LONGEST_CERTIFICATE (SaysWithin limit (Checked NotChecked) (CheckAboutSays (Some wanted) tells)) may_read may_write source new_source sink new_sink result)
     (λ fault. (new_source ≡ source) × (new_sink ≡ sink) × (result ≡ Err fault))
 
 -- From the old states of the sources and the sink to the new ones the task is done, with an end or a fault. The other source is that of the scenario which a certificate is to be of, and no other task reads it.
@@ -108,8 +110,8 @@ abbrev pub Performs : {S K : Type 0} → (S → Answer → S → Type 0) → (K 
 Performs may_read may_write (Command command) source new_source other new_other sink new_sink result =
     (new_other ≡ other)
     × RunsSo end_of (longest_for command) (says_for command) may_read may_write source new_source sink new_sink result
-Performs may_read may_write (CheckAbout scenario tells) source new_source other new_other sink new_sink result =
-    ChecksAbout scenario tells may_read may_write source new_source other new_other sink new_sink result
+Performs may_read may_write (CheckAbout scenario tells limit) source new_source other new_other sink new_sink result =
+    ChecksAbout scenario tells limit may_read may_write source new_source other new_other sink new_sink result
 Performs may_read may_write (Batch options tells_status) source new_source other new_other sink new_sink result =
     (new_other ≡ other) × RunsBatch tells_status options may_read may_write source new_source sink new_sink result
 Performs may_read may_write (BatchTable format options tells_status) source new_source other new_other sink new_sink result =

@@ -1,7 +1,7 @@
 ghost use Rattle.std.specs.Prelude.{◌≡◌};
 ghost use Rattle.convoy.specs.Verdicts.{end_of_batch, end_of_check, status_of};
 
-use super::{FAULT, FINE, OPEN, REFUSED};
+use super::{FAULT, FINE, NOT_CHECKED, OPEN, REFUSED};
 use convoy_about::{AboutEnd, Part};
 use convoy_commands::{Done, SearchEnd};
 
@@ -48,6 +48,7 @@ impl End {
             End::Answered(Done::Fine) | End::Searched(SearchEnd::Exact) => FINE,
             End::Answered(Done::Open) | End::Searched(SearchEnd::Open) => OPEN,
             End::Answered(Done::Refused(_)) | End::Differs(_) => REFUSED,
+            End::Answered(Done::NotChecked) => NOT_CHECKED,
             End::Searched(SearchEnd::Faulty) => FAULT,
             End::Told(status) => status,
         }

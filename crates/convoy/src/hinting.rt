@@ -4,19 +4,20 @@
 
 use super::ending::End;
 use super::kept::KeptWriter;
-use convoy_arguments::{Input, REJECTED, Task, Verdict, hint_for_words};
+use convoy_arguments::{Input, MOST_SECONDS, REJECTED, Task, Verdict, hint_for_words};
 use convoy_batch::MOST_JOBS;
 use convoy_commands::{
     Asking, Bounds, Command, Direct, Done, Fault, LONGEST_JOB, ListFault, MOST_SIMULATIONS,
-    MOST_TICKETS, Options, OrderFault, ReadFault, ScenarioFault, SearchEnd, Ways, lead_share,
-    plain_share,
+    MOST_STEPS, MOST_TICKETS, Options, OrderFault, ReadFault, ScenarioFault, SearchEnd, Ways,
+    lead_share, plain_share,
 };
 use convoy_hints::{
     hint_for_batch, hint_for_both, hint_for_ceiling, hint_for_certificate, hint_for_explained,
     hint_for_first, hint_for_given_order, hint_for_given_schedule, hint_for_greatest,
     hint_for_jobs, hint_for_leads, hint_for_length, hint_for_limit, hint_for_named_group,
     hint_for_order_in_ticks, hint_for_plain_numbers, hint_for_reading, hint_for_real_time,
-    hint_for_scenario, hint_for_tickets, hint_for_writing, is_in_real_time, line_for_file,
+    hint_for_scenario, hint_for_seconds, hint_for_tickets, hint_for_unchecked, hint_for_writing,
+    is_in_real_time, line_for_file,
 };
 use convoy_inputs::KeptReader;
 use std::alloc::{AllocError, Global};
@@ -40,6 +41,8 @@ pub struct Ended<'a, R, W> {
     pub writer: &'a KeptWriter<W>,
     /// The greatest latency in ticks that the last search found, where it did.
     pub greatest: Option<u32>,
+    /// Whether a search was stopped, as its time was over.
+    pub is_stopped: bool,
 }
 
 /// Whether something is read from standard input, the certificate of a check or the scenario for it.
@@ -80,7 +83,7 @@ fn text_of(task: &Task) -> &'static str {
         | Task::Survey { .. }
         | Task::WhatIf { .. }
         | Task::Ceilings { .. } => "a scenario",
-        Task::Command(Command::Direct(Direct::Ask(_) | Direct::ExplainWithCeiling))
+        Task::Command(Command::Direct(Direct::Ask(..) | Direct::ExplainWithCeiling(_)))
         | Task::CheckAbout { .. } => "a certificate",
         Task::Command(Command::Direct(Direct::Tell(_))) => "a scenario or a certificate",
         Task::Batch { .. } | Task::BatchTable { .. } => "scenarios",
@@ -126,6 +129,10 @@ fn hint_for<R, W>(alloc: Global, ended: &Ended<'_, R, W>) -> Result<Option<Strin
             let reader = ended.reader;
             hint_for_certificate(alloc, reader.text(), reader.is_whole(), *refusal)
         }
+        Ok(End::Answered(Done::NotChecked)) => match steps_of(ended.verdict) {
+            Some(limit) => hint_for_unchecked(alloc, limit, MOST_STEPS).map(Some),
+            None => Ok(None),
+        },
         Ok(End::Answered(Done::Open)) => hint_for_open(alloc, ended),
         Ok(End::Answered(Done::Fine)) => hint_for_answer(alloc, ended),
         Ok(End::Searched(SearchEnd::Open)) if !is_batch(ended.verdict) => {
@@ -267,12 +274,37 @@ fn hint_for_open<R, W>(
     let Some(options) = options_of(ended.verdict) else {
         return Ok(None);
     };
-    let hint = if is_in_real_time(alloc, ended.reader.text()) {
-        hint_in_real_time(alloc, options)?
-    } else {
-        hint_in_ticks(alloc, options, names_bounds(ended.verdict))?
+    let hint = match options.seconds() {
+        Some(seconds) if ended.is_stopped => hint_for_seconds(alloc, seconds, MOST_SECONDS)?,
+        _ if is_in_real_time(alloc, ended.reader.text()) => hint_in_real_time(alloc, options)?,
+        _ => hint_in_ticks(alloc, options, names_bounds(ended.verdict))?,
     };
     Ok(Some(hint))
+}
+
+/// How many steps may be taken to check a certificate, where the command line asks for that.
+fn steps_of(verdict: &Verdict) -> Option<u64> {
+    match verdict {
+        Verdict::Ask { task, .. } => steps_of_task(task),
+        Verdict::Text { .. } | Verdict::Memory => None,
+    }
+}
+
+/// How many steps may be taken to check a certificate, where the task is that.
+fn steps_of_task(task: &Task) -> Option<u64> {
+    match task {
+        Task::Command(Command::Direct(direct)) => steps_of_command(*direct),
+        Task::CheckAbout { limit, .. } => *limit,
+        _ => None,
+    }
+}
+
+/// How many steps may be taken to check a certificate, where the command does that.
+fn steps_of_command(command: Direct) -> Option<u64> {
+    match command {
+        Direct::Ask(_, limit) | Direct::ExplainWithCeiling(limit) => limit,
+        Direct::First | Direct::Tell(_) | Direct::Ceiling(_) => None,
+    }
 }
 
 /// By how many simulations at most traffic was sought, where the command line asks for ceilings.
@@ -395,7 +427,7 @@ fn hint_for_kind_of_answer<R, W>(
         },
         Verdict::Ask {
             task: Task::Command(
-                Command::Direct(Direct::Ask(Asking::Explain) | Direct::ExplainWithCeiling),
+                Command::Direct(Direct::Ask(Asking::Explain, _) | Direct::ExplainWithCeiling(_)),
             ),
             ..
         } if reader.is_whole() => hint_for_explained(alloc, reader.text()),

@@ -60,11 +60,14 @@ const FINE: u8 = 0;
 /// The status of a run that ended with a fault, or of which a job has one.
 const FAULT: u8 = 1;
 
-/// The status of a search that did not end within its limit, or of traffic that does not attain a ceiling.
+/// The status of a search that did not end within its limits, or of traffic that does not attain a ceiling.
 const OPEN: u8 = 3;
 
 /// The status of a certificate that is refused, or is of another scenario than the one that is wanted.
 const REFUSED: u8 = 4;
+
+/// The status of a certificate that is not checked, since that takes more steps than may be taken.
+const NOT_CHECKED: u8 = 6;
 
 fn main(rt: HostRuntime) -> ExitCode {
     let _held = hold_closed(&rt);
@@ -96,6 +99,7 @@ fn main(rt: HostRuntime) -> ExitCode {
         scenario_reader: &obeyed.other.reader,
         writer: &sink.writer,
         greatest: progress.greatest(),
+        is_stopped: progress.is_stopped(),
     };
     tell_ended(&mut rt.stderr(), alloc, &ended);
     ExitCode::from(status)
@@ -159,18 +163,20 @@ fn perform<R: Threads + Wait + Sync, S: Source, K: Sink, W: Watch + Sync>(
 {
     match task {
         Task::Command(command) => answer_command(rt, alloc, command, source, sink, watch),
-        Task::CheckAbout { scenario, tells } => {
-            check_about(alloc, scenario, *tells, source, other, sink)
-        }
+        Task::CheckAbout {
+            scenario,
+            tells,
+            limit,
+        } => check_about(alloc, scenario, *tells, *limit, source, other, sink),
         Task::Batch {
             options,
             tells_status,
-        } => answer_batch(rt, alloc, options, *tells_status, source, sink),
+        } => answer_batch(rt, alloc, options, *tells_status, source, sink, watch),
         Task::BatchTable {
             format,
             options,
-            tells_status,
-        } => answer_batch_table(rt, alloc, *format, options, *tells_status, source, sink),
+            tells_status: tells,
+        } => answer_batch_table(rt, alloc, *format, options, *tells, source, sink, watch),
         Task::Survey {
             format,
             with_ceilings,
@@ -219,28 +225,37 @@ fn answer_command<R: Threads + Wait + Sync, S: Source, K: Sink, W: Watch + Sync>
     Ok(End::Answered(done))
 }
 
-/// Checks a certificate, and holds it against the scenario that is read from the other source, where one is
-/// named.
+/// Checks a certificate, with so many steps at most where they are limited, and holds it against the scenario
+/// that is read from the other source, where one is named.
 #[inline(never)]
 fn check_about<S: Source, K: Sink>(
     alloc: Global,
     scenario: &Option<Input>,
     tells: bool,
+    limit: Option<u64>,
     source: &mut S,
     other: &mut S,
     sink: &mut K,
 ) -> Result<End, Fault>
-    ensures { ChecksAbout scenario.now tells S.reads K.writes source.old source.new other.old other.new
+    ensures { ChecksAbout scenario.now tells limit S.reads K.writes source.old source.new other.old other.new
         sink.old sink.new result }
 {
     match scenario {
         None => {
-            let end = run_check_about(alloc, None, tells, source, sink, MOST_READS)?;
+            let end = run_check_about(alloc, None, tells, limit, source, sink, MOST_READS)?;
             Ok(End::of_check(end))
         }
         Some(_) => {
             let wanted = read_scenario(alloc, other, MOST_READS)?;
-            let end = run_check_about(alloc, Some(&wanted), tells, source, sink, MOST_READS)?;
+            let end = run_check_about(
+                alloc,
+                Some(&wanted),
+                tells,
+                limit,
+                source,
+                sink,
+                MOST_READS,
+            )?;
             Ok(End::of_check(end))
         }
     }
@@ -248,25 +263,26 @@ fn check_about<S: Source, K: Sink>(
 
 /// Answers a batch, block by block.
 #[inline(never)]
-fn answer_batch<R: Threads + Wait + Sync, S: Source, K: Sink>(
+fn answer_batch<R: Threads + Wait + Sync, S: Source, K: Sink, W: Watch + Sync>(
     rt: &R,
     alloc: Global,
     options: &Options,
     tells_status: bool,
     source: &mut S,
     sink: &mut K,
+    watch: &W,
 ) -> Result<End, Fault>
     requires { options.now.most_reads ≡ MOST_READS }
     ensures { RunsBatch tells_status options.now
         S.reads K.writes source.old source.new sink.old sink.new result }
 {
-    let end = run_batch(rt, alloc, source, sink, options)?;
+    let end = run_batch(rt, alloc, source, sink, options, watch)?;
     Ok(End::of_batch(end, tells_status))
 }
 
 /// Answers a batch as a table.
 #[inline(never)]
-fn answer_batch_table<R: Threads + Wait + Sync, S: Source, K: Sink>(
+fn answer_batch_table<R: Threads + Wait + Sync, S: Source, K: Sink, W: Watch + Sync>(
     rt: &R,
     alloc: Global,
     format: Format,
@@ -274,12 +290,13 @@ fn answer_batch_table<R: Threads + Wait + Sync, S: Source, K: Sink>(
     tells_status: bool,
     source: &mut S,
     sink: &mut K,
+    watch: &W,
 ) -> Result<End, Fault>
     requires { options.now.most_reads ≡ MOST_READS }
     ensures { RunsSo (end_of_batches tells_status) LONGEST_BATCH (BatchTableSays format options.now)
         S.reads K.writes source.old source.new sink.old sink.new result }
 {
-    let end = run_batch_table(rt, alloc, format, options, source, sink)?;
+    let end = run_batch_table(rt, alloc, format, options, source, sink, watch)?;
     Ok(End::of_batch(end, tells_status))
 }
 

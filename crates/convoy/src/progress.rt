@@ -1,6 +1,6 @@
-//! How far a long search has come, told on standard error.
+//! How far a long search has come, told on standard error, and when its time is over.
 
-use convoy_arguments::Verdict;
+use convoy_arguments::{Task, Verdict};
 use convoy_commands::{Bounds, Duration, Gate, Watch};
 use std::alloc::{AllocError, Global};
 use std::io::{Stderr, Write};
@@ -24,9 +24,14 @@ pub enum Screen {
     Stream,
 }
 
-/// Where progress is told, by what the command line asks for, and by whether standard error is a terminal.
+/// Where progress is told, by what the command line asks for, and by whether standard error is a terminal. Of
+/// a batch nothing is told: its blocks show how far it is, and as a table it is written at its end.
 pub fn screen_for(verdict: &Verdict, is_terminal: bool) -> Screen {
     match verdict {
+        Verdict::Ask {
+            task: Task::Batch { .. } | Task::BatchTable { .. },
+            ..
+        } => Screen::Off,
         Verdict::Ask { manner, .. } if !manner.is_quiet => {
             if is_terminal {
                 Screen::Terminal
@@ -40,7 +45,7 @@ pub fn screen_for(verdict: &Verdict, is_terminal: bool) -> Screen {
     }
 }
 
-/// Tells on standard error how far a search has come, once a second.
+/// Tells on standard error how far a search has come, once a second, and tells the search when its time is over.
 #[derive(Drop)]
 pub struct Progress<'a, R> {
     rt: &'a R,
@@ -55,6 +60,12 @@ pub struct Progress<'a, R> {
     begun: AtomicU64,
     /// When the next line is due.
     due: AtomicU64,
+    /// When the time of the search is over, or the greatest number where none stops it.
+    deadline: AtomicU64,
+    /// Whether the search was told that its time is over.
+    over: AtomicBool,
+    /// Whether some search was told so, and was left open.
+    stopped: AtomicBool,
     /// How many branches were taken up, as far as they are counted.
     spent: AtomicU64,
     limit: AtomicU64,
@@ -81,6 +92,9 @@ impl<'a, R: Clock> Progress<'a, R> {
             by_leads: AtomicBool::new(false),
             begun: AtomicU64::new(0),
             due: AtomicU64::new(0),
+            deadline: AtomicU64::new(u64::MAX),
+            over: AtomicBool::new(false),
+            stopped: AtomicBool::new(false),
             spent: AtomicU64::new(0),
             limit: AtomicU64::new(0),
             tick: AtomicU64::new(0),
@@ -99,7 +113,12 @@ impl<'a, R: Clock> Progress<'a, R> {
         }
     }
 
-    /// The clock in milliseconds, or 0 where there is none.
+    /// Whether some search was left open that was told that its time is over.
+    pub fn is_stopped(&self) -> bool {
+        self.stopped.load(Ordering::Relaxed)
+    }
+
+    /// The clock in milliseconds, or 0 where there is none: then no time is ever over.
     fn now(&self) -> u64 {
         match self.rt.monotonic() {
             Ok(time) => u64::try_from(time.as_millis()).unwrap_or(u64::MAX),
@@ -211,12 +230,31 @@ impl<'a, R: Clock> Gate for Progress<'a, R> {
         }
     }
 
+    fn is_over(&self) -> bool {
+        let is_over = self.now() >= self.deadline.load(Ordering::Relaxed);
+        if is_over {
+            self.over.store(true, Ordering::Relaxed);
+        }
+        is_over
+    }
+
     fn begins_anew(&self, bounds: Bounds, limit: u64, least: u32, most: u32) {
         self.start(bounds, limit, least, most);
     }
 }
 
 impl<'a, R: Clock> Watch for Progress<'a, R> {
+    fn starts(&self, seconds: Option<u32>) {
+        let deadline = match seconds {
+            Some(seconds) => self
+                .now()
+                .saturating_add(u64::from(seconds).saturating_mul(1_000)),
+            None => u64::MAX,
+        };
+        self.deadline.store(deadline, Ordering::Relaxed);
+        self.over.store(false, Ordering::Relaxed);
+    }
+
     fn begins(
         &self,
         tick: Option<Duration>,
@@ -237,6 +275,9 @@ impl<'a, R: Clock> Watch for Progress<'a, R> {
     fn ends(&self, greatest: Option<u32>) {
         self.greatest
             .store(greatest.unwrap_or(u32::MAX), Ordering::Relaxed);
+        if greatest.is_none() && self.over.load(Ordering::Relaxed) {
+            self.stopped.store(true, Ordering::Relaxed);
+        }
         if self.screen == Screen::Terminal && self.told.load(Ordering::Relaxed) {
             let _ = (&self.stderr).write_all(b"\n");
         }

@@ -1,2 +1,3 @@
+pub mod Withins
 pub mod Yeses
 pub mod ScenarioReads

@@ -12,7 +12,7 @@ use Rattle.convoy_certificate.specs.Certificate.{Certificate, IsCertificate}
 use Rattle.convoy_certificate.specs.Laws.{TextsDiffer}
 use Rattle.convoy_certificate.specs.Reading.{IsTextOf}
 use Rattle.convoy_commands.specs.declared.done.Done.{Done}
-use Rattle.convoy_commands.specs.declared.done.Done.TheVariants.{Fine, Open, Refused}
+use Rattle.convoy_commands.specs.declared.done.Done.TheVariants.{Fine, Open, Refused, NotChecked}
 use Rattle.convoy_commands.specs.declared.fault.Fault.{Fault}
 use Rattle.convoy_commands.specs.Checks.{IsAccepted}
 use Rattle.convoy_commands.specs.Lines.{accepted_line}
@@ -108,6 +108,8 @@ yes_is_given differ certificate tells text (Checked Open) out is spelled valid s
     let none : Open ≡ Fine = end_is Open out _ (said.yes_given certificate is spelled valid) in absurd cc
 yes_is_given differ certificate tells text (Checked (Refused refusal)) out is spelled valid said =
     let none : Refused refusal ≡ Fine = end_is (Refused refusal) out _ (said.yes_given certificate is spelled valid) in absurd cc
+yes_is_given differ certificate tells text (Checked NotChecked) out is spelled valid said =
+    let none : NotChecked ≡ Fine = end_is NotChecked out _ (said.yes_given certificate is spelled valid) in absurd cc
 yes_is_given differ certificate tells text (Differs part) out is spelled valid said =
     let same = same_certificate differ text said.line certificate is spelled said.accepted in
     absurd ((rw same at said.unwanted).differ (agree_with_itself certificate.scenario part))

@@ -5,7 +5,7 @@ use convoy_commands::Done;
 #[derive(Clone, Copy)]
 pub enum AboutEnd {
     /// The certificate was accepted, and is that of the scenario that is wanted, if one is; or it was
-    /// refused as by `check`. It is never `Done::Open`.
+    /// refused, or not checked, as by `check`. It is never `Done::Open`.
     Checked(Done),
     /// The certificate is valid, but its scenario differs from the one that is wanted, first in this part.
     Differs(Part),

@@ -2,6 +2,9 @@ ghost use Rattle.std.specs.Prelude.{◌≡◌, ◌++◌, ℕ, List, IfOk, MatchO
 ghost use Rattle.std.specs.Option.{option_map};
 ghost use Rattle.convoy_commands.specs.Checks.{IsAccepted};
 ghost use Rattle.convoy_commands.specs.Replies.{SaysUnlessMemory, reply_of};
+ghost use Rattle.convoy_commands.specs.Withins.{SaysWithin};
+ghost use Rattle.convoy_commands.specs.declared.done.Done.TheVariants.{NotChecked};
+ghost use Rattle.convoy_about.specs.declared.about_end.AboutEnd.TheVariants.{Checked};
 ghost use Rattle.convoy_about.specs.Abouts.{CheckAboutSays, IsAcceptedAs, IsUnwanted, IsWanted};
 ghost use Rattle.convoy_about.specs.Lines.{told_if};
 
@@ -16,20 +19,23 @@ use convoy_scenario::Scenario;
 use std::alloc::{AllocError, Global};
 
 /// How a check for the scenario that is wanted, if one is, ends for the text of a certificate, and what is
-/// written for it, with what was accepted where `tells` (docs/FORMATS.md, "What `check` writes").
+/// written for it, with what was accepted where `tells` (docs/FORMATS.md, "What `check` writes"). Where there
+/// is a limit, at most so many steps are taken to check the certificate (docs/FORMATS.md, "Steps").
 ///
 /// Fails with `Fault::Memory`, and else never: a text that is that of no certificate, or of one that is not
-/// valid, is refused, which is an answer, and so is the certificate of another scenario.
+/// valid, is refused, which is an answer, and so is the certificate of another scenario; and one that is not
+/// checked, since that takes more steps.
 pub fn answer_about(
     alloc: Global,
     wanted: Option<&Scenario>,
     tells: bool,
+    limit: Option<u64>,
     text: &[u8],
 ) -> Result<(AboutEnd, Vec<u8>), Fault>
-    ensures { SaysUnlessMemory (CheckAboutSays (option_map (λ s. s.now) wanted.entry) tells)
-        text.now (reply_of result) }
+    ensures { SaysUnlessMemory (SaysWithin limit (Checked NotChecked)
+        (CheckAboutSays (option_map (λ s. s.now) wanted.entry) tells)) text.now (reply_of result) }
 {
-    let (done, line) = ask(alloc, Asking::Check, text)?;
+    let (done, line) = ask(alloc, Asking::Check, limit, text)?;
     match done {
         Done::Fine => Ok(answer_to_yes(alloc, wanted, tells, text, line)?),
         other => Ok((AboutEnd::Checked(other), line)),

@@ -1,6 +1,9 @@
 ghost use Rattle.std.specs.Option.{option_map};
 ghost use Rattle.convoy_commands.specs.declared.limits.TheConstants.{LONGEST_CERTIFICATE};
 ghost use Rattle.convoy_commands.specs.Runs.{IsRun};
+ghost use Rattle.convoy_commands.specs.Withins.{SaysWithin};
+ghost use Rattle.convoy_commands.specs.declared.done.Done.TheVariants.{NotChecked};
+ghost use Rattle.convoy_about.specs.declared.about_end.AboutEnd.TheVariants.{Checked};
 ghost use Rattle.convoy_about.specs.Abouts.{CheckAboutSays};
 
 use super::about_end::AboutEnd;
@@ -15,7 +18,9 @@ use std::alloc::Global;
 /// certificate is refused (docs/FORMATS.md, "What `check` writes"). Where `tells`, the lines below the yes
 /// tell what was accepted.
 ///
-/// At most `most_reads` reads are made. Nothing is written before the answer is known. A text that
+/// At most `most_reads` reads are made, and where there is a `limit` at most so many steps are taken to check
+/// the certificate; where that takes more, the end is `AboutEnd::Checked(Done::NotChecked)`. Nothing is
+/// written before the answer is known. A text that
 /// [`check`](convoy_commands::run_check) refuses gets its refusal, and ends as `Done::Refused`. Where the
 /// certificate is valid but its scenario is not equal to the one that is wanted, the end is
 /// `AboutEnd::Differs`, with the first part that differs; only the scenario is compared, so two texts with
@@ -29,13 +34,14 @@ pub fn run_check_about<S: Source, K: Sink>(
     alloc: Global,
     wanted: Option<&Scenario>,
     tells: bool,
+    limit: Option<u64>,
     source: &mut S,
     sink: &mut K,
     most_reads: u64,
 ) -> Result<AboutEnd, Fault>
-    ensures { IsRun LONGEST_CERTIFICATE (CheckAboutSays (option_map (λ s. s.now) wanted.entry) tells)
-        most_reads S.reads K.writes source.old source.new sink.old sink.new result }
+    ensures { IsRun LONGEST_CERTIFICATE (SaysWithin limit (Checked NotChecked)
+        (CheckAboutSays (option_map (λ s. s.now) wanted.entry) tells)) most_reads S.reads K.writes source.old source.new sink.old sink.new result }
 {
     let text = read_to_end(alloc, source, LONGEST_CERTIFICATE, most_reads)?;
-    write_reply(sink, answer_about(alloc, wanted, tells, &text))
+    write_reply(sink, answer_about(alloc, wanted, tells, limit, &text))
 }

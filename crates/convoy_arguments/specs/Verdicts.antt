@@ -15,7 +15,7 @@ use Rattle.convoy_arguments.specs.Texts.{are_shown}
 abbrev pub HasReads : Task → Type 0
 HasReads (Command (Direct command)) = Unit {0}
 HasReads (Command (Search goal options)) = options.most_reads ≡ MOST_READS
-HasReads (CheckAbout scenario tells) = Unit {0}
+HasReads (CheckAbout scenario tells limit) = Unit {0}
 HasReads (Batch options tells_status) = options.most_reads ≡ MOST_READS
 HasReads (BatchTable format options tells_status) = options.most_reads ≡ MOST_READS
 HasReads (Survey format with_ceilings options) = options.most_reads ≡ MOST_READS
@@ -24,7 +24,7 @@ HasReads (Ceilings format group simulations) = Unit {0}
 
 -- not both texts of a task come from standard input
 abbrev pub AreApart : Task → Input → Type 0
-AreApart (CheckAbout (Some Standard) tells) Standard = ⊥
+AreApart (CheckAbout (Some Standard) tells limit) Standard = ⊥
 AreApart task input = Unit {0}
 
 -- The program ends at once: with a text, which has the status of help or of a command line that is
@@ -48,5 +48,5 @@ file_of Memory = None
 
 -- the file with the scenario that a certificate is to be of, where one is named
 abbrev pub scenario_file_of : Verdict → Option (List ℕ)
-scenario_file_of (Ask (CheckAbout (Some scenario) tells) input manner) = file_in scenario
+scenario_file_of (Ask (CheckAbout (Some scenario) tells limit) input manner) = file_in scenario
 scenario_file_of other = None

@@ -1,7 +1,8 @@
 //! What help tells of the program, of its commands and of their options.
 
+use super::limits::MOST_SECONDS;
 use convoy_branch::PLAIN_TICKETS;
-use convoy_commands::{DEFAULT_LIMIT, MOST_SIMULATIONS, MOST_TICKETS, MOST_WORKERS};
+use convoy_commands::{DEFAULT_LIMIT, MOST_SIMULATIONS, MOST_STEPS, MOST_TICKETS, MOST_WORKERS};
 
 // The numbers in these texts are the limits that hold.
 const _: () = prove!(MOST_TICKETS == 4_000_000);
@@ -13,6 +14,10 @@ const _: () = prove!(PLAIN_TICKETS == 10_000);
 const _: () = prove!(MOST_SIMULATIONS == 1_000_000);
 
 const _: () = prove!(MOST_WORKERS == 16);
+
+const _: () = prove!(MOST_STEPS == 1_000_000_000_000);
+
+const _: () = prove!(MOST_SECONDS == 1_000_000);
 
 pub(crate) const ABOUT: &str =
     "The greatest latency of Skeen's genuine atomic multicast, exact and proved";
@@ -62,9 +67,11 @@ Exit status:
   1  a fault, told in one line as 'fault NUMBER TEXT'; of `survey` and `ceiling --all`
      also where memory ran out for a row, and of `batch --status` one of a scenario
   2  the command line is rejected
-  3  a search that did not end within its limit, or a ceiling that was not attained;
+  3  a search that did not end within its limits, or a ceiling that was not attained;
      of `batch` only with `--status`
-  4  a certificate that is refused";
+  4  a certificate that is refused
+  6  a certificate that is not checked, since that takes more steps than `--limit`
+     allows";
 
 pub(crate) const ABOUT_FIRST: &str = "Writes the latency under the least delays, and those delays";
 
@@ -138,7 +145,8 @@ lines why the greatest latency is what it is: when the target is committed, whic
 message holds it back and until when, and which packets it waits for.
   convoy analyse scenario.toml | convoy explain
 
-A certificate that is refused is told in the line 'refused NUMBER TEXT'.";
+A certificate that is refused is told in the line 'refused NUMBER TEXT', and one that
+is not checked in 'not checked LIMIT'.";
 
 pub(crate) const ABOUT_DRAW: &str = "Draws the run of a certificate as an SVG image";
 
@@ -149,7 +157,8 @@ group to group, what each group does with each message, and what the target wait
 for.
   convoy analyse scenario.toml | convoy draw > run.svg
 
-A certificate that is refused is told in the line 'refused NUMBER TEXT'.";
+A certificate that is refused is told in the line 'refused NUMBER TEXT', and one that
+is not checked in 'not checked LIMIT'.";
 
 pub(crate) const ABOUT_CHECK: &str = "Checks a certificate of the greatest latency";
 
@@ -159,7 +168,9 @@ Reads a certificate and writes one line:
 The certificate is valid: N is the greatest latency of its scenario's target, in
 ticks, over all schedules. Or else:
   refused NUMBER TEXT
-This is the first fault for which it is refused.
+This is the first fault for which it is refused. Or, where checking takes more steps
+than the option `--limit` allows, so that nothing is known of the certificate:
+  not checked LIMIT
 
 A certificate is text, and its first line is one of 'convoy 1' to 'convoy 4'.
 Whoever made it need not be trusted. Of which scenario it is, the certificate says
@@ -169,6 +180,10 @@ it is accepted only if it is of that scenario, and else refused with the line
 'refused 37 scenario differs in KEY'. With
   convoy check certificate --tell
 what was accepted is told below the first line.";
+
+pub(crate) const ABOUT_STEPS: &str = "\
+How many steps checking the certificate takes at most: from 1 to 1000000000000.
+A step takes about two microseconds at most, and a million of them two seconds";
 
 pub(crate) const ABOUT_WANTED: &str = "\
 Accepts a certificate only if it is valid and is of the scenario in this file, which
@@ -192,8 +207,8 @@ Where the search does not end, it writes two lines, and the exit status is 3:
 'open LEAST MOST', the least and the most that the greatest latency may be, in
 ticks, and 'schedule', of a schedule that has the latency LEAST. In real time a
 line 'order' follows, as with `simulate`.
-LEAST is then most likely the greatest latency; MOST is safe to rely on. With
-neither `--limit` nor `--bounds` the search mostly ends.";
+LEAST is then most likely the greatest latency; MOST is safe to rely on. With none
+of `--limit`, `--bounds` and `--seconds` the search mostly ends.";
 
 pub(crate) const ABOUT_LATENCY: &str = "Writes the greatest latency";
 
@@ -208,8 +223,8 @@ The command `analyse` runs the same search, and writes why it is so.
 Where the search does not end, it writes 'open LEAST MOST', the least and the
 most that the greatest latency may be, both once more in that unit where a tick
 has a length, and the exit status is 3.
-LEAST is then most likely the greatest latency; MOST is safe to rely on. With
-neither `--limit` nor `--bounds` the search mostly ends.";
+LEAST is then most likely the greatest latency; MOST is safe to rely on. With none
+of `--limit`, `--bounds` and `--seconds` the search mostly ends.";
 
 pub(crate) const ABOUT_CEILING: &str =
     "Writes a latency that no traffic exceeds, and traffic that attains it";
@@ -309,6 +324,11 @@ pub(crate) const ABOUT_LIMIT: &str = "\
 How many tickets the search spends at most, one for each set of schedules that it
 looks at: from 1 to 4000000. A limit without `--bounds` means plain bounds;
 without this option there are 1000000";
+
+pub(crate) const ABOUT_SECONDS: &str = "\
+After how many seconds the search stops, where it has not ended, before the next set
+of schedules that it looks at: from 1 to 1000000. Each row of a survey and each
+scenario of a batch has them for itself. Without this option no search is stopped";
 
 pub(crate) const ABOUT_SEEK: &str = "\
 How many schedules are simulated at most to find a good one for the search to

@@ -5,7 +5,7 @@ use super::escaping::{are_shown, with_escapes};
 use super::input::Input;
 use super::limits::{HELP, REJECTED};
 use super::manner::Manner;
-use super::options::{format_of, options_of, simulations_of};
+use super::options::{format_of, options_of, simulations_of, steps_of};
 use super::parser::parser;
 use super::task::Task;
 use super::verdict::Verdict;
@@ -175,13 +175,20 @@ fn task_for(alloc: Global, name: &str, given: &ArgMatches<'_>) -> Result<Task, A
 fn check_for(alloc: Global, given: &ArgMatches<'_>) -> Result<Task, AllocError>
     ensures { IfOk result HasReads }
 {
-    let tells = given.get_flag("tell");
+    let (tells, limit) = (given.get_flag("tell"), Some(steps_of(given)));
     let scenario = match given.get_str("scenario") {
         Some(name) => Some(Input::of(alloc, Some(name))?),
         None if tells => None,
-        None => return Ok(Task::Command(Command::Direct(Direct::Ask(Asking::Check)))),
+        None => {
+            let command = Command::Direct(Direct::Ask(Asking::Check, limit));
+            return Ok(Task::Command(command));
+        }
     };
-    Ok(Task::CheckAbout { scenario, tells })
+    Ok(Task::CheckAbout {
+        scenario,
+        tells,
+        limit,
+    })
 }
 
 /// What `ceiling` asks for.
@@ -251,9 +258,11 @@ fn command_for(name: &str, given: &ArgMatches<'_>) -> Command
         "timeline" => Command::Direct(Direct::Tell(Telling::Timeline)),
         "packets" => Command::Direct(Direct::Tell(Telling::Packets)),
         "scenario" => Command::Direct(Direct::Tell(Telling::Toml)),
-        "explain" if given.get_flag("ceiling") => Command::Direct(Direct::ExplainWithCeiling),
-        "explain" => Command::Direct(Direct::Ask(Asking::Explain)),
-        "draw" => Command::Direct(Direct::Ask(Asking::Draw)),
+        "explain" if given.get_flag("ceiling") => {
+            Command::Direct(Direct::ExplainWithCeiling(Some(steps_of(given))))
+        }
+        "explain" => Command::Direct(Direct::Ask(Asking::Explain, Some(steps_of(given)))),
+        "draw" => Command::Direct(Direct::Ask(Asking::Draw, Some(steps_of(given)))),
         _ => Command::Direct(Direct::First),
     }
 }

@@ -4,7 +4,7 @@
 
 pub use input::Input;
 pub use judging::{judge, judge_bytes};
-pub use limits::{MOST_READS, REJECTED};
+pub use limits::{MOST_READS, MOST_SECONDS, REJECTED};
 pub use manner::Manner;
 pub use task::Task;
 pub use verdict::Verdict;

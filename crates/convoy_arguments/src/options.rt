@@ -6,8 +6,8 @@ ghost use Rattle.convoy_arguments.specs.declared.limits.TheConstants.{MOST_READS
 use super::limits::MOST_READS;
 use clap::ArgMatches;
 use convoy_commands::{
-    Bounds, DEFAULT_LIMIT, DEFAULT_SIMULATIONS, MOST_SIMULATIONS, MOST_TICKETS, MOST_WORKERS,
-    Options, Ways,
+    Bounds, DEFAULT_LIMIT, DEFAULT_SIMULATIONS, DEFAULT_STEPS, MOST_SIMULATIONS, MOST_TICKETS,
+    MOST_WORKERS, Options, Ways,
 };
 use convoy_tables::Format;
 
@@ -15,6 +15,11 @@ use convoy_tables::Format;
 /// number.
 pub(crate) fn simulations_of(given: &ArgMatches<'_>) -> u64 {
     given.get_one("seek").unwrap_or(DEFAULT_SIMULATIONS)
+}
+
+/// How many steps are taken at most to check a certificate: as many as are given, or else the usual number.
+pub(crate) fn steps_of(given: &ArgMatches<'_>) -> u64 {
+    given.get_one("limit").unwrap_or(DEFAULT_STEPS)
 }
 
 /// How a table is written. `clap` rejects a word that names no format.
@@ -39,12 +44,22 @@ pub(crate) fn options_of(given: &ArgMatches<'_>) -> Options
         limit.clamp(1, MOST_TICKETS),
         MOST_READS,
     ) {
-        Some(options) => options.seeking(simulations.min(MOST_SIMULATIONS)),
+        Some(options) => timed(options.seeking(simulations.min(MOST_SIMULATIONS)), given),
         None => unreachable!(),
     };
     match ways_of(given) {
         Ways::One(bounds) => options.going_by(bounds),
         Ways::Both => options,
+    }
+}
+
+/// The same options, of a search that stops after the seconds that are given, if any are.
+fn timed(options: Options, given: &ArgMatches<'_>) -> Options
+    ensures { result.most_reads ≡ options.most_reads }
+{
+    match given.get_one("seconds") {
+        Some(seconds) => options.stopping_after(seconds),
+        None => options,
     }
 }
 

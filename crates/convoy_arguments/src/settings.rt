@@ -3,15 +3,18 @@
 use super::help::{
     ABOUT_ALL, ABOUT_ANALYSE, ABOUT_BATCH, ABOUT_BATCH_FORMAT, ABOUT_BESIDE, ABOUT_BOUNDS,
     ABOUT_CEILING, ABOUT_CHECK, ABOUT_DRAW, ABOUT_EXPLAIN, ABOUT_FIRST, ABOUT_FORMAT, ABOUT_GROUP,
-    ABOUT_LATENCY, ABOUT_LIMIT, ABOUT_PACKETS, ABOUT_PROGRESS, ABOUT_SCENARIO, ABOUT_SEEK,
-    ABOUT_SEEK_TRAFFIC, ABOUT_SIMULATE, ABOUT_STATUS, ABOUT_SURVEY, ABOUT_TELL, ABOUT_TIMELINE,
-    ABOUT_WANTED, ABOUT_WITHOUT, ABOUT_WORKERS, LONG_ABOUT_ANALYSE, LONG_ABOUT_BATCH,
-    LONG_ABOUT_CEILING, LONG_ABOUT_CHECK, LONG_ABOUT_DRAW, LONG_ABOUT_EXPLAIN, LONG_ABOUT_FIRST,
-    LONG_ABOUT_LATENCY, LONG_ABOUT_PACKETS, LONG_ABOUT_SCENARIO, LONG_ABOUT_SIMULATE,
-    LONG_ABOUT_SURVEY, LONG_ABOUT_TIMELINE,
+    ABOUT_LATENCY, ABOUT_LIMIT, ABOUT_PACKETS, ABOUT_PROGRESS, ABOUT_SCENARIO, ABOUT_SECONDS,
+    ABOUT_SEEK, ABOUT_SEEK_TRAFFIC, ABOUT_SIMULATE, ABOUT_STATUS, ABOUT_STEPS, ABOUT_SURVEY,
+    ABOUT_TELL, ABOUT_TIMELINE, ABOUT_WANTED, ABOUT_WITHOUT, ABOUT_WORKERS, LONG_ABOUT_ANALYSE,
+    LONG_ABOUT_BATCH, LONG_ABOUT_CEILING, LONG_ABOUT_CHECK, LONG_ABOUT_DRAW, LONG_ABOUT_EXPLAIN,
+    LONG_ABOUT_FIRST, LONG_ABOUT_LATENCY, LONG_ABOUT_PACKETS, LONG_ABOUT_SCENARIO,
+    LONG_ABOUT_SIMULATE, LONG_ABOUT_SURVEY, LONG_ABOUT_TIMELINE,
 };
+use super::limits::MOST_SECONDS;
 use clap::builder::ValueParser;
-use convoy_commands::{DEFAULT_SIMULATIONS, MOST_SIMULATIONS, MOST_TICKETS, MOST_WORKERS};
+use convoy_commands::{
+    DEFAULT_SIMULATIONS, DEFAULT_STEPS, MOST_SIMULATIONS, MOST_STEPS, MOST_TICKETS, MOST_WORKERS,
+};
 
 /// A command, with its options but for those that all commands have. Each reads a text, from a file where one
 /// is named.
@@ -90,14 +93,32 @@ const FORMATS: Value = Value::Given("FORMAT", ValueParser::Names(&["text", "csv"
 /// How many schedules may be simulated, and how many are where that is not said.
 const SIMULATIONS: Value = Value::Usual("N", ValueParser::Unsigned(0, MOST_SIMULATIONS), "20000");
 
-// The usual number is told as a text.
+// The usual numbers are told as texts.
 const _: () = prove!(DEFAULT_SIMULATIONS == 20_000);
+
+const _: () = prove!(DEFAULT_STEPS == 100_000_000);
 
 /// The limit of a search.
 const LIMIT: Setting = Setting {
     name: "limit",
     about: ABOUT_LIMIT,
     value: Value::Given("N", ValueParser::Unsigned(1, MOST_TICKETS)),
+    company: Company::Any,
+};
+
+/// The limit of a check.
+const STEPS: Setting = Setting {
+    name: "limit",
+    about: ABOUT_STEPS,
+    value: Value::Usual("N", ValueParser::Unsigned(1, MOST_STEPS), "100000000"),
+    company: Company::Any,
+};
+
+/// After how many seconds a search stops.
+const SECONDS: Setting = Setting {
+    name: "seconds",
+    about: ABOUT_SECONDS,
+    value: Value::Given("S", ValueParser::Unsigned(1, MOST_SECONDS as u64)),
     company: Company::Any,
 };
 
@@ -230,25 +251,25 @@ pub(crate) const COMMANDS: [Listed; 13] = [
         name: "analyse",
         about: ABOUT_ANALYSE,
         long_about: LONG_ABOUT_ANALYSE,
-        settings: &[LIMIT, SEEK, BOUNDS, WORKERS, PROGRESS],
+        settings: &[LIMIT, SECONDS, SEEK, BOUNDS, WORKERS, PROGRESS],
     },
     Listed {
         name: "explain",
         about: ABOUT_EXPLAIN,
         long_about: LONG_ABOUT_EXPLAIN,
-        settings: &[CEILING],
+        settings: &[STEPS, CEILING],
     },
     Listed {
         name: "draw",
         about: ABOUT_DRAW,
         long_about: LONG_ABOUT_DRAW,
-        settings: &[],
+        settings: &[STEPS],
     },
     Listed {
         name: "latency",
         about: ABOUT_LATENCY,
         long_about: LONG_ABOUT_LATENCY,
-        settings: &[LIMIT, SEEK, BOUNDS, WORKERS, PROGRESS, CEILING],
+        settings: &[LIMIT, SECONDS, SEEK, BOUNDS, WORKERS, PROGRESS, CEILING],
     },
     Listed {
         name: "ceiling",
@@ -261,20 +282,29 @@ pub(crate) const COMMANDS: [Listed; 13] = [
         about: ABOUT_SURVEY,
         long_about: LONG_ABOUT_SURVEY,
         settings: &[
-            LIMIT, SEEK, BOUNDS, WORKERS, PROGRESS, FORMAT, CEILING, WITHOUT,
+            LIMIT, SECONDS, SEEK, BOUNDS, WORKERS, PROGRESS, FORMAT, CEILING, WITHOUT,
         ],
     },
     Listed {
         name: "batch",
         about: ABOUT_BATCH,
         long_about: LONG_ABOUT_BATCH,
-        settings: &[LIMIT, SEEK, BOUNDS, WORKERS, PROGRESS, STATUS, BATCH_FORMAT],
+        settings: &[
+            LIMIT,
+            SECONDS,
+            SEEK,
+            BOUNDS,
+            WORKERS,
+            PROGRESS,
+            STATUS,
+            BATCH_FORMAT,
+        ],
     },
     Listed {
         name: "check",
         about: ABOUT_CHECK,
         long_about: LONG_ABOUT_CHECK,
-        settings: &[SCENARIO, TELL],
+        settings: &[STEPS, SCENARIO, TELL],
     },
     Listed {
         name: "first",

@@ -7,11 +7,13 @@ use convoy_tables::Format;
 pub enum Task {
     /// What a command answers.
     Command(Command),
-    /// Whether a certificate is valid and, where a second input is named, is of the scenario in it; and whether
-    /// what is accepted is told below the yes.
+    /// Whether a certificate is valid and, where a second input is named, is of the scenario in it; whether
+    /// what is accepted is told below the yes; and how many steps are taken at most to check it, where they are
+    /// limited.
     CheckAbout {
         scenario: Option<Input>,
         tells: bool,
+        limit: Option<u64>,
     },
     /// A block for each scenario of a batch, and whether the exit status is to tell how their searches end.
     Batch {

@@ -9,7 +9,7 @@ use Rattle.convoy_streams.specs.Writes.{WritesAll, FailsWithin}
 use Rattle.convoy_branch.specs.Options.{Settings}
 use Rattle.convoy_batch.specs.declared.batch.TheConstants.{MOST_JOBS}
 use Rattle.convoy_commands.specs.declared.limits.TheConstants.{LONGEST_JOB}
-use Rattle.convoy_commands.specs.declared.done.Done.TheVariants.{Fine, Open, Refused}
+use Rattle.convoy_commands.specs.declared.done.Done.TheVariants.{Fine, Open, Refused, NotChecked}
 use Rattle.convoy_commands.specs.declared.search_end.SearchEnd.{SearchEnd}
 use Rattle.convoy_commands.specs.declared.fault.Fault.{Fault}
 use Rattle.convoy_commands.specs.declared.fault.Fault.TheVariants.{Memory, Reading, Write, TooManyJobs}
@@ -54,11 +54,12 @@ AreReplies settings [] (reply ∷ replies) = ⊥
 AreReplies settings (job ∷ jobs) [] = ⊥
 AreReplies settings (job ∷ jobs) (reply ∷ replies) = JobSays settings job reply × AreReplies settings jobs replies
 
--- the reply tells a fault; `latency` never answers that it refuses a certificate
+-- the reply tells a fault; `latency` never answers that a certificate is refused or is not checked
 abbrev pub is_fault : Reply → Bool
 is_fault (Ok (Fine, out)) = false
 is_fault (Ok (Open, out)) = false
 is_fault (Ok (Refused refusal, out)) = true
+is_fault (Ok (NotChecked, out)) = true
 is_fault (Err fault) = true
 
 -- the reply is an open answer

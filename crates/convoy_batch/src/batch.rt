@@ -8,8 +8,8 @@ ghost use Rattle.convoy_batch.specs.Batches.{IsBatchRun, JobSays};
 ghost use Rattle.convoy_commands.specs.Replies.{reply_of};
 
 use super::block::fill;
-use convoy_branch::{NoGate, Options};
-use convoy_commands::{Done, Fault, LONGEST_JOB, SearchEnd, latency_answer};
+use convoy_branch::Options;
+use convoy_commands::{Done, Fault, LONGEST_JOB, SearchEnd, Watch, latency_answer};
 use convoy_lines::ReservedText;
 use convoy_streams::laws::{ended_jobs_stay, pieces_go_on};
 use convoy_streams::{
@@ -26,6 +26,9 @@ pub const MOST_JOBS: u32 = 1_000;
 /// with what [`run_latency`](convoy_commands::run_latency) answers for the job's own text (docs/FORMATS.md,
 /// "Batch"). Answers the worst end of all jobs, which is `SearchEnd::Exact` where each has the greatest latency.
 ///
+/// Each search is watched, by [`NoGate`](convoy_branch::NoGate) where nobody watches; where the options have
+/// seconds each job has them for itself, and the watch counts them.
+///
 /// Blocks go out as their jobs end, and memory is that of one job. A job with a fault gets the fault
 /// as its block, and so does one of more than [`LONGEST_JOB`] bytes
 /// (`ReadFault::TooLong`), and one for which memory runs out (`Fault::Memory`).
@@ -36,12 +39,13 @@ pub const MOST_JOBS: u32 = 1_000;
 /// `Fault::TooManyJobs` once the divider after the [`MOST_JOBS`]th job has ended, after that job's
 /// block; with `Fault::Write` where the sink fails, after a front of the blocks; and with
 /// `Fault::Memory`, before all else, where there is no memory for a block.
-pub fn run_batch<R: Threads + Wait + Sync, S: Source, K: Sink>(
+pub fn run_batch<R: Threads + Wait + Sync, S: Source, K: Sink, W: Watch + Sync>(
     rt: &R,
     alloc: Global,
     source: &mut S,
     sink: &mut K,
     options: &Options,
+    watch: &W,
 ) -> Result<SearchEnd, Fault>
     ensures { IsBatchRun options.now options.now.most_reads
         S.reads K.writes source.old source.new sink.old sink.new result }
@@ -55,9 +59,9 @@ pub fn run_batch<R: Threads + Wait + Sync, S: Source, K: Sink>(
             return Err(Fault::Reading(ReadFault::Read));
         };
         if piece.is_empty() {
-            return batch.finish(rt, alloc, sink, options);
+            return batch.finish(rt, alloc, sink, options, watch);
         }
-        batch.take_piece(rt, alloc, piece, sink, options)?;
+        batch.take_piece(rt, alloc, piece, sink, options, watch)?;
     }
     Err(Fault::Reading(ReadFault::TooManyReads))
 }
@@ -87,13 +91,14 @@ impl Batch {
     }
 
     /// Takes the next piece of the text.
-    fn take_piece<R: Threads + Wait + Sync, K: Sink>(
+    fn take_piece<R: Threads + Wait + Sync, K: Sink, W: Watch + Sync>(
         &mut self,
         rt: &R,
         alloc: Global,
         piece: &[u8],
         sink: &mut K,
         options: &Options,
+        watch: &W,
     ) -> Result<(), Fault>
         ensures { (start : K) (text : List ℕ) →
             IsUnderWay options.now K.writes start sink.old text self.old →
@@ -103,19 +108,20 @@ impl Batch {
     {
         ended_jobs_stay();
         for byte in piece {
-            self.take(rt, alloc, *byte, sink, options)?;
+            self.take(rt, alloc, *byte, sink, options, watch)?;
         }
         Ok(())
     }
 
     /// Takes the next byte of the text.
-    fn take<R: Threads + Wait + Sync, K: Sink>(
+    fn take<R: Threads + Wait + Sync, K: Sink, W: Watch + Sync>(
         &mut self,
         rt: &R,
         alloc: Global,
         byte: u8,
         sink: &mut K,
         options: &Options,
+        watch: &W,
     ) -> Result<(), Fault>
         ensures { (start : K) (text : List ℕ) →
             IsUnderWay options.now K.writes start sink.old text self.old →
@@ -124,38 +130,40 @@ impl Batch {
             (StopsAnswering options.now K.writes start sink.new (ended_jobs (text ++ byte ∷ []))) }
     {
         if self.splitter.take(byte) {
-            self.end_job(rt, alloc, sink, options)
+            self.end_job(rt, alloc, sink, options, watch)
         } else {
             Ok(())
         }
     }
 
     /// The text is over. Answers the worst end of all jobs.
-    fn finish<R: Threads + Wait + Sync, K: Sink>(
+    fn finish<R: Threads + Wait + Sync, K: Sink, W: Watch + Sync>(
         &mut self,
         rt: &R,
         alloc: Global,
         sink: &mut K,
         options: &Options,
+        watch: &W,
     ) -> Result<SearchEnd, Fault>
         ensures { (start : K) (text : List ℕ) →
             IsUnderWay options.now K.writes start sink.old text self.old →
             EndsBatch options.now K.writes start sink.new text result }
     {
         if !self.splitter.finish() {
-            return self.answer(rt, alloc, sink, options);
+            return self.answer(rt, alloc, sink, options, watch);
         }
-        self.end_job(rt, alloc, sink, options)?;
-        self.answer(rt, alloc, sink, options)
+        self.end_job(rt, alloc, sink, options, watch)?;
+        self.answer(rt, alloc, sink, options, watch)
     }
 
     /// Answers the job that ended at a divider, and starts the next one.
-    fn end_job<R: Threads + Wait + Sync, K: Sink>(
+    fn end_job<R: Threads + Wait + Sync, K: Sink, W: Watch + Sync>(
         &mut self,
         rt: &R,
         alloc: Global,
         sink: &mut K,
         options: &Options,
+        watch: &W,
     ) -> Result<(), Fault>
         ensures { (start : K) (jobs : List Job) (job : Job) →
             IsReady options.now K.writes start sink.old jobs self.old.number self.old.end →
@@ -165,7 +173,7 @@ impl Batch {
             × IsFresh (next_label_of self.old.splitter) self.new.splitter)
             (StopsAnswering options.now K.writes start sink.new (jobs ++ job ∷ [])) }
     {
-        self.answer(rt, alloc, sink, options)?;
+        self.answer(rt, alloc, sink, options, watch)?;
         if self.number >= MOST_JOBS {
             return Err(Fault::TooManyJobs);
         }
@@ -175,12 +183,13 @@ impl Batch {
     }
 
     /// Writes the block of the job that ended, and answers the worst end of the jobs so far.
-    fn answer<R: Threads + Wait + Sync, K: Sink>(
+    fn answer<R: Threads + Wait + Sync, K: Sink, W: Watch + Sync>(
         &mut self,
         rt: &R,
         alloc: Global,
         sink: &mut K,
         options: &Options,
+        watch: &W,
     ) -> Result<SearchEnd, Fault>
         ensures job { (job : Job) → Holds LONGEST_JOB self.old.splitter job →
             AnswersOne options.now K.writes sink.old sink.new self.old.number self.old.end job result }
@@ -188,7 +197,7 @@ impl Batch {
         ensures number { self.new.number ≡ self.old.number }
         ensures end { IfOk result (λ end. self.new.end ≡ end) }
     {
-        let answer = job_answer(rt, alloc, &self.splitter, options);
+        let answer = job_answer(rt, alloc, &self.splitter, options, watch);
         let end = fill(&mut self.block, self.number, self.splitter.label(), answer);
         if write_all(sink, self.block.bytes()).is_err() {
             return Err(Fault::Write);
@@ -199,17 +208,18 @@ impl Batch {
 }
 
 /// What is answered for the job that ended.
-fn job_answer<R: Threads + Wait + Sync>(
+fn job_answer<R: Threads + Wait + Sync, W: Watch + Sync>(
     rt: &R,
     alloc: Global,
     splitter: &Splitter,
     options: &Options,
+    watch: &W,
 ) -> Result<(Done, Vec<u8>), Fault>
     ensures { (job : Job) → Holds LONGEST_JOB splitter.now job →
         JobSays options.now job (reply_of result) }
 {
     match splitter.job() {
-        Ok(text) => latency_answer(rt, alloc, text, options, &NoGate),
+        Ok(text) => latency_answer(rt, alloc, text, options, watch),
         Err(JobFault::TooLong) => Err(Fault::Reading(ReadFault::TooLong(LONGEST_JOB))),
         Err(JobFault::Memory) => Err(Fault::Memory),
     }

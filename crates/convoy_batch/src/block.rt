@@ -101,6 +101,6 @@ fn end_of_answer(done: Done) -> SearchEnd
     match done {
         Done::Fine => SearchEnd::Exact,
         Done::Open => SearchEnd::Open,
-        Done::Refused(_) => SearchEnd::Faulty,
+        Done::Refused(_) | Done::NotChecked => SearchEnd::Faulty,
     }
 }

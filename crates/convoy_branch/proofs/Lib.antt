@@ -9,3 +9,4 @@ pub mod SearchSteps
 pub mod SearchOutcomes
 pub mod LeftBounds
 pub mod FrontUppers
+pub mod Withins

@@ -14,13 +14,14 @@ pub use Rattle.convoy_certificate.specs.Text
 pub use Rattle.convoy_checker.specs.Trees
 pub use Rattle.convoy_checker.specs.Leaves
 pub use Rattle.convoy_checker.specs.Validity
--- What a search promises: the bounds by which it goes, which boxes it closes, what it tells of those that are left, a step over a box, how far a search has come, what it answers, alone and both ways, and the laws of fronts.
+-- What a search promises: the bounds by which it goes, which boxes it closes, what it tells of those that are left, a step over a box, how far a search has come, what it answers, alone and both ways, how far it may go, and the laws of fronts.
 pub mod SearchBounds
 pub mod Options
 pub mod Uppers
 pub mod Steps
 pub mod Fronts
 pub mod Outcomes
+pub mod Limits
 pub mod BothWays
 pub mod Laws
 -- Where the program stands between two steps: no promise above this crate rests on it.

@@ -1,10 +1,12 @@
 -- How a search runs.
-use Rattle.std.specs.Prelude.{ℕ, ◌≤◌}
+use Rattle.std.specs.Prelude.{ℕ, ◌≤◌, Option}
+use Rattle.std.specs.Option.{is_some}
 use Rattle.convoy_certificate.specs.declared.certificate.TheConstants.{MOST_NODES}
 use Rattle.convoy_branch.specs.declared.bounds.Bounds.{Bounds}
 use Rattle.convoy_branch.specs.declared.bounds.Bounds.TheVariants.{Plain}
 use Rattle.convoy_branch.specs.SearchBounds.{most_nodes}
 use Rattle.convoy_shares.specs.declared.shares.TheConstants.{MOST_WORKERS}
+use Rattle.convoy_branch.specs.declared.limit.Limit.{Limit}
 use Rattle.convoy_branch.specs.declared.options.TheConstants.{MOST_SIMULATIONS}
 use Rattle.convoy_branch.specs.declared.options.Ways.{Ways}
 use Rattle.convoy_branch.specs.declared.options.Ways.TheVariants.{One, Both}
@@ -19,13 +21,18 @@ abbrev pub first_bounds : Ways → Bounds
 first_bounds (One bounds) = bounds
 first_bounds Both = Plain
 
--- how many workers there are, how many tickets they spend at most, how many schedules are simulated before at most, how many reads of the input are made at most, and by which bounds of boxes, or by leads, the search goes, or both ways
+-- how many workers there are, how many tickets they spend at most, how many schedules are simulated before at most, how many reads of the input are made at most, and by which bounds of boxes, or by leads, the search goes, or both ways; and after how many seconds it stops, if it is to
 pub record Settings : Type 0 where
   pub workers : ℕ
   pub limit : ℕ
   pub simulations : ℕ
   pub most_reads : ℕ
   pub ways : Ways
+  pub seconds : Option ℕ
+
+-- how far a search with these settings goes: it may be stopped where there are seconds to stop it after
+abbrev pub limit_of : Settings → Limit
+limit_of settings = record { tickets = settings.limit; may_stop = is_some settings.seconds }
 
 -- there is a worker and a ticket, and no more of them, and of simulations, than may be
 pub record AreSettings (settings : Settings) : Type 0 where

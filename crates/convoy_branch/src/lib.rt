@@ -4,6 +4,7 @@
 pub use bounds::Bounds;
 pub use convoy_shares::MOST_WORKERS;
 pub use gate::{Gate, NoGate};
+pub use limit::Limit;
 pub use options::{
     DEFAULT_LIMIT, DEFAULT_SIMULATIONS, MOST_SIMULATIONS, MOST_TICKETS, Options, Ways,
 };
@@ -16,6 +17,7 @@ pub use ways::{PLAIN_TICKETS, lead_share, plain_share, search_both_ways};
 mod bounds;
 mod gate;
 pub mod laws;
+mod limit;
 mod options;
 mod outcome;
 mod prospect;

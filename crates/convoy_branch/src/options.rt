@@ -1,9 +1,10 @@
-ghost use Rattle.std.specs.Prelude.{◌≡◌, ◌↔◌, ◌≤◌, min, IfSome, IsSome};
+ghost use Rattle.std.specs.Prelude.{◌≡◌, ◌↔◌, ◌≤◌, min, None, Some, IfSome, IsSome};
 ghost use Rattle.convoy_branch.specs.SearchBounds.{most_nodes};
-ghost use Rattle.convoy_branch.specs.Options.{AreSettings, first_bounds};
+ghost use Rattle.convoy_branch.specs.Options.{AreSettings, first_bounds, limit_of};
 ghost use Rattle.convoy_branch.specs.declared.options.Ways.TheVariants.{One, Both};
 
 use super::bounds::Bounds;
+use super::limit::Limit;
 use convoy_certificate::MOST_NODES;
 use convoy_shares::MOST_WORKERS;
 use std::marker::Model;
@@ -45,7 +46,8 @@ impl Ways {
 /// How a search runs: its workers, from 1 to [`MOST_WORKERS`]; its limit of tickets, from 1 to
 /// [`MOST_TICKETS`], or by leads to as many as lead leaves are read; how many schedules are simulated
 /// at most to find a good one to start from, up to [`MOST_SIMULATIONS`]; how many reads of the input
-/// are made at most; and by what it closes boxes, or that it goes both ways.
+/// are made at most; by what it closes boxes, or that it goes both ways; and after how many seconds it
+/// stops, if it is to.
 #[derive(Clone, Copy)]
 pub struct Options {
     workers: u32,
@@ -53,6 +55,7 @@ pub struct Options {
     simulations: u64,
     most_reads: u64,
     ways: Ways,
+    seconds: Option<u32>,
 }
 
 impl Model for Options {
@@ -66,6 +69,7 @@ impl Model for Options {
       simulations = o.simulations;
       most_reads = o.most_reads;
       ways = o.ways;
+      seconds = o.seconds;
     } };
 
     ghost inverse = { λ s. record {
@@ -74,6 +78,7 @@ impl Model for Options {
       simulations = s.simulations;
       most_reads = s.most_reads;
       ways = s.ways;
+      seconds = s.seconds;
     } };
 
     ghost invariant = { λ o. AreSettings (record {
@@ -82,6 +87,7 @@ impl Model for Options {
       simulations = o.simulations;
       most_reads = o.most_reads;
       ways = o.ways;
+      seconds = o.seconds;
     }) };
 }
 
@@ -95,6 +101,7 @@ impl Options {
           simulations = 0;
           most_reads = most_reads;
           ways = Both;
+          seconds = None;
         }) }
         ensures value { IfSome result (λ options. options ≡ record {
           workers = workers;
@@ -102,6 +109,7 @@ impl Options {
           simulations = 0;
           most_reads = most_reads;
           ways = Both;
+          seconds = None;
         }) }
     {
         if workers < 1 || workers > MOST_WORKERS || limit < 1 || limit > MOST_TICKETS {
@@ -113,6 +121,7 @@ impl Options {
             simulations: 0,
             most_reads,
             ways: Ways::Both,
+            seconds: None,
         })
     }
 
@@ -136,6 +145,16 @@ impl Options {
         Options {
             limit: self.limit.min(bounds.most_nodes() as u64),
             ways: Ways::One(bounds),
+            ..self
+        }
+    }
+
+    /// The same options, of a search that stops after so many seconds, which its gate counts.
+    pub fn stopping_after(self, seconds: u32) -> Options
+        ensures { result ≡ record self { seconds = Some seconds } }
+    {
+        Options {
+            seconds: Some(seconds),
             ..self
         }
     }
@@ -176,5 +195,23 @@ impl Options {
         ensures lawful { AreSettings self.now }
     {
         self.ways
+    }
+
+    /// After how many seconds the search stops, if it is to.
+    pub fn seconds(&self) -> Option<u32>
+        ensures { result ≡ self.now.seconds }
+    {
+        self.seconds
+    }
+
+    /// How far the search goes: to its last ticket, or until its gate stops it where there are seconds to
+    /// stop it after.
+    pub fn search_limit(&self) -> Limit
+        ensures { result ≡ limit_of self.now }
+    {
+        Limit {
+            tickets: self.limit,
+            may_stop: self.seconds.is_some(),
+        }
     }
 }

@@ -7,6 +7,7 @@ ghost use Rattle.convoy_packets.specs.Table.{IsTable, least_of, table_of};
 ghost use Rattle.convoy_sim.specs.Delivery.{latency_of};
 ghost use Rattle.convoy_branch.specs.declared.bounds.Bounds.{Bounds};
 ghost use Rattle.convoy_branch.specs.Fronts.{left_in};
+ghost use Rattle.convoy_branch.specs.Limits.{IsWithin};
 ghost use Rattle.convoy_branch.specs.Outcomes.{IsOutcome, best_of};
 ghost use Rattle.convoy_branch.specs.Searching.{HasEndedAt, HasStayed, HasTurned, IsSearching, IsWork};
 ghost use Rattle.convoy_branch.specs.Searching.{IsRaisedOver, front_of, nodes_after, work_after};
@@ -15,6 +16,7 @@ ghost use Rattle.convoy_branch.specs.Uppers.{IsUpperOf};
 use super::bounds::Bounds;
 use super::gate::{Gate, NoGate};
 use super::laws::{fronts_bound, uppers_begin, uppers_raised};
+use super::limit::Limit;
 use super::outcome::Outcome;
 use super::step::{Fate, Turn, step_branch};
 use convoy_certificate::{Certificate, Node};
@@ -47,31 +49,33 @@ pub fn search_alone(
     fixed_order_is_order();
     let schedule = Schedule::least(alloc, instance.table())?;
     let opening = Record::of(instance, schedule);
+    let limit = Limit::of(limit);
     search_alone_from(alloc, instance, opening, limit, bounds, &NoGate)
 }
 
 /// The search of [`search_alone`] from an opening record of the scenario. Its latency is at least
 /// that of the least delays, and the latency that the search finds is at least that of the record.
-/// The gate is called before each box that is taken up, by worker 0. The error is that memory ran
-/// out.
+/// The gate is called before each box that is taken up, by worker 0; where the limit says that it may stop
+/// the search, and it does, boxes may be left with fewer tickets spent. The error is that memory ran out.
 pub fn search_alone_from<G: Gate>(
     alloc: Global,
     instance: &Instance,
     opening: Record,
-    limit: u64,
+    limit: Limit,
     bounds: Bounds,
     gate: &G,
 ) -> Result<Outcome, AllocError>
     requires of_scenario { opening.scenario ≡ instance.now }
     requires least { latency_of instance.now (least_of (ranges_of instance.now)) ≤ opening.latency }
-    ensures value { IfOk result (λ outcome. IsOutcome bounds instance.now 1 limit outcome) }
+    ensures value { IfOk result (λ outcome.
+        IsWithin limit (λ tickets. IsOutcome bounds instance.now 1 tickets outcome)) }
     ensures opened { IfOk result (λ outcome. opening.latency ≤ best_of outcome) }
 {
     let mut search = Search::start(alloc, instance, opening)?;
     while let Some(work) = search.work.pop() {
         match work {
             Work::Write(node) => search.nodes.push(node)?,
-            Work::Branch { branch, tried } if search.tickets < limit => {
+            Work::Branch { branch, tried } if limit.allows(search.tickets, gate) => {
                 gate.before_branch(0, search.tickets + 1);
                 if let Some(branch) = search.take_up(alloc, instance, branch, tried, bounds)? {
                     return search.into_open(alloc, instance, branch, tried, bounds);

@@ -5,4 +5,5 @@ pub mod NextNode
 pub mod OpenBoxes
 pub mod Rows
 pub mod SplitTrees
+pub mod StepLimits
 pub mod TreeLaws

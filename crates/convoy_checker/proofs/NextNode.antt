@@ -19,11 +19,11 @@ use Rattle.convoy_checker.specs.Walks.{boxes_after}
 use Rattle.convoy_checker.proofs.Faults.{node_none}
 
 -- a list by its first element
-nil_from_get : (boxes : List Box) → slice_get boxes 0 ≡ None → boxes ≡ []
+pub nil_from_get : (boxes : List Box) → slice_get boxes 0 ≡ None → boxes ≡ []
 nil_from_get [] is = refl
 nil_from_get (box ∷ boxes) is = cc
 
-cons_from_get : (boxes : List Box) (box : Box) → slice_get boxes 0 ≡ Some box → boxes ≡ box ∷ drop 1 boxes
+pub cons_from_get : (boxes : List Box) (box : Box) → slice_get boxes 0 ≡ Some box → boxes ≡ box ∷ drop 1 boxes
 cons_from_get [] box is = cc
 cons_from_get (first ∷ boxes) box is =
     let same : first ≡ box = cc in

@@ -1,15 +1,18 @@
-ghost use Rattle.std.specs.Prelude.{◌≡◌, ◌&&◌, nat_le, [], ◌∷◌, Ok, IfOk};
+ghost use Rattle.std.specs.Prelude.{◌≡◌, ◌&&◌, nat_le, [], ◌∷◌, Ok, IfOk, IfSome, OnOk};
 ghost use Rattle.convoy_scenario.specs.Memory.{IsUnlessMemory};
 ghost use Rattle.convoy_sim.specs.Delivery.{latency_of};
 ghost use Rattle.convoy_intervals.specs.Boxes.{IsBox, root_of, greatest_of, is_point};
 ghost use Rattle.convoy_certificate.specs.Certificate.{IsCertificate};
 ghost use Rattle.convoy_checker.specs.Checks.{checked, first_fault, in_ticks, node_fault};
+ghost use Rattle.convoy_checker.specs.Steps.{allows, checked_within, node_steps, steps_to_fault};
+ghost use Rattle.convoy_checker.specs.Looks.{left_after, looked_within};
 ghost use Rattle.convoy_checker.specs.Validity.{IsValid};
 ghost use Rattle.convoy_sim.specs.Greatest.{IsGreatest};
 
 use super::accepted::Accepted;
 use super::laws::{checked_is_valid, valid_is_greatest};
 use super::refused::Refused;
+use super::steps::node_steps;
 use super::walk::Walk;
 use convoy_certificate::{Certificate, Node};
 use convoy_intervals::laws::halves_are_boxes;
@@ -27,7 +30,8 @@ use std::alloc::{AllocError, Global};
 /// The bound of each leaf is computed from scratch. Memory grows with the depth of the tree; a lead
 /// leaf gives back what its test takes. A certificate that isn't valid is refused with its first
 /// fault, in the order of `Refused`; where memory runs out, `Refused::Memory` is the answer, and says
-/// nothing of the certificate.
+/// nothing of the certificate. How long it takes is not limited, and a small certificate may take hours:
+/// [`check_within`] limits it.
 pub fn check(alloc: Global, certificate: &Certificate) -> Result<Accepted, Refused>
     // What is accepted is valid, and has the latency that is answered.
     ensures valid { IfOk result (λ accepted. IsValid certificate.now × (accepted ≡ certificate.now.latency)) }
@@ -45,10 +49,45 @@ pub fn check(alloc: Global, certificate: &Certificate) -> Result<Accepted, Refus
 }
 
 /// The latency of the certificate, or its first fault.
-#[tactic(auto, unfolding(crate::specs::Checks::checked))]
 fn check_all(alloc: Global, certificate: &Certificate) -> Result<Accepted, Refused>
     ensures lawful { IsCertificate certificate.now }
     ensures exact { IsUnlessMemory Refused.Memory (checked certificate.now) result }
+{
+    match check_up_to(alloc, certificate, None)? {
+        Some(accepted) => Ok(accepted),
+        None => unreachable!(),
+    }
+}
+
+/// [`check`], where at most so many steps are taken: none where the certificate takes more, of which
+/// nothing is said then (docs/FORMATS.md, "Steps"). Steps are counted from a node and its box before the node
+/// is looked at, and so a node that takes too many costs nothing.
+pub fn check_within(
+    alloc: Global,
+    certificate: &Certificate,
+    limit: Option<u64>,
+) -> Result<Option<Accepted>, Refused>
+    // What is accepted is valid, and its latency is the greatest of the scenario.
+    ensures valid { IfOk result (λ answer. IfSome answer
+        (λ accepted. IsValid certificate.now × (accepted ≡ certificate.now.latency))) }
+    ensures greatest { IfOk result (λ answer. IfSome answer (IsGreatest certificate.now.scenario)) }
+    // Just what is said without a limit, unless the certificate takes more steps.
+    ensures exact { IsUnlessMemory Refused.Memory (checked_within limit certificate.now) result }
+{
+    checked_is_valid();
+    valid_is_greatest();
+    check_up_to(alloc, certificate, limit)
+}
+
+/// The latency of the certificate, or its first fault; none where that takes more steps than may be taken.
+#[tactic(auto, unfolding(crate::specs::Checks::checked, crate::specs::Steps::steps_of))]
+fn check_up_to(
+    alloc: Global,
+    certificate: &Certificate,
+    limit: Option<u64>,
+) -> Result<Option<Accepted>, Refused>
+    ensures lawful { IsCertificate certificate.now }
+    ensures exact { IsUnlessMemory Refused.Memory (checked_within limit certificate.now) result }
 {
     let instance = certificate.instance();
     let latency = certificate.latency();
@@ -57,9 +96,10 @@ fn check_all(alloc: Global, certificate: &Certificate) -> Result<Accepted, Refus
         return Err(Refused::Latency(simulated));
     }
     let claim = Claim { instance, latency };
-    match first_fault(alloc, &claim, certificate.nodes())? {
-        None => Ok(Accepted::new(latency)),
-        Some(fault) => Err(fault),
+    match first_fault(alloc, &claim, certificate.nodes(), limit)? {
+        Looked::All(None) => Ok(Some(Accepted::new(latency))),
+        Looked::All(Some(fault)) => Err(fault),
+        Looked::Short => Ok(None),
     }
 }
 
@@ -71,24 +111,66 @@ struct Claim<'a> {
     latency: u32,
 }
 
+/// How far the nodes were looked at.
+enum Looked {
+    /// Up to the first fault, or if there is none to the end.
+    All(Option<Refused>),
+    /// Not so far, since that takes more steps than may be taken.
+    Short,
+}
+
 /// The first fault of the nodes as a tree over the root box.
-fn first_fault(alloc: Global, claim: &Claim, nodes: &[Node]) -> Result<Option<Refused>, AllocError>
-    ensures { IfOk result (λ fault. fault ≡ first_fault claim.now.instance.now claim.now.latency 0
-        (root_of claim.now.instance.now ∷ []) nodes.now) }
+fn first_fault(
+    alloc: Global,
+    claim: &Claim,
+    nodes: &[Node],
+    limit: Option<u64>,
+) -> Result<Looked, AllocError>
+    ensures { let scenario = claim.now.instance.now in let root = root_of scenario in
+        IfOk result (λ looked. looked ≡ looked_within limit
+        (steps_to_fault scenario claim.now.latency 0 (root ∷ []) nodes.now)
+        (first_fault scenario claim.now.latency 0 (root ∷ []) nodes.now)) }
 {
     halves_are_boxes();
     let mut walk = Walk::over(alloc, DelayBox::root(alloc, claim.instance)?);
+    let mut left = limit;
     for (number, node) in nodes.iter().enumerate() {
         let Some(delay_box) = walk.next_box() else {
-            return Ok(Some(Refused::TreeCount));
+            return Ok(Looked::All(Some(Refused::TreeCount)));
         };
+        if !spend(alloc, claim.instance, *node, delay_box, &mut left)? {
+            return Ok(Looked::Short);
+        }
         let fault = node_fault(alloc, claim, number, *node, delay_box)?;
         if fault.is_some() {
-            return Ok(fault);
+            return Ok(Looked::All(fault));
         }
         walk.pass(*node)?;
     }
-    Ok(walk.next_box().is_some().then_some(Refused::TreeCount))
+    Ok(Looked::All(walk.next_box().is_some().then_some(Refused::TreeCount)))
+}
+
+/// Takes the steps of a node from those that are left, where they are limited. Answers whether there were
+/// enough.
+fn spend(
+    alloc: Global,
+    instance: &Instance,
+    node: Node,
+    delay_box: &DelayBox,
+    left: &mut Option<u64>,
+) -> Result<bool, AllocError>
+    requires inside { IsBox instance.now delay_box.now }
+    ensures enough { IfOk result
+        (λ enough. enough ≡ allows left.old (node_steps instance.now node delay_box.now)) }
+    ensures left { OnOk result
+        (left.new ≡ left_after left.old (node_steps instance.now node delay_box.now)) }
+{
+    let Some(most) = *left else {
+        return Ok(true);
+    };
+    let steps = node_steps(alloc, instance, node, delay_box)?;
+    *left = Some(most.saturating_sub(steps));
+    Ok(steps <= most)
 }
 
 /// The fault of the node of that number over its box.

@@ -2,7 +2,7 @@
 #![tactic(auto)]
 
 pub use accepted::Accepted;
-pub use checking::check;
+pub use checking::{check, check_within};
 pub use refusal::Refusal;
 pub use refused::Refused;
 
@@ -11,4 +11,5 @@ mod checking;
 pub mod laws;
 mod refusal;
 mod refused;
+mod steps;
 mod walk;

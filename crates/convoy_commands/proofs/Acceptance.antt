@@ -15,7 +15,11 @@ use Rattle.convoy_checker.specs.Validity.{IsValid}
 use Rattle.convoy_branch.specs.declared.bounds.Bounds.{Bounds}
 use Rattle.convoy_branch.specs.declared.bounds.Bounds.TheVariants.{Plain, Lead}
 use Rattle.convoy_branch.specs.declared.outcome.Outcome.TheVariants.{Proved, Open}
-use Rattle.convoy_branch.specs.Options.{Settings, first_bounds, highest_limit}
+use Rattle.convoy_branch.specs.Options.{Settings, first_bounds, highest_limit, limit_of}
+use Rattle.convoy_branch.specs.BothWays.{IsFrontBothWays, IsOutcomeBothWays, lead_share, plain_share}
+use Rattle.convoy_branch.specs.Outcomes.{IsProved}
+use Rattle.convoy_branch.specs.SearchBounds.{most_nodes}
+use Rattle.convoy_branch.specs.declared.limit.Limit.{Limit}
 use Rattle.convoy_branch.specs.declared.options.Ways.{Ways}
 use Rattle.convoy_branch.specs.declared.options.Ways.TheVariants.{One, Both}
 use Rattle.convoy_commands.specs.declared.done.Done.TheVariants.{Fine}
@@ -44,65 +48,104 @@ record IsProvedEnd (ways : Ways) (scenario : Scenario) (limit : ℕ) (certificat
 one_is : (bounds other : Bounds) → One bounds ≡ One other → bounds ≡ other
 one_is bounds other is = ap first_bounds is
 
--- by whatever the search goes
-proved_end : (ways : Ways) (scenario : Scenario) (workers limit : ℕ) (certificate : Certificate) (tickets : ℕ) (by_worker : Vec ℕ Global) →
-    IsOutcomeBy ways scenario workers limit (Proved certificate tickets by_worker) → limit ≤ highest_limit ways →
-    IsProvedEnd ways scenario limit certificate
-proved_end (One bounds) scenario workers limit certificate tickets by_worker proved within = record {
+-- by one kind of bounds, or both ways, where so many tickets might be spent
+proved_one : (bounds : Bounds) (scenario : Scenario) (workers spendable limit : ℕ) (certificate : Certificate) (tickets : ℕ) (by_worker : List ℕ) →
+    IsProved bounds scenario workers spendable certificate tickets by_worker → spendable ≤ limit → limit ≤ most_nodes bounds →
+    IsProvedEnd (One bounds) scenario limit certificate
+proved_one bounds scenario workers spendable limit certificate tickets by_worker proved few within = record {
   of_scenario = proved.of_scenario;
   valid = proved.valid;
   greatest = proved.greatest;
-  few = omega (arith, proved.nodes, proved.few);
+  few = omega (arith, proved.nodes, proved.few, few);
   plain = λ is. proved.plain (one_is bounds Plain is);
   no_leads = λ other is not. proved.no_leads (λ lead. not (sym (one_is bounds other is) ∙ lead));
-  readable = proved.readable within;
-}
-proved_end Both scenario workers limit certificate tickets by_worker (inl proved) within = record {
-  of_scenario = proved.of_scenario;
-  valid = proved.valid;
-  greatest = proved.greatest;
-  few = omega (arith, proved.nodes, proved.few);
-  plain = λ is. proved.plain refl;
-  no_leads = λ other is not. absurd (cc);
-  readable = proved.readable (omega arith);
-}
-proved_end Both scenario workers limit certificate tickets by_worker (inr proved) within = record {
-  of_scenario = proved.of_scenario;
-  valid = proved.valid;
-  greatest = proved.greatest;
-  few = omega (arith, proved.nodes, proved.few);
-  plain = λ is. absurd (cc);
-  no_leads = λ other is not. absurd (cc);
-  readable = proved.readable (omega arith);
+  readable = proved.readable (omega (arith, few, within));
 }
 
+proved_both : (scenario : Scenario) (workers plain leads limit : ℕ) (certificate : Certificate) (tickets : ℕ) (by_worker : Vec ℕ Global) →
+    IsOutcomeBothWays scenario workers plain leads (Proved certificate tickets by_worker) → plain ≤ plain_share limit → leads ≤ lead_share limit →
+    IsProvedEnd Both scenario limit certificate
+proved_both scenario workers plain leads limit certificate tickets by_worker (inl proved) few_plain few_leads = record {
+  of_scenario = proved.of_scenario;
+  valid = proved.valid;
+  greatest = proved.greatest;
+  few = omega (arith, proved.nodes, proved.few, few_plain);
+  plain = λ is. proved.plain refl;
+  no_leads = λ other is not. absurd (cc);
+  readable = proved.readable (omega (arith, few_plain));
+}
+proved_both scenario workers plain leads limit certificate tickets by_worker (inr proved) few_plain few_leads = record {
+  of_scenario = proved.of_scenario;
+  valid = proved.valid;
+  greatest = proved.greatest;
+  few = omega (arith, proved.nodes, proved.few, few_leads);
+  plain = λ is. absurd (cc);
+  no_leads = λ other is not. absurd (cc);
+  readable = proved.readable (omega (arith, few_leads));
+}
+
+-- by whatever the search goes
+proved_end : (ways : Ways) (scenario : Scenario) (workers : ℕ) (limit : Limit) (certificate : Certificate) (tickets : ℕ) (by_worker : Vec ℕ Global) →
+    IsOutcomeBy ways scenario workers limit (Proved certificate tickets by_worker) → limit.tickets ≤ highest_limit ways →
+    IsProvedEnd ways scenario limit.tickets certificate
+proved_end (One bounds) scenario workers limit certificate tickets by_worker found within =
+    proved_one bounds scenario workers found.spendable limit.tickets certificate tickets by_worker.items found.answer found.few within
+proved_end Both scenario workers limit certificate tickets by_worker found within =
+    proved_both scenario workers found.plain found.leads limit.tickets certificate tickets by_worker found.answer found.few_plain found.few_leads
+
 -- What an open end says of the scenario.
-record IsOpenEnd (ways : Ways) (scenario : Scenario) (limit : ℕ) (best : Record) (upper : ℕ) : Type 0 where
+pub record IsOpenEnd (ways : Ways) (scenario : Scenario) (limit : Limit) (best : Record) (upper : ℕ) : Type 0 where
+  pub of_scenario : best.scenario ≡ scenario
+  pub reached : IsReached scenario best.latency
+  pub none_greater : IsUpper scenario upper
+  pub front : IsFrontBy ways scenario best.latency upper limit
+
+-- both ways, where so many tickets might be spent
+record IsOpenInShares (scenario : Scenario) (plain leads : ℕ) (best : Record) (upper : ℕ) : Type 0 where
   of_scenario : best.scenario ≡ scenario
   reached : IsReached scenario best.latency
   none_greater : IsUpper scenario upper
-  front : IsFrontBy ways scenario best.latency upper limit
+  front : IsFrontBothWays scenario best.latency upper plain leads
 
-open_end : (ways : Ways) (scenario : Scenario) (workers limit : ℕ) (best : Record) (upper tickets : ℕ) (by_worker : Vec ℕ Global) →
-    IsOutcomeBy ways scenario workers limit (Open best upper tickets by_worker) → IsOpenEnd ways scenario limit best upper
-open_end (One bounds) scenario workers limit best upper tickets by_worker found = record {
-  of_scenario = found.of_scenario;
-  reached = found.reached;
-  none_greater = found.none_greater;
-  front = found.front;
-}
-open_end Both scenario workers limit best upper tickets by_worker (inl found) = record {
+open_both : (scenario : Scenario) (workers plain leads : ℕ) (best : Record) (upper tickets : ℕ) (by_worker : Vec ℕ Global) →
+    IsOutcomeBothWays scenario workers plain leads (Open best upper tickets by_worker) → IsOpenInShares scenario plain leads best upper
+open_both scenario workers plain leads best upper tickets by_worker (inl found) = record {
   of_scenario = found.1.of_scenario;
   reached = found.1.reached;
   none_greater = found.1.none_greater;
   front = inl (found.0, found.1.front);
 }
-open_end Both scenario workers limit best upper tickets by_worker (inr found) = record {
+open_both scenario workers plain leads best upper tickets by_worker (inr found) = record {
   of_scenario = found.of_scenario;
   reached = found.reached;
   none_greater = found.none_greater;
   front = inr found.fronts;
 }
+
+pub open_end : (ways : Ways) (scenario : Scenario) (workers : ℕ) (limit : Limit) (best : Record) (upper tickets : ℕ) (by_worker : Vec ℕ Global) →
+    IsOutcomeBy ways scenario workers limit (Open best upper tickets by_worker) → IsOpenEnd ways scenario limit best upper
+open_end (One bounds) scenario workers limit best upper tickets by_worker found = record {
+  of_scenario = found.answer.of_scenario;
+  reached = found.answer.reached;
+  none_greater = found.answer.none_greater;
+  front = record { spendable = found.spendable; few = found.few; all = found.all; answer = found.answer.front };
+}
+open_end Both scenario workers limit best upper tickets by_worker found =
+    let ended = open_both scenario workers found.plain found.leads best upper tickets by_worker found.answer in
+    record {
+      of_scenario = ended.of_scenario;
+      reached = ended.reached;
+      none_greater = ended.none_greater;
+      front = record {
+        plain = found.plain;
+        leads = found.leads;
+        few_plain = found.few_plain;
+        few_leads = found.few_leads;
+        all_plain = found.all_plain;
+        all_leads = found.all_leads;
+        answer = ended.front;
+      };
+    }
 
 -- What is written where a search for the scenario of the text has ended.
 module _ (settings : Settings) (text out : List ℕ) (scenario : Scenario) where
@@ -112,7 +155,7 @@ module _ (settings : Settings) (text out : List ℕ) (scenario : Scenario) where
       IsSearchOf settings text scenario (Proved certificate tickets by_worker) → settings.limit ≤ highest_limit settings.ways →
       out ≡ certificate_text certificate → IsProof settings text out
   proof_written are_read are_short is_valid is_greatest certificate tickets by_worker lawful search few written =
-      let ended = proved_end settings.ways scenario search.ended.workers settings.limit certificate tickets by_worker search.ended.found few in
+      let ended = proved_end settings.ways scenario search.ended.workers (limit_of settings) certificate tickets by_worker search.ended.found few in
       record {
         certificate = certificate;
         lawful = lawful;
@@ -133,7 +176,7 @@ module _ (settings : Settings) (text out : List ℕ) (scenario : Scenario) where
       IsSearchOf settings text scenario (Proved certificate tickets by_worker) → settings.limit ≤ highest_limit settings.ways →
       out ≡ greatest_line scenario.tick certificate.latency → IsGreatestTold text out
   greatest_written certificate tickets by_worker search few written =
-      let ended = proved_end settings.ways scenario search.ended.workers settings.limit certificate tickets by_worker search.ended.found few in
+      let ended = proved_end settings.ways scenario search.ended.workers (limit_of settings) certificate tickets by_worker search.ended.found few in
       record {
         scenario = scenario;
         latency = certificate.latency;
@@ -148,7 +191,7 @@ module _ (settings : Settings) (text out : List ℕ) (scenario : Scenario) where
       (search : IsSearchOf settings text scenario (Open best upper tickets by_worker)) →
       IsOpenBetween settings text scenario best.latency upper
   open_between best upper tickets by_worker search =
-      let ended = open_end settings.ways scenario search.ended.workers settings.limit best upper tickets by_worker search.ended.found in
+      let ended = open_end settings.ways scenario search.ended.workers (limit_of settings) best upper tickets by_worker search.ended.found in
       record {
         read = search.read;
         lawful = search.lawful;
@@ -174,7 +217,7 @@ module _ (settings : Settings) (text out : List ℕ) (scenario : Scenario) where
       IsSearchOf settings text scenario (Open best upper tickets by_worker) →
       out ≡ open_line None best.latency upper ++ schedule_text scenario best.schedule → IsOpenProof settings text out
   open_written best upper tickets by_worker attained search written =
-      let end = open_end settings.ways scenario search.ended.workers settings.limit best upper tickets by_worker search.ended.found in
+      let end = open_end settings.ways scenario search.ended.workers (limit_of settings) best upper tickets by_worker search.ended.found in
       let of_scenario = end.of_scenario in
       let same : best.latency ≡ latency_of scenario best.schedule = rw of_scenario at attained.latency in
       record {

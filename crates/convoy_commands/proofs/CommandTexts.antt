@@ -8,6 +8,11 @@ use Rattle.convoy_commands.specs.declared.command.Direct.{Direct}
 use Rattle.convoy_commands.specs.declared.command.Direct.TheVariants.{First, Tell, Ask, ExplainWithCeiling, Ceiling}
 use Rattle.convoy_commands.specs.declared.command.Goal.{Goal}
 use Rattle.convoy_commands.specs.declared.command.Goal.TheVariants as goals
+use Rattle.convoy_commands.specs.declared.asking.Asking.{Asking}
+use Rattle.convoy_commands.specs.declared.done.Done.TheVariants.{NotChecked}
+use Rattle.convoy_commands.specs.Asks.{AskSays}
+use Rattle.convoy_commands.specs.WithCeilings.{ExplainWithCeilingSays}
+use Rattle.convoy_commands.proofs.WithinTexts.{fault_within}
 use Rattle.convoy_commands.specs.declared.asking.Asking.TheVariants.{Check, Explain, Draw}
 use Rattle.convoy_certificate.specs.Certificate.{Certificate}
 use Rattle.convoy_certificate.specs.Reading.{certificate_of}
@@ -65,14 +70,19 @@ tell_no_device telling text fault says =
 search_no_device : (text : List ℕ) (fault : Fault) → IsFaulty text fault → IsNoDevice fault
 search_no_device text fault faulty = rw faulty.told (no_device_in_scenario faulty.cause)
 
+-- nor is that of what is asked of a certificate
+ask_no_device : (asking : Asking) (text : List ℕ) (fault : Fault) → AskSays asking text (Err fault) → IsNoDevice fault
+ask_no_device Check text fault says = check_no_device text fault says
+ask_no_device Explain text fault says = explain_no_device text fault says
+ask_no_device Draw text fault says = draw_no_device text fault says
+
 -- none is a device's
 pub direct_no_device : (command : Direct) (text : List ℕ) (fault : Fault) → direct_says command text (Err fault) → IsNoDevice fault
 direct_no_device First text fault says = first_no_device text fault (fault_of_fine (first_text text) fault says)
 direct_no_device (Tell telling) text fault says = tell_no_device telling text fault says
-direct_no_device (Ask Check) text fault says = check_no_device text fault says
-direct_no_device (Ask Explain) text fault says = explain_no_device text fault says
-direct_no_device (Ask Draw) text fault says = draw_no_device text fault says
-direct_no_device ExplainWithCeiling text fault says = explain_no_device text fault says
+direct_no_device (Ask asking limit) text fault says = ask_no_device asking text fault (fault_within limit NotChecked (AskSays asking) text fault says)
+direct_no_device (ExplainWithCeiling limit) text fault says =
+    explain_no_device text fault (fault_within limit NotChecked ExplainWithCeilingSays text fault says)
 direct_no_device (Ceiling simulations) text fault says = search_no_device text fault says
 
 pub goal_no_device : (goal : Goal) (settings : Settings) (text : List ℕ) (fault : Fault) →

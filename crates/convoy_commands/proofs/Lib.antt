@@ -1,6 +1,7 @@
 pub mod Acceptance
 pub mod AskTexts
 pub mod CeilingTexts
+pub mod CeilingWithins
 pub mod CheckTexts
 pub mod CommandTexts
 pub mod DrawTexts
@@ -11,4 +12,5 @@ pub mod NoDevice
 pub mod Starts
 pub mod TellTexts
 pub mod TextRuns
+pub mod WithinTexts
 pub mod WrittenTexts

@@ -4,14 +4,15 @@ use Rattle.std.specs.declared.alloc.Global.{Global}
 use Rattle.convoy_scenario.specs.Scenario.{Scenario}
 use Rattle.convoy_certificate.specs.Certificate.{Certificate}
 use Rattle.convoy_sim.specs.Record.{Record}
-use Rattle.convoy_branch.specs.BothWays.{plain_share}
+use Rattle.convoy_branch.specs.BothWays.{lead_share, plain_share}
 use Rattle.convoy_branch.specs.Outcomes.{IsOutcome, IsProved}
 use Rattle.convoy_branch.specs.SearchBounds.{most_nodes}
 use Rattle.convoy_branch.specs.declared.bounds.Bounds.{Bounds}
 use Rattle.convoy_branch.specs.declared.bounds.Bounds.TheVariants.{Plain, Stamp, Lead}
 use Rattle.convoy_branch.specs.declared.outcome.Outcome.{Outcome}
 use Rattle.convoy_branch.specs.declared.outcome.Outcome.TheVariants.{Proved, Open}
-use Rattle.convoy_branch.specs.Options.{AreSettings, Settings, first_bounds}
+use Rattle.convoy_branch.specs.Options.{AreSettings, Settings, first_bounds, limit_of}
+use Rattle.convoy_branch.specs.declared.limit.Limit.{Limit}
 use Rattle.convoy_branch.specs.declared.options.Ways.{Ways}
 use Rattle.convoy_branch.specs.declared.options.Ways.TheVariants.{One, Both}
 use Rattle.convoy_commands.specs.Searches.{IsEnd, IsOutcomeBy}
@@ -39,13 +40,24 @@ more bounds scenario limit certificate tickets by_worker some proved = record {
 }
 
 -- by whatever the search goes
-more_by : (ways : Ways) (scenario : Scenario) (limit : ℕ) (certificate : Certificate) (tickets : ℕ) (by_worker : Vec ℕ Global) →
-    1 ≤ limit → IsOutcome (first_bounds ways) scenario 1 1 (Proved certificate tickets by_worker) →
+more_by : (ways : Ways) (scenario : Scenario) (limit : Limit) (certificate : Certificate) (tickets : ℕ) (by_worker : Vec ℕ Global) →
+    1 ≤ limit.tickets → IsOutcome (first_bounds ways) scenario 1 1 (Proved certificate tickets by_worker) →
     IsOutcomeBy ways scenario 1 limit (Proved certificate tickets by_worker)
-more_by (One bounds) scenario limit certificate tickets by_worker some proved =
-    more bounds scenario limit certificate tickets by_worker.items some proved
-more_by Both scenario limit certificate tickets by_worker some proved =
-    inl (more Plain scenario (plain_share limit) certificate tickets by_worker.items (omega (arith, some)) proved)
+more_by (One bounds) scenario limit certificate tickets by_worker some proved = record {
+  spendable = limit.tickets;
+  few = omega arith;
+  all = λ never. refl;
+  answer = more bounds scenario limit.tickets certificate tickets by_worker.items some proved;
+}
+more_by Both scenario limit certificate tickets by_worker some proved = record {
+  plain = plain_share limit.tickets;
+  leads = lead_share limit.tickets;
+  few_plain = omega arith;
+  few_leads = omega arith;
+  all_plain = λ never. refl;
+  all_leads = λ never. refl;
+  answer = inl (more Plain scenario (plain_share limit.tickets) certificate tickets by_worker.items (omega (arith, some)) proved);
+}
 
 -- where one worker has a proved outcome with one ticket, no more of either are needed
 pub one_ticket : (settings : Settings) (scenario : Scenario) (outcome : Outcome) → AreSettings settings →
@@ -56,10 +68,10 @@ one_ticket settings scenario (Open best upper tickets by_worker) lawful search n
 one_ticket settings scenario (Proved certificate tickets by_worker) lawful search not_open = record {
   workers = 1;
   as_said = inr (refl, search.few);
-  found = more_by settings.ways scenario settings.limit certificate tickets by_worker lawful.some_ticket search;
+  found = more_by settings.ways scenario (limit_of settings) certificate tickets by_worker lawful.some_ticket search;
 }
 
 -- where all workers searched that there are to be
 pub by_all : (settings : Settings) (scenario : Scenario) (outcome : Outcome) (workers : ℕ) → workers ≡ settings.workers →
-    IsOutcomeBy settings.ways scenario workers settings.limit outcome → IsEnd settings scenario outcome
+    IsOutcomeBy settings.ways scenario workers (limit_of settings) outcome → IsEnd settings scenario outcome
 by_all settings scenario outcome workers same found = record { workers = workers; as_said = inl same; found = found }

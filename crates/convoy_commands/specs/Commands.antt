@@ -7,6 +7,7 @@ use Rattle.convoy_commands.specs.declared.command.Direct.{Direct}
 use Rattle.convoy_commands.specs.declared.command.Direct.TheVariants.{First, Tell, Ask, ExplainWithCeiling, Ceiling}
 use Rattle.convoy_commands.specs.declared.command.Goal.{Goal}
 use Rattle.convoy_commands.specs.declared.command.Goal.TheVariants.{Certificate, Latency, LatencyWithCeiling}
+use Rattle.convoy_commands.specs.declared.done.Done.TheVariants.{NotChecked}
 use Rattle.convoy_commands.specs.declared.limits.TheConstants.{LONGEST_CERTIFICATE, LONGEST_JOB}
 use Rattle.convoy_commands.specs.Asks.{AskSays}
 use Rattle.convoy_commands.specs.Ceilings.{CeilingSays}
@@ -15,13 +16,14 @@ use Rattle.convoy_commands.specs.Replies.{Rule}
 use Rattle.convoy_commands.specs.Searches.{AnalyseSays, LatencySays}
 use Rattle.convoy_commands.specs.Tells.{TellSays}
 use Rattle.convoy_commands.specs.WithCeilings.{ExplainWithCeilingSays, LatencyWithCeilingSays}
+use Rattle.convoy_commands.specs.Withins.{SaysWithin}
 
 -- the rule of a command that does not search
 abbrev pub direct_says : Direct → Rule
 direct_says First = FirstSays
 direct_says (Tell telling) = TellSays telling
-direct_says (Ask asking) = AskSays asking
-direct_says ExplainWithCeiling = ExplainWithCeilingSays
+direct_says (Ask asking limit) = SaysWithin limit NotChecked (AskSays asking)
+direct_says (ExplainWithCeiling limit) = SaysWithin limit NotChecked ExplainWithCeilingSays
 direct_says (Ceiling simulations) = CeilingSays
 
 -- the rule of a search
@@ -39,8 +41,8 @@ says_for (commands.Search goal options) = search_says goal options
 abbrev pub direct_longest : Direct → ℕ
 direct_longest First = LONGEST_JOB
 direct_longest (Tell telling) = LONGEST_CERTIFICATE
-direct_longest (Ask asking) = LONGEST_CERTIFICATE
-direct_longest ExplainWithCeiling = LONGEST_CERTIFICATE
+direct_longest (Ask asking limit) = LONGEST_CERTIFICATE
+direct_longest (ExplainWithCeiling limit) = LONGEST_CERTIFICATE
 direct_longest (Ceiling simulations) = LONGEST_JOB
 
 -- how many bytes the text of a command has at most

@@ -34,10 +34,13 @@ pub use Rattle.convoy_certificate.specs.Reading as CertificateReading
 pub use Rattle.convoy_certificate.specs.Text as CertificateText
 pub use Rattle.convoy_certificate.specs.TextForms
 pub use Rattle.convoy_checker.specs.Checks as CertificateChecks
+pub use Rattle.convoy_checker.specs.Steps as CertificateSteps
 pub use Rattle.convoy_checker.specs.Validity
 pub use Rattle.convoy_branch.specs.SearchBounds
 pub use Rattle.convoy_branch.specs.Fronts
 pub use Rattle.convoy_branch.specs.Outcomes
+pub use Rattle.convoy_branch.specs.Limits
+pub use Rattle.convoy_branch.specs.BothWays
 pub use Rattle.convoy_branch.specs.Options
 -- what a reader has to believe: which answers each command may give, and what its run does at its devices
 pub mod Lines
@@ -52,6 +55,7 @@ pub mod Tells
 pub mod Explains
 pub mod Draws
 pub mod Asks
+pub mod Withins
 pub mod Searches
 pub mod Ceilings
 pub mod WithCeilings

@@ -14,6 +14,10 @@ attained_line latency = ended (number_line (codes "attained") latency)
 abbrev pub accepted_line : ℕ → List ℕ
 accepted_line latency = ended (number_line (codes "accepted") latency)
 
+-- a certificate is not checked, since that takes more than so many steps
+abbrev pub not_checked_line : ℕ → List ℕ
+not_checked_line limit = ended (number_line (codes "not checked") limit)
+
 -- numbers of ticks in the unit of a tick, and the unit; nothing where the length of a tick is not known
 abbrev pub in_unit : Option ℕ → List ℕ → List (List ℕ)
 in_unit None ticks = []

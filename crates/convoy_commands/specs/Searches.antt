@@ -15,15 +15,17 @@ use Rattle.convoy_certificate.specs.Text.{certificate_text, is_lead, is_stamp}
 use Rattle.convoy_checker.specs.Validity.{IsValid}
 use Rattle.convoy_branch.specs.declared.bounds.Bounds.{Bounds}
 use Rattle.convoy_branch.specs.declared.bounds.Bounds.TheVariants.{Plain, Lead}
-use Rattle.convoy_branch.specs.BothWays.{IsFrontBothWays, IsOutcomeBothWays}
+use Rattle.convoy_branch.specs.BothWays.{IsWithinBothWays, IsFrontBothWays, IsOutcomeBothWays}
 use Rattle.convoy_branch.specs.Fronts.{HasStopped}
+use Rattle.convoy_branch.specs.Limits.{IsWithin}
 use Rattle.convoy_branch.specs.Outcomes.{IsOutcome}
+use Rattle.convoy_branch.specs.declared.limit.Limit.{Limit}
 use Rattle.convoy_branch.specs.declared.outcome.Outcome.{Outcome}
 use Rattle.convoy_branch.specs.declared.outcome.Outcome.TheVariants as outcomes
-use Rattle.convoy_branch.specs.Options.{Settings}
+use Rattle.convoy_branch.specs.Options.{Settings, limit_of}
 use Rattle.convoy_branch.specs.declared.options.Ways.{Ways}
 use Rattle.convoy_branch.specs.declared.options.Ways.TheVariants.{One, Both}
-use Rattle.convoy_commands.specs.declared.done.Done.TheVariants.{Fine, Open, Refused}
+use Rattle.convoy_commands.specs.declared.done.Done.TheVariants.{Fine, Open, Refused, NotChecked}
 use Rattle.convoy_commands.specs.declared.fault.Fault.{Fault}
 use Rattle.convoy_commands.specs.declared.fault.Fault.TheVariants.{Memory}
 use Rattle.convoy_commands.specs.declared.limits.TheConstants.{LONGEST_CERTIFICATE}
@@ -42,15 +44,18 @@ pub record IsFaultyBy (key : TargetKey) (text : List ℕ) (fault : Fault) : Type
 abbrev pub IsFaulty : List ℕ → Fault → Type 0
 IsFaulty text fault = IsFaultyBy Required text fault
 
--- what a search by one kind of bounds, or both ways, answers
-abbrev pub IsOutcomeBy : Ways → Scenario → ℕ → ℕ → Outcome → Type 0
-IsOutcomeBy (One bounds) scenario workers limit outcome = IsOutcome bounds scenario workers limit outcome
-IsOutcomeBy Both scenario workers limit outcome = IsOutcomeBothWays scenario workers limit outcome
+-- what a search by one kind of bounds, or both ways, answers with that limit
+abbrev pub IsOutcomeBy : Ways → Scenario → ℕ → Limit → Outcome → Type 0
+IsOutcomeBy (One bounds) scenario workers limit outcome =
+    IsWithin limit (λ tickets. IsOutcome bounds scenario workers tickets outcome)
+IsOutcomeBy Both scenario workers limit outcome =
+    IsWithinBothWays limit (λ plain leads. IsOutcomeBothWays scenario workers plain leads outcome)
 
 -- how far one has come that has stopped with boxes left
-abbrev pub IsFrontBy : Ways → Scenario → ℕ → ℕ → ℕ → Type 0
-IsFrontBy (One bounds) scenario least most limit = HasStopped bounds scenario least most limit
-IsFrontBy Both scenario least most limit = IsFrontBothWays scenario least most limit
+abbrev pub IsFrontBy : Ways → Scenario → ℕ → ℕ → Limit → Type 0
+IsFrontBy (One bounds) scenario least most limit = IsWithin limit (λ tickets. HasStopped bounds scenario least most tickets)
+IsFrontBy Both scenario least most limit =
+    IsWithinBothWays limit (λ plain leads. IsFrontBothWays scenario least most plain leads)
 
 -- how many tickets an outcome took
 abbrev pub tickets_of : Outcome → ℕ
@@ -61,7 +66,7 @@ tickets_of (outcomes.Open best upper tickets by_worker) = tickets
 pub record IsEnd (settings : Settings) (scenario : Scenario) (outcome : Outcome) : Type 0 where
   pub workers : ℕ
   pub as_said : (workers ≡ settings.workers) ⊎ ((workers ≡ 1) × (tickets_of outcome ≤ 1))
-  pub found : IsOutcomeBy settings.ways scenario workers settings.limit outcome
+  pub found : IsOutcomeBy settings.ways scenario workers (limit_of settings) outcome
 
 -- The text is that of this scenario, and a search for it with these settings ended so.
 pub record IsSearchOf (settings : Settings) (text : List ℕ) (scenario : Scenario) (outcome : Outcome) : Type 0 where
@@ -97,7 +102,7 @@ pub record IsOpenBetween (settings : Settings) (text : List ℕ) (scenario : Sce
   pub lawful : IsScenario scenario
   pub reached : IsReached scenario least
   pub upper : IsUpper scenario most
-  pub front : IsFrontBy settings.ways scenario least most settings.limit
+  pub front : IsFrontBy settings.ways scenario least most (limit_of settings)
 
 -- What is written is the least and the most that the greatest latency may be, and a schedule that has the least.
 pub record IsOpenProof (settings : Settings) (text out : List ℕ) : Type 0 where
@@ -113,6 +118,7 @@ abbrev pub AnalyseSays : Settings → Rule
 AnalyseSays settings text (Ok (Fine, out)) = IsProof settings text out
 AnalyseSays settings text (Ok (Open, out)) = IsOpenProof settings text out
 AnalyseSays settings text (Ok (Refused refusal, out)) = ⊥
+AnalyseSays settings text (Ok (NotChecked, out)) = ⊥
 AnalyseSays settings text (Err fault) = IsFaulty text fault
 
 -- The greatest latency of the scenario that was read is written.
@@ -137,4 +143,5 @@ abbrev pub LatencySays : Settings → Rule
 LatencySays settings text (Ok (Fine, out)) = IsGreatestTold text out
 LatencySays settings text (Ok (Open, out)) = IsFrontTold settings text out
 LatencySays settings text (Ok (Refused refusal, out)) = ⊥
+LatencySays settings text (Ok (NotChecked, out)) = ⊥
 LatencySays settings text (Err fault) = IsFaulty text fault

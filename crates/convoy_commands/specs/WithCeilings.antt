@@ -8,7 +8,7 @@ use Rattle.convoy_certificate.specs.Reading.{certificate_of}
 use Rattle.convoy_branch.specs.Options.{Settings}
 use Rattle.convoy_commands.specs.declared.asking.Asking.TheVariants.{Explain}
 use Rattle.convoy_commands.specs.declared.done.Done.{Done}
-use Rattle.convoy_commands.specs.declared.done.Done.TheVariants.{Fine, Open, Refused}
+use Rattle.convoy_commands.specs.declared.done.Done.TheVariants.{Fine, Open, Refused, NotChecked}
 use Rattle.convoy_commands.specs.Asks.{AskSays}
 use Rattle.convoy_commands.specs.Ceilings.{ceiling_line}
 use Rattle.convoy_commands.specs.Replies.{Rule}
@@ -45,4 +45,5 @@ abbrev pub ExplainWithCeilingSays : Rule
 ExplainWithCeilingSays text (Ok (Fine, out)) = IsExplanationWithCeiling text out
 ExplainWithCeilingSays text (Ok (Open, out)) = AskSays Explain text (Ok (Open, out))
 ExplainWithCeilingSays text (Ok (Refused refusal, out)) = AskSays Explain text (Ok (Refused refusal, out))
+ExplainWithCeilingSays text (Ok (NotChecked, out)) = AskSays Explain text (Ok (NotChecked, out))
 ExplainWithCeilingSays text (Err fault) = AskSays Explain text (Err fault)

@@ -1,13 +1,17 @@
-ghost use Rattle.std.specs.Prelude.{◌≡◌, ◌⊎◌, Ok, Err, IfOk};
+ghost use Rattle.std.specs.Prelude.{◌≡◌, ◌⊎◌, ℕ, List, Some, Ok, Err, IfOk};
+ghost use Rattle.convoy_certificate.specs.Certificate.{IsCertificate};
+ghost use Rattle.convoy_certificate.specs.Reading.{IsTextOf, certificate_of};
 ghost use Rattle.convoy_commands.specs.declared.done.Done.TheVariants as ends;
+ghost use Rattle.convoy_commands.specs.declared.done.Done.TheVariants.{NotChecked};
 ghost use Rattle.convoy_commands.specs.declared.fault.Fault.TheVariants as faults;
 ghost use Rattle.convoy_commands.specs.Asks.{AskSays, IsTextAsked, RepliesTo};
 ghost use Rattle.convoy_commands.specs.Checks.{reply_of_check, reply_of_text};
 ghost use Rattle.convoy_commands.specs.Draws.{IsImageOf};
 ghost use Rattle.convoy_commands.specs.Explains.{certificate_explained};
-ghost use Rattle.convoy_commands.specs.Lines.{accepted_line};
+ghost use Rattle.convoy_commands.specs.Lines.{accepted_line, not_checked_line};
 ghost use Rattle.convoy_commands.specs.Refusals.{refused_line, row_of_refusal};
 ghost use Rattle.convoy_commands.specs.Replies.{IsReply, SaysUnlessMemory, reply_of};
+ghost use Rattle.convoy_commands.specs.Withins.{SaysWithin};
 
 use super::done::Done;
 use super::fault::Fault;
@@ -15,12 +19,13 @@ use super::refusal::refusal_line;
 use convoy_certificate::laws::texts_are_read;
 use convoy_certificate::{Certificate, TextFault, read};
 use convoy_checker::laws::checked_is_valid;
-use convoy_checker::{Accepted, Refusal, Refused, check};
+use convoy_checker::{Accepted, Refusal, Refused, check_within};
 use convoy_draw::write_drawing;
 use convoy_explain::{explain, write_explanation};
-use convoy_lines::push_number_line;
+use convoy_lines::{push_further_word, push_number_line};
 use convoy_picture::Picture;
 use convoy_sim::simulate;
+use itoa::Buffer;
 use std::alloc::{AllocError, Global};
 
 /// What is asked of a certificate. It is checked first, and a refusal is the answer to each.
@@ -35,19 +40,68 @@ pub enum Asking {
 }
 
 /// How a command that asks this ends for the text of a certificate, and what is written for it
-/// (docs/FORMATS.md, "Commands"). Fails with `Fault::Memory`, and else never: a text that is that of no
-/// certificate, or of one that is not valid, is refused, which is an answer.
-pub fn ask(alloc: Global, asking: Asking, text: &[u8]) -> Result<(Done, Vec<u8>), Fault>
-    ensures { SaysUnlessMemory (AskSays asking) text.now (reply_of result) }
+/// (docs/FORMATS.md, "Commands"). Where there is a limit, at most so many steps are taken to check the
+/// certificate (docs/FORMATS.md, "Steps"). Fails with `Fault::Memory`, and else never: a text that is that of
+/// no certificate, or of one that is not valid, is refused, which is an answer, and so is
+/// [`Done::NotChecked`] where checking takes more steps.
+pub fn ask(
+    alloc: Global,
+    asking: Asking,
+    limit: Option<u64>,
+    text: &[u8],
+) -> Result<(Done, Vec<u8>), Fault>
+    ensures { SaysUnlessMemory (SaysWithin limit NotChecked (AskSays asking)) text.now
+        (reply_of result) }
 {
     texts_are_read();
     checked_is_valid();
     match read(alloc, text) {
-        Ok(certificate) => {
-            answer_to_check(alloc, asking, &certificate, check(alloc, &certificate))
-        }
+        Ok(certificate) => ask_of(alloc, asking, limit, &certificate),
         Err(fault) => answer_to_fault(alloc, fault),
     }
+}
+
+/// The answer to a certificate.
+fn ask_of(
+    alloc: Global,
+    asking: Asking,
+    limit: Option<u64>,
+    certificate: &Certificate,
+) -> Result<(Done, Vec<u8>), Fault>
+    ensures { (text : List ℕ) → IsCertificate certificate.now
+        → certificate_of text ≡ Ok certificate.now → IsTextOf certificate.now text
+        → SaysUnlessMemory (SaysWithin limit NotChecked (AskSays asking)) text (reply_of result) }
+{
+    texts_are_read();
+    checked_is_valid();
+    match check_within(alloc, certificate, limit) {
+        Ok(Some(accepted)) => answer_to_check(alloc, asking, certificate, Ok(accepted)),
+        Ok(None) => not_checked(alloc, limit),
+        Err(refused) => answer_to_check(alloc, asking, certificate, Err(refused)),
+    }
+}
+
+/// That a certificate is not checked.
+fn not_checked(alloc: Global, limit: Option<u64>) -> Result<(Done, Vec<u8>), Fault>
+    ensures { (most : ℕ) → limit ≡ Some most
+        → IsReply (Ok (NotChecked, not_checked_line most)) (reply_of result) }
+{
+    Ok((
+        Done::NotChecked,
+        not_checked_text(alloc, limit.unwrap_or(0))?,
+    ))
+}
+
+/// The line that says so.
+fn not_checked_text(alloc: Global, limit: u64) -> Result<Vec<u8>, AllocError>
+    ensures { IfOk result (λ text. text.items ≡ not_checked_line limit) }
+{
+    let mut buffer = Buffer::new();
+    let mut text = Vec::new(alloc);
+    text.extend_from_slice(b"not checked")?;
+    push_further_word(&mut text, buffer.format(limit))?;
+    text.push(b'\n')?;
+    Ok(text)
 }
 
 /// The answer to a text that is that of no certificate.

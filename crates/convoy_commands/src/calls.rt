@@ -2,10 +2,12 @@
 
 ghost use Rattle.convoy_commands.specs.declared.limits.TheConstants.{LONGEST_CERTIFICATE, LONGEST_JOB};
 ghost use Rattle.convoy_commands.specs.Checks.{CheckSays};
+ghost use Rattle.convoy_commands.specs.declared.done.Done.TheVariants.{NotChecked};
 ghost use Rattle.convoy_commands.specs.First.{FirstSays};
 ghost use Rattle.convoy_commands.specs.Runs.{IsRun};
 ghost use Rattle.convoy_commands.specs.Searches.{AnalyseSays, LatencySays};
 ghost use Rattle.convoy_commands.specs.Tells.{SimulateSays, TimelineSays};
+ghost use Rattle.convoy_commands.specs.Withins.{SaysWithin};
 
 use super::asking::Asking;
 use super::command::{Direct, Goal, run, run_search};
@@ -95,20 +97,24 @@ pub fn run_timeline<S: Source, K: Sink>(
 /// with the latency that is the greatest of its scenario, or the first fault for which the
 /// certificate is refused (docs/FORMATS.md, "What `check` writes").
 ///
-/// At most `most_reads` reads are made. Nothing is written before the answer is known. It ends as
-/// `Done::Fine` or, with the refusal, as `Done::Refused`. The faults are `Fault::Reading` and
-/// `Fault::Write` as of [`run_first`](super::run_first), but with the limit
+/// At most `most_reads` reads are made, and where there is a `limit` at most so many steps are taken (docs/FORMATS.md,
+/// "Steps"): where checking takes more it ends as `Done::NotChecked`, and the line that says so is written.
+/// Nothing is written before the answer is known. It ends as `Done::Fine` or, with the refusal, as
+/// `Done::Refused`. The faults are `Fault::Reading` and `Fault::Write` as of
+/// [`run_first`](super::run_first), but with the limit
 /// [`LONGEST_CERTIFICATE`](super::LONGEST_CERTIFICATE), and `Fault::Memory`.
 pub fn run_check<S: Source, K: Sink>(
     alloc: Global,
+    limit: Option<u64>,
     source: &mut S,
     sink: &mut K,
     most_reads: u64,
 ) -> Result<Done, Fault>
-    ensures { IsRun LONGEST_CERTIFICATE CheckSays most_reads
+    ensures { IsRun LONGEST_CERTIFICATE (SaysWithin limit NotChecked CheckSays) most_reads
         S.reads K.writes source.old source.new sink.old sink.new result }
 {
-    run(alloc, Direct::Ask(Asking::Check), source, sink, most_reads)
+    let asked = Direct::Ask(Asking::Check, limit);
+    run(alloc, asked, source, sink, most_reads)
 }
 
 /// The command `analyse`: reads a scenario to the end of the source, and writes the certificate of its
@@ -121,7 +127,8 @@ pub fn run_check<S: Source, K: Sink>(
 /// [`lead_share`](super::lead_share) say, or in real time it left a point that its bounds do not close
 /// for the latency that it found. What was written is the line `open LEAST MOST`, where the greatest
 /// latency is at least LEAST ticks and at most MOST, and then the lines of a schedule that has the
-/// latency LEAST.
+/// latency LEAST. Nobody watches this search, so seconds in the options do not stop it: for that there
+/// is [`run_search`](super::run_search).
 ///
 /// At most `options.most_reads()` reads are made. Nothing is written before the answer is known. The
 /// faults are those of [`run_first`](super::run_first).

@@ -40,10 +40,11 @@ pub enum Direct {
     First,
     /// What is to be told of a scenario or of a certificate.
     Tell(Telling),
-    /// What is asked of a certificate.
-    Ask(Asking),
-    /// Why the latency of a certificate's schedule is what it is, and below it the ceiling of its scenario.
-    ExplainWithCeiling,
+    /// What is asked of a certificate, which is checked with that many steps at most, where they are limited.
+    Ask(Asking, Option<u64>),
+    /// Why the latency of a certificate's schedule is what it is, and below it the ceiling of its scenario;
+    /// the certificate is checked with that many steps at most, where they are limited.
+    ExplainWithCeiling(Option<u64>),
     /// The ceiling of a scenario, and traffic that is sought by so many simulations at most.
     Ceiling(u64),
 }
@@ -79,7 +80,8 @@ pub fn run<S: Source, K: Sink>(
 
 /// Runs a search with these options: reads a scenario to the end of the source, in at most
 /// `options.most_reads()` reads, and writes what the search finds. Nothing is written before the answer
-/// is known. The search is watched, by [`NoGate`](super::NoGate) where nobody cares.
+/// is known. The search is watched, by [`NoGate`](super::NoGate) where nobody cares and nothing is to stop it:
+/// who watches counts the seconds that the options give it.
 ///
 /// The faults are those of the commands' own calls, as [`run_analyse`](super::run_analyse).
 pub fn run_search<R: Threads + Wait + Sync, S: Source, K: Sink, W: Watch + Sync>(
@@ -104,7 +106,7 @@ fn longest_of(command: Direct) -> usize
 {
     match command {
         Direct::First | Direct::Ceiling(_) => LONGEST_JOB,
-        Direct::Tell(_) | Direct::Ask(_) | Direct::ExplainWithCeiling => LONGEST_CERTIFICATE,
+        Direct::Tell(_) | Direct::Ask(..) | Direct::ExplainWithCeiling(_) => LONGEST_CERTIFICATE,
     }
 }
 
@@ -115,8 +117,8 @@ fn answer_of(alloc: Global, command: Direct, text: &[u8]) -> Result<(Done, Vec<u
     match command {
         Direct::First => fine(first_answer(alloc, text)),
         Direct::Tell(telling) => tell(alloc, telling, text),
-        Direct::Ask(asking) => ask(alloc, asking, text),
-        Direct::ExplainWithCeiling => explain_with_ceiling(alloc, text),
+        Direct::Ask(asking, limit) => ask(alloc, asking, limit, text),
+        Direct::ExplainWithCeiling(limit) => explain_with_ceiling(alloc, limit, text),
         Direct::Ceiling(simulations) => ceiling_answer(alloc, simulations, text),
     }
 }

@@ -16,7 +16,7 @@ pub use convoy_streams::{
 pub use done::Done;
 pub use fault::{Fault, FaultEnding, OrderFault, fault_line, fault_row};
 pub use latency::latency_answer;
-pub use limits::{LONGEST_CERTIFICATE, LONGEST_JOB};
+pub use limits::{DEFAULT_STEPS, LONGEST_CERTIFICATE, LONGEST_JOB, MOST_STEPS};
 pub use lines::push_ceiling;
 pub use search::search_instance;
 pub use search_end::SearchEnd;

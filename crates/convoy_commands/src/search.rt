@@ -37,8 +37,9 @@ pub(crate) fn search_text<R: Threads + Wait + Sync, W: Watch + Sync>(
 /// Searches for the greatest latency of an instance as `latency` does: by the options' limit of tickets,
 /// by their bounds or both ways, and with their number of workers. Where one ticket does not end the
 /// search, a good schedule is sought first, by the options' number of simulations, and the search starts
-/// from that (docs/PROTOCOL.md, "Seeking"). Who watches is told as it begins and as it ends. Fails where
-/// memory runs out, and else never.
+/// from that (docs/PROTOCOL.md, "Seeking"). Who watches is told as it starts, as its boxes are begun, and as it
+/// ends, and may stop it between two boxes where the options give it seconds. Fails where memory runs out, and
+/// else never.
 pub fn search_instance<R: Threads + Wait + Sync, W: Watch + Sync>(
     rt: &R,
     alloc: Global,
@@ -48,6 +49,7 @@ pub fn search_instance<R: Threads + Wait + Sync, W: Watch + Sync>(
 ) -> Result<Outcome, AllocError>
     ensures { IfOk result (IsEnd options.now instance.now) }
 {
+    watch.starts(options.seconds());
     let outcome = search(rt, alloc, instance, options, watch);
     watch.ends(greatest_of(&outcome));
     outcome
@@ -123,7 +125,7 @@ fn search_opened<R: Threads + Wait + Sync, W: Watch + Sync>(
     requires least { latency_of instance.now (least_of (ranges_of instance.now)) ≤ opening.latency }
     ensures { IfOk result (IsEnd options.now instance.now) }
 {
-    let (workers, limit) = (options.workers(), options.limit());
+    let (workers, limit) = (options.workers(), options.search_limit());
     match options.ways() {
         Ways::One(bounds) => convoy_share::search_from(
             rt, alloc, instance, opening, workers, limit, bounds, watch,

@@ -7,7 +7,7 @@ ghost use Rattle.convoy_commands.specs.SearchEnds.{end_by, worse};
 pub enum SearchEnd {
     /// Its answer is the greatest latency.
     Exact,
-    /// It did not end within its limit: its answer is what it found so far.
+    /// It did not end within its limits: its answer is what it found so far.
     Open,
     /// There is a fault in place of an answer.
     Faulty,

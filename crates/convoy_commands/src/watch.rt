@@ -1,9 +1,12 @@
 use convoy_branch::{Bounds, Gate, NoGate};
 use convoy_scenario::Duration;
 
-/// Who watches a search: besides what a gate is told, how the search begins, and that it has ended.
-/// Nothing that a search promises rests on it.
+/// Who watches a search: besides what a gate is told, that it starts, how its boxes are begun, and that it has
+/// ended. Nothing that a search promises rests on it, but for how far it goes where it may be stopped.
 pub trait Watch: Gate {
+    /// A search starts, which is to stop after so many seconds, if any. First a good schedule may be sought.
+    fn starts(&self, seconds: Option<u32>);
+
     /// The search begins by those bounds, with so many tickets at most for them, and by what is known the
     /// greatest latency is at least that, and at most that where a bound is known, in ticks of that
     /// length.
@@ -22,6 +25,8 @@ pub trait Watch: Gate {
 }
 
 impl Watch for NoGate {
+    fn starts(&self, _seconds: Option<u32>) {}
+
     fn begins(
         &self,
         _tick: Option<Duration>,

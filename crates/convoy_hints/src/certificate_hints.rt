@@ -10,7 +10,7 @@ use convoy_scenario_hints::{
     is_meant_as_certificate, is_meant_as_scenario, with_label,
 };
 use convoy_scenario_lines::Expected;
-use convoy_sketch::Quoted;
+use convoy_sketch::{Quoted, noun};
 use std::alloc::{AllocError, Global};
 
 /// Why a certificate is refused, in one line `hint: ..`: by its text, which may have been cut where it
@@ -30,6 +30,25 @@ pub fn hint_for_certificate(
         Refusal::Check(refused) => hint_for_refused(alloc, text, whole, refused)?,
     };
     with_label(alloc, hint)
+}
+
+/// How many steps of a check a second has time for, where they take as long as any do.
+const STEPS_A_SECOND: u64 = 500_000;
+
+/// What to do where a certificate is not checked, since that takes more than so many steps, of `most` that it
+/// may take, in one line `hint: ..`: to allow more of them, knowing about how long so many last.
+pub fn hint_for_unchecked(alloc: Global, limit: u64, most: u64) -> Result<String, AllocError> {
+    let steps = noun(limit == 1, "step", "steps");
+    let length = (limit / STEPS_A_SECOND).max(1);
+    let seconds = noun(length == 1, "second", "seconds");
+    let rest = if limit < most {
+        format!(in alloc; ": '--limit' allows up to {most}")?
+    } else {
+        String::new(alloc)
+    };
+    format!(in alloc;
+        "hint: checking the certificate takes more than {limit} {steps}, and so many last about {length} {seconds} at most{rest}\n"
+    )
 }
 
 /// Why a text is that of no certificate.

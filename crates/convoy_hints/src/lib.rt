@@ -3,7 +3,7 @@
 //! out. No answer and no fault of a command rests on it.
 #![tactic(auto)]
 
-pub use certificate_hints::hint_for_certificate;
+pub use certificate_hints::{hint_for_certificate, hint_for_unchecked};
 pub use convoy_scenario_hints::{
     hint_for_given_order, hint_for_given_schedule, hint_for_named_group, hint_for_order_in_ticks,
     hint_for_plain_numbers, hint_for_scenario,
@@ -14,7 +14,8 @@ pub use device_hints::{
 pub use job_hints::hint_for_batch;
 pub use search_hints::{
     hint_for_both, hint_for_ceiling, hint_for_explained, hint_for_first, hint_for_greatest,
-    hint_for_leads, hint_for_limit, hint_for_real_time, hint_for_tickets, is_in_real_time,
+    hint_for_leads, hint_for_limit, hint_for_real_time, hint_for_seconds, hint_for_tickets,
+    is_in_real_time,
 };
 
 mod body;

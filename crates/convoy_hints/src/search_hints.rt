@@ -158,6 +158,20 @@ fn way_in_real_time(
     )
 }
 
+/// What to do where a search was stopped after so many seconds, of `most` that it may have, in one line
+/// `hint: ..`: to allow more of them, or to rely on what is known.
+pub fn hint_for_seconds(alloc: Global, seconds: u32, most: u32) -> Result<String, AllocError> {
+    let noun = noun(seconds == 1, "second", "seconds");
+    let rest = if seconds < most {
+        format!(in alloc; ", and '--seconds' allows up to {most}")?
+    } else {
+        String::new(alloc)
+    };
+    format!(in alloc;
+        "hint: the search was stopped after {seconds} {noun}: no latency is above the second number{rest}\n"
+    )
+}
+
 /// Whether a text is that of a scenario in real time. Not so where memory ran out.
 pub fn is_in_real_time(alloc: Global, text: &[u8]) -> bool {
     match read_toml_any_target(alloc, text) {

@@ -59,6 +59,8 @@ pub use Rattle.convoy_seek.specs.Finds
 pub use Rattle.convoy_branch.specs.declared.bounds.Bounds
 pub use Rattle.convoy_branch.specs.Fronts
 pub use Rattle.convoy_branch.specs.Outcomes
+pub use Rattle.convoy_branch.specs.declared.limit.Limit
+pub use Rattle.convoy_branch.specs.Limits as SearchLimits
 pub use Rattle.convoy_branch.specs.BothWays
 -- the search of many workers as a machine
 pub use Rattle.convoy_machine.specs.Machine

@@ -8,6 +8,7 @@ use Rattle.convoy_intervals.specs.Boxes.{Box}
 use Rattle.convoy_incumbent.specs.Boards.{Holding}
 use Rattle.convoy_shares.specs.Shares.{whole}
 use Rattle.convoy_ledger.specs.Tickets.{LedgerId, Account, HasAll}
+use Rattle.convoy_branch.specs.declared.limit.Limit.{Limit}
 use Rattle.convoy_branch.specs.Fronts.{left_in}
 use Rattle.convoy_branch.specs.Laws.{FrontsBetter}
 use Rattle.convoy_branch.specs.Steps.{IsOpenPoint}
@@ -63,7 +64,7 @@ IsEnded-finished shared before worker after done slots ended is later more finis
         | inl points ↦ (
             let at_end = subst (λ (n : ℕ). All (IsTriedPoint shared.scenario n) (left_in (front worker.end.put done))) seen points in
             inl (subst (λ (ps : List Piece). All (IsTriedPoint shared.scenario ended.hand.seen) (left_in (front worker.end.put ps))) (sym pieces) at_end))
-        | inr all ↦ inr (ap (λ (a : Account). a.done) clerk ∙ all)
+        | inr over ↦ inr (elim over [ inl done ↦ inl (ap (λ (a : Account). a.done) clerk ∙ done) | inr stops ↦ inr stops ])
       ];
     }
 
@@ -83,13 +84,13 @@ IsEnded-opened shared workers least owner joined thieves ended opened has is =
     }
 
 -- board and ledger are closed: what the workers have brought is whole for the best latency
-pub IsTreeAtEnd-ended : (better : FrontsBetter) (shared : Common) (joined least : ℕ) (ended : Ended) (best tickets limit : ℕ) (ledger : LedgerId) → shared.ledger ≡ ledger → limit ≡ ledger.most → IsEnded shared whole whole joined least ended → ended.hand.seen ≤ best → HasAll ended.clerk tickets → IsTreeAtEnd (IsTriedPoint shared.scenario best) shared.bounds shared.scenario best tickets limit ended.pieces.items
-IsTreeAtEnd-ended better shared joined least ended best tickets limit ledger ledger_is limit_is is above all =
+pub IsTreeAtEnd-ended : (better : FrontsBetter) (shared : Common) (joined least : ℕ) (ended : Ended) (best tickets : ℕ) (limit : Limit) (ledger : LedgerId) → shared.ledger ≡ ledger → shared.may_stop ≡ limit.may_stop → limit.tickets ≡ ledger.most → IsEnded shared whole whole joined least ended → ended.hand.seen ≤ best → HasAll ended.clerk tickets → IsTreeAtEnd (IsTriedPoint shared.scenario best) shared.bounds shared.scenario best tickets limit ended.pieces.items
+IsTreeAtEnd-ended better shared joined least ended best tickets limit ledger ledger_is stops_is limit_is is above all =
     let plan = shared.scenario in
     let put = is.whole.put in
     let slots = is.whole.slots in
     let pieces = ended.pieces.items in
-    let most : ended.clerk.ledger.most ≡ limit = ap (λ (id : LedgerId). id.most) (is.ledger_is ∙ ledger_is) ∙ sym limit_is in
+    let most : ended.clerk.ledger.most ≡ limit.tickets = ap (λ (id : LedgerId). id.most) (is.ledger_is ∙ ledger_is) ∙ sym limit_is in
     let now = IsFilling-better better shared.bounds plan ended.hand.seen best (length ended.clerk.tickets) put pieces [] slots above is.whole.filling in
     record {
       whole = record {
@@ -102,12 +103,12 @@ IsTreeAtEnd-ended better shared joined least ended best tickets limit ledger led
         | inl points ↦ (
             let later = tried_later plan ended.hand.seen best (left_in (front put pieces)) above points in
             inl (subst (λ (bs : List Box). All (IsTriedPoint plan best) bs) (left_boxes_in put pieces is.whole.filling.settled) later))
-        | inr done ↦ inr (all.done done ∙ most)
+        | inr over ↦ inr (elim over [ inl done ↦ inl (all.done done ∙ most) | inr stops ↦ inr (sym stops_is ∙ stops) ])
       ];
     }
 
 -- and what is left was looked at once more
-pub IsClosed-settled : (shared : Common) (joined least limit : ℕ) (ended : Ended) (closed : Closed) → IsEnded shared whole whole joined least ended → closed.best.scenario ≡ shared.scenario → IsAttained closed.best → length closed.by_worker.items ≡ length ended.drawn_by_thieves.items + 1 → sum closed.by_worker.items ≡ closed.tickets → IsTreeAtEnd (IsOpenPoint shared.bounds shared.scenario closed.best.latency) shared.bounds shared.scenario closed.best.latency closed.tickets limit closed.pieces.items → IsClosed shared.bounds shared.scenario (joined + 1) limit closed
+pub IsClosed-settled : (shared : Common) (joined least : ℕ) (limit : Limit) (ended : Ended) (closed : Closed) → IsEnded shared whole whole joined least ended → closed.best.scenario ≡ shared.scenario → IsAttained closed.best → length closed.by_worker.items ≡ length ended.drawn_by_thieves.items + 1 → sum closed.by_worker.items ≡ closed.tickets → IsTreeAtEnd (IsOpenPoint shared.bounds shared.scenario closed.best.latency) shared.bounds shared.scenario closed.best.latency closed.tickets limit closed.pieces.items → IsClosed shared.bounds shared.scenario (joined + 1) limit closed
 IsClosed-settled shared joined least limit ended closed is scenario attained count sum_is tree = record {
   of_scenario = scenario;
   attained = attained;

@@ -19,7 +19,7 @@ use Rattle.convoy_share.specs.Finishing.{IsFinishing}
 use Rattle.convoy_share.specs.Means.{IsGrown, IsLeftAtEnd, IsTriedPoint, drawn}
 use Rattle.convoy_share.specs.Pieces.{front, front_of, IsPiece}
 use Rattle.convoy_share.proofs.Fillings.{IsFilling-better, IsFilling-searched}
-use Rattle.convoy_share.proofs.Grown.{tried_later}
+use Rattle.convoy_share.proofs.Grown.{over_later, tried_later}
 use Rattle.convoy_share.proofs.Outcomes.{left_boxes_in}
 use Rattle.convoy_share.proofs.Places.{places_none}
 
@@ -28,7 +28,7 @@ left_append put done pieces =
     ap (λ (ns : List FrontNode). left_in ns) (map-append (front_of put) done pieces) ∙ filter_map-append left_box (front put done) (front put pieces)
 
 -- the branch that is next is searched, and its tree settled
-pub IsFinishing-searched : (better : FrontsBetter) (shared : Common) (put : List Box) (before after : Means) (done rest : List Piece) (slots : List (List Piece)) (branch : Tracked) (tried : Bool) (pieces : List Piece) → IsGrown shared.bounds shared.scenario before after [] [] 0 (branch.delay_box ∷ []) pieces → IsLeftAtEnd shared.scenario after pieces → IsFinishing shared put before done (Todo branch tried ∷ rest) slots → IsFinishing shared put after (done ++ pieces) rest slots
+pub IsFinishing-searched : (better : FrontsBetter) (shared : Common) (put : List Box) (before after : Means) (done rest : List Piece) (slots : List (List Piece)) (branch : Tracked) (tried : Bool) (pieces : List Piece) → IsGrown shared.bounds shared.scenario before after [] [] 0 (branch.delay_box ∷ []) pieces → IsLeftAtEnd shared.scenario shared.may_stop after pieces → IsFinishing shared put before done (Todo branch tried ∷ rest) slots → IsFinishing shared put after (done ++ pieces) rest slots
 IsFinishing-searched better shared put before after done rest slots branch tried pieces grown left is =
     let bounds = shared.bounds in
     let plan = shared.scenario in
@@ -45,9 +45,9 @@ IsFinishing-searched better shared put before after done rest slots branch tried
               let old = tried_later plan before.hand.seen seen (left_in (front put done)) grown.later.seen points in
               let more : All P (left_in (front put pieces)) = subst (λ (bs : List Box). All P bs) (sym (left_boxes_in put pieces none)) here in
               inl (subst (λ (bs : List Box). All P bs) (sym (left_append put done pieces)) (All-append P (left_in (front put done)) (left_in (front put pieces)) old more)))
-          | inr ended ↦ inr ended
+          | inr over ↦ inr over
         ]
-        | inr ended ↦ inr (grown.later.done ended)
+        | inr over ↦ inr (over_later shared.may_stop before after grown.later over)
       ];
     }
 
@@ -57,7 +57,7 @@ IsFinishing-next shared put means done done' rest rest' slots slots' same fillin
   filling = filling;
   left = elim is.left [
     | inl points ↦ inl (subst (λ (bs : List Box). All (IsTriedPoint shared.scenario means.hand.seen) bs) (sym same) points)
-    | inr all ↦ inr all
+    | inr over ↦ inr over
   ];
 }
 

@@ -1,5 +1,5 @@
 -- How far a worker's boxes are, after it took up one of them.
-use Rattle.std.specs.Prelude.{◌≡◌, ◌⊎◌, ℕ, ◌+◌, ◌≤◌, true, List, [], ◌∷◌, ◌++◌, length, Bool}
+use Rattle.std.specs.Prelude.{◌≡◌, ◌⊎◌, ℕ, ◌+◌, ◌≤◌, List, [], ◌∷◌, ◌++◌, length, Bool}
 use Rattle.std.specs.List.{All}
 use Rattle.std.proofs.Common.{arith, refl, sym, subst, ◌∙◌, inl, inr}
 use Rattle.std.proofs.lemmas.List.Elements.{All-cons, All-head, All-nil, All-weaker}
@@ -17,7 +17,7 @@ use Rattle.convoy_share.specs.declared.piece.Piece.TheVariants.{Todo, Pushed}
 use Rattle.convoy_share.specs.Pieces.{IsPiece, left_boxes}
 use Rattle.convoy_share.specs.Subtrees.{ArePieces}
 use Rattle.convoy_share.specs.Turns.{parted, pieces_of}
-use Rattle.convoy_share.specs.Means.{IsLater, IsTakenUp, IsGrown, IsLeftAtEnd, IsTriedPoint}
+use Rattle.convoy_share.specs.Means.{IsLater, IsTakenUp, IsGrown, IsLeftAtEnd, IsOver, IsTriedPoint}
 use Rattle.convoy_share.proofs.Counts.{All-parts}
 use Rattle.convoy_share.proofs.Places.{places_none}
 use Rattle.convoy_share.proofs.UnderWay.{IsUnderWay-start, IsUnderWay-better, IsUnderWay-turned, IsUnderWay-put}
@@ -49,8 +49,8 @@ IsGrown-start bounds scenario means put low branch tried is = record {
   way = IsUnderWay-start bounds scenario means.hand.seen put low branch tried is;
 }
 
-pub IsGrown-turned : (better : FrontsBetter) (bounds : Bounds) (scenario : Scenario) (most : ℕ) (before between after : Means) (first put : List Box) (low : ℕ) (boxes : List Box) (front rest : List Piece) (branch : Tracked) (tried : Bool) (turn : Turn) → IsTakenUp bounds scenario most branch between after (Turned turn) → IsGrown bounds scenario before between first put low boxes (front ++ Todo branch tried ∷ rest) → IsGrown bounds scenario before after first put low boxes (front ++ (pieces_of turn ++ rest))
-IsGrown-turned better bounds scenario most before between after first put low boxes front rest branch tried turn taken grown =
+pub IsGrown-turned : (better : FrontsBetter) (bounds : Bounds) (scenario : Scenario) (may_stop : Bool) (most : ℕ) (before between after : Means) (first put : List Box) (low : ℕ) (boxes : List Box) (front rest : List Piece) (branch : Tracked) (tried : Bool) (turn : Turn) → IsTakenUp bounds scenario may_stop most branch between after (Turned turn) → IsGrown bounds scenario before between first put low boxes (front ++ Todo branch tried ∷ rest) → IsGrown bounds scenario before after first put low boxes (front ++ (pieces_of turn ++ rest))
+IsGrown-turned better bounds scenario may_stop most before between after first put low boxes front rest branch tried turn taken grown =
     let pieces = front ++ Todo branch tried ∷ rest in
     let way = IsUnderWay-better better bounds scenario between.hand.seen after.hand.seen first put low boxes pieces grown.tickets taken.later.seen grown.way in
     record {
@@ -60,8 +60,8 @@ IsGrown-turned better bounds scenario most before between after first put low bo
       way = IsUnderWay-turned bounds scenario after.hand.seen first put low boxes front rest branch tried grown.tickets turn taken.ticket.3 way;
     }
 
-pub IsGrown-put : (better : FrontsBetter) (bounds : Bounds) (scenario : Scenario) (most : ℕ) (before between after : Means) (first put : List Box) (low : ℕ) (boxes : List Box) (front rest : List Piece) (branch : Tracked) (tried : Bool) (packet at : ℕ) (lower upper : Tracked) (number : ℕ) → IsTakenUp bounds scenario most branch between after (Turned (Halves packet at lower upper)) → number ≡ length put → low ≤ length put → IsGrown bounds scenario before between first put low boxes (front ++ Todo branch tried ∷ rest) → IsGrown bounds scenario before after first (put ++ lower.delay_box ∷ []) low boxes (front ++ (parted packet at (Pushed number) upper ++ rest))
-IsGrown-put better bounds scenario most before between after first put low boxes front rest branch tried packet at lower upper number taken same below grown =
+pub IsGrown-put : (better : FrontsBetter) (bounds : Bounds) (scenario : Scenario) (may_stop : Bool) (most : ℕ) (before between after : Means) (first put : List Box) (low : ℕ) (boxes : List Box) (front rest : List Piece) (branch : Tracked) (tried : Bool) (packet at : ℕ) (lower upper : Tracked) (number : ℕ) → IsTakenUp bounds scenario may_stop most branch between after (Turned (Halves packet at lower upper)) → number ≡ length put → low ≤ length put → IsGrown bounds scenario before between first put low boxes (front ++ Todo branch tried ∷ rest) → IsGrown bounds scenario before after first (put ++ lower.delay_box ∷ []) low boxes (front ++ (parted packet at (Pushed number) upper ++ rest))
+IsGrown-put better bounds scenario may_stop most before between after first put low boxes front rest branch tried packet at lower upper number taken same below grown =
     let pieces = front ++ Todo branch tried ∷ rest in
     let way = IsUnderWay-better better bounds scenario between.hand.seen after.hand.seen first put low boxes pieces grown.tickets taken.later.seen grown.way in
     record {
@@ -71,8 +71,8 @@ IsGrown-put better bounds scenario most before between after first put low boxes
       way = IsUnderWay-put bounds scenario after.hand.seen first put low boxes front rest branch tried grown.tickets packet at lower upper number taken.ticket.3 same below way;
     }
 
-pub IsGrown-left : (better : FrontsBetter) (bounds : Bounds) (scenario : Scenario) (most : ℕ) (before between after : Means) (first put : List Box) (low : ℕ) (boxes : List Box) (front rest : List Piece) (branch left : Tracked) (tried : Bool) → IsTakenUp bounds scenario most branch between after (Left left) → IsGrown bounds scenario before between first put low boxes (front ++ Todo branch tried ∷ rest) → IsGrown bounds scenario before after first put low boxes (front ++ Todo left tried ∷ rest)
-IsGrown-left better bounds scenario most before between after first put low boxes front rest branch left tried taken grown =
+pub IsGrown-left : (better : FrontsBetter) (bounds : Bounds) (scenario : Scenario) (may_stop : Bool) (most : ℕ) (before between after : Means) (first put : List Box) (low : ℕ) (boxes : List Box) (front rest : List Piece) (branch left : Tracked) (tried : Bool) → IsTakenUp bounds scenario may_stop most branch between after (Left left) → IsGrown bounds scenario before between first put low boxes (front ++ Todo branch tried ∷ rest) → IsGrown bounds scenario before after first put low boxes (front ++ Todo left tried ∷ rest)
+IsGrown-left better bounds scenario may_stop most before between after first put low boxes front rest branch left tried taken grown =
     let same = subst (λ (b : Tracked). IsGrown bounds scenario before between first put low boxes (front ++ Todo b tried ∷ rest)) (sym taken.ticket.0) grown in
     record {
       later = IsLater-then before between after same.later taken.later;
@@ -99,11 +99,15 @@ IsGrown-kept bounds scenario before after low boxes pieces grown =
       way = record { trees = trees; places = way.places; nodes = way.nodes; more = way.more };
     }
 
+-- what is over stays so
+pub over_later : (may_stop : Bool) (before after : Means) → IsLater before after → IsOver may_stop before.clerk.done → IsOver may_stop after.clerk.done
+over_later may_stop before after later over = elim over [ inl done ↦ inl (later.done done) | inr stops ↦ inr stops ]
+
 -- other pieces may leave the same boxes
-pub IsLeftAtEnd-by : (scenario : Scenario) (means : Means) (pieces others : List Piece) → left_boxes others ≡ left_boxes pieces → IsLeftAtEnd scenario means pieces → IsLeftAtEnd scenario means others
-IsLeftAtEnd-by scenario means pieces others same left = elim left [
+pub IsLeftAtEnd-by : (scenario : Scenario) (may_stop : Bool) (means : Means) (pieces others : List Piece) → left_boxes others ≡ left_boxes pieces → IsLeftAtEnd scenario may_stop means pieces → IsLeftAtEnd scenario may_stop means others
+IsLeftAtEnd-by scenario may_stop means pieces others same left = elim left [
   | inl points ↦ inl (subst (λ (bs : List Box). All (IsTriedPoint scenario means.hand.seen) bs) (sym same) points)
-  | inr done ↦ inr done
+  | inr over ↦ inr over
 ]
 
 -- a greater latency is seen, and what was tried was
@@ -111,23 +115,23 @@ pub tried_later : (scenario : Scenario) (seen more : ℕ) (boxes : List Box) →
 tried_later scenario seen more boxes above points =
     All-weaker (IsTriedPoint scenario seen) (IsTriedPoint scenario more) (λ box is. record { point = is.point; tried = omega (arith, is.tried, above) }) boxes points
 
--- a box more is left: all tickets were drawn, or it is a point in real time that was tried
-pub left_more : (bounds : Bounds) (scenario : Scenario) (most : ℕ) (between after : Means) (pieces : List Piece) (boxes : List Box) (branch left : Tracked) → IsTakenUp bounds scenario most branch between after (Left left) → boxes ≡ left.delay_box ∷ left_boxes pieces → IsLeftAtEnd scenario between pieces → All (IsTriedPoint scenario after.hand.seen) boxes ⊎ (after.clerk.done ≡ true)
-left_more bounds scenario most between after pieces boxes branch left taken more before = elim taken.ticket.2 [
-  | inl done ↦ inr done
+-- a box more is left: all tickets were drawn, or the search may be stopped, or it is a point in real time that was tried
+pub left_more : (bounds : Bounds) (scenario : Scenario) (may_stop : Bool) (most : ℕ) (between after : Means) (pieces : List Piece) (boxes : List Box) (branch left : Tracked) → IsTakenUp bounds scenario may_stop most branch between after (Left left) → boxes ≡ left.delay_box ∷ left_boxes pieces → IsLeftAtEnd scenario may_stop between pieces → All (IsTriedPoint scenario after.hand.seen) boxes ⊎ IsOver may_stop after.clerk.done
+left_more bounds scenario may_stop most between after pieces boxes branch left taken more before = elim taken.ticket.2 [
+  | inl over ↦ inr over
   | inr point ↦ elim before [
     | inl points ↦ (
         let P = IsTriedPoint scenario after.hand.seen in
         let here : P left.delay_box = subst (λ (b : Tracked). P b.delay_box) (sym taken.ticket.0) point in
         let others = tried_later scenario between.hand.seen after.hand.seen (left_boxes pieces) taken.later.seen points in
         inl (subst (λ (bs : List Box). All P bs) (sym more) (All-cons P left.delay_box (left_boxes pieces) here others)))
-    | inr done ↦ inr (taken.later.done done)
+    | inr over ↦ inr (over_later may_stop between after taken.later over)
   ]
 ]
 
 -- a ticket was spent, and no box more is left
-pub left_same : (bounds : Bounds) (scenario : Scenario) (most : ℕ) (between after : Means) (pieces : List Piece) (boxes : List Box) (branch : Tracked) (turn : Turn) → IsTakenUp bounds scenario most branch between after (Turned turn) → boxes ≡ left_boxes pieces → IsLeftAtEnd scenario between pieces → All (IsTriedPoint scenario after.hand.seen) boxes ⊎ (after.clerk.done ≡ true)
-left_same bounds scenario most between after pieces boxes branch turn taken same before = elim before [
+pub left_same : (bounds : Bounds) (scenario : Scenario) (may_stop : Bool) (most : ℕ) (between after : Means) (pieces : List Piece) (boxes : List Box) (branch : Tracked) (turn : Turn) → IsTakenUp bounds scenario may_stop most branch between after (Turned turn) → boxes ≡ left_boxes pieces → IsLeftAtEnd scenario may_stop between pieces → All (IsTriedPoint scenario after.hand.seen) boxes ⊎ IsOver may_stop after.clerk.done
+left_same bounds scenario may_stop most between after pieces boxes branch turn taken same before = elim before [
   | inl points ↦ inl (subst (λ (bs : List Box). All (IsTriedPoint scenario after.hand.seen) bs) (sym same) (tried_later scenario between.hand.seen after.hand.seen (left_boxes pieces) taken.later.seen points))
-  | inr done ↦ inr (taken.later.done done)
+  | inr over ↦ inr (over_later may_stop between after taken.later over)
 ]

@@ -1,5 +1,5 @@
 -- What a whole tree says: a valid certificate, or a front.
-use Rattle.std.specs.Prelude.{◌≡◌, ℕ, ◌≤◌, ◌<◌, true, false, List, [], ◌∷◌, length}
+use Rattle.std.specs.Prelude.{◌≡◌, ◌⊎◌, ℕ, ◌≤◌, ◌<◌, true, false, List, [], ◌∷◌, length}
 use Rattle.std.specs.List.{All, Any, list_any}
 use Rattle.std.proofs.Common.{arith, refl, ap, sym, subst, ◌∙◌, inl, inr}
 use Rattle.std.proofs.lemmas.List.Elements.{All-nil, All-cons, All-head, All-tail}
@@ -17,12 +17,15 @@ use Rattle.convoy_certificate.specs.declared.node.Node.{Node}
 use Rattle.convoy_intervals.specs.Boxes.{Box, root_of}
 use Rattle.convoy_checker.specs.Laws.{TreesCover}
 use Rattle.convoy_branch.specs.declared.bounds.Bounds.{Bounds}
+use Rattle.convoy_branch.specs.declared.limit.Limit.{Limit}
+use Rattle.convoy_branch.specs.Limits.{IsWithin}
 use Rattle.convoy_branch.specs.SearchBounds.{most_nodes}
 use Rattle.convoy_branch.specs.Uppers.{IsUpperOf}
 use Rattle.convoy_branch.specs.Fronts.{left_in}
 use Rattle.convoy_branch.specs.Laws.{FrontsBound, OnlyLeadsHaveLeadLeaves, PlainFrontsHaveNoStamps, WholeFrontsAreReadable, WholeFrontsAreTrees}
 use Rattle.convoy_branch.specs.Outcomes.{IsProved, IsOpen}
 use Rattle.convoy_branch.specs.Steps.{IsOpenPoint}
+use Rattle.convoy_branch.proofs.Withins.{IsWithin-all, IsWithin-spent}
 use Rattle.convoy_share.specs.declared.piece.Piece.{Piece}
 use Rattle.convoy_share.specs.declared.piece.Piece.TheVariants.{Done, Todo, Pushed}
 use Rattle.convoy_share.specs.declared.searching.Closed.{Closed}
@@ -60,7 +63,7 @@ nodes_right scenario seen put (Todo branch tried ∷ pieces) each =
 nodes_right scenario seen put (Pushed number ∷ pieces) each =
     nodes_right scenario seen put pieces (All-tail (IsPiece scenario seen put) (Pushed number) pieces each)
 
-pub nodes_closed : (bounds : Bounds) (scenario : Scenario) (workers limit : ℕ) (closed : Closed) → IsClosed bounds scenario workers limit closed → All (IsNode scenario) (nodes_in closed.pieces.items)
+pub nodes_closed : (bounds : Bounds) (scenario : Scenario) (workers : ℕ) (limit : Limit) (closed : Closed) → IsClosed bounds scenario workers limit closed → All (IsNode scenario) (nodes_in closed.pieces.items)
 nodes_closed bounds scenario workers limit closed is =
     nodes_right scenario closed.best.latency is.tree.whole.put closed.pieces.items is.tree.whole.filling.each_done
 
@@ -101,7 +104,7 @@ certificate_of scenario closed = record {
   nodes = nodes_in closed.pieces.items;
 }
 
-IsProved-certificate : (trees : WholeFrontsAreTrees) (cover : TreesCover) (no_stamps : PlainFrontsHaveNoStamps) (no_leads : OnlyLeadsHaveLeadLeaves) (reads : WholeFrontsAreReadable) (bounds : Bounds) (scenario : Scenario) (workers limit : ℕ) (closed : Closed) → list_any is_left closed.pieces.items ≡ false → IsClosed bounds scenario workers limit closed → IsProved bounds scenario workers limit (certificate_of scenario closed) closed.tickets closed.by_worker.items
+IsProved-certificate : (trees : WholeFrontsAreTrees) (cover : TreesCover) (no_stamps : PlainFrontsHaveNoStamps) (no_leads : OnlyLeadsHaveLeadLeaves) (reads : WholeFrontsAreReadable) (bounds : Bounds) (scenario : Scenario) (workers : ℕ) (limit : Limit) (closed : Closed) → list_any is_left closed.pieces.items ≡ false → IsClosed bounds scenario workers limit closed → IsProved bounds scenario workers limit.tickets (certificate_of scenario closed) closed.tickets closed.by_worker.items
 IsProved-certificate trees cover no_stamps no_leads reads bounds scenario workers limit closed none is =
     let best = closed.best in
     let pieces = closed.pieces.items in
@@ -126,19 +129,19 @@ IsProved-certificate trees cover no_stamps no_leads reads bounds scenario worker
       shares = is.tickets_by_worker;
     }
 
-pub IsProved-closed : (trees : WholeFrontsAreTrees) (cover : TreesCover) (no_stamps : PlainFrontsHaveNoStamps) (no_leads : OnlyLeadsHaveLeadLeaves) (reads : WholeFrontsAreReadable) (bounds : Bounds) (scenario : Scenario) (workers limit : ℕ) (closed : Closed) (certificate : Certificate) → list_any is_left closed.pieces.items ≡ false → certificate ≡ record { scenario = scenario; latency = closed.best.latency; schedule = closed.best.schedule; nodes = nodes_in closed.pieces.items } → IsClosed bounds scenario workers limit closed → IsProved bounds scenario workers limit certificate closed.tickets closed.by_worker.items
+pub IsProved-closed : (trees : WholeFrontsAreTrees) (cover : TreesCover) (no_stamps : PlainFrontsHaveNoStamps) (no_leads : OnlyLeadsHaveLeadLeaves) (reads : WholeFrontsAreReadable) (bounds : Bounds) (scenario : Scenario) (workers : ℕ) (limit : Limit) (closed : Closed) (certificate : Certificate) → list_any is_left closed.pieces.items ≡ false → certificate ≡ record { scenario = scenario; latency = closed.best.latency; schedule = closed.best.schedule; nodes = nodes_in closed.pieces.items } → IsClosed bounds scenario workers limit closed → IsProved bounds scenario workers limit.tickets certificate closed.tickets closed.by_worker.items
 IsProved-closed trees cover no_stamps no_leads reads bounds scenario workers limit closed certificate none same is =
-    subst (λ (c : Certificate). IsProved bounds scenario workers limit c closed.tickets closed.by_worker.items) (sym same) (IsProved-certificate trees cover no_stamps no_leads reads bounds scenario workers limit closed none is)
+    subst (λ (c : Certificate). IsProved bounds scenario workers limit.tickets c closed.tickets closed.by_worker.items) (sym same) (IsProved-certificate trees cover no_stamps no_leads reads bounds scenario workers limit closed none is)
 
 -- where all elements meet something and there are some, one does
 some_of : {X : Type 0} (P : X → Type 0) (xs : List X) → 0 < length xs → All P xs → Any P xs
 some_of P [] some all = absurd (omega arith)
 some_of P (x ∷ xs) some all = (0, x, omega arith, refl, All-head P x xs all)
 
--- a box is left: all tickets were spent, or it is an open point, and the tree is a front
-pub IsOpen-closed : (bound : FrontsBound) (bounds : Bounds) (scenario : Scenario) (workers limit upper : ℕ) (closed : Closed) → list_any is_left closed.pieces.items ≡ true → latency_of scenario (least_of (ranges_of scenario)) ≤ closed.best.latency → IsUpperOf bounds scenario closed.best.latency (left_boxes closed.pieces.items) upper → IsClosed bounds scenario workers limit closed → IsOpen bounds scenario workers limit closed.best upper closed.tickets closed.by_worker.items
+-- a box is left, and the tree is a front: all the tickets that may be spent were, or it is an open point
+IsOpen-front : (bound : FrontsBound) (bounds : Bounds) (scenario : Scenario) (workers : ℕ) (limit : Limit) (upper spendable : ℕ) (closed : Closed) → list_any is_left closed.pieces.items ≡ true → latency_of scenario (least_of (ranges_of scenario)) ≤ closed.best.latency → IsUpperOf bounds scenario closed.best.latency (left_boxes closed.pieces.items) upper → IsClosed bounds scenario workers limit closed → closed.tickets ≤ spendable → All (IsOpenPoint bounds scenario closed.best.latency) (left_boxes closed.pieces.items) ⊎ (closed.tickets ≡ spendable) → IsOpen bounds scenario workers spendable closed.best upper closed.tickets closed.by_worker.items
 unfolding IsFront-filled
-IsOpen-closed bound bounds scenario workers limit upper closed some least upper_is is =
+IsOpen-front bound bounds scenario workers limit upper spendable closed some least upper_is is few ended =
     let best = closed.best in
     let pieces = closed.pieces.items in
     let put = is.tree.whole.put in
@@ -155,8 +158,8 @@ IsOpen-closed bound bounds scenario workers limit upper closed some least upper_
       front = record {
         tickets = closed.tickets;
         front = open_front;
-        few = is.tree.few;
-        all = elim is.tree.left [
+        few = few;
+        all = elim ended [
           | inl points ↦ inr (some_of (IsOpenPoint bounds scenario best.latency) (left_in (front put pieces)) left (subst (λ (bs : List Box). All (IsOpenPoint bounds scenario best.latency) bs) (sym boxes) points))
           | inr all ↦ inl all
         ];
@@ -164,3 +167,16 @@ IsOpen-closed bound bounds scenario workers limit upper closed some least upper_
       all = refl;
       shares = is.tickets_by_worker;
     }
+
+-- where the search may be stopped, no more tickets may have been spent than were
+pub IsOpen-closed : (bound : FrontsBound) (bounds : Bounds) (scenario : Scenario) (workers : ℕ) (limit : Limit) (upper : ℕ) (closed : Closed) → list_any is_left closed.pieces.items ≡ true → latency_of scenario (least_of (ranges_of scenario)) ≤ closed.best.latency → IsUpperOf bounds scenario closed.best.latency (left_boxes closed.pieces.items) upper → IsClosed bounds scenario workers limit closed → IsWithin limit (λ tickets. IsOpen bounds scenario workers tickets closed.best upper closed.tickets closed.by_worker.items)
+IsOpen-closed bound bounds scenario workers limit upper closed some least upper_is is =
+    let IsAnswer : ℕ → Type 0 = λ tickets. IsOpen bounds scenario workers tickets closed.best upper closed.tickets closed.by_worker.items in
+    let by_all = λ (ended : All (IsOpenPoint bounds scenario closed.best.latency) (left_boxes closed.pieces.items) ⊎ (closed.tickets ≡ limit.tickets)). IsWithin-all limit IsAnswer (IsOpen-front bound bounds scenario workers limit upper limit.tickets closed some least upper_is is is.tree.few ended) in
+    elim is.tree.left [
+      | inl points ↦ by_all (inl points)
+      | inr spent ↦ elim spent [
+        | inl all ↦ by_all (inr all)
+        | inr stops ↦ IsWithin-spent limit IsAnswer closed.tickets is.tree.few (inr stops) (IsOpen-front bound bounds scenario workers limit upper closed.tickets closed some least upper_is is (omega arith) (inr refl))
+      ]
+    ]

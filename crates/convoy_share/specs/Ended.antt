@@ -5,6 +5,7 @@ use Rattle.convoy_scenario.specs.Scenario.{Scenario}
 use Rattle.convoy_sim.specs.Record.{IsAttained}
 use Rattle.convoy_intervals.specs.Boxes.{Box}
 use Rattle.convoy_branch.specs.declared.bounds.Bounds.{Bounds}
+use Rattle.convoy_branch.specs.declared.limit.Limit.{Limit}
 use Rattle.convoy_branch.specs.Fronts.{left_in}
 use Rattle.convoy_branch.specs.Outcomes.{AreTicketsByWorker}
 use Rattle.convoy_branch.specs.Steps.{IsOpenPoint}
@@ -13,7 +14,7 @@ use Rattle.convoy_share.specs.declared.piece.Piece.{Piece}
 use Rattle.convoy_share.specs.declared.searching.Closed.{Closed}
 use Rattle.convoy_share.specs.Common.{Common}
 use Rattle.convoy_share.specs.Filling.{IsFilling}
-use Rattle.convoy_share.specs.Means.{IsTriedPoint}
+use Rattle.convoy_share.specs.Means.{IsOver, IsTriedPoint}
 use Rattle.convoy_share.specs.Pieces.{front, left_boxes}
 
 -- A whole tree, where that latency was seen and so many tickets were drawn: each node is right, and there is one for each ticket.
@@ -22,7 +23,7 @@ pub record IsWhole (bounds : Bounds) (scenario : Scenario) (seen tickets : ℕ) 
   pub slots : List (List Piece)
   pub filling : IsFilling bounds scenario seen tickets put pieces [] slots
 
--- what the owner and so many thieves have brought, with those shares of board and ledger; a latency no less than that one was seen, and unless all tickets were drawn, only points in real time that were tried are left
+-- what the owner and so many thieves have brought, with those shares of board and ledger; a latency no less than that one was seen, and unless all tickets were drawn or the search may be stopped, only points in real time that were tried are left
 pub record IsEnded (shared : Common) (hand clerk joined least : ℕ) (ended : Ended) : Type 0 where
   pub board_is : ended.hand.board ≡ shared.board
   pub ledger_is : ended.clerk.ledger ≡ shared.ledger
@@ -32,16 +33,20 @@ pub record IsEnded (shared : Common) (hand clerk joined least : ℕ) (ended : En
   pub joined_is : length ended.drawn_by_thieves.items ≡ joined
   pub theirs : sum ended.drawn_by_thieves.items ≤ length ended.clerk.tickets
   pub whole : IsWhole shared.bounds shared.scenario ended.hand.seen (length ended.clerk.tickets) ended.pieces.items
-  pub left : All (IsTriedPoint shared.scenario ended.hand.seen) (left_in (front whole.put ended.pieces.items)) ⊎ (ended.clerk.done ≡ true)
+  pub left : All (IsTriedPoint shared.scenario ended.hand.seen) (left_in (front whole.put ended.pieces.items)) ⊎ IsOver shared.may_stop ended.clerk.done
 
--- A whole tree of a search that has ended with that best latency, where at most `limit` tickets may be spent: unless all of them were, what is left has that property.
-pub record IsTreeAtEnd (property : Box → Type 0) (bounds : Bounds) (scenario : Scenario) (best tickets limit : ℕ) (pieces : List Piece) : Type 0 where
+-- nothing is promised of what is left at the end: all tickets were spent, or the search may be stopped
+abbrev pub IsSpent : Limit → ℕ → Type 0
+IsSpent limit tickets = (tickets ≡ limit.tickets) ⊎ (limit.may_stop ≡ true)
+
+-- A whole tree of a search with that limit that has ended with that best latency: unless all tickets were spent or the search may be stopped, what is left has that property.
+pub record IsTreeAtEnd (property : Box → Type 0) (bounds : Bounds) (scenario : Scenario) (best tickets : ℕ) (limit : Limit) (pieces : List Piece) : Type 0 where
   pub whole : IsWhole bounds scenario best tickets pieces
-  pub few : tickets ≤ limit
-  pub left : All property (left_boxes pieces) ⊎ (tickets ≡ limit)
+  pub few : tickets ≤ limit.tickets
+  pub left : All property (left_boxes pieces) ⊎ IsSpent limit tickets
 
--- what a search has come to: unless all tickets were spent, only open points are left
-pub record IsClosed (bounds : Bounds) (scenario : Scenario) (workers limit : ℕ) (closed : Closed) : Type 0 where
+-- what a search with that limit has come to: unless all tickets were spent or it may be stopped, only open points are left
+pub record IsClosed (bounds : Bounds) (scenario : Scenario) (workers : ℕ) (limit : Limit) (closed : Closed) : Type 0 where
   pub of_scenario : closed.best.scenario ≡ scenario
   pub attained : IsAttained closed.best
   pub tickets_by_worker : AreTicketsByWorker workers closed.tickets closed.by_worker.items

@@ -1,5 +1,5 @@
 -- What a worker looks, publishes and draws with, from step to step.
-use Rattle.std.specs.Prelude.{◌≡◌, ◌⊎◌, ℕ, ◌+◌, ◌≤◌, List, false, true, length}
+use Rattle.std.specs.Prelude.{◌≡◌, ◌⊎◌, ℕ, ◌+◌, ◌≤◌, List, Bool, false, true, length}
 use Rattle.std.specs.List.{All}
 use Rattle.convoy_scenario.specs.Scenario.{Scenario}
 use Rattle.convoy_sim.specs.Delivery.{latency_of}
@@ -33,16 +33,20 @@ pub record IsTriedPoint (scenario : Scenario) (seen : ℕ) (box : Box) : Type 0 
   pub point : IsRealPoint scenario box
   pub tried : latency_of scenario (greatest_of box) ≤ seen
 
--- what becomes of a branch that is taken up: a ticket is spent for its turn; or it is left, since there was none, or since it is a point in real time, which was tried
-abbrev pub IsSpentFor : Bounds → Scenario → ℕ → Tracked → Means → Means → TakenUp → Type 0
-IsSpentFor bounds scenario most branch before after (Turned turn) =
-    (drawn after ≡ drawn before + 1) × (drawn after ≤ most) × (before.clerk.done ≡ false) × IsTurned bounds scenario after.hand.seen branch.delay_box turn
-IsSpentFor bounds scenario most branch before after (Left left) =
-    (left ≡ branch) × (drawn after ≡ drawn before) × ((after.clerk.done ≡ true) ⊎ IsTriedPoint scenario after.hand.seen branch.delay_box)
+-- nothing is promised of what is left: all tickets were drawn, or the search may be stopped
+abbrev pub IsOver : Bool → Bool → Type 0
+IsOver may_stop done = (done ≡ true) ⊎ (may_stop ≡ true)
 
-pub record IsTakenUp (bounds : Bounds) (scenario : Scenario) (most : ℕ) (branch : Tracked) (before after : Means) (taken : TakenUp) : Type 0 where
+-- what becomes of a branch that is taken up: a ticket is spent for its turn; or it is left, since there was none or the search was stopped, or since it is a point in real time, which was tried
+abbrev pub IsSpentFor : Bounds → Scenario → Bool → ℕ → Tracked → Means → Means → TakenUp → Type 0
+IsSpentFor bounds scenario may_stop most branch before after (Turned turn) =
+    (drawn after ≡ drawn before + 1) × (drawn after ≤ most) × (before.clerk.done ≡ false) × IsTurned bounds scenario after.hand.seen branch.delay_box turn
+IsSpentFor bounds scenario may_stop most branch before after (Left left) =
+    (left ≡ branch) × (drawn after ≡ drawn before) × (IsOver may_stop after.clerk.done ⊎ IsTriedPoint scenario after.hand.seen branch.delay_box)
+
+pub record IsTakenUp (bounds : Bounds) (scenario : Scenario) (may_stop : Bool) (most : ℕ) (branch : Tracked) (before after : Means) (taken : TakenUp) : Type 0 where
   pub later : IsLater before after
-  pub ticket : IsSpentFor bounds scenario most branch before after taken
+  pub ticket : IsSpentFor bounds scenario may_stop most branch before after taken
 
 -- How far boxes were searched that the worker took up: for each node it drew a ticket in between.
 pub record IsGrown (bounds : Bounds) (scenario : Scenario) (before after : Means) (first put : List Box) (low : ℕ) (boxes : List Box) (pieces : List Piece) : Type 0 where
@@ -51,7 +55,7 @@ pub record IsGrown (bounds : Bounds) (scenario : Scenario) (before after : Means
   pub spent : drawn after ≡ drawn before + tickets
   pub way : IsUnderWay bounds scenario after.hand.seen first put low boxes pieces tickets
 
--- unless all tickets were drawn, only points in real time that were tried are left among the pieces
-abbrev pub IsLeftAtEnd : Scenario → Means → List Piece → Type 0
-IsLeftAtEnd scenario means pieces =
-    All (IsTriedPoint scenario means.hand.seen) (left_boxes pieces) ⊎ (means.clerk.done ≡ true)
+-- unless all tickets were drawn or the search may be stopped, only points in real time that were tried are left among the pieces
+abbrev pub IsLeftAtEnd : Scenario → Bool → Means → List Piece → Type 0
+IsLeftAtEnd scenario may_stop means pieces =
+    All (IsTriedPoint scenario means.hand.seen) (left_boxes pieces) ⊎ IsOver may_stop means.clerk.done

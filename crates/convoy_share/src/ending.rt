@@ -64,7 +64,8 @@ fn drain<R: Wait>(rt: &R, shared: &Shared, worker: &mut OwnerWorker) -> Result<(
     Ok(())
 }
 
-/// Puts the trees of all workers together, and searches what is left as far as there are tickets.
+/// Puts the trees of all workers together, and searches what is left as far as there are tickets, and
+/// until the search is stopped.
 pub(crate) fn finish<R: Wait, G: Gate>(
     rt: &R,
     gate: &G,

@@ -16,7 +16,8 @@ use convoy_branch::laws::fronts_better;
 use std::alloc::AllocError;
 use std::sync::Wait;
 
-/// Fills every place, and searches what is left as far as there are tickets.
+/// Fills every place, and searches what is left as far as there are tickets, and
+/// until the search is stopped.
 pub(crate) fn search_left<R: Wait, G: Gate>(
     rt: &R,
     gate: &G,

@@ -1,6 +1,6 @@
 //! One more look at the points that are left, once the best latency is known.
 
-ghost use Rattle.std.specs.Prelude.{◌≡◌, ◌⊎◌, ◌≤◌, ◌<◌, ℕ, List, true, false, IfNone, IfOk, IfSome};
+ghost use Rattle.std.specs.Prelude.{◌≡◌, ◌⊎◌, ◌≤◌, ◌<◌, ℕ, List, false, IfNone, IfOk, IfSome};
 ghost use Rattle.convoy_intervals.specs.Boxes.{Box};
 ghost use Rattle.convoy_branch.specs.declared.step.Turn.TheVariants.{Closed};
 ghost use Rattle.convoy_branch.specs.SearchBounds.{closes_for};
@@ -12,8 +12,8 @@ ghost use Rattle.convoy_share.specs.Pieces.{IsPiece};
 
 use super::piece::{Piece, Settled};
 use super::settled::has_left;
-use convoy_branch::Bounds;
 use convoy_branch::laws::{fronts_better, turns_are_fronts, turns_are_nodes};
+use convoy_branch::{Bounds, Gate, Limit};
 use convoy_certificate::Node;
 use convoy_intervals::Tracked;
 use convoy_intervals::laws::upper_keeps_greatest;
@@ -21,16 +21,17 @@ use convoy_packets::Instance;
 use std::alloc::{AllocError, Global};
 
 /// The tree of a search that has ended with that best latency in ticks, and how many tickets were spent
-/// for it. Unless `limit` of them were, each point that is left is closed here if the bounds close it for
-/// that latency: it was left for one that may have been less.
-pub(crate) fn settle_points(
+/// for it. Unless all of them were, or the search is stopped, each point that is left is closed here if the
+/// bounds close it for that latency: it was left for one that may have been less.
+pub(crate) fn settle_points<G: Gate>(
     alloc: Global,
+    gate: &G,
     instance: &Instance,
     bounds: Bounds,
     pieces: Vec<Settled>,
     best: u32,
     tickets: u64,
-    limit: u64,
+    limit: Limit,
 ) -> Result<(Vec<Settled>, u64), AllocError>
     requires { IsTreeAtEnd (IsTriedPoint instance.now best) bounds instance.now best tickets limit
         pieces.items }
@@ -38,7 +39,7 @@ pub(crate) fn settle_points(
         instance.now best settled.1 limit settled.0.items) }
     ensures more { IfOk result (λ settled. tickets ≤ settled.1) }
 {
-    if tickets >= limit || !has_left(&pieces) {
+    if tickets >= limit.tickets || !has_left(&pieces) || limit.is_over(gate) {
         return Ok((pieces, tickets));
     }
     look_again(alloc, instance, bounds, pieces, best, tickets, limit)
@@ -52,11 +53,11 @@ fn look_again(
     pieces: Vec<Settled>,
     best: u32,
     tickets: u64,
-    limit: u64,
+    limit: Limit,
 ) -> Result<(Vec<Settled>, u64), AllocError>
     requires tree { IsTreeAtEnd (IsTriedPoint instance.now best) bounds instance.now best tickets limit
         pieces.items }
-    requires tickets { tickets < limit }
+    requires tickets { tickets < limit.tickets }
     ensures tree { IfOk result (λ settled. IsTreeAtEnd (IsOpenPoint bounds instance.now best) bounds
         instance.now best settled.1 limit settled.0.items) }
     ensures more { IfOk result (λ settled. tickets ≤ settled.1) }
@@ -69,9 +70,10 @@ fn look_again(
     let mut done = Vec::with_capacity(alloc, pieces.len())?;
     let mut rest = pieces;
     rest.reverse();
+    let most = limit.tickets;
     let mut spent = tickets;
     while let Some(piece) = rest.pop() {
-        let (looked, more) = look_at(alloc, instance, bounds, piece, best, spent, limit)?;
+        let (looked, more) = look_at(alloc, instance, bounds, piece, best, spent, most)?;
         done.push(looked)?;
         spent += more;
     }

@@ -13,7 +13,7 @@ use convoy_intervals::Tracked;
 use convoy_intervals::laws::upper_keeps_greatest;
 use convoy_ledger::{Clerk, Ledger};
 use convoy_sim::Record;
-use std::alloc::{AllocError, Global};
+use std::alloc::AllocError;
 use std::sync::Wait;
 
 /// What a worker looks and publishes with, and what it draws with, beside its number and how many
@@ -46,12 +46,13 @@ impl Means {
 pub(crate) enum TakenUp {
     /// A ticket was spent for it.
     Turned(Turn),
-    /// There was no ticket left, or the branch is a point in real time that nothing closes.
+    /// There was no ticket left, or the search was stopped, or the branch is a point in real time that
+    /// nothing closes.
     Left(Tracked),
 }
 
 /// Takes up a branch: looks, draws a ticket if the step would spend it, and does the step where there
-/// was one.
+/// was one. Where the search is stopped the branch is left at once.
 pub(crate) fn take_up<R: Wait, G: Gate>(
     rt: &R,
     gate: &G,
@@ -65,7 +66,7 @@ pub(crate) fn take_up<R: Wait, G: Gate>(
     requires of_scenario { branch.scenario ≡ shared.now.instance.now }
     requires known { IsTriedIf shared.now.instance.now branch.delay_box tried means.old.hand.seen }
     ensures { IfOk result (λ taken. IsTakenUp shared.now.bounds shared.now.instance.now
-        shared.now.ledger.now.most branch means.old means.new taken) }
+        shared.now.limit.may_stop shared.now.ledger.now.most branch means.old means.new taken) }
 {
     fronts_better();
     turns_are_fronts();
@@ -75,6 +76,9 @@ pub(crate) fn take_up<R: Wait, G: Gate>(
     let _delay_box = branch.delay_box();
     means.taken_up = means.taken_up.saturating_add(1);
     gate.before_branch(means.worker, means.taken_up);
+    if shared.limit.is_over(gate) {
+        return Ok(TakenUp::Left(branch));
+    }
     let seen = shared.board.look(&mut means.hand);
     let hand = &mut means.hand;
     let Some(known) = known_for_step(rt, shared, hand, &branch, tried, seen)? else {

@@ -39,6 +39,7 @@ pub(crate) fn run<R: Threads + Wait + Sync, G: Gate + Sync>(
         alloc,
         instance,
         bounds,
+        limit,
         board,
         ledger,
         begun,
@@ -49,14 +50,15 @@ pub(crate) fn run<R: Threads + Wait + Sync, G: Gate + Sync>(
         rt,
         move || -> Result<ThiefWorker, AllocError>
             requires board { board.now.scenario ≡ instance.now }
-            requires thief { let common = common_by bounds instance.now board.now ledger.now in StaysThief common thief thief }
+            requires thief { let common = common_by bounds instance.now board.now ledger.now limit.may_stop in StaysThief common thief thief }
             ensures { let common = common_by bounds instance.entry.now board.entry.now
-                ledger.entry.now in IfOk result (λ w. StaysThief common thief w) }
+                ledger.entry.now limit.may_stop in IfOk result (λ w. StaysThief common thief w) }
         {
             let shared = Shared {
                 alloc,
                 instance,
                 bounds,
+                limit,
                 board,
                 ledger,
                 begun,
@@ -68,15 +70,16 @@ pub(crate) fn run<R: Threads + Wait + Sync, G: Gate + Sync>(
         move || -> Result<OwnerWorker, AllocError>
             requires sync { IsSync R.row }
             requires board { board.now.scenario ≡ instance.now }
-            requires owner { let common = common_by bounds instance.now board.now ledger.now in StaysOwner common owner owner }
-            requires thieves { let common = common_by bounds instance.now board.now ledger.now in All (IsThiefOf common owner.end.deque) thieves.items }
+            requires owner { let common = common_by bounds instance.now board.now ledger.now limit.may_stop in StaysOwner common owner owner }
+            requires thieves { let common = common_by bounds instance.now board.now ledger.now limit.may_stop in All (IsThiefOf common owner.end.deque) thieves.items }
             ensures { let common = common_by bounds instance.entry.now board.entry.now
-                ledger.entry.now in IfOk result (λ w. HasJoined common owner thieves.items w) }
+                ledger.entry.now limit.may_stop in IfOk result (λ w. HasJoined common owner thieves.items w) }
         {
             let shared = Shared {
                 alloc,
                 instance,
                 bounds,
+                limit,
                 board,
                 ledger,
                 begun,

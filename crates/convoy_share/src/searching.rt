@@ -6,6 +6,8 @@ ghost use Rattle.convoy_shares.specs.declared.shares.TheConstants.{MOST_WORKERS}
 ghost use Rattle.convoy_packets.specs.Assignment.{ranges_of};
 ghost use Rattle.convoy_packets.specs.Table.{least_of};
 ghost use Rattle.convoy_sim.specs.Delivery.{latency_of};
+ghost use Rattle.convoy_branch.specs.declared.limit.Limit.{Limit};
+ghost use Rattle.convoy_branch.specs.Limits.{IsWithin};
 ghost use Rattle.convoy_branch.specs.Outcomes.{IsOutcome, best_of};
 ghost use Rattle.convoy_shares.specs.Shares.{whole};
 ghost use Rattle.convoy_ledger.specs.Tickets.{most_tickets};
@@ -24,7 +26,7 @@ use convoy_branch::laws::{
     fronts_better, fronts_bound, only_leads_have_lead_leaves, plain_fronts_have_no_stamps,
     whole_fronts_are_readable, whole_fronts_are_trees,
 };
-use convoy_branch::{Bounds, Gate, Outcome};
+use convoy_branch::{Bounds, Gate, Limit, Outcome};
 use convoy_certificate::Certificate;
 use convoy_checker::laws::trees_cover;
 use convoy_incumbent::{Board, CloseFault, Hand};
@@ -62,11 +64,14 @@ pub fn search<R: Threads + Wait + Sync, G: Gate + Sync>(
     let _delay = instance.delay();
     let schedule = Schedule::least(alloc, instance.table())?;
     let opening = Record::of(instance, schedule);
+    let limit = Limit::of(limit);
     search_from(rt, alloc, instance, opening, workers, limit, bounds, gate)
 }
 
 /// The search of [`search`] from an opening record of the scenario. Its latency is at least that of the
-/// least delays, and the latency that the search finds is at least that of the record.
+/// least delays, and the latency that the search finds is at least that of the record. Where the limit says
+/// that the gate may stop the search, and it does, each worker leaves the boxes that it has not taken up:
+/// boxes of any kind may be left with fewer tickets spent.
 ///
 /// The only error is that memory ran out, for any worker or for the outcome.
 pub fn search_from<'a, R: Threads + Wait + Sync, G: Gate + Sync>(
@@ -75,15 +80,16 @@ pub fn search_from<'a, R: Threads + Wait + Sync, G: Gate + Sync>(
     instance: &'a Instance,
     opening: Record,
     workers: u32,
-    limit: u64,
+    limit: Limit,
     bounds: Bounds,
     gate: &G,
 ) -> Result<Outcome, AllocError>
     requires of_scenario { opening.scenario ≡ instance.now }
     requires least { latency_of instance.now (least_of (ranges_of instance.now)) ≤ opening.latency }
     requires workers { (1 ≤ workers) × (workers ≤ MOST_WORKERS) }
-    requires tickets { (1 ≤ limit) × (limit ≤ most_tickets) }
-    ensures value { IfOk result (λ outcome. IsOutcome bounds instance.now workers limit outcome) }
+    requires tickets { (1 ≤ limit.tickets) × (limit.tickets ≤ most_tickets) }
+    ensures value { IfOk result (λ outcome.
+        IsWithin limit (λ tickets. IsOutcome bounds instance.now workers tickets outcome)) }
     ensures opened { IfOk result (λ outcome. opening.latency ≤ best_of outcome) }
 {
     if workers == 1 {
@@ -92,13 +98,14 @@ pub fn search_from<'a, R: Threads + Wait + Sync, G: Gate + Sync>(
     let Ok((board, hand)) = Board::open(rt, alloc, opening) else {
         return Err(AllocError);
     };
-    let (ledger, clerk) = Ledger::open(alloc, limit)?;
+    let (ledger, clerk) = Ledger::open(alloc, limit.tickets)?;
     let begun = AtomicBool::new(false);
     let ended = AtomicBool::new(false);
     let shared = Shared {
         alloc,
         instance,
         bounds,
+        limit,
         board: &board,
         ledger: &ledger,
         begun: &begun,
@@ -106,7 +113,7 @@ pub fn search_from<'a, R: Threads + Wait + Sync, G: Gate + Sync>(
         workers,
     };
     let brought = search_together(rt, gate, &shared, hand, clerk)?;
-    let closed = close(alloc, instance, bounds, limit, board, ledger, brought)?;
+    let closed = close(alloc, gate, instance, bounds, limit, board, ledger, brought)?;
     closed.into_outcome(alloc, instance, bounds)
 }
 
@@ -143,25 +150,27 @@ pub(crate) struct Closed {
     pieces: Vec<Settled>,
 }
 
-/// Ends board and ledger, of which all workers' shares are back, and looks at what is left once more.
-fn close(
+/// Ends board and ledger, of which all workers' shares are back, and looks at what is left once more, unless
+/// the search is stopped.
+fn close<G: Gate>(
     alloc: Global,
+    gate: &G,
     instance: &Instance,
     bounds: Bounds,
-    limit: u64,
+    limit: Limit,
     board: Board,
     ledger: Ledger,
     ended: Ended,
 ) -> Result<Closed, AllocError>
     requires of_scenario { board.scenario ≡ instance.now }
-    requires limit { limit ≡ ledger.most }
+    requires limit { limit.tickets ≡ ledger.most }
     requires hand { (ended.hand.board ≡ board) × (ended.hand.share ≡ whole) }
     requires clerk { (ended.clerk.ledger ≡ ledger) × (ended.clerk.share ≡ whole) }
     requires theirs { sum ended.drawn_by_thieves.items ≤ length ended.clerk.tickets }
     requires ended { (joined : ℕ) × (least : ℕ)
-        × IsEnded (common_by bounds instance.now board ledger) whole whole joined least ended }
+        × IsEnded (common_by bounds instance.now board ledger limit.may_stop) whole whole joined least ended }
     ensures closed { (joined least : ℕ)
-        → IsEnded (common_by bounds instance.now board ledger) whole whole joined least ended
+        → IsEnded (common_by bounds instance.now board ledger limit.may_stop) whole whole joined least ended
         → IfOk result (λ closed. IsClosed bounds instance.now (joined + 1) limit closed) }
     ensures no_less { IfOk result (λ closed. ended.hand.seen ≤ closed.best.latency) }
 {
@@ -182,6 +191,7 @@ fn close(
     };
     let (pieces, tickets) = settle_points(
         alloc,
+        gate,
         instance,
         bounds,
         pieces,
@@ -221,12 +231,13 @@ impl Closed {
         instance: &Instance,
         bounds: Bounds,
     ) -> Result<Outcome, AllocError>
-        requires closed { (workers : ℕ) × (limit : ℕ)
+        requires closed { (workers : ℕ) × (limit : Limit)
             × IsClosed bounds instance.now workers limit self }
         requires least { latency_of instance.now (least_of (ranges_of instance.now))
             ≤ self.best.latency }
-        ensures value { (workers limit : ℕ) → IsClosed bounds instance.now workers limit self
-            → IfOk result (λ outcome. IsOutcome bounds instance.now workers limit outcome) }
+        ensures value { (workers : ℕ) (limit : Limit) → IsClosed bounds instance.now workers limit self
+            → IfOk result (λ outcome.
+            IsWithin limit (λ tickets. IsOutcome bounds instance.now workers tickets outcome)) }
         ensures best { IfOk result (λ outcome. best_of outcome ≡ self.best.latency) }
     {
         if has_left(&self.pieces) {
@@ -243,11 +254,12 @@ impl Closed {
         instance: &Instance,
         bounds: Bounds,
     ) -> Result<Outcome, AllocError>
-        requires closed { (workers : ℕ) × (limit : ℕ)
+        requires closed { (workers : ℕ) × (limit : Limit)
             × IsClosed bounds instance.now workers limit self }
         requires none { list_any is_left self.pieces.items ≡ false }
-        ensures value { (workers limit : ℕ) → IsClosed bounds instance.now workers limit self
-            → IfOk result (λ outcome. IsOutcome bounds instance.now workers limit outcome) }
+        ensures value { (workers : ℕ) (limit : Limit) → IsClosed bounds instance.now workers limit self
+            → IfOk result (λ outcome.
+            IsWithin limit (λ tickets. IsOutcome bounds instance.now workers tickets outcome)) }
         ensures best { IfOk result (λ outcome. best_of outcome ≡ self.best.latency) }
     {
         plain_fronts_have_no_stamps();
@@ -272,13 +284,14 @@ impl Closed {
         instance: &Instance,
         bounds: Bounds,
     ) -> Result<Outcome, AllocError>
-        requires closed { (workers : ℕ) × (limit : ℕ)
+        requires closed { (workers : ℕ) × (limit : Limit)
             × IsClosed bounds instance.now workers limit self }
         requires least { latency_of instance.now (least_of (ranges_of instance.now))
             ≤ self.best.latency }
         requires some { list_any is_left self.pieces.items ≡ true }
-        ensures value { (workers limit : ℕ) → IsClosed bounds instance.now workers limit self
-            → IfOk result (λ outcome. IsOutcome bounds instance.now workers limit outcome) }
+        ensures value { (workers : ℕ) (limit : Limit) → IsClosed bounds instance.now workers limit self
+            → IfOk result (λ outcome.
+            IsWithin limit (λ tickets. IsOutcome bounds instance.now workers tickets outcome)) }
         ensures best { IfOk result (λ outcome. best_of outcome ≡ self.best.latency) }
     {
         fronts_bound();

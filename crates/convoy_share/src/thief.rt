@@ -1,6 +1,6 @@
 //! The workers that steal.
 
-ghost use Rattle.std.specs.Prelude.{◌≡◌, IfOk, OnOk};
+ghost use Rattle.std.specs.Prelude.{IfOk, OnOk};
 ghost use Rattle.convoy_share.specs.Common.{common_of};
 ghost use Rattle.convoy_share.specs.Workers.{StaysThief};
 
@@ -27,8 +27,8 @@ pub(crate) struct ThiefWorker {
     pub trees: Vec<Tree>,
 }
 
-/// Takes a branch, if there is one, and searches it as far as there are tickets. Answers whether there
-/// may be more.
+/// Takes a branch, if there is one, and searches it as far as there are tickets, and until the search is
+/// stopped. Answers whether there may be more.
 fn rob_once<R: Wait, G: Gate>(
     rt: &R,
     gate: &G,
@@ -60,7 +60,7 @@ fn rob_once<R: Wait, G: Gate>(
 }
 
 /// Takes branches and searches them, once the owner has the root, until there is no ticket left, or the
-/// owner has ended and there is no branch.
+/// search is stopped, or the owner has ended and there is no branch.
 pub(crate) fn rob<R: Wait, G: Gate>(
     rt: &R,
     gate: &G,
@@ -74,7 +74,7 @@ pub(crate) fn rob<R: Wait, G: Gate>(
         let last = shared.ended.load(Ordering::SeqCst);
         let begun = shared.begun.load(Ordering::SeqCst);
         let more = begun && rob_once(rt, gate, shared, &mut worker)?;
-        if worker.means.clerk.done() || last && !more {
+        if worker.means.clerk.done() || last && !more || shared.limit.is_over(gate) {
             break;
         }
         if !more {

@@ -5,12 +5,12 @@ ghost use Rattle.convoy_shares.specs.declared.shares.TheConstants.{MOST_WORKERS}
 ghost use Rattle.convoy_packets.specs.Assignment.{ranges_of};
 ghost use Rattle.convoy_packets.specs.Table.{least_of};
 ghost use Rattle.convoy_sim.specs.Delivery.{latency_of};
-ghost use Rattle.convoy_branch.specs.BothWays.{IsOutcomeBothWays};
+ghost use Rattle.convoy_branch.specs.BothWays.{IsWithinBothWays, IsOutcomeBothWays};
 ghost use Rattle.convoy_branch.specs.Outcomes.{best_of};
 ghost use Rattle.convoy_ledger.specs.Tickets.{most_tickets};
 
 use super::searching::search_from;
-use convoy_branch::{Bounds, Gate, Outcome, lead_share, plain_share};
+use convoy_branch::{Bounds, Gate, Limit, Outcome, lead_share, plain_share};
 use convoy_packets::Instance;
 use convoy_sim::Record;
 use std::alloc::{AllocError, Global};
@@ -19,7 +19,9 @@ use std::thread::Threads;
 
 /// Searches both ways with so many workers, from an opening record of the scenario: as
 /// [`convoy_branch::search_both_ways`] does, where each of the two searches is one as [`search_from`]
-/// makes. The gate is told of the second search before its threads start.
+/// makes. The gate is told of the second search before its threads start. Where it may stop the search, and
+/// does so before then, there is no second one; where it stops either, boxes may be left with fewer tickets
+/// spent.
 ///
 /// The only error is that memory ran out, in either search.
 pub fn search_both_ways<R: Threads + Wait + Sync, G: Gate + Sync>(
@@ -28,25 +30,36 @@ pub fn search_both_ways<R: Threads + Wait + Sync, G: Gate + Sync>(
     instance: &Instance,
     opening: Record,
     workers: u32,
-    limit: u64,
+    limit: Limit,
     gate: &G,
 ) -> Result<Outcome, AllocError>
     requires of_scenario { opening.scenario ≡ instance.now }
     requires least { latency_of instance.now (least_of (ranges_of instance.now)) ≤ opening.latency }
     requires workers { (1 ≤ workers) × (workers ≤ MOST_WORKERS) }
-    requires tickets { (1 ≤ limit) × (limit ≤ most_tickets) }
-    ensures value { IfOk result (λ outcome. IsOutcomeBothWays instance.now workers limit outcome) }
+    requires tickets { (1 ≤ limit.tickets) × (limit.tickets ≤ most_tickets) }
+    ensures value { IfOk result (λ outcome. IsWithinBothWays limit
+        (λ plain leads. IsOutcomeBothWays instance.now workers plain leads outcome)) }
     ensures opened { IfOk result (λ outcome. opening.latency ≤ best_of outcome) }
 {
-    let (by_plain, by_leads) = (plain_share(limit), lead_share(limit));
-    let (plain, lead) = (Bounds::Plain, Bounds::Lead);
-    let first = search_from(rt, alloc, instance, opening, workers, by_plain, plain, gate)?;
+    let (by_plain, by_leads) = (plain_share(limit.tickets), lead_share(limit.tickets));
+    let (plain, lead) = (limit.with_tickets(by_plain), limit.with_tickets(by_leads));
+    let first = search_from(
+        rt,
+        alloc,
+        instance,
+        opening,
+        workers,
+        plain,
+        Bounds::Plain,
+        gate,
+    )?;
     match first {
-        Outcome::Open { best, upper, .. } if by_leads > 0 => {
-            gate.begins_anew(lead, by_leads, best.latency(), upper);
-            let second = search_from(rt, alloc, instance, best, workers, by_leads, lead, gate)?;
+        Outcome::Proved { .. } => Ok(first),
+        Outcome::Open { best, upper, .. } if by_leads > 0 && !limit.is_over(gate) => {
+            gate.begins_anew(Bounds::Lead, by_leads, best.latency(), upper);
+            let second = search_from(rt, alloc, instance, best, workers, lead, Bounds::Lead, gate)?;
             Ok(second.with_upper(upper))
         }
-        ended => Ok(ended),
+        Outcome::Open { .. } => Ok(first),
     }
 }

@@ -40,8 +40,8 @@ fn advance<R: Wait, G: Gate, H: Halves>(
         (growing.old.work.items ++ Piece.Todo branch tried ∷ reverse growing.old.written.items)
         → OnOk result (IsGrown shared.now.bounds shared.now.instance.now before means.new first (H.put halves.new) low
         boxes (pieces_in growing.new)) }
-    ensures left { IsLeftAtEnd shared.now.instance.now means.old (reverse growing.old.written.items)
-        → OnOk result (IsLeftAtEnd shared.now.instance.now means.new
+    ensures left { IsLeftAtEnd shared.now.instance.now shared.now.limit.may_stop means.old (reverse growing.old.written.items)
+        → OnOk result (IsLeftAtEnd shared.now.instance.now shared.now.limit.may_stop means.new
         (reverse growing.new.written.items)) }
     ensures board { OnOk result (means.new.hand.board ≡ shared.now.board.now) }
     ensures ledger { OnOk result (means.new.clerk.ledger ≡ shared.now.ledger.now) }
@@ -69,8 +69,9 @@ fn advance<R: Wait, G: Gate, H: Halves>(
     Ok(())
 }
 
-/// Searches a branch as far as there are tickets: the upper half of each split first, and then what
-/// became of the lower half. A point in real time that nothing closes stays left. The pieces of its tree are answered from the last one back.
+/// Searches a branch as far as there are tickets, and until the search is stopped: the upper half of each
+/// split first, and then what became of the lower half. A point in real time that nothing closes stays
+/// left. The pieces of its tree are answered from the last one back.
 pub(crate) fn search_branch<R: Wait, G: Gate, H: Halves>(
     rt: &R,
     gate: &G,
@@ -88,8 +89,8 @@ pub(crate) fn search_branch<R: Wait, G: Gate, H: Halves>(
     ensures grown { (low : ℕ) → low ≤ length (H.put halves.old) → IfOk result (λ pieces.
         IsGrown shared.now.bounds shared.now.instance.now means.old means.new (H.put halves.old) (H.put halves.new) low
         (branch.delay_box ∷ []) (reverse pieces.items)) }
-    ensures left { IfOk result (λ pieces.
-        IsLeftAtEnd shared.now.instance.now means.new (reverse pieces.items)) }
+    ensures left { IfOk result (λ pieces. IsLeftAtEnd shared.now.instance.now shared.now.limit.may_stop
+        means.new (reverse pieces.items)) }
     ensures fixed { OnOk result (H.fixed halves.new ≡ H.fixed halves.old) }
 {
     let mut growing = Growing::of(shared.alloc, branch, tried)?;

@@ -1,4 +1,5 @@
 pub mod Numbers
+pub mod Opens
 pub mod CeilingFaults
 pub mod KnownMessages
 pub mod CeilingRows

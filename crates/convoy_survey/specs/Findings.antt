@@ -10,7 +10,7 @@ use Rattle.convoy_sim.specs.Greatest.{IsGreatest, IsReached, IsUpper}
 use Rattle.convoy_certificate.specs.Certificate.{Certificate}
 use Rattle.convoy_checker.specs.Validity.{IsValid}
 use Rattle.convoy_explain.specs.Causes.{explanation_of}
-use Rattle.convoy_branch.specs.Options.{Settings}
+use Rattle.convoy_branch.specs.Options.{Settings, limit_of}
 use Rattle.convoy_commands.specs.Searches.{IsFrontBy}
 use Rattle.convoy_survey.specs.declared.finding.Cause.{Cause}
 use Rattle.convoy_survey.specs.declared.finding.Finding.{Finding}
@@ -39,7 +39,7 @@ pub record IsFrontFound (settings : Settings) (scenario : Scenario) (least most 
   pub assigned : IsAssignment scenario schedule
   pub reached : latency_of scenario schedule ≡ least
   pub upper : IsUpper scenario most
-  pub front : IsFrontBy settings.ways scenario least most settings.limit
+  pub front : IsFrontBy settings.ways scenario least most (limit_of settings)
   pub told_cause : cause ≡ cause_in scenario schedule
 
 -- what a search with these settings finds of a scenario's target, as `latency` finds it: that memory ran out is no such finding

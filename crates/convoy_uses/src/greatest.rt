@@ -5,7 +5,7 @@ ghost use Rattle.convoy_library.specs.Tickets.{most_tickets};
 ghost use Rattle.convoy_uses.specs.Answers.{IsAnswer};
 
 use super::fault::Fault;
-use convoy_library::branch::{NoGate, Outcome, search_both_ways};
+use convoy_library::branch::{Limit, NoGate, Outcome, search_both_ways};
 use convoy_library::packets::laws::fixed_order_is_order;
 use convoy_library::packets::{Instance, Schedule};
 use convoy_library::share;
@@ -34,6 +34,7 @@ pub fn greatest_latency(
 {
     fixed_order_is_order();
     let opening = Record::of(instance, Schedule::least(alloc, instance.table())?);
+    let limit = Limit::of(limit);
     let outcome = search_both_ways(alloc, instance, opening, limit, &NoGate)?;
     Ok(answer_of(&outcome))
 }
@@ -52,14 +53,15 @@ pub fn greatest_latency_by<R: Threads + Wait + Sync>(
 {
     fixed_order_is_order();
     let opening = Record::of(instance, Schedule::least(alloc, instance.table())?);
+    let limit = Limit::of(limit);
     let outcome = share::search_both_ways(rt, alloc, instance, opening, workers, limit, &NoGate)?;
     Ok(answer_of(&outcome))
 }
 
 /// What the outcome of a search both ways tells.
 fn answer_of(outcome: &Outcome) -> Answer
-    ensures { (scenario : Scenario) (workers limit : ℕ) →
-        IsOutcomeBothWays scenario workers limit outcome.now → IsAnswer scenario result }
+    ensures { (scenario : Scenario) (workers plain leads : ℕ) →
+        IsOutcomeBothWays scenario workers plain leads outcome.now → IsAnswer scenario result }
 {
     match outcome {
         Outcome::Proved { certificate, .. } => Answer::Exactly(certificate.latency()),

@@ -1,17 +1,19 @@
 use Rattle.std.proofs.Common.{sym, ◌∙◌}
-use Rattle.convoy_checker.proofs.NextNode.{first_fault-no_box, first_fault-passed, after_are_boxes, none_from_test}
+use Rattle.convoy_checker.proofs.NextNode.{after_are_boxes, none_from_test}
+use Rattle.convoy_checker.proofs.StepLimits.{seen-no_box, seen-passed}
 use Rattle.convoy_checker.proofs.checking.first_fault.Goals as goal
 
 pub returns-in_default : goal.returns-in_default
 returns-in_default c =
-    sym (first_fault-no_box c.args.claim.now.instance.now c.args.claim.now.latency c.loop-number.number c.loop-number.walk c.args.nodes.now c.loop-number-test.true (sym c.in_default.ensures))
+    sym (seen-no_box c.args.claim.now.instance.now c.args.claim.now.latency c.loop-number.number c.loop-number.walk c.args.nodes.now c.loop-number.left c.loop-number-test.true (sym c.in_default.ensures))
     ∙ c.loop-number.invariant.so_far
 
 pub loop-number-preserved : goal.loop-number-preserved
 loop-number-preserved c =
     let none = none_from_test c.in_ok-fault.fault c.if-is_some.ensures in
     let right = sym c.in_ok-fault.ensures ∙ none in
+    let enough = sym c.in_ok-spend.ensures.enough ∙ c.if-not-branch.false in
     record {
-      so_far = first_fault-passed c.args.claim.now.instance.now c.args.claim.now.latency c.loop-number.number c.loop-number.walk c.pass.new.self c.in-Some.delay_box.now c.args.nodes.now _ c.loop-number-test.true (sym c.in-Some.ensures) right c.in_ok-pass.ensures ∙ c.loop-number.invariant.so_far;
+      so_far = rw c.in_ok-spend.ensures.left (seen-passed c.args.claim.now.instance.now c.args.claim.now.latency c.loop-number.number c.loop-number.walk c.in-Some.delay_box.now c.args.nodes.now _ c.loop-number.left c.pass.new.self c.loop-number-test.true (sym c.in-Some.ensures) enough right c.in_ok-pass.ensures) ∙ c.loop-number.invariant.so_far;
       boxes = after_are_boxes c.args.claim.now.instance.now c.args.claim.now.latency c.loop-number.number _ c.loop-number.walk c.pass.new.self c.in-Some.delay_box.now c.halves_are_boxes.ensures (sym c.in-Some.ensures) right c.in_ok-pass.ensures c.loop-number.invariant.boxes;
     }

@@ -1,9 +1,20 @@
-use Rattle.std.proofs.Common.{arith, refl, reverse, subst, sym, List, ◌+◌}
+use Rattle.std.proofs.Common.{arith, refl, reverse, ap, subst, sym, List, [], ◌+◌, ◌∙◌}
+use Rattle.std.proofs.lemmas.List.{reverse-reverse}
 use Rattle.std.proofs.lemmas.List.Elements.{All-head}
 use Rattle.convoy_share.specs.declared.piece.Piece.{Piece}
 use Rattle.convoy_share.specs.Pieces.{IsPiece}
-use Rattle.convoy_share.proofs.LookedAt.{IsLooking, IsLooking-next, IsLooking-popped}
+use Rattle.convoy_share.proofs.LookedAt.{IsLooking, IsLooking-next, IsLooking-popped, IsLooking-start}
 use Rattle.convoy_share.proofs.looking.look_again.Goals as goal
+
+pub loop-piece-init : goal.loop-piece-init
+loop-piece-init c =
+    let tree = c.requires.tree in
+    let put = tree.whole.put in
+    let slots = tree.whole.slots in
+    let Looking : List Piece → List Piece → Type 0 = λ done rest. IsLooking c.args.bounds c.args.instance.now c.args.best c.args.limit put slots c.args.tickets done rest in
+    let turned = ap (λ (ps : List Piece). reverse ps) c.reverse.ensures.items ∙ reverse-reverse c.args.pieces.items in
+    let start = subst (λ (ps : List Piece). Looking [] ps) (sym turned) (IsLooking-start c.args.bounds c.args.instance.now c.args.best c.args.tickets c.args.limit c.args.pieces.items tree c.requires.tickets) in
+    ((put, slots, subst (λ (ps : List Piece). Looking ps (reverse c.reverse.new.self.items)) (sym c.in_ok-done.ensures.items) start), omega arith)
 
 pub look_at-requires : goal.look_at-requires
 look_at-requires c =

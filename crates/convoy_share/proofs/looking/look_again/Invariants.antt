@@ -6,7 +6,7 @@ use Rattle.convoy_share.proofs.looking.look_again.Given as goal
 
 abbrev pub invariant-loop-piece : goal.invariant-loop-piece
 invariant-loop-piece l =
-    ((put : List Box) × (slots : List (List Piece)) × IsLooking l.bounds l.instance l.best l.limit put slots l.spent l.done.items (reverse l.rest.items))
+    ((put : List Box) × (slots : List (List Piece)) × IsLooking l.bounds l.instance l.best l.fn.limit put slots l.spent l.done.items (reverse l.rest.items))
     × (l.fn.tickets ≤ l.spent)
 
 abbrev pub decreases-loop-piece : goal.decreases-loop-piece

@@ -18,7 +18,7 @@ pub place-lower-requires : goal.place-lower-requires
 place-lower-requires g c =
     let h = c.in-Turned-Halves in
     let P = IsPiece c.args.shared.now.instance.now c.take_up.new.means.hand.seen [] in
-    let Taken : TakenUp → Type 0 = λ t. IsTakenUp c.args.shared.now.bounds c.args.shared.now.instance.now c.args.shared.now.ledger.now.most c.args.branch c.args.means.now c.take_up.new.means t in
+    let Taken : TakenUp → Type 0 = λ t. IsTakenUp c.args.shared.now.bounds c.args.shared.now.instance.now c.args.shared.now.limit.may_stop c.args.shared.now.ledger.now.most c.args.branch c.args.means.now c.take_up.new.means t in
     let taken = subst Taken (h.is ∙ ap (λ (t : Turn). Turned t) h.field-0-is) c.in_ok-node.ensures in
     let rest = All-tail P (Done (Split h.packet h.at)) (Todo h.lower false ∷ Todo h.upper true ∷ []) taken.ticket.3.each in
     let H = g.H.Halves in
@@ -29,8 +29,9 @@ returns-in_ok-close-in-Turned-Closed-clause-grown g c before first low boxes bel
     let H = g.H.Halves in
     let bounds = c.args.shared.now.bounds in
     let scenario = c.args.shared.now.instance.now in
+    let may_stop = c.args.shared.now.limit.may_stop in
     let most = c.args.shared.now.ledger.now.most in
-    let Taken : TakenUp → Type 0 = λ t. IsTakenUp bounds scenario most c.args.branch c.args.means.now c.take_up.new.means t in
+    let Taken : TakenUp → Type 0 = λ t. IsTakenUp bounds scenario may_stop most c.args.branch c.args.means.now c.take_up.new.means t in
     let better = c.fronts_better.ensures in
     let between = c.args.means.now in
     let after = c.take_up.new.means in
@@ -39,15 +40,16 @@ returns-in_ok-close-in-Turned-Closed-clause-grown g c before first low boxes bel
     let rest = reverse c.args.growing.now.written.items in
     let h = c.in-Turned-Closed in
     let taken = subst Taken (h.is ∙ ap (λ (t : Turn). Turned t) h.field-0-is) c.in_ok-node.ensures in
-    rw c.in_ok-close-in-Turned-Closed.ensures.pieces (IsGrown-turned better bounds scenario most before between after first here low boxes front rest c.args.branch c.args.tried (Closed h.node) taken grown)
+    rw c.in_ok-close-in-Turned-Closed.ensures.pieces (IsGrown-turned better bounds scenario may_stop most before between after first here low boxes front rest c.args.branch c.args.tried (Closed h.node) taken grown)
 
 pub returns-in_ok-part-in-Turned-Halves-clause-grown : goal.returns-in_ok-part-in-Turned-Halves-clause-grown
 returns-in_ok-part-in-Turned-Halves-clause-grown g c before first low boxes below grown =
     let H = g.H.Halves in
     let bounds = c.args.shared.now.bounds in
     let scenario = c.args.shared.now.instance.now in
+    let may_stop = c.args.shared.now.limit.may_stop in
     let most = c.args.shared.now.ledger.now.most in
-    let Taken : TakenUp → Type 0 = λ t. IsTakenUp bounds scenario most c.args.branch c.args.means.now c.take_up.new.means t in
+    let Taken : TakenUp → Type 0 = λ t. IsTakenUp bounds scenario may_stop most c.args.branch c.args.means.now c.take_up.new.means t in
     let better = c.fronts_better.ensures in
     let between = c.args.means.now in
     let after = c.take_up.new.means in
@@ -56,15 +58,16 @@ returns-in_ok-part-in-Turned-Halves-clause-grown g c before first low boxes belo
     let rest = reverse c.args.growing.now.written.items in
     let h = c.in-Turned-Halves in
     let taken = subst Taken (h.is ∙ ap (λ (t : Turn). Turned t) h.field-0-is) c.in_ok-node.ensures in
-    rw c.in_ok-part-in-Turned-Halves.ensures.pieces (IsGrown-placed better bounds scenario most before between after first here (H.put c.place-lower.new.self) low boxes front rest c.args.branch c.args.tried h.packet h.at h.lower h.upper c.place-lower.result taken c.place-lower.ensures.placed below grown)
+    rw c.in_ok-part-in-Turned-Halves.ensures.pieces (IsGrown-placed better bounds scenario may_stop most before between after first here (H.put c.place-lower.new.self) low boxes front rest c.args.branch c.args.tried h.packet h.at h.lower h.upper c.place-lower.result taken c.place-lower.ensures.placed below grown)
 
 pub returns-in_ok-leave-in-Left-clause-grown : goal.returns-in_ok-leave-in-Left-clause-grown
 returns-in_ok-leave-in-Left-clause-grown g c before first low boxes below grown =
     let H = g.H.Halves in
     let bounds = c.args.shared.now.bounds in
     let scenario = c.args.shared.now.instance.now in
+    let may_stop = c.args.shared.now.limit.may_stop in
     let most = c.args.shared.now.ledger.now.most in
-    let Taken : TakenUp → Type 0 = λ t. IsTakenUp bounds scenario most c.args.branch c.args.means.now c.take_up.new.means t in
+    let Taken : TakenUp → Type 0 = λ t. IsTakenUp bounds scenario may_stop most c.args.branch c.args.means.now c.take_up.new.means t in
     let better = c.fronts_better.ensures in
     let between = c.args.means.now in
     let after = c.take_up.new.means in
@@ -72,42 +75,45 @@ returns-in_ok-leave-in-Left-clause-grown g c before first low boxes below grown 
     let front = c.args.growing.now.work.items in
     let rest = reverse c.args.growing.now.written.items in
     let taken = subst Taken c.in-Left.is c.in_ok-node.ensures in
-    rw c.in_ok-leave-in-Left.ensures.pieces (IsGrown-left better bounds scenario most before between after first here low boxes front rest c.args.branch c.in-Left.branch c.args.tried taken grown)
+    rw c.in_ok-leave-in-Left.ensures.pieces (IsGrown-left better bounds scenario may_stop most before between after first here low boxes front rest c.args.branch c.in-Left.branch c.args.tried taken grown)
 
 pub returns-in_ok-close-in-Turned-Closed-clause-left : goal.returns-in_ok-close-in-Turned-Closed-clause-left
 returns-in_ok-close-in-Turned-Closed-clause-left g c before =
     let bounds = c.args.shared.now.bounds in
     let scenario = c.args.shared.now.instance.now in
+    let may_stop = c.args.shared.now.limit.may_stop in
     let most = c.args.shared.now.ledger.now.most in
-    let Taken : TakenUp → Type 0 = λ t. IsTakenUp bounds scenario most c.args.branch c.args.means.now c.take_up.new.means t in
+    let Taken : TakenUp → Type 0 = λ t. IsTakenUp bounds scenario may_stop most c.args.branch c.args.means.now c.take_up.new.means t in
     let between = c.args.means.now in
     let after = c.take_up.new.means in
     let written = reverse c.args.growing.now.written.items in
     let h = c.in-Turned-Closed in
     let taken = subst Taken (h.is ∙ ap (λ (t : Turn). Turned t) h.field-0-is) c.in_ok-node.ensures in
-    left_same bounds scenario most between after written _ c.args.branch (Closed h.node) taken c.in_ok-close-in-Turned-Closed.ensures.left before
+    left_same bounds scenario may_stop most between after written _ c.args.branch (Closed h.node) taken c.in_ok-close-in-Turned-Closed.ensures.left before
 
 pub returns-in_ok-part-in-Turned-Halves-clause-left : goal.returns-in_ok-part-in-Turned-Halves-clause-left
 returns-in_ok-part-in-Turned-Halves-clause-left g c before =
     let bounds = c.args.shared.now.bounds in
     let scenario = c.args.shared.now.instance.now in
+    let may_stop = c.args.shared.now.limit.may_stop in
     let most = c.args.shared.now.ledger.now.most in
-    let Taken : TakenUp → Type 0 = λ t. IsTakenUp bounds scenario most c.args.branch c.args.means.now c.take_up.new.means t in
+    let Taken : TakenUp → Type 0 = λ t. IsTakenUp bounds scenario may_stop most c.args.branch c.args.means.now c.take_up.new.means t in
     let between = c.args.means.now in
     let after = c.take_up.new.means in
     let written = reverse c.args.growing.now.written.items in
     let h = c.in-Turned-Halves in
     let taken = subst Taken (h.is ∙ ap (λ (t : Turn). Turned t) h.field-0-is) c.in_ok-node.ensures in
-    left_same bounds scenario most between after written _ c.args.branch (Halves h.packet h.at h.lower h.upper) taken (ap (λ (ps : List Piece). left_boxes (reverse ps)) c.in_ok-part-in-Turned-Halves.ensures.written) before
+    left_same bounds scenario may_stop most between after written _ c.args.branch (Halves h.packet h.at h.lower h.upper) taken (ap (λ (ps : List Piece). left_boxes (reverse ps)) c.in_ok-part-in-Turned-Halves.ensures.written) before
 
 pub returns-in_ok-leave-in-Left-clause-left : goal.returns-in_ok-leave-in-Left-clause-left
 returns-in_ok-leave-in-Left-clause-left g c before =
     let bounds = c.args.shared.now.bounds in
     let scenario = c.args.shared.now.instance.now in
+    let may_stop = c.args.shared.now.limit.may_stop in
     let most = c.args.shared.now.ledger.now.most in
-    let Taken : TakenUp → Type 0 = λ t. IsTakenUp bounds scenario most c.args.branch c.args.means.now c.take_up.new.means t in
+    let Taken : TakenUp → Type 0 = λ t. IsTakenUp bounds scenario may_stop most c.args.branch c.args.means.now c.take_up.new.means t in
     let between = c.args.means.now in
     let after = c.take_up.new.means in
     let written = reverse c.args.growing.now.written.items in
     let taken = subst Taken c.in-Left.is c.in_ok-node.ensures in
-    left_more bounds scenario most between after written _ c.args.branch c.in-Left.branch taken c.in_ok-leave-in-Left.ensures.left before
+    left_more bounds scenario may_stop most between after written _ c.args.branch c.in-Left.branch taken c.in_ok-leave-in-Left.ensures.left before

@@ -40,7 +40,7 @@ loop-growing-preserved g c =
     let put = H.put c.loop-growing.halves in
     let held = c.loop-growing.invariant in
     let told = c.in_ok-advance.ensures in
-    let left = IsLeftAtEnd-by c.args.shared.now.instance.now c.loop-growing.means (reverse c.loop-growing.growing.written.items) (reverse c.next.new.self.written.items) c.in_ok-branch.ensures.left held.1 in
+    let left = IsLeftAtEnd-by c.args.shared.now.instance.now c.args.shared.now.limit.may_stop c.loop-growing.means (reverse c.loop-growing.growing.written.items) (reverse c.next.new.self.written.items) c.in_ok-branch.ensures.left held.1 in
     let grown = λ (low : ℕ) (below : low ≤ length first). subst (λ (ps : List Piece). IsGrown c.args.shared.now.bounds c.args.shared.now.instance.now c.args.means.now c.loop-growing.means first put low boxes ps) some (held.0 low below) in (
       (λ low below. told.grown c.args.means.now first low boxes below (grown low below)),
       told.left left,
@@ -57,4 +57,4 @@ returns-clause-grown g c low below =
 
 pub returns-clause-left : goal.returns-clause-left
 returns-clause-left g c =
-    IsLeftAtEnd-by c.args.shared.now.instance.now c.loop-growing.means (reverse c.loop-growing.growing.written.items) (reverse c.next.new.self.written.items) c.in_ok-branch.ensures.left c.loop-growing.invariant.1
+    IsLeftAtEnd-by c.args.shared.now.instance.now c.args.shared.now.limit.may_stop c.loop-growing.means (reverse c.loop-growing.growing.written.items) (reverse c.next.new.self.written.items) c.in_ok-branch.ensures.left c.loop-growing.invariant.1

@@ -13,4 +13,4 @@ of-opening-requires c = record {
 }
 
 pub returns : goal.returns
-returns c = c.answer_of.ensures _ _ _ c.in_ok-outcome.ensures.value
+returns c = c.answer_of.ensures _ _ _ _ c.in_ok-outcome.ensures.value.answer

@@ -13,4 +13,4 @@ of-opening-requires g c = record {
 }
 
 pub returns : goal.returns
-returns g c = c.answer_of.ensures _ _ _ c.in_ok-outcome.ensures.value
+returns g c = c.answer_of.ensures _ _ _ _ c.in_ok-outcome.ensures.value.answer

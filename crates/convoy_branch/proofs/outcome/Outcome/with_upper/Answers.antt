@@ -2,7 +2,7 @@ use Rattle.std.proofs.Common.{arith, inr}
 use Rattle.convoy_branch.proofs.outcome.Outcome.with_upper.Goals as goal
 
 pub returns-in-Open-clause-value : goal.returns-in-Open-clause-value
-returns-in-Open-clause-value c scenario workers limit best tickets by_worker plain outcome no_worse =
+returns-in-Open-clause-value c scenario workers by_plain by_leads best tickets by_worker plain outcome no_worse =
     let lead = rw c.in-Open.is at outcome in
     let above = rw c.in-Open.is at no_worse in
     inr (record {

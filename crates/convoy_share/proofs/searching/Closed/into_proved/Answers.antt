@@ -3,6 +3,8 @@ use Rattle.std.specs.List.{All}
 use Rattle.convoy_scenario.specs.Scenario.{Scenario}
 use Rattle.convoy_certificate.specs.Certificate.{IsNode}
 use Rattle.convoy_certificate.specs.declared.node.Node.{Node}
+use Rattle.convoy_branch.specs.Outcomes.{IsProved}
+use Rattle.convoy_branch.proofs.Withins.{IsWithin-all}
 use Rattle.convoy_share.specs.declared.piece.Piece.{Piece}
 use Rattle.convoy_share.specs.Pieces.{nodes_in}
 use Rattle.convoy_share.proofs.Outcomes.{IsProved-closed, certificate_is, nodes_closed}
@@ -19,4 +21,4 @@ pub returns-clause-value : goal.returns-clause-value
 returns-clause-value c workers limit is =
     let nodes = c.in_ok-nodes.ensures ∙ ap (λ (ps : List Piece). nodes_in ps) c.deref.ensures.value in
     let same = certificate_is c.in_ok-copy.ensures c.latency-latency.ensures.value (c.in_ok-schedule.ensures ∙ c.schedule.ensures.value) nodes in
-    IsProved-closed c.whole_fronts_are_trees.ensures c.trees_cover.ensures c.plain_fronts_have_no_stamps.ensures c.only_leads_have_lead_leaves.ensures c.whole_fronts_are_readable.ensures c.args.bounds c.args.instance.now workers limit c.args.self c.new.result c.requires.none (c.new.ensures ∙ same) is
+    IsWithin-all limit (λ tickets. IsProved c.args.bounds c.args.instance.now workers tickets c.new.result c.args.self.tickets c.args.self.by_worker.items) (IsProved-closed c.whole_fronts_are_trees.ensures c.trees_cover.ensures c.plain_fronts_have_no_stamps.ensures c.only_leads_have_lead_leaves.ensures c.whole_fronts_are_readable.ensures c.args.bounds c.args.instance.now workers limit c.args.self c.new.result c.requires.none (c.new.ensures ∙ same) is)

@@ -1,0 +1,130 @@
+-- Steps that are taken one node after the other, where there is a limit.
+use Rattle.std.proofs.Common.{◌≡◌, ℕ, ◌+◌, ◌*◌, ◌<◌, true, false, cond, List, [], ◌∷◌, ◌++◌, length, get_or, drop, Option, Some, None, refl, sym, ap, ◌∙◌, arith}
+use Rattle.std.proofs.lemmas.Bool.Decides.{nat_tests}
+use Rattle.std.proofs.lemmas.Bool.{le-leb}
+use Rattle.std.specs.List.{slice_get}
+use Rattle.std.specs.Option.{is_some, option_or}
+use Rattle.std.proofs.lemmas.List.{drop_more}
+use Rattle.convoy_scenario.specs.Scenario.{Scenario}
+use Rattle.convoy_certificate.specs.declared.node.Node.{Node}
+use Rattle.convoy_certificate.specs.declared.node.Node.TheVariants as kinds
+use Rattle.convoy_intervals.specs.Boxes.{Box}
+use Rattle.convoy_checker.specs.declared.checking.Looked.{Looked}
+use Rattle.convoy_checker.specs.declared.checking.Looked.TheVariants.{All, Short}
+use Rattle.convoy_checker.specs.declared.refused.Refused.{Refused}
+use Rattle.convoy_checker.specs.declared.refused.Refused.TheVariants.{TreeCount}
+use Rattle.convoy_checker.specs.Checks.{first_fault, node_fault}
+use Rattle.convoy_checker.specs.Looks.{left_after, looked_within}
+use Rattle.convoy_checker.specs.Steps.{allows, node_steps, steps_to_fault, test_count, test_steps}
+use Rattle.convoy_stamps.specs.Reach.{pairs_of}
+use Rattle.convoy_stamps.specs.declared.pair.Pair.{Pair}
+use Rattle.convoy_sure.specs.Windows.{Windows, tables_by, windows_of}
+use Rattle.convoy_checker.specs.Trees.{boxes_below}
+use Rattle.convoy_checker.specs.Walks.{boxes_after}
+use Rattle.convoy_checker.proofs.NextNode.{cons_from_get, nil_from_get}
+
+-- no steps may always be taken
+allows_none : (limit : Option ℕ) → allows limit 0 ≡ true
+allows_none None = refl
+allows_none (Some most) = le-leb 0 most (omega arith)
+
+-- steps after those that may be taken, and after those that may not
+allows_more : (limit : Option ℕ) (a b : ℕ) → allows limit a ≡ true → allows limit (a + b) ≡ allows (left_after limit a) b
+allows_more None a b enough = refl
+allows_more (Some most) a b enough = grind (arith, nat_tests, enough)
+
+allows_not : (limit : Option ℕ) (a b : ℕ) → allows limit a ≡ false → allows limit (a + b) ≡ false
+allows_not None a b short = cc
+allows_not (Some most) a b short = grind (arith, nat_tests, short)
+
+next : (limit : Option ℕ) (a b : ℕ) (fault : Option Refused) → allows limit a ≡ true →
+    looked_within limit (a + b) fault ≡ looked_within (left_after limit a) b fault
+next limit a b fault enough = rw (allows_more limit a b enough) refl
+
+-- what a look at the nodes from that number on shows, over those boxes
+abbrev pub seen : Scenario → ℕ → ℕ → List Box → List Node → Option ℕ → Looked
+seen plan latency number boxes nodes limit =
+    looked_within limit (steps_to_fault plan latency number boxes nodes) (first_fault plan latency number boxes nodes)
+
+-- a node is left, and no box is
+pub seen-no_box : (plan : Scenario) (latency number : ℕ) (boxes : List Box) (nodes : List Node) (limit : Option ℕ) →
+    number < length nodes → slice_get boxes 0 ≡ None → seen plan latency number boxes (drop number nodes) limit ≡ All (Some TreeCount)
+seen-no_box plan latency number boxes nodes limit below none =
+    rw (nil_from_get boxes none, drop_more nodes number kinds.Bound below, allows_none limit) refl
+
+-- no node is left
+pub seen-no_node : (plan : Scenario) (latency number : ℕ) (boxes : List Box) (limit : Option ℕ) →
+    seen plan latency number boxes [] limit ≡ All (first_fault plan latency number boxes [])
+seen-no_node plan latency number [] limit = rw (allows_none limit) refl
+seen-no_node plan latency number (box ∷ boxes) limit = rw (allows_none limit) refl
+
+-- the node over the first box
+module _ (plan : Scenario) (latency number : ℕ) (boxes : List Box) (box : Box) (nodes : List Node) (d : Node) where
+  node : Node
+  node = get_or nodes number d
+
+  rest : List Node
+  rest = drop (number + 1) nodes
+
+  steps : ℕ
+  steps = node_steps plan node box
+
+  fault : Option Refused
+  fault = node_fault plan latency number node box
+
+  later : ℕ
+  later = steps_to_fault plan latency (number + 1) (boxes_below node box ++ drop 1 boxes) rest
+
+  -- its steps come first
+  steps_are : number < length nodes → slice_get boxes 0 ≡ Some box →
+      steps_to_fault plan latency number boxes (drop number nodes) ≡ steps + cond (is_some fault) 0 later
+  unfolding node rest steps fault later
+  steps_are below first =
+      ap (λ bs. steps_to_fault plan latency number bs (drop number nodes)) (cons_from_get boxes box first)
+      ∙ ap (λ ns. steps_to_fault plan latency number (box ∷ drop 1 boxes) ns) (drop_more nodes number d below)
+
+  fault_is : number < length nodes → slice_get boxes 0 ≡ Some box →
+      first_fault plan latency number boxes (drop number nodes)
+      ≡ option_or fault (first_fault plan latency (number + 1) (boxes_below node box ++ drop 1 boxes) rest)
+  unfolding node rest fault
+  fault_is below first =
+      ap (λ bs. first_fault plan latency number bs (drop number nodes)) (cons_from_get boxes box first)
+      ∙ ap (λ ns. first_fault plan latency number (box ∷ drop 1 boxes) ns) (drop_more nodes number d below)
+
+  -- there are too many
+  pub seen-short : (limit : Option ℕ) → number < length nodes → slice_get boxes 0 ≡ Some box →
+      allows limit (node_steps plan (get_or nodes number d) box) ≡ false →
+      seen plan latency number boxes (drop number nodes) limit ≡ Short
+  unfolding node steps
+  seen-short limit below first short =
+      rw (steps_are below first, allows_not limit (node_steps plan (get_or nodes number d) box) (cond (is_some fault) 0 later) short) refl
+
+  -- it has a fault
+  pub seen-fault : (limit : Option ℕ) (found : Option Refused) → number < length nodes → slice_get boxes 0 ≡ Some box →
+      allows limit (node_steps plan (get_or nodes number d) box) ≡ true →
+      found ≡ node_fault plan latency number (get_or nodes number d) box → true ≡ is_some found →
+      seen plan latency number boxes (drop number nodes) limit ≡ All found
+  unfolding node steps fault
+  seen-fault limit (Some refused) below first enough is there =
+      rw (steps_are below first, fault_is below first, ← is, next limit (node_steps plan (get_or nodes number d) box) 0 (Some refused) enough, allows_none (left_after limit (node_steps plan (get_or nodes number d) box))) refl
+  seen-fault limit None below first enough is there = cc
+
+  -- it has none
+  pub seen-passed : (limit : Option ℕ) (after : List Box) → number < length nodes → slice_get boxes 0 ≡ Some box →
+      allows limit (node_steps plan (get_or nodes number d) box) ≡ true →
+      node_fault plan latency number (get_or nodes number d) box ≡ None → after ≡ boxes_after (get_or nodes number d) boxes →
+      seen plan latency (number + 1) after (drop (number + 1) nodes) (left_after limit (node_steps plan (get_or nodes number d) box))
+      ≡ seen plan latency number boxes (drop number nodes) limit
+  unfolding node rest steps fault later
+  seen-passed limit after below first enough none is_after =
+      let left : after ≡ boxes_below (get_or nodes number d) box ++ drop 1 boxes =
+      is_after ∙ ap (λ bs. boxes_after (get_or nodes number d) bs) (cons_from_get boxes box first) in
+      rw (left, steps_are below first, fault_is below first, none) (sym (next limit _ _ _ enough))
+
+-- the steps of a lead leaf, from its parts
+pub lead_steps_are : (scenario : Scenario) (box : Box) (latency : ℕ) (pairs : List Pair) (windows : Windows) (count tests steps : ℕ) →
+    pairs ≡ pairs_of scenario → windows ≡ windows_of scenario box → count ≡ length pairs →
+    tests ≡ test_count scenario (tables_by windows).times latency → steps ≡ test_steps scenario (tables_by windows).times →
+    1 + count + tests * steps ≡ node_steps scenario (kinds.Lead latency) box
+lead_steps_are scenario box latency pairs windows count tests steps are over counts tested stepped =
+    rw (tested, stepped, counts, are, over) refl

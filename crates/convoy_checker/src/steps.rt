@@ -1,0 +1,158 @@
+//! How much work it is to check a certificate (docs/FORMATS.md, "Steps").
+
+ghost use Rattle.std.specs.Prelude.{◌≡◌, ◌≤◌, ◌<◌, ◌+◌, ◌*◌, [], length, All, IfOk};
+ghost use Rattle.std.specs.List.{filter};
+ghost use Rattle.convoy_draft.specs.declared.limits.TheConstants.{MOST_GROUPS};
+ghost use Rattle.convoy_scenario.specs.Scenario.{message_at};
+ghost use Rattle.convoy_intervals.specs.Boxes.{IsBox};
+ghost use Rattle.convoy_stamps.specs.Reach.{pairs_of};
+ghost use Rattle.convoy_sure.specs.Windows.{tables_by};
+ghost use Rattle.convoy_checker.specs.Steps.{is_late, node_steps, pair_steps, test_count, test_steps, ticks_seen};
+
+use convoy_certificate::Node;
+use convoy_intervals::DelayBox;
+use convoy_packets::Instance;
+use convoy_scenario::{MOST_GROUPS, MOST_MULTICASTS, Scenario, Time};
+use convoy_stamps::Pair;
+use convoy_sure::{LAST_SETTLING, Windows, destinations, list_pairs, target_group};
+use std::alloc::{AllocError, Global};
+
+/// How many steps one pair takes in a test of leads at most.
+const MOST_PAIR_STEPS: u64 = LAST_SETTLING as u64 + 2;
+
+/// How many pairs a scenario has at most.
+const MOST_PAIRS: usize = MOST_MULTICASTS * MOST_GROUPS;
+
+/// How many steps it takes at most to look at a node over its box.
+pub(crate) fn node_steps(
+    alloc: Global,
+    instance: &Instance,
+    node: Node,
+    delay_box: &DelayBox,
+) -> Result<u64, AllocError>
+    requires inside { IsBox instance.now delay_box.now }
+    ensures { IfOk result (λ steps. steps ≡ node_steps instance.now node delay_box.now) }
+{
+    match node {
+        Node::Split { .. } | Node::Bound => Ok(1),
+        Node::Point => Ok(1 + instance.table().len() as u64),
+        Node::Stamp => stamp_steps(alloc, instance.scenario()),
+        Node::Lead { latency } => lead_steps(alloc, instance, latency, delay_box),
+    }
+}
+
+/// How many steps a stamp leaf takes.
+fn stamp_steps(alloc: Global, scenario: &Scenario) -> Result<u64, AllocError>
+    ensures { IfOk result (λ steps. steps ≡ node_steps scenario.now Node.Stamp []) }
+{
+    let pairs = list_pairs(alloc, scenario)?;
+    Ok(1 + target_destinations(scenario) * pairs.len() as u64)
+}
+
+/// How many steps a lead leaf that names that latency, in ticks, takes at most.
+fn lead_steps(
+    alloc: Global,
+    instance: &Instance,
+    latency: u32,
+    delay_box: &DelayBox,
+) -> Result<u64, AllocError>
+    requires inside { IsBox instance.now delay_box.now }
+    ensures { IfOk result (λ steps. steps
+        ≡ node_steps instance.now (Node.Lead latency) delay_box.now) }
+{
+    let scenario = instance.scenario();
+    let pairs = list_pairs(alloc, scenario)?;
+    let windows = Windows::of(alloc, instance, delay_box)?;
+    let pairs = pairs.as_slice();
+    let tests = test_count(scenario, &windows, pairs, latency);
+    Ok(1 + pairs.len() as u64 + tests * test_steps(scenario, &windows, pairs))
+}
+
+/// To how many groups the target goes.
+fn target_destinations(scenario: &Scenario) -> u64
+    ensures value { result
+        ≡ length (message_at scenario.now scenario.now.target_message).destinations }
+    ensures fits { result ≤ MOST_GROUPS }
+{
+    destinations(scenario, scenario.target_message()).len() as u64
+}
+
+/// How many tests of leads there are at most where the latency is that one, in ticks.
+fn test_count(scenario: &Scenario, windows: &Windows, pairs: &[Pair], latency: u32) -> u64
+    requires pairs { pairs.now ≡ pairs_of scenario.now }
+    requires messages { All (λ p. p.message < length scenario.now.multicasts) pairs.now }
+    requires few { length pairs.now ≤ MOST_PAIRS }
+    ensures value { result
+        ≡ test_count scenario.now (tables_by windows.now).times latency }
+    ensures fits { result ≤ MOST_PAIRS * (2 + 2 * MOST_GROUPS) }
+{
+    let late = late_pairs(scenario, windows, pairs, latency);
+    late as u64 * (2 + 2 * target_destinations(scenario))
+}
+
+/// Of how many pairs the message may be committed at the target's group after that latency, in ticks.
+fn late_pairs(scenario: &Scenario, windows: &Windows, pairs: &[Pair], latency: u32) -> usize
+    requires messages { All (λ p. p.message < length scenario.now.multicasts) pairs.now }
+    ensures value { result
+        ≡ length (filter (is_late scenario.now (tables_by windows.now).times latency) pairs.now) }
+    ensures fits { result ≤ length pairs.now }
+{
+    let mut late = 0;
+    for pair in pairs {
+        if is_late(scenario, windows, latency, *pair) {
+            late += 1;
+        }
+    }
+    late
+}
+
+/// Whether the message of a pair may be committed at the target's group after that latency, in ticks.
+fn is_late(scenario: &Scenario, windows: &Windows, latency: u32, pair: Pair) -> bool
+    requires { pair.message < length scenario.now.multicasts }
+    ensures { result ≡ is_late scenario.now (tables_by windows.now).times latency pair }
+{
+    let issued = scenario.issue_tick(scenario.target_message());
+    let last = windows.greatest_settling(pair.message, target_group(scenario));
+    u64::from(issued) + u64::from(latency) < u64::from(last)
+}
+
+/// How many steps one test of leads takes at most.
+fn test_steps(scenario: &Scenario, windows: &Windows, pairs: &[Pair]) -> u64
+    requires pairs { pairs.now ≡ pairs_of scenario.now }
+    requires messages { All (λ p. p.message < length scenario.now.multicasts) pairs.now }
+    requires groups { All (λ p. p.group < MOST_GROUPS) pairs.now }
+    requires few { length pairs.now ≤ MOST_PAIRS }
+    ensures value { result ≡ test_steps scenario.now (tables_by windows.now).times }
+    ensures fits { result ≤ MOST_PAIRS * MOST_PAIR_STEPS }
+{
+    let mut steps: u64 = 0;
+    for pair in pairs {
+        steps += pair_steps(scenario, windows, pairs.len(), *pair);
+    }
+    steps
+}
+
+/// How many steps one pair of so many takes at most in a test of leads.
+fn pair_steps(scenario: &Scenario, windows: &Windows, pairs: usize, pair: Pair) -> u64
+    requires message { pair.message < length scenario.now.multicasts }
+    requires group { pair.group < MOST_GROUPS }
+    requires pairs { pairs ≡ length (pairs_of scenario.now) }
+    ensures value { result ≡ pair_steps scenario.now (tables_by windows.now).times pair }
+    ensures fits { result ≤ MOST_PAIR_STEPS }
+{
+    let committed = windows.greatest_settling(scenario.target_message(), target_group(scenario));
+    let last = committed.min(windows.greatest_settling(pair.message, pair.group));
+    let first = windows.least_settling(pair.message, pair.group);
+    1 + ticks_seen(scenario.time(), pairs, (last + 1).saturating_sub(first))
+}
+
+/// Of so many ticks those that leads go through one by one, where there are so many pairs.
+fn ticks_seen(time: Time, pairs: usize, ticks: u32) -> u64
+    ensures value { result ≡ ticks_seen time pairs ticks }
+    ensures fits { result ≤ ticks }
+{
+    match time {
+        Time::Ticks => u64::from(ticks),
+        Time::Real => u64::from(ticks).min(pairs as u64),
+    }
+}

@@ -1,0 +1,72 @@
+"""How many steps it takes to check a certificate, counted as docs/FORMATS.md says ("Steps").
+
+From when to when a message may be committed is found by tests/schedules.py, under the least delays and waits of a box and
+under its greatest ones: nothing of the program is used.
+"""
+
+import itertools
+
+from schedules import of_certificate, times
+
+
+def nodes_of(text):
+    """The lines of a certificate's nodes."""
+    lines = text.splitlines()
+    heads = [place for place, line in enumerate(lines) if line.split(" ")[0] in ("schedule", "order")]
+    return list(itertools.takewhile(lambda line: line != "end", lines[heads[-1] + 1 :]))
+
+
+def commits(scenario, box):
+    """The first and the last tick at which each message may be committed at each of its groups."""
+    packets = list(scenario.packets())
+    return [times(scenario, packets, ends)[1] for ends in zip(*box)] if box else [times(scenario, [], [])[1]] * 2
+
+
+def ticks_of_pair(scenario, first, last, pair):
+    """How many ticks a test of leads goes through for a message at a group: until the target is committed, and in real time no
+    more than there are such pairs."""
+    ticks = max(0, min(last[scenario.target, scenario.at], last[pair]) + 1 - first[pair])
+    return min(len(first), ticks) if scenario.real else ticks
+
+
+def steps_of_leads(scenario, named, box):
+    """The steps of a lead leaf that names that latency."""
+    first, last = commits(scenario, box)
+    _, groups, issue = scenario.messages[scenario.target]
+    late = sum(last.get((message, scenario.at), 0) > issue + named for message, _ in first)
+    test = sum(1 + ticks_of_pair(scenario, first, last, pair) for pair in first)
+    return 1 + len(first) + late * (2 + 2 * len(groups)) * test
+
+
+def steps_of_node(scenario, node, box):
+    """The steps of a node over its box."""
+    kind, *numbers = node.split(" ")
+    pairs = sum(len(to) for _, to, _ in scenario.messages)
+    if kind == "p":
+        return 1 + len(box)
+    if kind == "t":
+        return 1 + len(scenario.messages[scenario.target][1]) * pairs
+    if kind == "c":
+        return steps_of_leads(scenario, int(numbers[0]), box)
+    return 1
+
+
+def halves(box, packet, at):
+    """The two halves of a box, the lower one first. A split that its box does not allow has the same ones."""
+    least, most = box[packet]
+    return [box[:packet] + [half] + box[packet + 1 :] for half in ((least, at), (at + 1, most))]
+
+
+def steps_of(text, last=None):
+    """The steps of a certificate whose schedule has the stated latency: of its nodes up to the last that is looked at, which
+    is the one of that number, or else the last that has a box."""
+    scenario, steps = of_certificate(text), 0
+    boxes = [[(delays.start, delays.stop - 1) for delays in scenario.ranges()]]
+    for number, node in enumerate(nodes_of(text)):
+        if not boxes or last is not None and number > last:
+            break
+        box = boxes.pop()
+        steps += steps_of_node(scenario, node, box)
+        if node.startswith("s ") and number != last:
+            boxes += halves(box, *map(int, node.split(" ")[1:]))[::-1]
+    return steps
