@@ -3,9 +3,9 @@ use Rattle.std.specs.Prelude.{ℕ, List, Option, Result}
 use Rattle.std.specs.declared.io.Error.{Error}
 use Rattle.convoy_arguments.specs.declared.verdict.Verdict.{Verdict}
 use Rattle.convoy_arguments.specs.Verdicts.{file_of, scenario_file_of}
-use Rattle.convoy_inputs.specs.Devices.{Answer}
-use Rattle.convoy_inputs.specs.Sources.{InputReads, InputSource, IsSource}
-use Rattle.convoy.specs.Verdicts.{Obeys}
+use Rattle.convoy_streams.specs.Devices.{Answer}
+use Rattle.convoy_streams.specs.Sources.{InputReads, InputSource, IsSource}
+use Rattle.convoy.specs.Verdicts.{Obeys, done_of_run}
 use Rattle.convoy.specs.declared.obeying.Obeyed.{Obeyed}
 
 -- The verdict was obeyed: its task read the input that the command line names for it, from its begin, and the scenario
@@ -16,4 +16,4 @@ pub record HasObeyed {F K : Type 0} (opens : List ℕ → Result F Error → Typ
   pub other : InputSource F
   pub is_source : IsSource opens (file_of verdict) source
   pub is_other : IsSource opens (scenario_file_of verdict) other
-  pub obeys : Obeys (InputReads left_in) may_write verdict source obeyed.source other obeyed.other sink new_sink obeyed.result
+  pub obeys : Obeys (InputReads left_in) may_write verdict source obeyed.source other obeyed.other sink new_sink (done_of_run obeyed.result)

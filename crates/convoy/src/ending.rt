@@ -1,56 +1,84 @@
 ghost use Rattle.std.specs.Prelude.{◌≡◌};
-ghost use Rattle.convoy.specs.Verdicts.{end_of_batch, end_of_check, status_of};
+ghost use Rattle.convoy.specs.Verdicts.{status_of, status_of_done, status_told};
 
-use super::{FAULT, FINE, NOT_CHECKED, OPEN, REFUSED};
-use convoy_about::{AboutEnd, Part};
-use convoy_commands::{Done, SearchEnd};
+use convoy_arguments::Verdict;
+use convoy_commands::{Done, Known};
+use convoy_scenario::Scenario;
+use convoy_tasks::Task;
 
-/// How a run ended that had no fault.
-#[derive(Clone, Copy)]
-pub enum End {
-    /// A command gave its answer, or a batch its blocks.
-    Answered(Done),
-    /// Several searches gave what was to be written, and the exit status is to tell how they ended.
-    Searched(SearchEnd),
-    /// A certificate was valid and of another scenario, which differs in that part.
-    Differs(Part),
-    /// A text was written, help or that of a command line that is rejected, which has this exit status.
-    Told(u8),
+/// How the program did what its command line asks for, where there was no fault; and what it knows by then.
+#[derive(Drop)]
+pub struct End {
+    pub done: Done,
+    pub known: Option<Known>,
+    /// The scenario that a certificate was to be of, where one is named.
+    pub wanted: Option<Scenario>,
 }
 
 impl End {
-    /// How a batch ended, by whether the exit status is to tell how its jobs did.
-    pub fn of_batch(end: SearchEnd, tells_status: bool) -> End
-        ensures { result ≡ end_of_batch tells_status end }
+    /// An end of which no more is known.
+    pub fn of(done: Done) -> End
+        ensures { result.done ≡ done }
     {
-        if tells_status {
-            End::Searched(end)
-        } else {
-            End::Answered(Done::Fine)
-        }
-    }
-
-    /// How a check against a scenario ended.
-    pub fn of_check(end: AboutEnd) -> End
-        ensures { result ≡ end_of_check end }
-    {
-        match end {
-            AboutEnd::Checked(done) => End::Answered(done),
-            AboutEnd::Differs(part) => End::Differs(part),
-        }
-    }
-
-    /// The exit status of such a run.
-    pub fn status(self) -> u8
-        ensures { result ≡ status_of self }
-    {
-        match self {
-            End::Answered(Done::Fine) | End::Searched(SearchEnd::Exact) => FINE,
-            End::Answered(Done::Open) | End::Searched(SearchEnd::Open) => OPEN,
-            End::Answered(Done::Refused(_)) | End::Differs(_) => REFUSED,
-            End::Answered(Done::NotChecked) => NOT_CHECKED,
-            End::Searched(SearchEnd::Faulty) => FAULT,
-            End::Told(status) => status,
+        End {
+            done,
+            known: None,
+            wanted: None,
         }
     }
 }
+
+/// The exit status of a run that had no fault.
+pub fn status_of(verdict: &Verdict, done: Done) -> u8
+    ensures { result ≡ status_of verdict.now done }
+{
+    match verdict {
+        Verdict::Ask {
+            task: Task::BatchTable { tells_status, .. },
+            ..
+        }
+        | Verdict::Batch { tells_status, .. } => status_told(*tells_status, done),
+        Verdict::Ask { .. } => status_of_done(done),
+        Verdict::Text { status, .. } => *status,
+        Verdict::Memory => FAULT,
+    }
+}
+
+/// The same of a batch, by whether the exit status is to tell how its jobs ended.
+fn status_told(tells_status: bool, done: Done) -> u8
+    ensures { result ≡ status_told tells_status done }
+{
+    if tells_status {
+        status_of_done(done)
+    } else {
+        FINE
+    }
+}
+
+/// The status for the end of a task.
+fn status_of_done(done: Done) -> u8
+    ensures { result ≡ status_of_done done }
+{
+    match done {
+        Done::Fine => FINE,
+        Done::Open => OPEN,
+        Done::Faulty => FAULT,
+        Done::Refused(_) | Done::Differs(_) => REFUSED,
+        Done::NotChecked => NOT_CHECKED,
+    }
+}
+
+/// The status of a run that gave its answer.
+const FINE: u8 = 0;
+
+/// The status of a run that ended with a fault, or of which a job has one.
+pub const FAULT: u8 = 1;
+
+/// The status of a search that did not end within its limits, or of traffic that does not attain a ceiling.
+const OPEN: u8 = 3;
+
+/// The status of a certificate that is refused, or is of another scenario than the one that is wanted.
+const REFUSED: u8 = 4;
+
+/// The status of a certificate that is not checked, since that takes more steps than may be taken.
+const NOT_CHECKED: u8 = 6;

@@ -4,22 +4,22 @@
 
 use super::ending::End;
 use super::kept::KeptWriter;
-use convoy_arguments::{Input, MOST_SECONDS, REJECTED, Task, Verdict, hint_for_words};
-use convoy_batch::MOST_JOBS;
+use convoy_arguments::{Input, MOST_SECONDS, REJECTED, Verdict, hint_for_words};
 use convoy_commands::{
-    Asking, Bounds, Command, Direct, Done, Fault, LONGEST_JOB, ListFault, MOST_SIMULATIONS,
-    MOST_STEPS, MOST_TICKETS, Options, OrderFault, ReadFault, ScenarioFault, SearchEnd, Ways,
-    lead_share, plain_share,
+    Bounds, Done, Fault, Known, LONGEST_JOB, ListFault, MOST_SIMULATIONS, MOST_STEPS, MOST_TICKETS,
+    Options, OrderFault, ReadFault, ScenarioFault, Ways, lead_share, plain_share,
 };
 use convoy_hints::{
-    hint_for_batch, hint_for_both, hint_for_ceiling, hint_for_certificate, hint_for_explained,
-    hint_for_first, hint_for_given_order, hint_for_given_schedule, hint_for_greatest,
-    hint_for_jobs, hint_for_leads, hint_for_length, hint_for_limit, hint_for_named_group,
-    hint_for_order_in_ticks, hint_for_plain_numbers, hint_for_reading, hint_for_real_time,
-    hint_for_scenario, hint_for_seconds, hint_for_tickets, hint_for_unchecked, hint_for_writing,
-    is_in_real_time, line_for_file,
+    CheckedText, hint_for_batch, hint_for_both, hint_for_ceiling, hint_for_certificate,
+    hint_for_difference, hint_for_first, hint_for_given_order, hint_for_given_schedule,
+    hint_for_greatest, hint_for_jobs, hint_for_leads, hint_for_length, hint_for_limit,
+    hint_for_named_group, hint_for_order_in_ticks, hint_for_plain_numbers, hint_for_reading,
+    hint_for_real_time, hint_for_scenario, hint_for_seconds, hint_for_tickets, hint_for_unchecked,
+    hint_for_writing, hint_of_text, line_for_file,
 };
-use convoy_inputs::KeptReader;
+use convoy_scenario::Time;
+use convoy_streams::KeptReader;
+use convoy_tasks::{MOST_JOBS, Task};
 use std::alloc::{AllocError, Global};
 use std::io::{Error, Write};
 
@@ -30,7 +30,7 @@ const _: () = prove!(MOST_SIMULATIONS == 1_000_000);
 
 /// How a run ended, and what is known of its streams.
 #[derive(Drop)]
-pub struct Ended<'a, R, W> {
+pub struct Finished<'a, R, W> {
     pub verdict: &'a Verdict,
     /// The words of the command line: what a rejected one meant.
     pub words: &'a [String],
@@ -39,31 +39,32 @@ pub struct Ended<'a, R, W> {
     /// That of the scenario which a certificate is to be of.
     pub scenario_reader: &'a KeptReader<R>,
     pub writer: &'a KeptWriter<W>,
-    /// The greatest latency in ticks that the last search found, where it did.
-    pub greatest: Option<u32>,
     /// Whether a search was stopped, as its time was over.
     pub is_stopped: bool,
 }
 
-/// Whether something is read from standard input, the certificate of a check or the scenario for it.
+/// Whether a text is read from standard input: the one that is asked about, or the scenario that is wanted.
 pub fn reads_standard(verdict: &Verdict) -> bool {
     match verdict {
-        Verdict::Ask {
-            task: Task::CheckAbout {
-                scenario: Some(Input::Standard),
-                ..
-            },
-            ..
-        } => true,
-        Verdict::Ask { input, .. } => matches!(input, Input::Standard),
+        Verdict::Ask { inputs, .. } => {
+            matches!(inputs.text, Input::Standard) || wants_standard(&inputs.wanted)
+        }
+        Verdict::Batch { input, .. } => matches!(input, Input::Standard),
         Verdict::Text { .. } | Verdict::Memory => false,
     }
+}
+
+/// Whether the scenario that is wanted is read from standard input.
+fn wants_standard(wanted: &Option<Input>) -> bool {
+    matches!(wanted, Some(Input::Standard))
 }
 
 /// The line that is written before a terminal is read.
 pub fn greeting(alloc: Global, verdict: &Verdict) -> Result<Option<String>, AllocError> {
     let wanted = match verdict {
+        Verdict::Ask { inputs, .. } if wants_standard(&inputs.wanted) => "a scenario",
         Verdict::Ask { task, .. } => text_of(task),
+        Verdict::Batch { .. } => "scenarios",
         Verdict::Text { .. } | Verdict::Memory => return Ok(None),
     };
     let line = format!(in alloc;
@@ -72,108 +73,144 @@ pub fn greeting(alloc: Global, verdict: &Verdict) -> Result<Option<String>, Allo
     Ok(Some(line))
 }
 
-/// What a task is for, in words.
+/// What a task reads, in words.
 fn text_of(task: &Task) -> &'static str {
     match task {
-        Task::Command(Command::Direct(Direct::First | Direct::Ceiling(_)) | Command::Search(..))
-        | Task::CheckAbout {
-            scenario: Some(Input::Standard),
-            ..
-        }
+        Task::First
+        | Task::Ceiling { .. }
+        | Task::Ceilings { .. }
+        | Task::Analyse { .. }
+        | Task::Latency { .. }
         | Task::Survey { .. }
-        | Task::WhatIf { .. }
-        | Task::Ceilings { .. } => "a scenario",
-        Task::Command(Command::Direct(Direct::Ask(..) | Direct::ExplainWithCeiling(_)))
-        | Task::CheckAbout { .. } => "a certificate",
-        Task::Command(Command::Direct(Direct::Tell(_))) => "a scenario or a certificate",
-        Task::Batch { .. } | Task::BatchTable { .. } => "scenarios",
+        | Task::WhatIf { .. } => "a scenario",
+        Task::Check { .. } | Task::Explain { .. } | Task::Draw { .. } => "a certificate",
+        Task::Tell(_) => "a scenario or a certificate",
+        Task::BatchTable { .. } => "scenarios",
     }
 }
 
 /// Writes why a file could not be read, and the hint for how the run ended unless it is to be quiet.
-pub fn tell_ended<E: Write, R, W>(errors: &mut E, alloc: Global, ended: &Ended<'_, R, W>) {
-    write_line(errors, line_for_input(alloc, ended));
-    if !ended.verdict.is_quiet() {
-        write_line(errors, hint_for(alloc, ended));
+pub fn tell_ended<E: Write, R, W>(errors: &mut E, alloc: Global, run: &Finished<'_, R, W>) {
+    write_line(errors, line_for_input(alloc, run));
+    if !run.verdict.is_quiet() {
+        write_line(errors, hint_for(alloc, run));
     }
 }
 
 /// The line for a file that could not be opened or read; None where there is none.
 fn line_for_input<R, W>(
     alloc: Global,
-    ended: &Ended<'_, R, W>,
+    run: &Finished<'_, R, W>,
 ) -> Result<Option<String>, AllocError> {
-    let Err(Fault::Reading(ReadFault::Read)) = ended.result else {
+    let Err(Fault::Reading(ReadFault::Read)) = run.result else {
         return Ok(None);
     };
-    match failed_input(ended) {
+    match failed_input(run) {
         (Some(file), Some(error)) => Ok(Some(line_for_file(alloc, file, &error)?)),
         _ => Ok(None),
     }
 }
 
 /// The input of which a read failed, where one did: the name of its file, if it is one, and why.
-fn failed_input<'a, R, W>(ended: &Ended<'a, R, W>) -> (Option<&'a str>, Option<Error>) {
-    match ended.scenario_reader.failure() {
-        Some(error) => (ended.verdict.scenario_file(), Some(error)),
-        None => (ended.verdict.file(), ended.reader.failure()),
+fn failed_input<'a, R, W>(run: &Finished<'a, R, W>) -> (Option<&'a str>, Option<Error>) {
+    match run.scenario_reader.failure() {
+        Some(error) => (run.verdict.scenario_file(), Some(error)),
+        None => (run.verdict.file(), run.reader.failure()),
     }
 }
 
 /// The hint for how a run ended; None where there is none.
-fn hint_for<R, W>(alloc: Global, ended: &Ended<'_, R, W>) -> Result<Option<String>, AllocError> {
-    match ended.result {
-        Ok(End::Told(REJECTED)) => hint_for_words(alloc, ended.words),
-        Ok(End::Told(_)) => Ok(None),
-        Ok(End::Answered(Done::Refused(refusal))) => {
-            let reader = ended.reader;
-            hint_for_certificate(alloc, reader.text(), reader.is_whole(), *refusal)
+fn hint_for<R, W>(alloc: Global, run: &Finished<'_, R, W>) -> Result<Option<String>, AllocError> {
+    match (run.verdict, run.result) {
+        (
+            Verdict::Text {
+                status: REJECTED,
+                ..
+            },
+            Ok(_),
+        ) => hint_for_words(alloc, run.words),
+        (Verdict::Text { .. }, Ok(_)) => Ok(None),
+        (_, Ok(end)) => hint_for_end(alloc, run, end),
+        (_, Err(fault @ (Fault::Scenario(_) | Fault::Reading(ReadFault::TooLong(_))))) => {
+            let hint = hint_for_fault(alloc, run, fault)?;
+            hint_of_one(alloc, run, hint)
         }
-        Ok(End::Answered(Done::NotChecked)) => match steps_of(ended.verdict) {
+        (_, Err(fault)) => hint_for_fault(alloc, run, fault),
+    }
+}
+
+/// The hint, with which text it is of where a certificate is checked against a scenario.
+fn hint_of_one<R, W>(
+    alloc: Global,
+    run: &Finished<'_, R, W>,
+    hint: Option<String>,
+) -> Result<Option<String>, AllocError> {
+    if is_of_scenario(run) {
+        hint_of_text(alloc, CheckedText::Scenario, hint)
+    } else if names_scenario(run.verdict) {
+        hint_of_text(alloc, CheckedText::Certificate, hint)
+    } else {
+        Ok(hint)
+    }
+}
+
+/// The hint for how a task ended.
+fn hint_for_end<R, W>(
+    alloc: Global,
+    run: &Finished<'_, R, W>,
+    end: &End,
+) -> Result<Option<String>, AllocError> {
+    match end.done {
+        Done::Refused(refusal) => {
+            let reader = run.reader;
+            let hint = hint_for_certificate(alloc, reader.text(), reader.is_whole(), refusal)?;
+            hint_of_one(alloc, run, hint)
+        }
+        Done::NotChecked => match steps_of(run.verdict) {
             Some(limit) => hint_for_unchecked(alloc, limit, MOST_STEPS).map(Some),
             None => Ok(None),
         },
-        Ok(End::Answered(Done::Open)) => hint_for_open(alloc, ended),
-        Ok(End::Answered(Done::Fine)) => hint_for_answer(alloc, ended),
-        Ok(End::Searched(SearchEnd::Open)) if !is_batch(ended.verdict) => {
-            hint_for_open(alloc, ended)
-        }
-        Ok(End::Searched(_)) => hint_for_answer(alloc, ended),
-        Ok(End::Differs(_)) => Ok(Some(hint_for_difference(alloc)?)),
-        Err(fault) => hint_for_fault(alloc, ended, fault),
+        Done::Differs(_) => match (&end.wanted, &end.known) {
+            (Some(wanted), Some(known)) => {
+                hint_for_difference(alloc, wanted, &known.scenario).map(Some)
+            }
+            _ => Ok(None),
+        },
+        Done::Open if !is_batch(run.verdict) => hint_for_open(alloc, run, &end.known),
+        Done::Fine | Done::Open | Done::Faulty => hint_for_answer(alloc, run, &end.known),
     }
 }
 
 /// The hint for a run that had a fault.
 fn hint_for_fault<R, W>(
     alloc: Global,
-    ended: &Ended<'_, R, W>,
+    run: &Finished<'_, R, W>,
     fault: &Fault,
 ) -> Result<Option<String>, AllocError> {
-    let reader = if is_of_scenario(ended) {
-        ended.scenario_reader
+    let reader = if is_of_scenario(run) {
+        run.scenario_reader
     } else {
-        ended.reader
+        run.reader
     };
     match fault {
         Fault::Scenario(fault) if reader.is_whole() => {
-            hint_for_scenario_or_group(alloc, ended.verdict, reader.text(), *fault)
+            hint_for_scenario_or_group(alloc, run.verdict, reader.text(), *fault)
         }
         Fault::Schedule(fault) if reader.is_whole() => {
             hint_for_given_schedule(alloc, reader.text(), *fault)
         }
         Fault::Order(fault) if reader.is_whole() => { hint_for_ranks(alloc, reader.text(), *fault) }
-        Fault::Reading(ReadFault::Read) => match failed_input(ended) {
+        Fault::Reading(ReadFault::Read) => match failed_input(run) {
             (None, Some(error)) => Ok(Some(hint_for_reading(alloc, &error)?)),
             _ => Ok(None),
         },
-        Fault::Reading(ReadFault::TooLong(most)) if is_batch(ended.verdict) => {
+        Fault::Reading(ReadFault::TooLong(most)) if is_batch(run.verdict) => {
             Ok(Some(hint_for_long_batch(alloc, *most)?))
         }
         Fault::Reading(ReadFault::TooLong(most)) => {
             Ok(Some(hint_for_length(alloc, reader.text(), *most)?))
         }
-        Fault::Write => match ended.writer.failure() {
+        Fault::Write => match run.writer.failure() {
             Some(error) => Ok(Some(hint_for_writing(alloc, &error)?)),
             None => Ok(None),
         },
@@ -206,15 +243,22 @@ fn hint_for_scenario_or_group(
 
 /// The group at which the command line asks for ceilings, where it names one.
 fn group_of(verdict: &Verdict) -> Option<&str> {
-    match verdict {
-        Verdict::Ask {
-            task: Task::Ceilings {
+    match task_of(verdict) {
+        Some(
+            Task::Ceilings {
                 group: Some(name),
                 ..
             },
-            ..
-        } => Some(name.as_str()),
+        ) => Some(name.as_str()),
         _ => None,
+    }
+}
+
+/// The task that the command line asks for, if it does.
+fn task_of(verdict: &Verdict) -> Option<&Task> {
+    match verdict {
+        Verdict::Ask { task, .. } => Some(task),
+        Verdict::Batch { .. } | Verdict::Text { .. } | Verdict::Memory => None,
     }
 }
 
@@ -233,18 +277,16 @@ fn hint_for_ranks(
 
 /// Whether a fault is one of the scenario that a certificate is to be of. That is read first, and the certificate
 /// only where it has none.
-fn is_of_scenario<R, W>(ended: &Ended<'_, R, W>) -> bool {
-    let is_named = matches!(
-        ended.verdict,
-        Verdict::Ask {
-            task: Task::CheckAbout {
-                scenario: Some(_),
-                ..
-            },
-            ..
-        }
-    );
-    is_named && !ended.reader.is_read()
+fn is_of_scenario<R, W>(run: &Finished<'_, R, W>) -> bool {
+    names_scenario(run.verdict) && !run.reader.is_read()
+}
+
+/// Whether the command line names a scenario that a certificate is to be of.
+fn names_scenario(verdict: &Verdict) -> bool {
+    match verdict {
+        Verdict::Ask { inputs, .. } => inputs.wanted.is_some(),
+        _ => false,
+    }
 }
 
 /// The hint for a batch that is too long for a table.
@@ -254,93 +296,68 @@ fn hint_for_long_batch(alloc: Global, most: usize) -> Result<String, AllocError>
     )
 }
 
-/// The hint for a certificate that is of another scenario.
-fn hint_for_difference(alloc: Global) -> Result<String, AllocError> {
-    String::from_str(
-        alloc,
-        "hint: the certificate is valid, of another scenario: compare what 'convoy scenario' writes of it and of yours\n",
-    )
-}
-
 /// The hint for a search that did not end, or traffic that does not attain the ceiling.
 fn hint_for_open<R, W>(
     alloc: Global,
-    ended: &Ended<'_, R, W>,
+    run: &Finished<'_, R, W>,
+    known: &Option<Known>,
 ) -> Result<Option<String>, AllocError> {
-    if let Some(simulations) = traffic_sought(ended.verdict) {
+    if let Some(simulations) = traffic_sought(run.verdict) {
         let hint = hint_for_ceiling(alloc, simulations, MOST_SIMULATIONS)?;
         return Ok(Some(hint));
     }
-    let Some(options) = options_of(ended.verdict) else {
+    let Some(options) = options_of(run.verdict) else {
         return Ok(None);
     };
     let hint = match options.seconds() {
-        Some(seconds) if ended.is_stopped => hint_for_seconds(alloc, seconds, MOST_SECONDS)?,
-        _ if is_in_real_time(alloc, ended.reader.text()) => hint_in_real_time(alloc, options)?,
-        _ => hint_in_ticks(alloc, options, names_bounds(ended.verdict))?,
+        Some(seconds) if run.is_stopped => hint_for_seconds(alloc, seconds, MOST_SECONDS)?,
+        _ if is_in_real_time(known) => hint_in_real_time(alloc, options)?,
+        _ => hint_in_ticks(alloc, options, names_bounds(run.verdict))?,
     };
     Ok(Some(hint))
 }
 
+/// Whether time goes by real numbers in the scenario that was searched.
+fn is_in_real_time(known: &Option<Known>) -> bool {
+    match known {
+        Some(known) => known.scenario.time() == Time::Real,
+        None => false,
+    }
+}
+
 /// How many steps may be taken to check a certificate, where the command line asks for that.
 fn steps_of(verdict: &Verdict) -> Option<u64> {
-    match verdict {
-        Verdict::Ask { task, .. } => steps_of_task(task),
-        Verdict::Text { .. } | Verdict::Memory => None,
-    }
-}
-
-/// How many steps may be taken to check a certificate, where the task is that.
-fn steps_of_task(task: &Task) -> Option<u64> {
-    match task {
-        Task::Command(Command::Direct(direct)) => steps_of_command(*direct),
-        Task::CheckAbout { limit, .. } => *limit,
+    match task_of(verdict)? {
+        Task::Check { limit, .. } | Task::Explain { limit, .. } | Task::Draw { limit } => *limit,
         _ => None,
-    }
-}
-
-/// How many steps may be taken to check a certificate, where the command does that.
-fn steps_of_command(command: Direct) -> Option<u64> {
-    match command {
-        Direct::Ask(_, limit) | Direct::ExplainWithCeiling(limit) => limit,
-        Direct::First | Direct::Tell(_) | Direct::Ceiling(_) => None,
     }
 }
 
 /// By how many simulations at most traffic was sought, where the command line asks for ceilings.
 fn traffic_sought(verdict: &Verdict) -> Option<u64> {
-    match verdict {
-        Verdict::Ask {
-            task: Task::Command(Command::Direct(Direct::Ceiling(simulations)))
-            | Task::Ceilings { simulations, .. },
-            ..
-        } => Some(*simulations),
+    match task_of(verdict)? {
+        Task::Ceiling { simulations } | Task::Ceilings { simulations, .. } => Some(*simulations),
         _ => None,
     }
 }
 
 /// The options of the search, or of the searches, that the command line asks for.
 fn options_of(verdict: &Verdict) -> Option<&Options> {
-    match verdict {
-        Verdict::Ask {
-            task: Task::Command(Command::Search(_, options))
-            | Task::Survey { options, .. }
-            | Task::WhatIf { options, .. },
-            ..
-        } => Some(options),
+    match task_of(verdict)? {
+        Task::Analyse { options }
+        | Task::Latency { options, .. }
+        | Task::Survey { options, .. }
+        | Task::WhatIf { options, .. } => Some(options),
         _ => None,
     }
 }
 
 /// Whether the command line asks for a batch.
 fn is_batch(verdict: &Verdict) -> bool {
-    matches!(
-        verdict,
-        Verdict::Ask {
-            task: Task::Batch { .. } | Task::BatchTable { .. },
-            ..
-        }
-    )
+    match verdict {
+        Verdict::Batch { .. } => true,
+        _ => matches!(task_of(verdict), Some(Task::BatchTable { .. })),
+    }
 }
 
 /// The hint for a search in real time that did not end.
@@ -379,7 +396,7 @@ fn hint_in_ticks(
 /// Whether the command line names the bounds by which a search goes.
 fn names_bounds(verdict: &Verdict) -> bool {
     match verdict {
-        Verdict::Ask { manner, .. } => manner.names_bounds,
+        Verdict::Ask { manner, .. } | Verdict::Batch { manner, .. } => manner.names_bounds,
         Verdict::Text { .. } | Verdict::Memory => false,
     }
 }
@@ -388,49 +405,49 @@ fn names_bounds(verdict: &Verdict) -> bool {
 /// was taken for.
 fn hint_for_answer<R, W>(
     alloc: Global,
-    ended: &Ended<'_, R, W>,
+    run: &Finished<'_, R, W>,
+    known: &Option<Known>,
 ) -> Result<Option<String>, AllocError> {
-    let hint = hint_for_kind_of_answer(alloc, ended)?;
-    if is_batch(ended.verdict) || !ended.reader.is_whole() {
+    let reader = run.reader;
+    if is_batch(run.verdict) {
+        return hint_for_batch(alloc, reader.text(), reader.is_whole(), LONGEST_JOB);
+    }
+    let hint = hint_for_kind_of_answer(alloc, run.verdict, known)?;
+    if !reader.is_whole() {
         return Ok(hint);
     }
-    let more = hint_for_plain_numbers(alloc, ended.reader.text())?;
+    let more = hint_for_plain_numbers(alloc, reader.text())?;
     match (hint, more) {
         (Some(hint), Some(more)) => format!(in alloc; "{hint}{more}").map(Some),
         (hint, more) => Ok(hint.or(more)),
     }
 }
 
-/// The hint for the kind of answer: the blocks of a batch have the faults of its jobs, without a command word the
-/// answer is that of one schedule, and a greatest latency may be the ceiling.
-fn hint_for_kind_of_answer<R, W>(
+/// The hint for the kind of answer: without a command word the answer is that of one schedule, and a greatest latency
+/// may be the ceiling.
+fn hint_for_kind_of_answer(
     alloc: Global,
-    ended: &Ended<'_, R, W>,
+    verdict: &Verdict,
+    known: &Option<Known>,
 ) -> Result<Option<String>, AllocError> {
-    let reader = ended.reader;
-    match ended.verdict {
+    match verdict {
         Verdict::Ask {
-            task: Task::Batch { .. } | Task::BatchTable { .. },
-            ..
-        } => hint_for_batch(alloc, reader.text(), reader.is_whole(), LONGEST_JOB),
-        Verdict::Ask {
-            task: Task::Command(Command::Direct(Direct::First)),
+            task: Task::First,
             manner,
             ..
         } if !manner.names_command => Ok(Some(hint_for_first(alloc)?)),
         Verdict::Ask {
-            task: Task::Command(Command::Search(..)),
+            task: Task::Analyse { .. } | Task::Latency { .. } | Task::Explain { .. },
             ..
-        } => match ended.greatest {
-            Some(greatest) => hint_for_greatest(alloc, reader.text(), greatest),
-            None => Ok(None),
+        } => match known {
+            Some(
+                Known {
+                    scenario,
+                    greatest: Some(greatest),
+                },
+            ) => hint_for_greatest(alloc, scenario, *greatest),
+            _ => Ok(None),
         },
-        Verdict::Ask {
-            task: Task::Command(
-                Command::Direct(Direct::Ask(Asking::Explain, _) | Direct::ExplainWithCeiling(_)),
-            ),
-            ..
-        } if reader.is_whole() => hint_for_explained(alloc, reader.text()),
         _ => Ok(None),
     }
 }

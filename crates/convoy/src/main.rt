@@ -2,28 +2,13 @@
 //! said by the libraries that it calls.
 #![tactic(auto)]
 
-ghost use Rattle.std.specs.Prelude.{◌≡◌, option_map, string_bytes};
-ghost use Rattle.convoy_arguments.specs.Verdicts.{HasReads, IsVerdict};
+ghost use Rattle.std.specs.Prelude.{◌≡◌};
+ghost use Rattle.convoy_arguments.specs.Verdicts.{IsVerdict};
 ghost use Rattle.convoy_arguments.specs.declared.limits.TheConstants.{MOST_READS};
-ghost use Rattle.convoy_batch.specs.declared.batch_table.TheConstants.{LONGEST_BATCH};
-ghost use Rattle.convoy_batch.specs.BatchTables.{BatchTableSays};
-ghost use Rattle.convoy_commands.specs.declared.limits.TheConstants.{LONGEST_JOB};
-ghost use Rattle.convoy_commands.specs.Commands.{longest_for, says_for};
-ghost use Rattle.convoy_commands.specs.Runs.{IsRun};
-ghost use Rattle.convoy_survey.specs.CeilingTables.{CeilingsSay};
-ghost use Rattle.convoy_survey.specs.Surveys.{SurveySays};
-ghost use Rattle.convoy_what_if.specs.WhatIf.{WhatIfSays};
-ghost use Rattle.convoy.specs.Verdicts.{
-  ChecksAbout,
-  Obeys,
-  Performs,
-  RunsBatch,
-  RunsSo,
-  Tells,
-  end_of,
-  end_of_batches,
-  end_of_searches,
-};
+ghost use Rattle.convoy_tasks.specs.Batches.{IsBatchRun};
+ghost use Rattle.convoy_tasks.specs.Runs.{IsRun, done_of};
+ghost use Rattle.convoy_tasks.specs.Tasks.{longest_for, task_says};
+ghost use Rattle.convoy.specs.Verdicts.{IsWantedRead, Obeys, Performs, Tells, done_of_run};
 
 mod ending;
 mod hinting;
@@ -31,18 +16,13 @@ mod kept;
 mod obeying;
 mod progress;
 
-use convoy_about::{read_scenario, run_check_about};
-use convoy_arguments::{Input, MOST_READS, Task, Verdict, judge, judge_bytes};
-use convoy_batch::{run_batch, run_batch_table};
-use convoy_commands::{
-    Command, DeviceFailed, Fault, Options, SearchEnd, Sink, Source, StreamSink, Watch, fault_line,
-    run, run_search, write_all,
-};
-use convoy_inputs::hold_closed;
-use convoy_survey::{Format, run_ceilings, run_survey};
-use convoy_what_if::run_what_if;
-use ending::End;
-use hinting::{Ended, greeting, reads_standard, tell_ended, write_line};
+use convoy_arguments::{Input, Inputs, MOST_READS, Verdict, judge, judge_bytes};
+use convoy_commands::{Done, Fault, Options, Watch, fault_line};
+use convoy_scenario::Scenario;
+use convoy_streams::{DeviceFailed, Sink, Source, StreamSink, hold_closed, write_all};
+use convoy_tasks::{Ended, Task, read_scenario, run_batch, run_task};
+use ending::{End, FAULT, status_of};
+use hinting::{Finished, greeting, reads_standard, tell_ended, write_line};
 use kept::KeptWriter;
 use obeying::open_and_obey;
 use progress::{Progress, screen_for};
@@ -53,21 +33,6 @@ use std::rt::Env;
 use std::sync::Wait;
 use std::thread::Threads;
 use std::{env, io};
-
-/// The status of a run that gave its answer.
-const FINE: u8 = 0;
-
-/// The status of a run that ended with a fault, or of which a job has one.
-const FAULT: u8 = 1;
-
-/// The status of a search that did not end within its limits, or of traffic that does not attain a ceiling.
-const OPEN: u8 = 3;
-
-/// The status of a certificate that is refused, or is of another scenario than the one that is wanted.
-const REFUSED: u8 = 4;
-
-/// The status of a certificate that is not checked, since that takes more steps than may be taken.
-const NOT_CHECKED: u8 = 6;
 
 fn main(rt: HostRuntime) -> ExitCode {
     let _held = hold_closed(&rt);
@@ -85,23 +50,22 @@ fn main(rt: HostRuntime) -> ExitCode {
     let progress = Progress::new(&rt, alloc, rt.stderr(), screen);
     let obeyed = open_and_obey(&rt, alloc, rt.stdin(), &verdict, &mut sink, &progress);
     let status = match &obeyed.result {
-        Ok(end) => end.status(),
+        Ok(end) => status_of(&verdict, end.done),
         Err(fault) => {
             tell(alloc, fault, &mut sink);
             FAULT
         }
     };
-    let ended = Ended {
+    let finished = Finished {
         verdict: &verdict,
         words: &words,
         result: &obeyed.result,
         reader: &obeyed.source.reader,
         scenario_reader: &obeyed.other.reader,
         writer: &sink.writer,
-        greatest: progress.greatest(),
         is_stopped: progress.is_stopped(),
     };
-    tell_ended(&mut rt.stderr(), alloc, &ended);
+    tell_ended(&mut rt.stderr(), alloc, &finished);
     ExitCode::from(status)
 }
 
@@ -135,129 +99,87 @@ fn obey<R: Threads + Wait + Sync, S: Source, K: Sink, W: Watch + Sync>(
     watch: &W,
 ) -> Result<End, Fault>
     requires { IsVerdict verdict.now }
-    ensures { Obeys S.reads K.writes verdict.now source.old source.new other.old other.new sink.old sink.new result }
+    ensures { Obeys S.reads K.writes verdict.now source.old source.new other.old other.new sink.old sink.new (done_of_run result) }
 {
     match verdict {
-        Verdict::Ask { task, .. } => perform(rt, alloc, task, source, other, sink, watch),
-        Verdict::Text { text, status, .. } => match write_all(sink, text.as_bytes()) {
-            Ok(()) => Ok(End::Told(*status)),
+        Verdict::Ask { task, inputs, .. } => {
+            perform(rt, alloc, task, inputs, source, other, sink, watch)
+        }
+        Verdict::Batch { options, .. } => Ok(End::of(answer_batch(
+            rt, alloc, options, source, sink, watch,
+        )?)),
+        Verdict::Text { text, .. } => match write_all(sink, text.as_bytes()) {
+            Ok(()) => Ok(End::of(Done::Fine)),
             Err(DeviceFailed) => Err(Fault::Write),
         },
         Verdict::Memory => Err(Fault::Memory),
     }
 }
 
-/// Does a task, as the function for it says. In each of these the buffer of a run lies on the stack, and no
-/// other task is to have it there.
+/// Does a task, for the scenario that is wanted, if one is: that is read first. The buffer of a batch lies on the stack,
+/// and no task is to have it there.
+#[inline(never)]
 fn perform<R: Threads + Wait + Sync, S: Source, K: Sink, W: Watch + Sync>(
     rt: &R,
     alloc: Global,
     task: &Task,
+    inputs: &Inputs,
     source: &mut S,
     other: &mut S,
     sink: &mut K,
     watch: &W,
 ) -> Result<End, Fault>
-    requires { HasReads task.now }
-    ensures { Performs S.reads K.writes task.now source.old source.new other.old other.new sink.old sink.new result }
+    ensures { Performs S.reads K.writes task.now inputs.now.wanted
+        source.old source.new other.old other.new sink.old sink.new (done_of_run result) }
 {
-    match task {
-        Task::Command(command) => answer_command(rt, alloc, command, source, sink, watch),
-        Task::CheckAbout {
-            scenario,
-            tells,
-            limit,
-        } => check_about(alloc, scenario, *tells, *limit, source, other, sink),
-        Task::Batch {
-            options,
-            tells_status,
-        } => answer_batch(rt, alloc, options, *tells_status, source, sink, watch),
-        Task::BatchTable {
-            format,
-            options,
-            tells_status: tells,
-        } => answer_batch_table(rt, alloc, *format, options, *tells, source, sink, watch),
-        Task::Survey {
-            format,
-            with_ceilings,
-            options,
-        } => answer_survey(
-            rt,
-            alloc,
-            *format,
-            *with_ceilings,
-            options,
-            source,
-            sink,
-            watch,
-        ),
-        Task::WhatIf { format, options } => {
-            answer_what_if(rt, alloc, *format, options, source, sink, watch)
-        }
-        Task::Ceilings {
-            format,
-            group,
-            simulations,
-        } => answer_ceilings(alloc, *format, group, *simulations, source, sink),
+    let wanted = read_wanted(alloc, &inputs.wanted, other)?;
+    let ended = run_for(rt, alloc, task, &wanted, source, sink, watch)?;
+    Ok(End {
+        done: ended.done,
+        known: ended.known,
+        wanted,
+    })
+}
+
+/// The scenario that is wanted, where an input for it is named.
+fn read_wanted<S: Source>(
+    alloc: Global,
+    named: &Option<Input>,
+    other: &mut S,
+) -> Result<Option<Scenario>, Fault>
+    ensures { IsWantedRead S.reads named.now other.old other.new result }
+{
+    match named {
+        Some(_) => Ok(Some(read_scenario(alloc, other, MOST_READS)?)),
+        None => Ok(None),
     }
 }
 
-/// Does what a command says.
-#[inline(never)]
-fn answer_command<R: Threads + Wait + Sync, S: Source, K: Sink, W: Watch + Sync>(
+/// Does a task for that scenario.
+fn run_for<R: Threads + Wait + Sync, S: Source, K: Sink, W: Watch + Sync>(
     rt: &R,
     alloc: Global,
-    command: &Command,
+    task: &Task,
+    wanted: &Option<Scenario>,
     source: &mut S,
     sink: &mut K,
     watch: &W,
-) -> Result<End, Fault>
-    requires { HasReads (Task.Command command.now) }
-    ensures { RunsSo end_of (longest_for command.now) (says_for command.now)
-        S.reads K.writes source.old source.new sink.old sink.new result }
+) -> Result<Ended, Fault>
+    ensures { IsRun (longest_for task.now) (task_says task.now wanted.now) MOST_READS
+        S.reads K.writes source.old source.new sink.old sink.new (done_of result) }
 {
-    let done = match command {
-        Command::Direct(command) => run(alloc, *command, source, sink, MOST_READS)?,
-        Command::Search(goal, options) => {
-            run_search(rt, alloc, *goal, options, source, sink, watch)?
-        }
-    };
-    Ok(End::Answered(done))
-}
-
-/// Checks a certificate, with so many steps at most where they are limited, and holds it against the scenario
-/// that is read from the other source, where one is named.
-#[inline(never)]
-fn check_about<S: Source, K: Sink>(
-    alloc: Global,
-    scenario: &Option<Input>,
-    tells: bool,
-    limit: Option<u64>,
-    source: &mut S,
-    other: &mut S,
-    sink: &mut K,
-) -> Result<End, Fault>
-    ensures { ChecksAbout scenario.now tells limit S.reads K.writes source.old source.new other.old other.new
-        sink.old sink.new result }
-{
-    match scenario {
-        None => {
-            let end = run_check_about(alloc, None, tells, limit, source, sink, MOST_READS)?;
-            Ok(End::of_check(end))
-        }
-        Some(_) => {
-            let wanted = read_scenario(alloc, other, MOST_READS)?;
-            let end = run_check_about(
-                alloc,
-                Some(&wanted),
-                tells,
-                limit,
-                source,
-                sink,
-                MOST_READS,
-            )?;
-            Ok(End::of_check(end))
-        }
+    match wanted {
+        Some(wanted) => run_task(
+            rt,
+            alloc,
+            task,
+            Some(wanted),
+            source,
+            sink,
+            MOST_READS,
+            watch,
+        ),
+        None => run_task(rt, alloc, task, None, source, sink, MOST_READS, watch),
     }
 }
 
@@ -267,128 +189,14 @@ fn answer_batch<R: Threads + Wait + Sync, S: Source, K: Sink, W: Watch + Sync>(
     rt: &R,
     alloc: Global,
     options: &Options,
-    tells_status: bool,
     source: &mut S,
     sink: &mut K,
     watch: &W,
-) -> Result<End, Fault>
+) -> Result<Done, Fault>
     requires { options.now.most_reads ≡ MOST_READS }
-    ensures { RunsBatch tells_status options.now
-        S.reads K.writes source.old source.new sink.old sink.new result }
+    ensures { IsBatchRun options.now MOST_READS S.reads K.writes source.old source.new sink.old sink.new result }
 {
-    let end = run_batch(rt, alloc, source, sink, options, watch)?;
-    Ok(End::of_batch(end, tells_status))
-}
-
-/// Answers a batch as a table.
-#[inline(never)]
-fn answer_batch_table<R: Threads + Wait + Sync, S: Source, K: Sink, W: Watch + Sync>(
-    rt: &R,
-    alloc: Global,
-    format: Format,
-    options: &Options,
-    tells_status: bool,
-    source: &mut S,
-    sink: &mut K,
-    watch: &W,
-) -> Result<End, Fault>
-    requires { options.now.most_reads ≡ MOST_READS }
-    ensures { RunsSo (end_of_batches tells_status) LONGEST_BATCH (BatchTableSays format options.now)
-        S.reads K.writes source.old source.new sink.old sink.new result }
-{
-    let end = run_batch_table(rt, alloc, format, options, source, sink, watch)?;
-    Ok(End::of_batch(end, tells_status))
-}
-
-/// Answers a survey.
-#[inline(never)]
-fn answer_survey<R: Threads + Wait + Sync, S: Source, K: Sink, W: Watch + Sync>(
-    rt: &R,
-    alloc: Global,
-    format: Format,
-    with_ceilings: bool,
-    options: &Options,
-    source: &mut S,
-    sink: &mut K,
-    watch: &W,
-) -> Result<End, Fault>
-    requires { options.now.most_reads ≡ MOST_READS }
-    ensures { RunsSo end_of_searches LONGEST_JOB (SurveySays format with_ceilings options.now)
-        S.reads K.writes source.old source.new sink.old sink.new result }
-{
-    let end = run_survey(
-        rt,
-        alloc,
-        format,
-        with_ceilings,
-        options,
-        source,
-        sink,
-        watch,
-    )?;
-    Ok(End::Searched(end))
-}
-
-/// Answers a survey of changes.
-#[inline(never)]
-fn answer_what_if<R: Threads + Wait + Sync, S: Source, K: Sink, W: Watch + Sync>(
-    rt: &R,
-    alloc: Global,
-    format: Format,
-    options: &Options,
-    source: &mut S,
-    sink: &mut K,
-    watch: &W,
-) -> Result<End, Fault>
-    requires { options.now.most_reads ≡ MOST_READS }
-    ensures { RunsSo end_of_searches LONGEST_JOB (WhatIfSays format options.now)
-        S.reads K.writes source.old source.new sink.old sink.new result }
-{
-    let end = run_what_if(rt, alloc, format, options, source, sink, watch)?;
-    Ok(End::Searched(end))
-}
-
-/// Answers with a table of ceilings.
-#[inline(never)]
-fn answer_ceilings<S: Source, K: Sink>(
-    alloc: Global,
-    format: Format,
-    group: &Option<String>,
-    simulations: u64,
-    source: &mut S,
-    sink: &mut K,
-) -> Result<End, Fault>
-    ensures { RunsSo end_of_searches LONGEST_JOB (CeilingsSay format (option_map string_bytes group.now))
-        S.reads K.writes source.old source.new sink.old sink.new result }
-{
-    let end = tell_ceilings(alloc, format, group, simulations, source, sink)?;
-    Ok(End::Searched(end))
-}
-
-/// Tells the ceilings at all groups, or at the one that is named.
-fn tell_ceilings<S: Source, K: Sink>(
-    alloc: Global,
-    format: Format,
-    group: &Option<String>,
-    simulations: u64,
-    source: &mut S,
-    sink: &mut K,
-) -> Result<SearchEnd, Fault>
-    ensures { IsRun LONGEST_JOB (CeilingsSay format (option_map string_bytes group.now)) MOST_READS
-        S.reads K.writes source.old source.new sink.old sink.new result }
-{
-    match group {
-        Some(name) => run_ceilings(
-            alloc,
-            format,
-            Some(name.as_str()),
-            simulations,
-            MOST_READS,
-            source,
-            sink,
-        ),
-        None => run_ceilings(alloc, format, None, simulations, MOST_READS, source, sink),
-    }
+    run_batch(rt, alloc, source, sink, options, watch)
 }
 
 /// Writes the line of a fault. Where memory runs out or the write fails, nothing more is written.

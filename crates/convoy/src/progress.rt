@@ -1,7 +1,8 @@
 //! How far a long search has come, told on standard error, and when its time is over.
 
-use convoy_arguments::{Task, Verdict};
+use convoy_arguments::Verdict;
 use convoy_commands::{Bounds, Duration, Gate, Watch};
+use convoy_tasks::Task;
 use std::alloc::{AllocError, Global};
 use std::io::{Stderr, Write};
 use std::sync::atomic::{AtomicBool, AtomicU32, AtomicU64, Ordering};
@@ -28,8 +29,9 @@ pub enum Screen {
 /// a batch nothing is told: its blocks show how far it is, and as a table it is written at its end.
 pub fn screen_for(verdict: &Verdict, is_terminal: bool) -> Screen {
     match verdict {
-        Verdict::Ask {
-            task: Task::Batch { .. } | Task::BatchTable { .. },
+        Verdict::Batch { .. }
+        | Verdict::Ask {
+            task: Task::BatchTable { .. },
             ..
         } => Screen::Off,
         Verdict::Ask { manner, .. } if !manner.is_quiet => {
@@ -76,8 +78,6 @@ pub struct Progress<'a, R> {
     most: AtomicU32,
     /// Whether a line was told of this search.
     told: AtomicBool,
-    /// The greatest latency that the last search found, or the greatest number where it found none.
-    greatest: AtomicU32,
 }
 
 impl<'a, R: Clock> Progress<'a, R> {
@@ -101,15 +101,6 @@ impl<'a, R: Clock> Progress<'a, R> {
             least: AtomicU32::new(0),
             most: AtomicU32::new(0),
             told: AtomicBool::new(false),
-            greatest: AtomicU32::new(u32::MAX),
-        }
-    }
-
-    /// The greatest latency in ticks that the last search found, where it did.
-    pub fn greatest(&self) -> Option<u32> {
-        match self.greatest.load(Ordering::Relaxed) {
-            u32::MAX => None,
-            greatest => Some(greatest),
         }
     }
 
@@ -272,10 +263,8 @@ impl<'a, R: Clock> Watch for Progress<'a, R> {
         self.start(bounds, limit, least, most.unwrap_or(u32::MAX));
     }
 
-    fn ends(&self, greatest: Option<u32>) {
-        self.greatest
-            .store(greatest.unwrap_or(u32::MAX), Ordering::Relaxed);
-        if greatest.is_none() && self.over.load(Ordering::Relaxed) {
+    fn ends(&self, is_open: bool) {
+        if is_open && self.over.load(Ordering::Relaxed) {
             self.stopped.store(true, Ordering::Relaxed);
         }
         if self.screen == Screen::Terminal && self.told.load(Ordering::Relaxed) {

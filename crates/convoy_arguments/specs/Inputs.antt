@@ -14,3 +14,13 @@ IsNamed None (inputs.File file) = ⊥
 abbrev pub file_in : Input → Option (List ℕ)
 file_in inputs.Standard = None
 file_in (inputs.File file) = Some (string_bytes file)
+
+-- the name of the file with the scenario that is wanted, where there is one
+abbrev pub wanted_file : Option Input → Option (List ℕ)
+wanted_file None = None
+wanted_file (Some input) = file_in input
+
+-- not both texts of a task come from standard input
+abbrev pub AreApart : Option Input → Input → Type 0
+AreApart (Some inputs.Standard) inputs.Standard = ⊥
+AreApart wanted text = Unit {0}

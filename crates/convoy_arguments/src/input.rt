@@ -1,7 +1,16 @@
 ghost use Rattle.std.specs.Prelude.{◌≡◌, IfOk, option_map};
-ghost use Rattle.convoy_arguments.specs.Inputs.{IsNamed, file_in};
+ghost use Rattle.convoy_arguments.specs.Inputs.{IsNamed, file_in, wanted_file};
 
 use std::alloc::{AllocError, Global};
+
+/// The inputs of a task.
+#[derive(Drop)]
+pub struct Inputs {
+    /// That of the text which is asked about.
+    pub text: Input,
+    /// That of the scenario which a certificate is to be of, where one is named.
+    pub wanted: Option<Input>,
+}
 
 /// What the command line says is to be read.
 #[derive(Drop)]
@@ -9,6 +18,18 @@ pub enum Input {
     Standard,
     /// The file of this name.
     File(String),
+}
+
+impl Inputs {
+    /// The name of the file with the scenario that is wanted, where there is one.
+    pub fn scenario_file(&self) -> Option<&str>
+        ensures { option_map (λ text. text.now) result ≡ wanted_file self.now.wanted }
+    {
+        match &self.wanted {
+            Some(input) => input.file(),
+            None => None,
+        }
+    }
 }
 
 impl Input {

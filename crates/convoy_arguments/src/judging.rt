@@ -1,17 +1,17 @@
 ghost use Rattle.std.specs.Prelude.{◌≡◌, ◌⊎◌, IfOk};
-ghost use Rattle.convoy_arguments.specs.Verdicts.{EndsAtOnce, HasReads, IsVerdict};
+ghost use Rattle.convoy_arguments.specs.Verdicts.{EndsAtOnce, IsVerdict, WantsOnlyIfChecks};
 
 use super::escaping::{are_shown, with_escapes};
-use super::input::Input;
+use super::input::{Input, Inputs};
 use super::limits::{HELP, REJECTED};
 use super::manner::Manner;
 use super::options::{format_of, options_of, simulations_of, steps_of};
 use super::parser::parser;
-use super::task::Task;
 use super::verdict::Verdict;
 use clap::error::ErrorKind;
 use clap::{ArgMatches, Error};
-use convoy_commands::{Asking, Command, Direct, Goal, Telling};
+use convoy_commands::Telling;
+use convoy_tasks::Task;
 use std::alloc::{AllocError, Global};
 use std::convert::AsStr;
 
@@ -124,115 +124,133 @@ fn command_of<S: AsStr>(alloc: Global, words: &[S], names_command: bool) -> Resu
     let matches = parser(alloc)?.try_get_matches_from(words)?;
     match matches.subcommand() {
         Some((name, given)) => {
-            let input = Input::of(alloc, given.get_str("file"))?;
-            let task = task_for(alloc, name, given)?;
-            asked(alloc, task, input, Manner::of_command(given, names_command))
+            asked(alloc, name, given, Manner::of_command(given, names_command))
         }
         None => Ok(Verdict::Ask {
-            task: Task::Command(Command::Direct(Direct::First)),
-            input: Input::Standard,
+            task: Task::First,
+            inputs: Inputs {
+                text: Input::Standard,
+                wanted: None,
+            },
             manner: Manner::of_program(&matches),
         }),
     }
 }
 
-/// The verdict for a task: a certificate and its scenario cannot both come from standard input.
-fn asked(alloc: Global, task: Task, input: Input, manner: Manner) -> Result<Verdict, Error>
-    requires { HasReads task }
+/// What the command of that name asks for.
+fn asked(
+    alloc: Global,
+    name: &str,
+    given: &ArgMatches<'_>,
+    manner: Manner,
+) -> Result<Verdict, Error>
     ensures { IfOk result IsVerdict }
 {
-    if let (
-        Task::CheckAbout {
-            scenario: Some(Input::Standard),
-            ..
-        },
-        Input::Standard,
-    ) = (&task, &input)
-    {
+    let text = Input::of(alloc, given.get_str("file"))?;
+    if name == "batch" && given.get_str("format").is_none() {
+        return Ok(Verdict::Batch {
+            options: options_of(given),
+            tells_status: given.get_flag("status"),
+            input: text,
+            manner,
+        });
+    }
+    let task = task_for(alloc, name, given)?;
+    let wanted = wanted_for(alloc, &task, given)?;
+    if let (Some(Input::Standard), Input::Standard) = (&wanted, &text) {
         return Ok(told(alloc, BOTH_STANDARD, REJECTED, manner.is_quiet));
     }
     Ok(Verdict::Ask {
         task,
-        input,
+        inputs: Inputs { text, wanted },
         manner,
     })
 }
 
-/// What the command of that name asks for.
-fn task_for(alloc: Global, name: &str, given: &ArgMatches<'_>) -> Result<Task, AllocError>
-    ensures { IfOk result HasReads }
+/// The input of the scenario that a certificate is to be of, where `check` names one; no other task has one.
+fn wanted_for(
+    alloc: Global,
+    task: &Task,
+    given: &ArgMatches<'_>,
+) -> Result<Option<Input>, AllocError>
+    ensures { IfOk result (WantsOnlyIfChecks task.now) }
 {
-    match name {
-        "check" => check_for(alloc, given),
-        "ceiling" => ceiling_for(alloc, given),
-        "batch" => Ok(batch_for(given)),
-        "survey" => Ok(survey_for(given)),
-        _ => Ok(Task::Command(command_for(name, given))),
+    match task {
+        Task::Check { .. } => scenario_in(alloc, given),
+        _ => Ok(None),
     }
 }
 
-/// What `check` asks for.
-fn check_for(alloc: Global, given: &ArgMatches<'_>) -> Result<Task, AllocError>
-    ensures { IfOk result HasReads }
-{
-    let (tells, limit) = (given.get_flag("tell"), Some(steps_of(given)));
-    let scenario = match given.get_str("scenario") {
-        Some(name) => Some(Input::of(alloc, Some(name))?),
-        None if tells => None,
-        None => {
-            let command = Command::Direct(Direct::Ask(Asking::Check, limit));
-            return Ok(Task::Command(command));
-        }
-    };
-    Ok(Task::CheckAbout {
-        scenario,
-        tells,
-        limit,
-    })
+/// The input that `--scenario` names, if it is given.
+fn scenario_in(alloc: Global, given: &ArgMatches<'_>) -> Result<Option<Input>, AllocError> {
+    match given.get_str("scenario") {
+        Some(name) => Ok(Some(Input::of(alloc, Some(name))?)),
+        None => Ok(None),
+    }
+}
+
+/// The task of the command of that name.
+fn task_for(alloc: Global, name: &str, given: &ArgMatches<'_>) -> Result<Task, AllocError> {
+    match name {
+        "analyse" => Ok(Task::Analyse {
+            options: options_of(given),
+        }),
+        "latency" => Ok(Task::Latency {
+            with_ceiling: given.get_flag("ceiling"),
+            options: options_of(given),
+        }),
+        "simulate" => Ok(Task::Tell(Telling::Simulate)),
+        "timeline" => Ok(Task::Tell(Telling::Timeline)),
+        "packets" => Ok(Task::Tell(Telling::Packets)),
+        "scenario" => Ok(Task::Tell(Telling::Toml)),
+        "check" | "explain" | "draw" => Ok(certificate_task_for(name, given)),
+        "ceiling" => ceiling_for(alloc, given),
+        "batch" | "survey" => Ok(table_for(name, given)),
+        _ => Ok(Task::First),
+    }
+}
+
+/// What is asked of a certificate.
+fn certificate_task_for(name: &str, given: &ArgMatches<'_>) -> Task {
+    let limit = Some(steps_of(given));
+    match name {
+        "check" => Task::Check {
+            tells: given.get_flag("tell"),
+            limit,
+        },
+        "explain" => Task::Explain {
+            with_ceiling: given.get_flag("ceiling"),
+            limit,
+        },
+        _ => Task::Draw { limit },
+    }
 }
 
 /// What `ceiling` asks for.
-fn ceiling_for(alloc: Global, given: &ArgMatches<'_>) -> Result<Task, AllocError>
-    ensures { IfOk result HasReads }
-{
+fn ceiling_for(alloc: Global, given: &ArgMatches<'_>) -> Result<Task, AllocError> {
+    let simulations = simulations_of(given);
     let group = match given.get_str("group") {
         Some(name) => Some(String::from_str(alloc, name)?),
         None if given.get_flag("all") => None,
-        None => {
-            let command = Command::Direct(Direct::Ceiling(simulations_of(given)));
-            return Ok(Task::Command(command));
-        }
+        None => return Ok(Task::Ceiling { simulations }),
     };
     Ok(Task::Ceilings {
         format: format_of(given),
         group,
-        simulations: simulations_of(given),
+        simulations,
     })
 }
 
-/// What `batch` asks for: blocks, unless a format is named.
-fn batch_for(given: &ArgMatches<'_>) -> Task
-    ensures { HasReads result }
-{
-    let (options, tells_status) = (options_of(given), given.get_flag("status"));
-    match given.get_str("format") {
-        None => Task::Batch {
-            options,
-            tells_status,
-        },
-        Some(_) => Task::BatchTable {
-            format: format_of(given),
-            options,
-            tells_status,
-        },
-    }
-}
-
-/// What `survey` asks for.
-fn survey_for(given: &ArgMatches<'_>) -> Task
-    ensures { HasReads result }
-{
+/// The table of searches that `survey` or `batch` asks for.
+fn table_for(name: &str, given: &ArgMatches<'_>) -> Task {
     let (format, options) = (format_of(given), options_of(given));
+    if name == "batch" {
+        return Task::BatchTable {
+            format,
+            options,
+            tells_status: given.get_flag("status"),
+        };
+    }
     if given.get_flag("without") {
         Task::WhatIf { format, options }
     } else {
@@ -241,29 +259,6 @@ fn survey_for(given: &ArgMatches<'_>) -> Task
             with_ceilings: given.get_flag("ceiling"),
             options,
         }
-    }
-}
-
-/// The command of that name, of those whose options leave them what they are.
-fn command_for(name: &str, given: &ArgMatches<'_>) -> Command
-    ensures { HasReads (Task.Command result) }
-{
-    match name {
-        "analyse" => Command::Search(Goal::Certificate, options_of(given)),
-        "latency" if given.get_flag("ceiling") => {
-            Command::Search(Goal::LatencyWithCeiling, options_of(given))
-        }
-        "latency" => Command::Search(Goal::Latency, options_of(given)),
-        "simulate" => Command::Direct(Direct::Tell(Telling::Simulate)),
-        "timeline" => Command::Direct(Direct::Tell(Telling::Timeline)),
-        "packets" => Command::Direct(Direct::Tell(Telling::Packets)),
-        "scenario" => Command::Direct(Direct::Tell(Telling::Toml)),
-        "explain" if given.get_flag("ceiling") => {
-            Command::Direct(Direct::ExplainWithCeiling(Some(steps_of(given))))
-        }
-        "explain" => Command::Direct(Direct::Ask(Asking::Explain, Some(steps_of(given)))),
-        "draw" => Command::Direct(Direct::Ask(Asking::Draw, Some(steps_of(given)))),
-        _ => Command::Direct(Direct::First),
     }
 }
 

@@ -2,11 +2,10 @@
 //! words that are rejected, for the person who wrote them (docs/HINTS.md).
 #![tactic(auto)]
 
-pub use input::Input;
+pub use input::{Input, Inputs};
 pub use judging::{judge, judge_bytes};
 pub use limits::{MOST_READS, MOST_SECONDS, REJECTED};
 pub use manner::Manner;
-pub use task::Task;
 pub use verdict::Verdict;
 pub use word_hints::hint_for_words;
 
@@ -19,6 +18,5 @@ mod manner;
 mod options;
 mod parser;
 mod settings;
-mod task;
 mod verdict;
 mod word_hints;

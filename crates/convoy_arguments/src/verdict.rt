@@ -1,16 +1,25 @@
 ghost use Rattle.std.specs.Prelude.{◌≡◌, option_map};
 ghost use Rattle.convoy_arguments.specs.Verdicts.{file_of, scenario_file_of};
 
-use super::input::Input;
+use super::input::{Input, Inputs};
 use super::manner::Manner;
-use super::task::Task;
+use convoy_commands::Options;
+use convoy_tasks::Task;
 
 /// What is to be done for a command line.
 #[derive(Drop)]
 pub enum Verdict {
-    /// It asks for this, of the text that the input holds, and in this manner.
+    /// It asks for this, of the texts that the inputs hold, and in this manner.
     Ask {
         task: Task,
+        inputs: Inputs,
+        manner: Manner,
+    },
+    /// It asks for the blocks of a batch, by searches with these options; and whether the exit status is to tell how
+    /// the searches end.
+    Batch {
+        options: Options,
+        tells_status: bool,
         input: Input,
         manner: Manner,
     },
@@ -29,7 +38,7 @@ impl Verdict {
     /// Whether hints and progress are left out.
     pub fn is_quiet(&self) -> bool {
         match self {
-            Verdict::Ask { manner, .. } => manner.is_quiet,
+            Verdict::Ask { manner, .. } | Verdict::Batch { manner, .. } => manner.is_quiet,
             Verdict::Text { is_quiet, .. } => *is_quiet,
             Verdict::Memory => false,
         }
@@ -40,7 +49,8 @@ impl Verdict {
         ensures { option_map (λ text. text.now) result ≡ file_of self.now }
     {
         match self {
-            Verdict::Ask { input, .. } => input.file(),
+            Verdict::Ask { inputs, .. } => inputs.text.file(),
+            Verdict::Batch { input, .. } => input.file(),
             Verdict::Text { .. } | Verdict::Memory => None,
         }
     }
@@ -50,14 +60,8 @@ impl Verdict {
         ensures { option_map (λ text. text.now) result ≡ scenario_file_of self.now }
     {
         match self {
-            Verdict::Ask {
-                task: Task::CheckAbout {
-                    scenario: Some(input),
-                    ..
-                },
-                ..
-            } => input.file(),
-            _ => None,
+            Verdict::Ask { inputs, .. } => inputs.scenario_file(),
+            Verdict::Batch { .. } | Verdict::Text { .. } | Verdict::Memory => None,
         }
     }
 }

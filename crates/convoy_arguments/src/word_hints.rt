@@ -1,5 +1,5 @@
 use super::settings::{Value, command_named, setting_named};
-use convoy_sketch::Quoted;
+use convoy_hints_sketch::Quoted;
 use std::alloc::{AllocError, Global};
 use std::convert::AsStr;
 use std::fmt;

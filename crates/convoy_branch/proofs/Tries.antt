@@ -15,6 +15,8 @@ use Rattle.convoy_intervals.specs.Bounds.{plain_bound}
 use Rattle.convoy_intervals.specs.Boxes.{Box, greatest_of}
 use Rattle.convoy_stamps.specs.StampBounds.{stamp_bound}
 use Rattle.convoy_leads.specs.Closing.{closes_by_leads}
+use Rattle.convoy_branch.specs.Asked.{IsAsked}
+use Rattle.convoy_branch.specs.declared.asked.Asked.{Asked}
 use Rattle.convoy_branch.specs.Looks.{IsLook}
 use Rattle.convoy_branch.specs.SearchBounds.{bound_in, closes_for, further_leaf, leaf_for, least_bound}
 use Rattle.convoy_checker.specs.Leaves.{ClosesByStamps}
@@ -111,13 +113,13 @@ closed_since bounds plan box known (Some node) some is = is.1
 -- ---- Looks
 
 -- a box that is closed at once
-pub look_closed : (bounds : Bounds) (plan : Scenario) (box : Box) (seen : ℕ) (leaf : Option Node) → seen < 2 ^ 32 → stamp_bound plan box ≤ plain_bound plan box → leaf ≡ leaf_for bounds plan box seen → is_some leaf ≡ true → IsLook bounds plan box seen (record { found = None; leaf = leaf })
-look_closed bounds plan box seen leaf small least is some =
-    let closes : closes_for bounds plan box seen ≡ true = closed_since bounds plan box seen leaf some (subst (λ (l : Option Node). IsLeafFor bounds plan box seen l) (sym is) (IsLeafFor-first plan box seen small (least_at_most_plain plan box least) bounds)) in
+pub look_closed : (bounds : Bounds) (plan : Scenario) (box : Box) (seen : ℕ) (asked : Asked) → seen < 2 ^ 32 → stamp_bound plan box ≤ plain_bound plan box → IsAsked bounds plan box seen asked → is_some asked.leaf ≡ true → IsLook bounds plan box seen (record { found = None; asked = asked })
+look_closed bounds plan box seen asked small least is some =
+    let closes : closes_for bounds plan box seen ≡ true = closed_since bounds plan box seen asked.leaf some (subst (λ (l : Option Node). IsLeafFor bounds plan box seen l) (sym is.leaf) (IsLeafFor-first plan box seen small (least_at_most_plain plan box least) bounds)) in
     let rest = nat_le (latency_of plan (greatest_of box)) seen in
     record {
       found = sym (ap (λ (b : Bool). if b || rest then None else Some (attained_by plan (greatest_of box))) closes);
-      leaf = is;
+      asked = is;
       tried = λ none. absurd (false≢true (sym (ap is_some none) ∙ some));
       named = small;
     }

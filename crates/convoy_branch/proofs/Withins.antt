@@ -40,21 +40,9 @@ pub returns_whole : {E : Type 0} (result : Result Outcome E) (limit : Limit) (ti
 returns_whole result limit tickets IsAnswer is =
     IfOk-weaker result (λ outcome. IsWithin limit (λ spent. IsAnswer spent outcome)) (λ outcome. IsAnswer tickets outcome) (λ outcome within. subst (λ (spent : ℕ). IsAnswer spent outcome) (within.all (ap (λ (l : Limit). l.may_stop) is) ∙ ap (λ (l : Limit). l.tickets) is) within.answer)
 
--- both searches were made
-pub IsWithinBothWays-both : (limit plain lead : Limit) (IsPlain IsLead : ℕ → Type 0) (IsAnswer : ℕ → ℕ → Type 0) → plain ≡ record limit { tickets = plain_share limit.tickets } → lead ≡ record limit { tickets = lead_share limit.tickets } → (by_plain : IsWithin plain IsPlain) → (by_leads : IsWithin lead IsLead) → IsAnswer by_plain.spendable by_leads.spendable → IsWithinBothWays limit IsAnswer
-IsWithinBothWays-both limit plain lead IsPlain IsLead IsAnswer plain_is lead_is by_plain by_leads answer = record {
-  plain = by_plain.spendable;
-  leads = by_leads.spendable;
-  few_plain = omega (arith, by_plain.few, ap (λ (l : Limit). l.tickets) plain_is);
-  few_leads = omega (arith, by_leads.few, ap (λ (l : Limit). l.tickets) lead_is);
-  all_plain = λ runs. by_plain.all (ap (λ (l : Limit). l.may_stop) plain_is ∙ runs) ∙ ap (λ (l : Limit). l.tickets) plain_is;
-  all_leads = λ runs. by_leads.all (ap (λ (l : Limit). l.may_stop) lead_is ∙ runs) ∙ ap (λ (l : Limit). l.tickets) lead_is;
-  answer = answer;
-}
-
--- only the first was, and the second may spend so many
-IsWithinBothWays-one : (limit plain : Limit) (IsPlain : ℕ → Type 0) (IsAnswer : ℕ → ℕ → Type 0) (leads : ℕ) → plain ≡ record limit { tickets = plain_share limit.tickets } → leads ≤ lead_share limit.tickets → (limit.may_stop ≡ false → leads ≡ lead_share limit.tickets) → (by_plain : IsWithin plain IsPlain) → IsAnswer by_plain.spendable leads → IsWithinBothWays limit IsAnswer
-IsWithinBothWays-one limit plain IsPlain IsAnswer leads plain_is few all by_plain answer = record {
+-- by plain bounds as many were spent as the first search may spend, and by leads so many may be
+IsWithinBothWays-by : (limit plain : Limit) (IsPlain : ℕ → Type 0) (IsAnswer : ℕ → ℕ → Type 0) (leads : ℕ) → plain ≡ record limit { tickets = plain_share limit.tickets } → leads ≤ lead_share limit.tickets → (limit.may_stop ≡ false → leads ≡ lead_share limit.tickets) → (by_plain : IsWithin plain IsPlain) → IsAnswer by_plain.spendable leads → IsWithinBothWays limit IsAnswer
+IsWithinBothWays-by limit plain IsPlain IsAnswer leads plain_is few all by_plain answer = record {
   plain = by_plain.spendable;
   leads = leads;
   few_plain = omega (arith, by_plain.few, ap (λ (l : Limit). l.tickets) plain_is);
@@ -64,6 +52,12 @@ IsWithinBothWays-one limit plain IsPlain IsAnswer leads plain_is few all by_plai
   answer = answer;
 }
 
+-- both searches were made
+pub IsWithinBothWays-both : (limit plain lead : Limit) (IsPlain IsLead : ℕ → Type 0) (IsAnswer : ℕ → ℕ → Type 0) → plain ≡ record limit { tickets = plain_share limit.tickets } → lead ≡ record limit { tickets = lead_share limit.tickets } → (by_plain : IsWithin plain IsPlain) → (by_leads : IsWithin lead IsLead) → IsAnswer by_plain.spendable by_leads.spendable → IsWithinBothWays limit IsAnswer
+IsWithinBothWays-both limit plain lead IsPlain IsLead IsAnswer plain_is lead_is by_plain by_leads answer =
+    let tickets : lead.tickets ≡ lead_share limit.tickets = ap (λ (l : Limit). l.tickets) lead_is in
+    IsWithinBothWays-by limit plain IsPlain IsAnswer by_leads.spendable plain_is (omega (arith, by_leads.few, tickets)) (λ runs. by_leads.all (ap (λ (l : Limit). l.may_stop) lead_is ∙ runs) ∙ tickets) by_plain answer
+
 -- what the first answers is the answer: nothing is left, or no ticket for leads, or the search may be stopped
 abbrev pub IsLast : Limit → Outcome → Type 0
 IsLast limit (Proved certificate tickets by_worker) = Unit {0}
@@ -71,6 +65,6 @@ IsLast limit (Open best upper tickets by_worker) = (lead_share limit.tickets ≡
 
 pub IsWithinBothWays-first : (limit plain : Limit) (scenario : Scenario) (workers : ℕ) (outcome : Outcome) → plain ≡ record limit { tickets = plain_share limit.tickets } → IsWithin plain (λ tickets. IsOutcome Plain scenario workers tickets outcome) → IsLast limit outcome → IsWithinBothWays limit (λ by_plain by_leads. IsOutcomeBothWays scenario workers by_plain by_leads outcome)
 IsWithinBothWays-first limit plain scenario workers (Proved certificate tickets by_worker) plain_is within last =
-    IsWithinBothWays-one limit plain (λ spent. IsOutcome Plain scenario workers spent (Proved certificate tickets by_worker)) (λ by_plain by_leads. IsOutcomeBothWays scenario workers by_plain by_leads (Proved certificate tickets by_worker)) (lead_share limit.tickets) plain_is (omega arith) (λ runs. refl) within (inl within.answer)
+    IsWithinBothWays-by limit plain (λ spent. IsOutcome Plain scenario workers spent (Proved certificate tickets by_worker)) (λ by_plain by_leads. IsOutcomeBothWays scenario workers by_plain by_leads (Proved certificate tickets by_worker)) (lead_share limit.tickets) plain_is (omega arith) (λ runs. refl) within (inl within.answer)
 IsWithinBothWays-first limit plain scenario workers (Open best upper tickets by_worker) plain_is within last =
-    IsWithinBothWays-one limit plain (λ spent. IsOutcome Plain scenario workers spent (Open best upper tickets by_worker)) (λ by_plain by_leads. IsOutcomeBothWays scenario workers by_plain by_leads (Open best upper tickets by_worker)) 0 plain_is (omega arith) (λ runs. elim last [ inl none ↦ sym none | inr stops ↦ absurd (false≢true (sym runs ∙ stops)) ]) within (inl (refl, within.answer))
+    IsWithinBothWays-by limit plain (λ spent. IsOutcome Plain scenario workers spent (Open best upper tickets by_worker)) (λ by_plain by_leads. IsOutcomeBothWays scenario workers by_plain by_leads (Open best upper tickets by_worker)) 0 plain_is (omega arith) (λ runs. elim last [ inl none ↦ sym none | inr stops ↦ absurd (false≢true (sym runs ∙ stops)) ]) within (inl (refl, within.answer))

@@ -9,6 +9,7 @@ pub use Rattle.convoy_intervals.specs.Bounds
 pub use Rattle.convoy_intervals.specs.Tracked
 pub use Rattle.convoy_stamps.specs.StampBounds
 pub use Rattle.convoy_leads.specs.Closing
+pub use Rattle.convoy_leads.specs.Openings
 pub use Rattle.convoy_certificate.specs.Certificate
 pub use Rattle.convoy_certificate.specs.Text
 pub use Rattle.convoy_checker.specs.Trees
@@ -25,5 +26,8 @@ pub mod Limits
 pub mod BothWays
 pub mod Laws
 -- Where the program stands between two steps: no promise above this crate rests on it.
+pub mod Asked
 pub mod Looks
 pub mod Searching
+-- Words for where a box is split: no promise rests on them.
+pub mod Chains

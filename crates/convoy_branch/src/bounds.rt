@@ -1,12 +1,17 @@
-ghost use Rattle.std.specs.Prelude.{◌≡◌, ◌≤◌, false, IfNone, IfOk, IfSome};
+ghost use Rattle.std.specs.Prelude.{◌≡◌, ◌≤◌, false, if◌then◌else◌, Some, None, IfNone, IfOk, IfSome};
+ghost use Rattle.convoy_certificate.specs.declared.node.Node.TheVariants.{Lead};
+ghost use Rattle.convoy_intervals.specs.Boxes.{IsBox};
+ghost use Rattle.convoy_leads.specs.Closing.{closes_by_leads};
 ghost use Rattle.convoy_branch.specs.declared.step.Turn.TheVariants.{Closed};
-ghost use Rattle.convoy_branch.specs.SearchBounds.{closes_for, further_leaf, leaf_for, least_bound, most_nodes};
+ghost use Rattle.convoy_branch.specs.Asked.{IsAsked, IsLeftOpen};
+ghost use Rattle.convoy_branch.specs.SearchBounds.{closes_for, further_leaf, least_bound, most_nodes};
 ghost use Rattle.convoy_branch.specs.Steps.{IsTurn};
 ghost use Rattle.convoy_branch.specs.Uppers.{IsRaised, IsRaisedByLeads};
 
+use super::asked::{Asked, LeftOpen};
 use convoy_certificate::{MOST_LEADS, MOST_NODES, Node};
-use convoy_intervals::Tracked;
-use convoy_leads::closes_by_leads;
+use convoy_intervals::{DelayBox, Tracked};
+use convoy_leads::LeadTest;
 use convoy_packets::Instance;
 use convoy_scenario::Time;
 use convoy_stamps::laws::stamp_bound_at_most_plain;
@@ -54,51 +59,53 @@ impl Bounds {
             (closes_for self instance.now branch.now.delay_box latency ≡ false)) }
     {
         stamp_bound_at_most_plain();
-        self.leaf_for(alloc, instance, branch, latency)
+        let asked = self.ask(alloc, instance, branch, latency)?;
+        Ok(asked.leaf)
     }
 
-    /// The leaf that closes a box for a latency in ticks, if there is one: that of the plain bound,
-    /// else that of the stamp bound if it is asked for, and else that of leads. The error is that
-    /// memory ran out.
-    pub(crate) fn leaf_for(
+    /// Asks for the leaf that closes a box for a latency in ticks: that of the plain bound, else that of
+    /// the stamp bound if it is asked for, and else that of leads, which tell what they leave open where
+    /// there is none. The error is that memory ran out.
+    pub(crate) fn ask<'a>(
         self,
         alloc: Global,
-        instance: &Instance,
+        instance: &'a Instance,
         branch: &Tracked,
         latency: u32,
-    ) -> Result<Option<Node>, AllocError>
+    ) -> Result<Asked<'a>, AllocError>
         requires of_scenario { branch.now.scenario ≡ instance.now }
-        ensures { IfOk result
-            (λ leaf. leaf ≡ leaf_for self instance.now branch.now.delay_box latency) }
+        ensures { IfOk result (IsAsked self instance.now branch.now.delay_box latency) }
     {
         if branch.bound() <= latency {
-            return Ok(Some(Node::Bound));
+            return Ok(Asked::closed(Node::Bound));
         }
-        self.further_leaf(alloc, instance, branch, latency)
+        self.ask_further(alloc, instance, branch, latency)
     }
 
-    /// The leaf that closes a box for a latency in ticks where its plain bound does not.
-    fn further_leaf(
+    /// The same of a box that its plain bound does not close.
+    fn ask_further<'a>(
         self,
         alloc: Global,
-        instance: &Instance,
+        instance: &'a Instance,
         branch: &Tracked,
         latency: u32,
-    ) -> Result<Option<Node>, AllocError>
+    ) -> Result<Asked<'a>, AllocError>
         requires of_scenario { branch.now.scenario ≡ instance.now }
-        ensures { IfOk result
-            (λ leaf. leaf ≡ further_leaf self instance.now branch.now.delay_box latency) }
+        ensures leaf { IfOk result
+            (λ asked. asked.leaf ≡ further_leaf self instance.now branch.now.delay_box latency) }
+        ensures left { IfOk result
+            (λ asked. IfSome asked.left (λ left. IsLeftOpen instance.now branch.now.delay_box left.value)) }
     {
         if self == Bounds::Plain {
-            return Ok(None);
+            return Ok(Asked::nothing());
         }
         if least_bound(alloc, instance, branch)? <= latency {
-            return Ok(Some(Node::Stamp));
+            return Ok(Asked::closed(Node::Stamp));
         }
-        if self == Bounds::Lead && closes_by_leads(alloc, instance, branch.delay_box(), latency)? {
-            return Ok(Some(Node::Lead { latency }));
+        if self == Bounds::Lead {
+            return ask_leads(alloc, instance, branch.delay_box(), latency);
         }
-        Ok(None)
+        Ok(Asked::nothing())
     }
 
     /// What an upper bound of all latencies, in ticks, is raised to where a box is left: to the bound
@@ -124,6 +131,30 @@ impl Bounds {
             }
         }
     }
+}
+
+/// Asks leads whether they close a box for a latency in ticks.
+fn ask_leads<'a>(
+    alloc: Global,
+    instance: &'a Instance,
+    delay_box: &DelayBox,
+    latency: u32,
+) -> Result<Asked<'a>, AllocError>
+    requires inside { IsBox instance.now delay_box.now }
+    ensures leaf { IfOk result (λ asked. asked.leaf
+        ≡ (if closes_by_leads instance.now delay_box.now latency then Some (Lead latency) else None)) }
+    ensures left { IfOk result
+        (λ asked. IfSome asked.left (λ left. IsLeftOpen instance.now delay_box.now left.value)) }
+{
+    let test = LeadTest::of(alloc, instance, delay_box)?;
+    let shown = test.shows(latency)?;
+    if shown.is_closed() {
+        return Ok(Asked::closed(Node::Lead { latency }));
+    }
+    Ok(Asked {
+        leaf: None,
+        left: Some(Box::new(alloc, LeftOpen { test, shown })?),
+    })
 }
 
 /// The bound of a box in a search that asks for stamp bounds, in ticks: its stamp bound, or in real
@@ -152,11 +183,15 @@ fn raised_by_leads(
     ensures { IfOk result
         (λ raised. IsRaisedByLeads instance.now branch.now.delay_box upper raised) }
 {
+    if bound <= upper {
+        return Ok(upper);
+    }
     let mut low = upper;
-    let mut high = upper.max(bound);
+    let mut high = bound;
+    let test = LeadTest::of(alloc, instance, branch.delay_box())?;
     while low < high {
         let middle = low + (high - low) / 2;
-        if closes_by_leads(alloc, instance, branch.delay_box(), middle)? {
+        if test.shows(middle)?.is_closed() {
             high = middle;
         } else {
             low = middle + 1;

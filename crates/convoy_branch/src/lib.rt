@@ -14,13 +14,17 @@ pub use search::{search_alone, search_alone_from};
 pub use step::{Fate, Step, Turn, step_branch};
 pub use ways::{PLAIN_TICKETS, lead_share, plain_share, search_both_ways};
 
+mod asked;
 mod bounds;
 mod gate;
 pub mod laws;
 mod limit;
 mod options;
 mod outcome;
+mod placing;
 mod prospect;
 mod search;
 mod step;
+mod want;
+mod wants;
 mod ways;

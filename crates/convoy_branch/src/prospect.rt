@@ -53,7 +53,7 @@ pub fn prospect_of(
     Ok(Prospect {
         found: look.found,
         known,
-        turns: look.leaf.is_some(),
+        turns: look.asked.leaf.is_some(),
     })
 }
 

@@ -6,12 +6,14 @@ ghost use Rattle.convoy_sim.specs.Record.{attained_by};
 ghost use Rattle.convoy_intervals.specs.Boxes.{IsBox, IsPoint, greatest_of};
 ghost use Rattle.convoy_intervals.specs.Boxes.{CanSplit};
 ghost use Rattle.convoy_branch.specs.declared.bounds.Bounds.{Bounds};
+ghost use Rattle.convoy_branch.specs.Asked.{IsLeftOpen};
 ghost use Rattle.convoy_branch.specs.Steps.{IsFate, IsStep, IsTriedIf, StaysOpen, known_after};
 ghost use Rattle.convoy_branch.specs.Looks.{IsLook};
 
+use super::asked::{Asked, LeftOpen};
 use super::bounds::Bounds;
+use super::placing::place_by_leads;
 use convoy_certificate::Node;
-use convoy_chains::place_by_leads;
 use convoy_intervals::laws::members_are_assignments;
 use convoy_intervals::{DelayBox, Tracked};
 use convoy_packets::laws::fixed_order_is_order;
@@ -83,55 +85,54 @@ pub fn step_branch(
         Ok(look) => look,
         Err(error) => return Err((branch, error)),
     };
-    let fate = match look.leaf {
+    let Look { found, asked } = look;
+    let Asked { leaf, left } = asked;
+    let fate = match leaf {
         Some(leaf) => Fate::Turned(Turn::Closed(leaf)),
         None => {
-            let known = known_after(&look.found, seen);
-            open_fate(alloc, instance, branch, known, bounds)?
+            let known = known_after(&found, seen);
+            open_fate(alloc, instance, branch, known, left)?
         }
     };
-    Ok(Step {
-        found: look.found,
-        fate,
-    })
+    Ok(Step { found, fate })
 }
 
 /// What a look at a box shows.
 #[derive(Drop)]
-pub(crate) struct Look {
+pub(crate) struct Look<'a> {
     /// A record of a greater latency than was seen.
     pub found: Option<Record>,
-    /// The leaf that closes the box for the latency that is known then.
-    pub leaf: Option<Node>,
+    /// What was asked of the box for the latency that is known then.
+    pub asked: Asked<'a>,
 }
 
 /// Asks whether the box is closed for the latency seen, in ticks, then for that of its greatest
 /// delays, and then whether it is closed for that if it is greater.
-pub(crate) fn look_at(
+pub(crate) fn look_at<'a>(
     alloc: Global,
-    instance: &Instance,
+    instance: &'a Instance,
     branch: &Tracked,
     tried: bool,
     seen: u32,
     bounds: Bounds,
-) -> Result<Look, AllocError>
+) -> Result<Look<'a>, AllocError>
     requires of_scenario { branch.now.scenario ≡ instance.now }
     requires known { IsTriedIf instance.now branch.now.delay_box tried seen }
     ensures value { IfOk result (λ look. IsLook bounds instance.now branch.now.delay_box seen look) }
 {
     stamp_bound_at_most_plain();
-    let leaf = bounds.leaf_for(alloc, instance, branch, seen)?;
-    if leaf.is_some() {
-        return Ok(Look { found: None, leaf });
+    let asked = bounds.ask(alloc, instance, branch, seen)?;
+    if asked.leaf.is_some() {
+        return Ok(Look { found: None, asked });
     }
     match try_greatest(alloc, instance, branch, tried, seen)? {
-        None => Ok(Look { found: None, leaf }),
+        None => Ok(Look { found: None, asked }),
         Some(found) => {
             let latency = found.latency();
-            let leaf = bounds.leaf_for(alloc, instance, branch, latency)?;
+            let asked = bounds.ask(alloc, instance, branch, latency)?;
             Ok(Look {
                 found: Some(found),
-                leaf,
+                asked,
             })
         }
     }
@@ -178,14 +179,15 @@ fn open_fate(
     instance: &Instance,
     branch: Tracked,
     latency: u32,
-    bounds: Bounds,
+    left: Option<Box<LeftOpen>>,
 ) -> Result<Fate, (Tracked, AllocError)>
     requires of_scenario { branch.scenario ≡ instance.now }
+    requires left { IfSome left (λ left. IsLeftOpen instance.now branch.delay_box left.value) }
     ensures value { (by : Bounds) (known : ℕ) → StaysOpen by instance.now branch.delay_box known
         → IfOk result (λ fate. IsFate by instance.now branch.delay_box known fate) }
     ensures back { IfErr result (λ refused. refused.0 ≡ branch) }
 {
-    let place = match place_to_split(alloc, instance, branch.delay_box(), latency, bounds) {
+    let place = match place_to_split(alloc, instance, branch.delay_box(), latency, left) {
         Ok(place) => place,
         Err(error) => return Err((branch, error)),
     };
@@ -217,23 +219,24 @@ fn point_fate(instance: &Instance, branch: Tracked) -> Fate
     }
 }
 
-/// Where to split a box that is not closed for the latency that is known, in ticks: by leads where the
-/// chain that keeps it open says so, and else in the middle of the widest range. None where each packet
-/// has one delay left. The error is that memory ran out.
+/// Where to split a box that is not closed for the latency that is known, in ticks: by what leads leave
+/// open of it, where they were asked, if the chain that keeps it open says so, and else in the middle of
+/// the widest range. None where each packet has one delay left. The error is that memory ran out.
 fn place_to_split(
     alloc: Global,
     instance: &Instance,
     branch: &DelayBox,
     latency: u32,
-    bounds: Bounds,
+    left: Option<Box<LeftOpen>>,
 ) -> Result<Option<(u16, u16)>, AllocError>
     requires inside { IsBox instance.now branch.now }
+    requires left { IfSome left (λ left. IsLeftOpen instance.now branch.now left.value) }
     ensures point { IfOk result (λ found. IsNone found ↔ IsPoint branch.now) }
     ensures part { IfOk result
         (λ found. IfSome found (λ place. CanSplit branch.now place.0 place.1)) }
 {
-    if bounds == Bounds::Lead {
-        let place = place_by_leads(alloc, instance, branch, latency)?;
+    if let Some(left) = left {
+        let place = place_by_leads(alloc, instance, branch, Box::into_inner(left), latency)?;
         if place.is_some() {
             return Ok(place);
         }

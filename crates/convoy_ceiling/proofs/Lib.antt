@@ -7,3 +7,4 @@ pub mod FourDelays
 pub mod Asked
 pub mod Passing
 pub mod Rows
+pub mod Schedules

@@ -7,7 +7,7 @@ pub use node::{GREATEST_PACKET, GREATEST_UNTIMED_PACKET, Node};
 pub use reading::read;
 pub use text_fault::TextFault;
 pub use version::Version;
-pub use writing::{push_schedule, write};
+pub use writing::{push_schedule, text_of, write};
 
 mod certificate;
 mod form;

@@ -21,7 +21,8 @@ pub fn write(alloc: Global, certificate: &Certificate, out: &mut Vec<u8>) -> Res
     out.extend_from_slice(&text)
 }
 
-fn text_of(alloc: Global, certificate: &Certificate) -> Result<Vec<u8>, AllocError>
+/// The text of a certificate (docs/FORMATS.md, "Certificate text"). Fails where memory runs out, and else never.
+pub fn text_of(alloc: Global, certificate: &Certificate) -> Result<Vec<u8>, AllocError>
     ensures { IfOk result (λ text. text.items ≡ certificate_text certificate.now) }
 {
     let version = certificate.version();

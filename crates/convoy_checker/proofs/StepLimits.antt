@@ -1,5 +1,5 @@
 -- Steps that are taken one node after the other, where there is a limit.
-use Rattle.std.proofs.Common.{◌≡◌, ℕ, ◌+◌, ◌*◌, ◌<◌, true, false, cond, List, [], ◌∷◌, ◌++◌, length, get_or, drop, Option, Some, None, refl, sym, ap, ◌∙◌, arith}
+use Rattle.std.proofs.Common.{◌≡◌, ℕ, ◌+◌, ◌*◌, ◌<◌, true, cond, List, [], ◌∷◌, ◌++◌, length, get_or, drop, Option, Some, None, refl, sym, ap, ◌∙◌, arith}
 use Rattle.std.proofs.lemmas.Bool.Decides.{nat_tests}
 use Rattle.std.proofs.lemmas.Bool.{le-leb}
 use Rattle.std.specs.List.{slice_get}
@@ -10,7 +10,7 @@ use Rattle.convoy_certificate.specs.declared.node.Node.{Node}
 use Rattle.convoy_certificate.specs.declared.node.Node.TheVariants as kinds
 use Rattle.convoy_intervals.specs.Boxes.{Box}
 use Rattle.convoy_checker.specs.declared.checking.Looked.{Looked}
-use Rattle.convoy_checker.specs.declared.checking.Looked.TheVariants.{All, Short}
+use Rattle.convoy_checker.specs.declared.checking.Looked.TheVariants.{All}
 use Rattle.convoy_checker.specs.declared.refused.Refused.{Refused}
 use Rattle.convoy_checker.specs.declared.refused.Refused.TheVariants.{TreeCount}
 use Rattle.convoy_checker.specs.Checks.{first_fault, node_fault}
@@ -28,14 +28,10 @@ allows_none : (limit : Option ℕ) → allows limit 0 ≡ true
 allows_none None = refl
 allows_none (Some most) = le-leb 0 most (omega arith)
 
--- steps after those that may be taken, and after those that may not
+-- steps after those that may be taken
 allows_more : (limit : Option ℕ) (a b : ℕ) → allows limit a ≡ true → allows limit (a + b) ≡ allows (left_after limit a) b
 allows_more None a b enough = refl
 allows_more (Some most) a b enough = grind (arith, nat_tests, enough)
-
-allows_not : (limit : Option ℕ) (a b : ℕ) → allows limit a ≡ false → allows limit (a + b) ≡ false
-allows_not None a b short = cc
-allows_not (Some most) a b short = grind (arith, nat_tests, short)
 
 next : (limit : Option ℕ) (a b : ℕ) (fault : Option Refused) → allows limit a ≡ true →
     looked_within limit (a + b) fault ≡ looked_within (left_after limit a) b fault
@@ -51,12 +47,6 @@ pub seen-no_box : (plan : Scenario) (latency number : ℕ) (boxes : List Box) (n
     number < length nodes → slice_get boxes 0 ≡ None → seen plan latency number boxes (drop number nodes) limit ≡ All (Some TreeCount)
 seen-no_box plan latency number boxes nodes limit below none =
     rw (nil_from_get boxes none, drop_more nodes number kinds.Bound below, allows_none limit) refl
-
--- no node is left
-pub seen-no_node : (plan : Scenario) (latency number : ℕ) (boxes : List Box) (limit : Option ℕ) →
-    seen plan latency number boxes [] limit ≡ All (first_fault plan latency number boxes [])
-seen-no_node plan latency number [] limit = rw (allows_none limit) refl
-seen-no_node plan latency number (box ∷ boxes) limit = rw (allows_none limit) refl
 
 -- the node over the first box
 module _ (plan : Scenario) (latency number : ℕ) (boxes : List Box) (box : Box) (nodes : List Node) (d : Node) where
@@ -91,25 +81,7 @@ module _ (plan : Scenario) (latency number : ℕ) (boxes : List Box) (box : Box)
       ap (λ bs. first_fault plan latency number bs (drop number nodes)) (cons_from_get boxes box first)
       ∙ ap (λ ns. first_fault plan latency number (box ∷ drop 1 boxes) ns) (drop_more nodes number d below)
 
-  -- there are too many
-  pub seen-short : (limit : Option ℕ) → number < length nodes → slice_get boxes 0 ≡ Some box →
-      allows limit (node_steps plan (get_or nodes number d) box) ≡ false →
-      seen plan latency number boxes (drop number nodes) limit ≡ Short
-  unfolding node steps
-  seen-short limit below first short =
-      rw (steps_are below first, allows_not limit (node_steps plan (get_or nodes number d) box) (cond (is_some fault) 0 later) short) refl
-
-  -- it has a fault
-  pub seen-fault : (limit : Option ℕ) (found : Option Refused) → number < length nodes → slice_get boxes 0 ≡ Some box →
-      allows limit (node_steps plan (get_or nodes number d) box) ≡ true →
-      found ≡ node_fault plan latency number (get_or nodes number d) box → true ≡ is_some found →
-      seen plan latency number boxes (drop number nodes) limit ≡ All found
-  unfolding node steps fault
-  seen-fault limit (Some refused) below first enough is there =
-      rw (steps_are below first, fault_is below first, ← is, next limit (node_steps plan (get_or nodes number d) box) 0 (Some refused) enough, allows_none (left_after limit (node_steps plan (get_or nodes number d) box))) refl
-  seen-fault limit None below first enough is there = cc
-
-  -- it has none
+  -- it has no fault
   pub seen-passed : (limit : Option ℕ) (after : List Box) → number < length nodes → slice_get boxes 0 ≡ Some box →
       allows limit (node_steps plan (get_or nodes number d) box) ≡ true →
       node_fault plan latency number (get_or nodes number d) box ≡ None → after ≡ boxes_after (get_or nodes number d) boxes →

@@ -3,14 +3,11 @@ pub mod AskTexts
 pub mod CeilingTexts
 pub mod CeilingWithins
 pub mod CheckTexts
-pub mod CommandTexts
 pub mod DrawTexts
 pub mod ExplainTexts
-pub mod Failures
 pub mod FirstTexts
 pub mod NoDevice
 pub mod Starts
 pub mod TellTexts
-pub mod TextRuns
 pub mod WithinTexts
 pub mod WrittenTexts

@@ -6,7 +6,7 @@ use Rattle.convoy_scenario.specs.Scenario.{Scenario}
 use Rattle.convoy_toml.specs.Reading.{InputView, input_of_text, scenario_of_text}
 use Rattle.convoy_draft.specs.declared.fault.ScenarioFault.{ScenarioFault}
 use Rattle.convoy_draft.specs.declared.fault.ScenarioFault.TheVariants as scenario
-use Rattle.convoy_explain.specs.PacketLists.{packets_text}
+use Rattle.convoy_timeline.specs.PacketLists.{packets_text}
 use Rattle.convoy_draft.specs.declared.time.Time.{Time}
 use Rattle.convoy_draft.specs.declared.time.Time.TheVariants.{Ticks, Real}
 use Rattle.convoy_lines.specs.Results.{◌>>=◌}

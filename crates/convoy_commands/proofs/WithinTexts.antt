@@ -16,13 +16,14 @@ use Rattle.convoy_checker.specs.declared.refused.Refused.{Refused as Fault-of-ch
 use Rattle.convoy_checker.specs.declared.refused.Refused.TheVariants as checks
 use Rattle.convoy_sim.specs.Greatest.{IsGreatest}
 use Rattle.convoy_commands.specs.declared.asking.Asking.{Asking}
+use Rattle.convoy_commands.specs.declared.done.Done.{Done}
 use Rattle.convoy_commands.specs.declared.done.Done.TheVariants.{NotChecked}
 use Rattle.convoy_commands.specs.declared.fault.Fault.{Fault}
 use Rattle.convoy_commands.specs.declared.fault.Fault.TheVariants.{Memory}
 use Rattle.convoy_commands.specs.Asks.{AskSays, RepliesTo}
 use Rattle.convoy_commands.specs.Checks.{reply_of_text}
 use Rattle.convoy_commands.specs.Lines.{not_checked_line}
-use Rattle.convoy_commands.specs.Replies.{IsReply, Reply, RuleOf, ReplyWith, SaysUnlessMemory}
+use Rattle.convoy_commands.specs.Replies.{IsReply, Reply, Rule, SaysUnlessMemory}
 use Rattle.convoy_commands.specs.Withins.{SaysIf, SaysWithin, steps_of_reading, steps_of_text}
 use Rattle.convoy_commands.proofs.AskTexts.{checked_asked, refused_asked}
 
@@ -33,7 +34,7 @@ read_is read certificate (inl same) = sym same
 read_is read certificate (inr none) = cc
 
 -- what a rule allows is allowed where it is to be answered
-says_so : {End : Type 0} (b : Bool) (end : End) (line text : List ℕ) (says : RuleOf End) (reply : ReplyWith End) →
+says_so : (b : Bool) (end : Done) (line text : List ℕ) (says : Rule) (reply : Reply) →
     b ≡ true → SaysUnlessMemory says text reply → SaysUnlessMemory (SaysIf b end line says) text reply
 says_so true end line text says reply is said = said
 says_so false end line text says reply is said = cc
@@ -157,65 +158,57 @@ not_checked_asked (Some most) asking text certificate answer reply found is soun
     (none_if (nat_le (steps_of certificate) most) most asking text certificate answer reply is sound (told most refl))
 
 -- the end of a reply
-end_of : {End : Type 0} → End → ReplyWith End → End
+end_of : Done → Reply → Done
 end_of none (Ok (end, out)) = end
 end_of none (Err fault) = none
 
--- what is written
-text_in : {End : Type 0} → ReplyWith End → List ℕ
-text_in (Ok (end, out)) = out
-text_in (Err fault) = []
-
 -- an end that is another than that of what is not checked: the rule was asked
-asked_when : {End Last : Type 0} (b : Bool) (end other : End) (last : Last) (line text out : List ℕ) (says : RuleOf End) (then : RuleOf Last) (reply : ReplyWith Last) →
+asked_when : (b : Bool) (end other : Done) (line text out : List ℕ) (says then : Rule) (reply : Reply) →
     (other ≡ end → ⊥) → SaysIf b end line says text (Ok (other, out)) → (says text (Ok (other, out)) → then text reply) →
-    SaysIf b last line then text reply
+    SaysIf b end line then text reply
 unfolding end_of
-asked_when true end other last line text out says then reply not said next = next said
-asked_when false end other last line text out says then reply not said next = absurd (not (ap (end_of end) said))
+asked_when true end other line text out says then reply not said next = next said
+asked_when false end other line text out says then reply not said next = absurd (not (ap (end_of end) said))
 
-pub asked_so : {End Last : Type 0} (limit : Option ℕ) (end other : End) (last : Last) (text out : List ℕ) (says : RuleOf End) (then : RuleOf Last) (reply : ReplyWith Last) →
+pub asked_so : (limit : Option ℕ) (end other : Done) (text out : List ℕ) (says then : Rule) (reply : Reply) →
     (other ≡ end → ⊥) → SaysWithin limit end says text (Ok (other, out)) → (says text (Ok (other, out)) → then text reply) →
-    SaysWithin limit last then text reply
-asked_so None end other last text out says then reply not said next = next said
-asked_so (Some most) end other last text out says then reply not said next =
-    asked_when (nat_le (steps_of_text text) most) end other last (not_checked_line most) text out says then reply not said next
+    SaysWithin limit end then text reply
+asked_so None end other text out says then reply not said next = next said
+asked_so (Some most) end other text out says then reply not said next =
+    asked_when (nat_le (steps_of_text text) most) end other (not_checked_line most) text out says then reply not said next
 
--- and allowed that
-says_when : {End : Type 0} (b : Bool) (end other : End) (line text out : List ℕ) (says : RuleOf End) →
+-- what a rule allows is allowed by another that follows from it
+kept_when : (b : Bool) (end : Done) (line text : List ℕ) (says then : Rule) (reply : Reply) →
+    SaysIf b end line says text reply → (says text reply → then text reply) → SaysIf b end line then text reply
+kept_when true end line text says then reply said next = next said
+kept_when false end line text says then reply said next = said
+
+pub kept_so : (limit : Option ℕ) (end : Done) (text : List ℕ) (says then : Rule) (reply : Reply) →
+    SaysWithin limit end says text reply → (says text reply → then text reply) → SaysWithin limit end then text reply
+kept_so None end text says then reply said next = next said
+kept_so (Some most) end text says then reply said next =
+    kept_when (nat_le (steps_of_text text) most) end (not_checked_line most) text says then reply said next
+
+-- and an end that is another is one that the rule allows
+says_when : (b : Bool) (end other : Done) (line text out : List ℕ) (says : Rule) →
     (other ≡ end → ⊥) → SaysIf b end line says text (Ok (other, out)) → says text (Ok (other, out))
 unfolding end_of
 says_when true end other line text out says not said = said
 says_when false end other line text out says not said = absurd (not (ap (end_of end) said))
 
-pub says_within : {End : Type 0} (limit : Option ℕ) (end other : End) (text out : List ℕ) (says : RuleOf End) →
+pub says_within : (limit : Option ℕ) (end other : Done) (text out : List ℕ) (says : Rule) →
     (other ≡ end → ⊥) → SaysWithin limit end says text (Ok (other, out)) → says text (Ok (other, out))
 says_within None end other text out says not said = said
 says_within (Some most) end other text out says not said =
     says_when (nat_le (steps_of_text text) most) end other (not_checked_line most) text out says not said
 
--- the end of what is not checked, by the rule or since too many steps are wanted
-ended_when : {End Last : Type 0} (b : Bool) (end : End) (last : Last) (line text out : List ℕ) (says : RuleOf End) (then : RuleOf Last) →
-    SaysIf b end line says text (Ok (end, out)) → (says text (Ok (end, out)) → then text (Ok (last, out))) →
-    SaysIf b last line then text (Ok (last, out))
-unfolding text_in
-ended_when true end last line text out says then said next = next said
-ended_when false end last line text out says then said next = ap (λ reply. Ok (last, text_in reply)) said
-
-pub ended_so : {End Last : Type 0} (limit : Option ℕ) (end : End) (last : Last) (text out : List ℕ) (says : RuleOf End) (then : RuleOf Last) →
-    SaysWithin limit end says text (Ok (end, out)) → (says text (Ok (end, out)) → then text (Ok (last, out))) →
-    SaysWithin limit last then text (Ok (last, out))
-ended_so None end last text out says then said next = next said
-ended_so (Some most) end last text out says then said next =
-    ended_when (nat_le (steps_of_text text) most) end last (not_checked_line most) text out says then said next
-
-fault_when : {End : Type 0} (b : Bool) (end : End) (line : List ℕ) (says : RuleOf End) (text : List ℕ) (fault : Fault) →
+fault_when : (b : Bool) (end : Done) (line : List ℕ) (says : Rule) (text : List ℕ) (fault : Fault) →
     SaysIf b end line says text (Err fault) → says text (Err fault)
 fault_when true end line says text fault said = said
 fault_when false end line says text fault said = cc
 
 -- a fault is one of the rule
-pub fault_within : {End : Type 0} (limit : Option ℕ) (end : End) (says : RuleOf End) (text : List ℕ) (fault : Fault) →
+pub fault_within : (limit : Option ℕ) (end : Done) (says : Rule) (text : List ℕ) (fault : Fault) →
     SaysWithin limit end says text (Err fault) → says text (Err fault)
 fault_within None end says text fault said = said
 fault_within (Some most) end says text fault said = fault_when (nat_le (steps_of_text text) most) end (not_checked_line most) says text fault said

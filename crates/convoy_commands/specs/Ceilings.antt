@@ -6,7 +6,7 @@ use Rattle.convoy_toml.specs.Reading.{scenario_of_text}
 use Rattle.convoy_toml_writer.specs.Text.{toml_text}
 use Rattle.convoy_sim.specs.Record.{Record}
 use Rattle.convoy_ceiling.specs.Ceiling.{IsUpperInTraffic, ceiling_of}
-use Rattle.convoy_traffic.specs.Finding.{IsFound}
+use Rattle.convoy_ceiling.specs.Finding.{IsFound}
 use Rattle.convoy_commands.specs.declared.done.Done.{Done}
 use Rattle.convoy_commands.specs.declared.done.Done.TheVariants.{Fine, Open}
 use Rattle.convoy_commands.specs.Lines.{attained_line, ticks_line}

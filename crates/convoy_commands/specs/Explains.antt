@@ -5,8 +5,8 @@ use Rattle.convoy_certificate.specs.Reading.{certificate_of, IsTextOf}
 use Rattle.convoy_certificate.specs.declared.text_fault.TextFault.{TextFault}
 use Rattle.convoy_checker.specs.Checks.{checked}
 use Rattle.convoy_checker.specs.Validity.{IsValid}
-use Rattle.convoy_explain.specs.Causes.{explanation_of}
-use Rattle.convoy_explain.specs.Explanations.{text_of}
+use Rattle.convoy_timeline.specs.Causes.{explanation_of}
+use Rattle.convoy_timeline.specs.Explanations.{text_of}
 use Rattle.convoy_sim.specs.Greatest.{IsGreatest}
 use Rattle.convoy_commands.specs.declared.done.Done.TheVariants.{Fine}
 use Rattle.convoy_commands.specs.Checks.{reply_of_check, reply_of_text}

@@ -1,4 +1,4 @@
--- Laws of runs, and of texts that one command writes and another reads.
+-- What a result tells of its devices, and the law of texts that one command writes and another reads.
 use Rattle.std.specs.Prelude.{◌≡◌, ℕ, List, Result, Ok, Err}
 use Rattle.convoy_scenario.specs.Scenario.{Scenario}
 use Rattle.convoy_scenario.specs.WellFormed.{IsScenario}
@@ -9,8 +9,6 @@ use Rattle.convoy_streams.specs.Devices.{Answer, failures}
 use Rattle.convoy_commands.specs.declared.done.Done.{Done}
 use Rattle.convoy_commands.specs.declared.fault.Fault.{Fault}
 use Rattle.convoy_commands.specs.declared.fault.Fault.TheVariants.{Reading, Write}
-use Rattle.convoy_commands.specs.Replies.{Rule}
-use Rattle.convoy_commands.specs.Runs.{RunsTo}
 use Rattle.convoy_commands.specs.Schedules.{scheduled_of_text}
 
 -- how often a result says that the source failed
@@ -28,12 +26,6 @@ told_writes (Ok done) = 0
 -- each failure of a device is told by the result, and no failure is told that was none
 abbrev pub TellsFailures : List Answer → List Answer → Result Done Fault → Type 0
 TellsFailures reads writes result = (failures reads ≡ told_reads result) × (failures writes ≡ told_writes result)
-
--- It is so in runs with that limit of bytes and that rule.
-abbrev pub FailuresAreTold : ℕ → Rule → Type 0
-FailuresAreTold longest says =
-    (most_reads : ℕ) (reads writes : List Answer) (result : Result Done Fault) →
-    RunsTo longest says most_reads reads writes result → TellsFailures reads writes result
 
 -- where the text is read that is written of a scenario with a schedule, a run is told of that scenario and that schedule
 abbrev pub WrittenTextsAreTold : Type 0

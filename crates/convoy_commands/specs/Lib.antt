@@ -20,12 +20,12 @@ pub use Rattle.convoy_sim.specs.Greatest
 pub use Rattle.convoy_sim.specs.Record
 pub use Rattle.convoy_ceiling.specs.Ceiling
 pub use Rattle.convoy_ceiling.specs.Targets
-pub use Rattle.convoy_traffic.specs.Finding
+pub use Rattle.convoy_ceiling.specs.Finding
 pub use Rattle.convoy_toml_writer.specs.Text as ScenarioText
 pub use Rattle.convoy_timeline.specs.Timeline
-pub use Rattle.convoy_explain.specs.Causes
-pub use Rattle.convoy_explain.specs.Explanations
-pub use Rattle.convoy_explain.specs.PacketLists
+pub use Rattle.convoy_timeline.specs.Causes
+pub use Rattle.convoy_timeline.specs.Explanations
+pub use Rattle.convoy_timeline.specs.PacketLists
 pub use Rattle.convoy_picture.specs.Pictures
 pub use Rattle.convoy_picture.specs.Words as PictureWords
 pub use Rattle.convoy_draw.specs.Drawings
@@ -42,7 +42,7 @@ pub use Rattle.convoy_branch.specs.Outcomes
 pub use Rattle.convoy_branch.specs.Limits
 pub use Rattle.convoy_branch.specs.BothWays
 pub use Rattle.convoy_branch.specs.Options
--- what a reader has to believe: which answers each command may give, and what its run does at its devices
+-- what a reader has to believe: which answers each command may give
 pub mod Lines
 pub mod Faults
 pub mod Refusals
@@ -59,7 +59,5 @@ pub mod Withins
 pub mod Searches
 pub mod Ceilings
 pub mod WithCeilings
-pub mod Commands
-pub mod Runs
-pub mod SearchEnds
+pub mod Ends
 pub mod Laws

@@ -25,7 +25,7 @@ use Rattle.convoy_branch.specs.declared.outcome.Outcome.TheVariants as outcomes
 use Rattle.convoy_branch.specs.Options.{Settings, limit_of}
 use Rattle.convoy_branch.specs.declared.options.Ways.{Ways}
 use Rattle.convoy_branch.specs.declared.options.Ways.TheVariants.{One, Both}
-use Rattle.convoy_commands.specs.declared.done.Done.TheVariants.{Fine, Open, Refused, NotChecked}
+use Rattle.convoy_commands.specs.declared.done.Done.TheVariants.{Fine, Open}
 use Rattle.convoy_commands.specs.declared.fault.Fault.{Fault}
 use Rattle.convoy_commands.specs.declared.fault.Fault.TheVariants.{Memory}
 use Rattle.convoy_commands.specs.declared.limits.TheConstants.{LONGEST_CERTIFICATE}
@@ -117,8 +117,7 @@ pub record IsOpenProof (settings : Settings) (text out : List ℕ) : Type 0 wher
 abbrev pub AnalyseSays : Settings → Rule
 AnalyseSays settings text (Ok (Fine, out)) = IsProof settings text out
 AnalyseSays settings text (Ok (Open, out)) = IsOpenProof settings text out
-AnalyseSays settings text (Ok (Refused refusal, out)) = ⊥
-AnalyseSays settings text (Ok (NotChecked, out)) = ⊥
+AnalyseSays settings text (Ok (other, out)) = ⊥
 AnalyseSays settings text (Err fault) = IsFaulty text fault
 
 -- The greatest latency of the scenario that was read is written.
@@ -142,6 +141,5 @@ pub record IsFrontTold (settings : Settings) (text out : List ℕ) : Type 0 wher
 abbrev pub LatencySays : Settings → Rule
 LatencySays settings text (Ok (Fine, out)) = IsGreatestTold text out
 LatencySays settings text (Ok (Open, out)) = IsFrontTold settings text out
-LatencySays settings text (Ok (Refused refusal, out)) = ⊥
-LatencySays settings text (Ok (NotChecked, out)) = ⊥
+LatencySays settings text (Ok (other, out)) = ⊥
 LatencySays settings text (Err fault) = IsFaulty text fault

@@ -7,7 +7,7 @@ use Rattle.convoy_toml_writer.specs.Text.{toml_text}
 use Rattle.convoy_sim.specs.Delivery.{latency_of}
 use Rattle.convoy_sim.specs.Scheduled.{Scheduled}
 use Rattle.convoy_timeline.specs.Timeline.{timeline_text}
-use Rattle.convoy_explain.specs.PacketLists.{packets_text, scheduled_packets_text}
+use Rattle.convoy_timeline.specs.PacketLists.{packets_text, scheduled_packets_text}
 use Rattle.convoy_certificate.specs.Certificate.{Certificate}
 use Rattle.convoy_certificate.specs.Text.{latency_line}
 use Rattle.convoy_commands.specs.declared.fault.Fault.{Fault}

@@ -1,5 +1,5 @@
 -- An answer with the ceiling beside it: what more traffic could cost, besides what the messages at hand cost at worst.
-use Rattle.std.specs.Prelude.{◌≡◌, ℕ, List, ◌++◌, Ok, Err}
+use Rattle.std.specs.Prelude.{◌≡◌, ℕ, Bool, true, false, List, ◌++◌, Ok, Err}
 use Rattle.convoy_scenario.specs.Scenario.{Scenario}
 use Rattle.convoy_toml.specs.Reading.{scenario_of_text}
 use Rattle.convoy_ceiling.specs.Ceiling.{IsUpperInTraffic, ceiling_of}
@@ -8,7 +8,7 @@ use Rattle.convoy_certificate.specs.Reading.{certificate_of}
 use Rattle.convoy_branch.specs.Options.{Settings}
 use Rattle.convoy_commands.specs.declared.asking.Asking.TheVariants.{Explain}
 use Rattle.convoy_commands.specs.declared.done.Done.{Done}
-use Rattle.convoy_commands.specs.declared.done.Done.TheVariants.{Fine, Open, Refused, NotChecked}
+use Rattle.convoy_commands.specs.declared.done.Done.TheVariants.{Fine}
 use Rattle.convoy_commands.specs.Asks.{AskSays}
 use Rattle.convoy_commands.specs.Ceilings.{ceiling_line}
 use Rattle.convoy_commands.specs.Replies.{Rule}
@@ -43,7 +43,14 @@ LatencyWithCeilingSays settings text (Err fault) = LatencySays settings text (Er
 -- what may be answered for the text of a certificate: below a refusal and a fault stands no ceiling
 abbrev pub ExplainWithCeilingSays : Rule
 ExplainWithCeilingSays text (Ok (Fine, out)) = IsExplanationWithCeiling text out
-ExplainWithCeilingSays text (Ok (Open, out)) = AskSays Explain text (Ok (Open, out))
-ExplainWithCeilingSays text (Ok (Refused refusal, out)) = AskSays Explain text (Ok (Refused refusal, out))
-ExplainWithCeilingSays text (Ok (NotChecked, out)) = AskSays Explain text (Ok (NotChecked, out))
-ExplainWithCeilingSays text (Err fault) = AskSays Explain text (Err fault)
+ExplainWithCeilingSays text other = AskSays Explain text other
+
+-- what `latency` may answer, by whether the ceiling is to stand below it
+abbrev pub latency_says : Bool → Settings → Rule
+latency_says true settings = LatencyWithCeilingSays settings
+latency_says false settings = LatencySays settings
+
+-- what `explain` may answer, by the same
+abbrev pub explain_says : Bool → Rule
+explain_says true = ExplainWithCeilingSays
+explain_says false = AskSays Explain

@@ -4,8 +4,9 @@ use Rattle.convoy_certificate.specs.Certificate.{Certificate}
 use Rattle.convoy_certificate.specs.Reading.{certificate_of}
 use Rattle.convoy_certificate.specs.declared.text_fault.TextFault.{TextFault}
 use Rattle.convoy_checker.specs.Steps.{steps_of}
+use Rattle.convoy_commands.specs.declared.done.Done.{Done}
 use Rattle.convoy_commands.specs.Lines.{not_checked_line}
-use Rattle.convoy_commands.specs.Replies.{RuleOf}
+use Rattle.convoy_commands.specs.Replies.{Rule}
 
 -- how many steps it takes to check what was read: none where that is no certificate
 abbrev pub steps_of_reading : Result Certificate TextFault → ℕ
@@ -17,12 +18,12 @@ abbrev pub steps_of_text : List ℕ → ℕ
 steps_of_text text = steps_of_reading (certificate_of text)
 
 -- what the rule allows, if that is to be answered, and else just that end and that line
-abbrev pub SaysIf : {End : Type 0} → Bool → End → List ℕ → RuleOf End → RuleOf End
+abbrev pub SaysIf : Bool → Done → List ℕ → Rule → Rule
 SaysIf true end line says text reply = says text reply
 SaysIf false end line says text reply = reply ≡ Ok (end, line)
 
 -- What the rule allows, and nothing else, for a text that takes no more steps than the limit, if there is one; for each other text, just that end and that it is not checked.
-abbrev pub SaysWithin : {End : Type 0} → Option ℕ → End → RuleOf End → RuleOf End
+abbrev pub SaysWithin : Option ℕ → Done → Rule → Rule
 SaysWithin None end says text reply = says text reply
 SaysWithin (Some limit) end says text reply =
     SaysIf (nat_le (steps_of_text text) limit) end (not_checked_line limit) says text reply

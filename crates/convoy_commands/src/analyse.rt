@@ -1,9 +1,9 @@
 ghost use Rattle.std.specs.Prelude.{◌≡◌, ◌++◌, None, IfOk};
-ghost use Rattle.convoy_certificate.specs.Text.{certificate_text};
 ghost use Rattle.convoy_commands.specs.Lines.{open_line, schedule_text};
 ghost use Rattle.convoy_commands.specs.Replies.{SaysUnlessMemory, reply_of};
 ghost use Rattle.convoy_commands.specs.Searches.{AnalyseSays};
 
+use super::answer::{Answer, Known};
 use super::done::Done;
 use super::fault::Fault;
 use super::lines::push_open;
@@ -11,7 +11,7 @@ use super::search::search_text;
 use super::watch::Watch;
 use convoy_branch::{Options, Outcome};
 use convoy_certificate::laws::{texts_are_read, texts_are_short};
-use convoy_certificate::{Certificate, push_schedule, write};
+use convoy_certificate::{push_schedule, text_of};
 use convoy_checker::laws::{checked_is_valid, valid_is_greatest};
 use convoy_scenario::Scenario;
 use convoy_sim::Record;
@@ -19,14 +19,17 @@ use std::alloc::{AllocError, Global};
 use std::sync::Wait;
 use std::thread::Threads;
 
-/// What is written for a text, and how the command ends.
-pub(crate) fn analyse_answer<R: Threads + Wait + Sync, W: Watch + Sync>(
+/// A certificate of the greatest latency of the scenario of a text (docs/FORMATS.md, "What `analyse` writes"), or where
+/// the search does not end within its limits what it found. Who watches is told of the search, by
+/// [`NoGate`](convoy_branch::NoGate) where nobody cares. The faults are those of [`read_toml`](convoy_toml::read_toml), and
+/// `Fault::Memory`.
+pub fn analyse_answer<R: Threads + Wait + Sync, W: Watch + Sync>(
     rt: &R,
     alloc: Global,
     text: &[u8],
     options: &Options,
     watch: &W,
-) -> Result<(Done, Vec<u8>), Fault>
+) -> Result<Answer, Fault>
     ensures { SaysUnlessMemory (AnalyseSays options.now) text.now (reply_of result) }
 {
     texts_are_read();
@@ -36,23 +39,17 @@ pub(crate) fn analyse_answer<R: Threads + Wait + Sync, W: Watch + Sync>(
     let _limit = options.limit();
     let (instance, outcome) = search_text(rt, alloc, text, options, watch)?;
     match outcome {
-        Outcome::Proved { certificate, .. } => Ok((Done::Fine, proof_text(alloc, &certificate)?)),
-        Outcome::Open { best, upper, .. } => {
-            Ok((
-                Done::Open,
-                open_text(alloc, instance.scenario(), &best, upper)?,
-            ))
-        }
+        Outcome::Proved { certificate, .. } => Ok(Answer {
+            done: Done::Fine,
+            text: text_of(alloc, &certificate)?,
+            known: Some(Known::of(instance, Some(certificate.latency()))),
+        }),
+        Outcome::Open { best, upper, .. } => Ok(Answer {
+            done: Done::Open,
+            text: open_text(alloc, instance.scenario(), &best, upper)?,
+            known: Some(Known::of(instance, None)),
+        }),
     }
-}
-
-/// The certificate.
-fn proof_text(alloc: Global, certificate: &Certificate) -> Result<Vec<u8>, AllocError>
-    ensures { IfOk result (λ text. text.items ≡ certificate_text certificate.now) }
-{
-    let mut text = Vec::new(alloc);
-    write(alloc, certificate, &mut text)?;
-    Ok(text)
 }
 
 /// The best latency and the upper bound, and a schedule of that latency.

@@ -13,6 +13,7 @@ ghost use Rattle.convoy_commands.specs.Refusals.{refused_line, row_of_refusal};
 ghost use Rattle.convoy_commands.specs.Replies.{IsReply, SaysUnlessMemory, reply_of};
 ghost use Rattle.convoy_commands.specs.Withins.{SaysWithin};
 
+use super::answer::Answer;
 use super::done::Done;
 use super::fault::Fault;
 use super::refusal::refusal_line;
@@ -21,10 +22,10 @@ use convoy_certificate::{Certificate, TextFault, read};
 use convoy_checker::laws::checked_is_valid;
 use convoy_checker::{Accepted, Refusal, Refused, check_within};
 use convoy_draw::write_drawing;
-use convoy_explain::{explain, write_explanation};
 use convoy_lines::{push_further_word, push_number_line};
 use convoy_picture::Picture;
 use convoy_sim::simulate;
+use convoy_timeline::{explain, write_explanation};
 use itoa::Buffer;
 use std::alloc::{AllocError, Global};
 
@@ -44,30 +45,28 @@ pub enum Asking {
 /// certificate (docs/FORMATS.md, "Steps"). Fails with `Fault::Memory`, and else never: a text that is that of
 /// no certificate, or of one that is not valid, is refused, which is an answer, and so is
 /// [`Done::NotChecked`] where checking takes more steps.
-pub fn ask(
-    alloc: Global,
-    asking: Asking,
-    limit: Option<u64>,
-    text: &[u8],
-) -> Result<(Done, Vec<u8>), Fault>
+pub fn ask(alloc: Global, asking: Asking, limit: Option<u64>, text: &[u8]) -> Result<Answer, Fault>
     ensures { SaysUnlessMemory (SaysWithin limit NotChecked (AskSays asking)) text.now
         (reply_of result) }
 {
     texts_are_read();
     checked_is_valid();
     match read(alloc, text) {
-        Ok(certificate) => ask_of(alloc, asking, limit, &certificate),
+        Ok(certificate) => {
+            let told = ask_certificate(alloc, asking, limit, &certificate)?;
+            Ok(told.of_certificate(certificate))
+        }
         Err(fault) => answer_to_fault(alloc, fault),
     }
 }
 
-/// The answer to a certificate.
-fn ask_of(
+/// The same of a certificate that was read, whose text it is.
+pub fn ask_certificate(
     alloc: Global,
     asking: Asking,
     limit: Option<u64>,
     certificate: &Certificate,
-) -> Result<(Done, Vec<u8>), Fault>
+) -> Result<Answer, Fault>
     ensures { (text : List ℕ) → IsCertificate certificate.now
         → certificate_of text ≡ Ok certificate.now → IsTextOf certificate.now text
         → SaysUnlessMemory (SaysWithin limit NotChecked (AskSays asking)) text (reply_of result) }
@@ -82,14 +81,15 @@ fn ask_of(
 }
 
 /// That a certificate is not checked.
-fn not_checked(alloc: Global, limit: Option<u64>) -> Result<(Done, Vec<u8>), Fault>
+fn not_checked(alloc: Global, limit: Option<u64>) -> Result<Answer, Fault>
     ensures { (most : ℕ) → limit ≡ Some most
         → IsReply (Ok (NotChecked, not_checked_line most)) (reply_of result) }
 {
-    Ok((
-        Done::NotChecked,
-        not_checked_text(alloc, limit.unwrap_or(0))?,
-    ))
+    Ok(Answer {
+        done: Done::NotChecked,
+        text: not_checked_text(alloc, limit.unwrap_or(0))?,
+        known: None,
+    })
 }
 
 /// The line that says so.
@@ -104,8 +104,9 @@ fn not_checked_text(alloc: Global, limit: u64) -> Result<Vec<u8>, AllocError>
     Ok(text)
 }
 
-/// The answer to a text that is that of no certificate.
-pub(crate) fn answer_to_fault(alloc: Global, fault: TextFault) -> Result<(Done, Vec<u8>), Fault>
+/// The answer to a text that is that of no certificate, for this fault. Fails with `Fault::Memory` where that is the
+/// fault, or where there is no memory for the line.
+pub fn answer_to_fault(alloc: Global, fault: TextFault) -> Result<Answer, Fault>
     ensures { IsReply (reply_of_text (Err fault)) (reply_of result) }
 {
     match fault {
@@ -120,21 +121,22 @@ fn answer_to_check(
     asking: Asking,
     certificate: &Certificate,
     said: Result<Accepted, Refused>,
-) -> Result<(Done, Vec<u8>), Fault>
+) -> Result<Answer, Fault>
     ensures { RepliesTo asking certificate.now said (reply_of result)
         ⊎ (reply_of result ≡ Err faults.Memory) }
 {
     match said {
-        Ok(accepted) => {
-            let text = text_asked(alloc, asking, certificate, accepted.latency())?;
-            Ok((Done::Fine, text))
-        }
+        Ok(accepted) => Ok(Answer {
+            done: Done::Fine,
+            text: text_asked(alloc, asking, certificate, accepted.latency())?,
+            known: None,
+        }),
         Err(refused) => answer_to_refusal(alloc, refused),
     }
 }
 
 /// The answer to a certificate that the checker refuses.
-fn answer_to_refusal(alloc: Global, refused: Refused) -> Result<(Done, Vec<u8>), Fault>
+fn answer_to_refusal(alloc: Global, refused: Refused) -> Result<Answer, Fault>
     ensures { IsReply (reply_of_check (Err refused)) (reply_of result) }
 {
     match refused {
@@ -144,12 +146,16 @@ fn answer_to_refusal(alloc: Global, refused: Refused) -> Result<(Done, Vec<u8>),
 }
 
 /// A refusal.
-fn refuse(alloc: Global, refusal: Refusal) -> Result<(Done, Vec<u8>), Fault>
+fn refuse(alloc: Global, refusal: Refusal) -> Result<Answer, Fault>
     ensures { IsReply (Ok (ends.Refused refusal, refused_line (row_of_refusal refusal))) (reply_of result) }
 {
-    let mut line = Vec::new(alloc);
-    refusal_line(refusal, &mut line)?;
-    Ok((Done::Refused(refusal), line))
+    let mut text = Vec::new(alloc);
+    refusal_line(refusal, &mut text)?;
+    Ok(Answer {
+        done: Done::Refused(refusal),
+        text,
+        known: None,
+    })
 }
 
 /// What is written for a certificate that the checker accepts.

@@ -4,34 +4,34 @@ ghost use Rattle.convoy_commands.specs.declared.done.Done.TheVariants.{Fine, Ope
 ghost use Rattle.convoy_commands.specs.Ceilings.{CeilingSays, ceiling_text};
 ghost use Rattle.convoy_commands.specs.Replies.{SaysUnlessMemory, reply_of};
 
+use super::answer::Answer;
 use super::done::Done;
 use super::fault::Fault;
 use super::lines::push_ceiling;
-use convoy_ceiling::target_ceiling;
+use convoy_ceiling::{Found, seek_traffic, target_ceiling};
 use convoy_lines::push_number_line;
 use convoy_scenario::Scenario;
 use convoy_toml::read_toml;
 use convoy_toml_writer::write_toml;
-use convoy_traffic::{Found, seek_traffic};
 use std::alloc::{AllocError, Global};
 
-/// What is written for a text, and how the command ends, where traffic is sought by so many simulations
-/// at most.
-pub(crate) fn ceiling_answer(
-    alloc: Global,
-    simulations: u64,
-    text: &[u8],
-) -> Result<(Done, Vec<u8>), Fault>
+/// The ceiling of the scenario of a text, and traffic that is sought by so many simulations at most
+/// (docs/FORMATS.md, "What `ceiling` writes"). The faults are those of [`read_toml`], and `Fault::Memory`.
+pub fn ceiling_answer(alloc: Global, simulations: u64, text: &[u8]) -> Result<Answer, Fault>
     ensures { SaysUnlessMemory CeilingSays text.now (reply_of result) }
 {
     let input = read_toml(alloc, text)?;
     let scenario = input.scenario;
     let ceiling = target_ceiling(&scenario);
     let found = seek_traffic(alloc, &scenario, simulations)?;
-    let out = told(alloc, &scenario, ceiling, &found)?;
+    let text = told(alloc, &scenario, ceiling, &found)?;
     let latency = found.record.latency();
     let done = ending(ceiling, latency);
-    Ok((done, out))
+    Ok(Answer {
+        done,
+        text,
+        known: None,
+    })
 }
 
 /// How the command ends: well where the latency is the ceiling.

@@ -2,8 +2,11 @@ ghost use Rattle.std.specs.Prelude.{◌≡◌, IfOk};
 ghost use Rattle.std.specs.Result.{result_map_both};
 ghost use Rattle.convoy_commands.specs.declared.fault.Fault.TheVariants.{Memory};
 ghost use Rattle.convoy_commands.specs.Memory.{IsUnlessMemory};
-ghost use Rattle.convoy_commands.specs.First.{attained_text, first_text, least_schedule};
+ghost use Rattle.convoy_commands.specs.First.{FirstSays, attained_text, first_text, least_schedule};
+ghost use Rattle.convoy_commands.specs.Replies.{SaysUnlessMemory, fine, reply_of};
 
+use super::answer::Answer;
+use super::done::Done;
 use super::fault::Fault;
 use convoy_certificate::push_schedule;
 use convoy_lines::push_number_line;
@@ -13,8 +16,27 @@ use convoy_sim::latency;
 use convoy_toml::read_toml;
 use std::alloc::{AllocError, Global};
 
+/// The latency that the schedule of least delays attains in the scenario of a text, and that schedule
+/// (docs/FORMATS.md, "What `first` writes"). The faults are those of [`read_toml`], and `Fault::Memory`.
+pub fn first_answer(alloc: Global, text: &[u8]) -> Result<Answer, Fault>
+    ensures { SaysUnlessMemory FirstSays text.now (reply_of result) }
+{
+    fine(first_text(alloc, text))
+}
+
+/// The answer of a command that ends well whenever it has one.
+fn fine(text: Result<Vec<u8>, Fault>) -> Result<Answer, Fault>
+    ensures { reply_of result ≡ fine (result_map_both (λ out. out.items) (λ fault. fault) text) }
+{
+    Ok(Answer {
+        done: Done::Fine,
+        text: text?,
+        known: None,
+    })
+}
+
 /// What is written for a text.
-pub(crate) fn first_answer(alloc: Global, text: &[u8]) -> Result<Vec<u8>, Fault>
+fn first_text(alloc: Global, text: &[u8]) -> Result<Vec<u8>, Fault>
     ensures { IsUnlessMemory Memory (first_text text.now)
         (result_map_both (λ answer. answer.items) (λ fault. fault) result) }
 {

@@ -3,6 +3,7 @@ ghost use Rattle.convoy_commands.specs.Lines.{greatest_line, open_line};
 ghost use Rattle.convoy_commands.specs.Replies.{SaysUnlessMemory, reply_of};
 ghost use Rattle.convoy_commands.specs.Searches.{IsSearchOf, LatencySays};
 
+use super::answer::Answer;
 use super::done::Done;
 use super::fault::Fault;
 use super::lines::{push_greatest, push_open};
@@ -14,20 +15,22 @@ use std::alloc::{AllocError, Global};
 use std::sync::Wait;
 use std::thread::Threads;
 
-/// What `latency` writes for a text, and how it ends. Of the search it is told as it goes on, to
-/// [`NoGate`](convoy_branch::NoGate) where nobody cares. The faults are those of
-/// [`run_latency`](super::run_latency) that a text can have.
+/// The greatest latency of the scenario of a text (docs/FORMATS.md, "What `latency` writes"), or where the search does
+/// not end within its limits what it found. Who watches is told of the search, by
+/// [`NoGate`](convoy_branch::NoGate) where nobody cares. The faults are those of [`read_toml`](convoy_toml::read_toml), and
+/// `Fault::Memory`.
 pub fn latency_answer<R: Threads + Wait + Sync, W: Watch + Sync>(
     rt: &R,
     alloc: Global,
     text: &[u8],
     options: &Options,
     watch: &W,
-) -> Result<(Done, Vec<u8>), Fault>
+) -> Result<Answer, Fault>
     ensures { SaysUnlessMemory (LatencySays options.now) text.now (reply_of result) }
 {
     let (instance, outcome) = search_text(rt, alloc, text, options, watch)?;
-    latency_told(alloc, options, instance.scenario(), &outcome)
+    let told = latency_told(alloc, options, instance.scenario(), &outcome)?;
+    Ok(told.with(instance, greatest_of(&outcome)))
 }
 
 /// What `latency` tells of the outcome of a search for a scenario, and how it ends.
@@ -36,21 +39,31 @@ pub(crate) fn latency_told(
     options: &Options,
     scenario: &Scenario,
     outcome: &Outcome,
-) -> Result<(Done, Vec<u8>), Fault>
+) -> Result<Answer, Fault>
     ensures { (text : List ℕ) → IsSearchOf options.now text scenario.now outcome.now
         → SaysUnlessMemory (LatencySays options.now) text (reply_of result) }
 {
     let _limit = options.limit();
     let tick = scenario.tick();
     match outcome {
-        Outcome::Proved { certificate, .. } => Ok((
-            Done::Fine,
-            greatest_text(alloc, tick, certificate.latency())?,
-        )),
-        Outcome::Open { best, upper, .. } => Ok((
-            Done::Open,
-            open_text(alloc, tick, best.latency(), *upper)?,
-        )),
+        Outcome::Proved { certificate, .. } => Ok(Answer {
+            done: Done::Fine,
+            text: greatest_text(alloc, tick, certificate.latency())?,
+            known: None,
+        }),
+        Outcome::Open { best, upper, .. } => Ok(Answer {
+            done: Done::Open,
+            text: open_text(alloc, tick, best.latency(), *upper)?,
+            known: None,
+        }),
+    }
+}
+
+/// The greatest latency in ticks, where the search found it.
+pub(crate) fn greatest_of(outcome: &Outcome) -> Option<u32> {
+    match outcome {
+        Outcome::Proved { certificate, .. } => Some(certificate.latency()),
+        Outcome::Open { .. } => None,
     }
 }
 

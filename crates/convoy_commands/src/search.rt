@@ -51,16 +51,13 @@ pub fn search_instance<R: Threads + Wait + Sync, W: Watch + Sync>(
 {
     watch.starts(options.seconds());
     let outcome = search(rt, alloc, instance, options, watch);
-    watch.ends(greatest_of(&outcome));
+    watch.ends(!is_proved(&outcome));
     outcome
 }
 
-/// The greatest latency, where the search found it.
-fn greatest_of(outcome: &Result<Outcome, AllocError>) -> Option<u32> {
-    match outcome {
-        Ok(Outcome::Proved { certificate, .. }) => Some(certificate.latency()),
-        Ok(Outcome::Open { .. }) | Err(_) => None,
-    }
+/// Whether the search found the greatest latency.
+fn is_proved(outcome: &Result<Outcome, AllocError>) -> bool {
+    matches!(outcome, Ok(Outcome::Proved { .. }))
 }
 
 /// The search of [`search_instance`], of whose end nobody is told.

@@ -1,7 +1,7 @@
 ghost use Rattle.std.specs.Prelude.{◌≡◌, IfOk};
 ghost use Rattle.std.specs.Result.{result_map_both};
 ghost use Rattle.convoy_certificate.specs.Reading.{certificate_of};
-ghost use Rattle.convoy_explain.specs.PacketLists.{packets_text};
+ghost use Rattle.convoy_timeline.specs.PacketLists.{packets_text};
 ghost use Rattle.convoy_commands.specs.declared.fault.Fault.TheVariants.{Memory};
 ghost use Rattle.convoy_commands.specs.declared.telling.Telling.TheVariants.{Packets, Simulate, Timeline, Toml};
 ghost use Rattle.convoy_commands.specs.Inputs.{reply_of_job, reply_of_reading};
@@ -9,18 +9,18 @@ ghost use Rattle.convoy_commands.specs.Memory.{IsUnlessMemory};
 ghost use Rattle.convoy_commands.specs.Replies.{IsReply, SaysUnlessMemory, reply_of};
 ghost use Rattle.convoy_commands.specs.Tells.{TellSays, certificate_told, job_told, packets_told, scheduled_told, text_told};
 
+use super::answer::Answer;
 use super::asking::answer_to_fault;
 use super::done::Done;
 use super::fault::Fault;
 use super::limits::LONGEST_JOB;
 use super::scheduled::Scheduled;
 use convoy_certificate::{Form, form_of, push_schedule, read};
-use convoy_explain::{write_packets, write_scheduled_packets};
 use convoy_lines::push_number_line;
 use convoy_packets::Instance;
 use convoy_sim::{latency, simulate};
 use convoy_streams::ReadFault;
-use convoy_timeline::write_timeline;
+use convoy_timeline::{write_packets, write_scheduled_packets, write_timeline};
 use convoy_toml::read_toml;
 use convoy_toml_writer::write_toml;
 use std::alloc::{AllocError, Global};
@@ -38,8 +38,11 @@ pub enum Telling {
     Toml,
 }
 
-/// How a command that tells this ends for a text, and what is written for it.
-pub(crate) fn tell(alloc: Global, telling: Telling, text: &[u8]) -> Result<(Done, Vec<u8>), Fault>
+/// What is told of the scenario or of the certificate of a text (docs/FORMATS.md, "Commands"). The faults are
+/// those of [`read_toml`], `Fault::Schedule` and `Fault::Order` for a schedule that is none of the scenario,
+/// `Fault::Reading` for a scenario of more than [`LONGEST_JOB`] bytes, and `Fault::Memory`. A text that begins as a
+/// certificate does and is none is refused.
+pub fn tell(alloc: Global, telling: Telling, text: &[u8]) -> Result<Answer, Fault>
     ensures { SaysUnlessMemory (TellSays telling) text.now (reply_of result) }
 {
     match form_of(text) {
@@ -49,26 +52,34 @@ pub(crate) fn tell(alloc: Global, telling: Telling, text: &[u8]) -> Result<(Done
 }
 
 /// The answer to a text of the form of a certificate.
-fn tell_certificate(alloc: Global, telling: Telling, text: &[u8]) -> Result<(Done, Vec<u8>), Fault>
+fn tell_certificate(alloc: Global, telling: Telling, text: &[u8]) -> Result<Answer, Fault>
     ensures { IsReply (reply_of_reading (certificate_told telling) (certificate_of text.now)) (reply_of result) }
 {
     match read(alloc, text) {
         Ok(certificate) => {
             let scheduled = Scheduled::of_certificate(certificate);
-            Ok((Done::Fine, told(alloc, telling, &scheduled)?))
+            Ok(Answer {
+                done: Done::Fine,
+                text: told(alloc, telling, &scheduled)?,
+                known: None,
+            })
         }
         Err(fault) => answer_to_fault(alloc, fault),
     }
 }
 
 /// The answer to any other text.
-fn tell_job(alloc: Global, telling: Telling, text: &[u8]) -> Result<(Done, Vec<u8>), Fault>
+fn tell_job(alloc: Global, telling: Telling, text: &[u8]) -> Result<Answer, Fault>
     ensures { IsReply (reply_of_job (job_told telling) text.now) (reply_of result) }
 {
     if text.len() > LONGEST_JOB {
         return Err(Fault::Reading(ReadFault::TooLong(LONGEST_JOB)));
     }
-    Ok((Done::Fine, told_of_job(alloc, telling, text)?))
+    Ok(Answer {
+        done: Done::Fine,
+        text: told_of_job(alloc, telling, text)?,
+        known: None,
+    })
 }
 
 /// What is written for a scenario's text. Where packets are told, no schedule is looked at.

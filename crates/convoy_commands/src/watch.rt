@@ -19,9 +19,8 @@ pub trait Watch: Gate {
         most: Option<u32>,
     );
 
-    /// The search has ended, with that greatest latency in ticks where it is known now. Nothing is written
-    /// of it yet.
-    fn ends(&self, greatest: Option<u32>);
+    /// The search has ended, and whether it left boxes open. Nothing is written of it yet.
+    fn ends(&self, is_open: bool);
 }
 
 impl Watch for NoGate {
@@ -36,5 +35,5 @@ impl Watch for NoGate {
         _most: Option<u32>,
     ) {}
 
-    fn ends(&self, _greatest: Option<u32>) {}
+    fn ends(&self, _is_open: bool) {}
 }

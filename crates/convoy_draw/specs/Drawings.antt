@@ -2,8 +2,8 @@
 use Rattle.std.specs.Prelude.{◌≡◌, ℕ, ◌<◌, List, ◌++◌, length, codes, IsTrue}
 use Rattle.std.specs.List.{All}
 use Rattle.convoy_scenario.specs.Scenario.{Scenario, message_at, may_wait}
-use Rattle.convoy_explain.specs.Explanations.{window_text}
-use Rattle.convoy_explain.specs.declared.explanation.Explanation.{Explanation}
+use Rattle.convoy_timeline.specs.Explanations.{window_text}
+use Rattle.convoy_timeline.specs.declared.explanation.Explanation.{Explanation}
 use Rattle.convoy_picture.specs.Pictures.{Picture}
 use Rattle.convoy_picture.specs.Words.{answer_text, entry_text, flight_text, reason_text}
 use Rattle.convoy_draw.specs.Legends.{legend_lines}

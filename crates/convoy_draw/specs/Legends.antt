@@ -2,9 +2,9 @@
 use Rattle.std.specs.Prelude.{ℕ, ◌==◌, Bool, List, [], ◌∷◌, ◌++◌, Option, None, Some, codes, decimal, if◌then◌else◌}
 use Rattle.std.specs.List.{list_any}
 use Rattle.convoy_scenario.specs.Scenario.{Scenario, may_wait, message_at, message_numbers}
-use Rattle.convoy_explain.specs.Explanations.{message_name_at}
-use Rattle.convoy_explain.specs.declared.explanation.Explanation.{Explanation}
-use Rattle.convoy_explain.specs.declared.explanation.Holder.{Holder}
+use Rattle.convoy_timeline.specs.Explanations.{message_name_at}
+use Rattle.convoy_timeline.specs.declared.explanation.Explanation.{Explanation}
+use Rattle.convoy_timeline.specs.declared.explanation.Holder.{Holder}
 
 -- a line, or none
 abbrev pub line_if : Bool → List ℕ → List (List ℕ)

@@ -9,10 +9,9 @@ use super::scene::Scene;
 use super::shown::sized_words;
 use super::signs::{labels, signs};
 use super::windows::windows;
-use convoy_explain::Explanation;
-use convoy_picture::{Picture, answer_words, reason_words};
+use convoy_picture::{MARGIN, Picture, Sheet, WIDTH, answer_words, reason_words};
 use convoy_scenario::Scenario;
-use convoy_sheet::{MARGIN, Sheet, WIDTH};
+use convoy_timeline::Explanation;
 use std::alloc::{AllocError, Global};
 
 /// How large the heading is.

@@ -1,8 +1,8 @@
 use super::scene::Scene;
 use super::signs::WAIT_COLOR;
+use convoy_picture::{AXIS, LEFT, Scale, Sheet, Stretch, lane_of, wait_mark, width_of};
 use convoy_scenario::naming::group_name;
 use convoy_scenario::{Scenario, Sender};
-use convoy_sheet::{AXIS, LEFT, Scale, Sheet, Stretch, lane_of, wait_mark, width_of};
 use std::alloc::{AllocError, Global};
 
 /// How wide a digit is.

@@ -6,12 +6,11 @@ use super::scene::Scene;
 use super::shown::placed_words;
 use super::signs::sign;
 use super::style::{BAR, color_of};
-use convoy_explain::Holder;
-use convoy_picture::Role;
+use convoy_picture::{MARGIN, MarkKind, Role, width_of};
 use convoy_scenario::Scenario;
 use convoy_scenario::lookup::may_wait;
 use convoy_scenario::naming::message_name;
-use convoy_sheet::{MARGIN, MarkKind, width_of};
+use convoy_timeline::Holder;
 use std::alloc::{AllocError, Global};
 use std::marker::Model;
 

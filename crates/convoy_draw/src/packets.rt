@@ -7,11 +7,10 @@ ghost use Rattle.convoy_picture.specs.Words.{flight_text};
 use super::layers::Layers;
 use super::scene::Scene;
 use super::style::{color_of, stroke_of};
-use convoy_explain::LastProposal;
 use convoy_packets::Packet;
-use convoy_picture::{Flight, Role, flight_words, receiver_of};
+use convoy_picture::{Flight, Role, flight_words, lane_of, receiver_of};
 use convoy_scenario::Sender;
-use convoy_sheet::lane_of;
+use convoy_timeline::LastProposal;
 use std::alloc::{AllocError, Global};
 
 /// How a packet is drawn for which the delivery of the target waits.
@@ -108,7 +107,7 @@ fn is_awaited(last: &LastProposal, number: usize) -> bool {
 }
 
 /// Whether it is the packet of that number.
-fn is_numbered(flight: &Option<convoy_explain::Flight>, number: usize) -> bool {
+fn is_numbered(flight: &Option<convoy_timeline::Flight>, number: usize) -> bool {
     match flight {
         Some(flight) => usize::from(flight.packet) == number,
         None => false,

@@ -1,6 +1,5 @@
-use convoy_picture::{Picture, Role};
+use convoy_picture::{Picture, Role, Sheet};
 use convoy_scenario::Scenario;
-use convoy_sheet::Sheet;
 use std::alloc::Global;
 
 /// What is drawn: the picture of a run of a scenario, where all of it stands on the sheet, and what memory comes from.

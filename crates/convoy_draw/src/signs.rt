@@ -7,10 +7,9 @@ ghost use Rattle.convoy_picture.specs.Words.{entry_text};
 
 use super::layers::Layers;
 use super::scene::Scene;
-use convoy_picture::{Role, entry_words};
-use convoy_sheet::{
-    GAP, Mark, MarkKind, entry_label, entry_mark, is_turned, issue_label, issue_mark, wait_label,
-    wait_mark,
+use convoy_picture::{
+    GAP, Mark, MarkKind, Role, entry_label, entry_mark, entry_words, is_turned, issue_label,
+    issue_mark, wait_label, wait_mark,
 };
 use convoy_timeline::Entry;
 use std::alloc::{AllocError, Global};

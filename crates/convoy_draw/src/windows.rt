@@ -1,14 +1,14 @@
 ghost use Rattle.std.specs.Prelude.{IfOk, IsTrue, string_bytes};
 ghost use Rattle.convoy_scenario.specs.Scenario.{may_wait, message_at};
-ghost use Rattle.convoy_explain.specs.Explanations.{window_text};
+ghost use Rattle.convoy_timeline.specs.Explanations.{window_text};
 ghost use Rattle.convoy_draw.specs.Drawings.{Tells, TellsWindows};
 
 use super::layers::element;
 use super::scene::Scene;
 use super::style::{BAR, color_of};
-use convoy_explain::window_text;
+use convoy_picture::issue_mark;
 use convoy_scenario::lookup::{may_wait, window};
-use convoy_sheet::issue_mark;
+use convoy_timeline::window_text;
 use std::alloc::{AllocError, Global};
 
 /// The bars of messages that may wait, from the first to the last tick at which each may be issued.

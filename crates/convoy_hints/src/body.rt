@@ -1,6 +1,6 @@
 use convoy_certificate::{Form, Version, form_of};
+use convoy_hints_sketch::Quoted;
 use convoy_lines::LineReader;
-use convoy_sketch::Quoted;
 use std::fmt;
 
 /// What stands in a certificate from its latency on, where its text has its form.

@@ -3,14 +3,14 @@ use super::lines::{numbers_of, scenario_in, sketch_of_lines};
 use super::tree_hints::hint_for_refused;
 use convoy_certificate::{TextFault, read};
 use convoy_checker::{Refusal, Refused};
-use convoy_packets::{Instance, ListFault, Order, Schedule};
-use convoy_scenario::{Scenario, ScenarioFault};
-use convoy_scenario_hints::{
+use convoy_hints_scenario::{
     hint_for_bytes, hint_for_damage, hint_for_order, hint_for_schedule, hint_for_sketch,
     is_meant_as_certificate, is_meant_as_scenario, with_label,
 };
+use convoy_hints_sketch::{Quoted, noun};
+use convoy_packets::{Instance, ListFault, Order, Schedule};
+use convoy_scenario::{Scenario, ScenarioFault};
 use convoy_scenario_lines::Expected;
-use convoy_sketch::{Quoted, noun};
 use std::alloc::{AllocError, Global};
 
 /// Why a certificate is refused, in one line `hint: ..`: by its text, which may have been cut where it
@@ -33,13 +33,13 @@ pub fn hint_for_certificate(
 }
 
 /// How many steps of a check a second has time for, where they take as long as any do.
-const STEPS_A_SECOND: u64 = 500_000;
+const STEPS_PER_SECOND: u64 = 500_000;
 
 /// What to do where a certificate is not checked, since that takes more than so many steps, of `most` that it
 /// may take, in one line `hint: ..`: to allow more of them, knowing about how long so many last.
 pub fn hint_for_unchecked(alloc: Global, limit: u64, most: u64) -> Result<String, AllocError> {
     let steps = noun(limit == 1, "step", "steps");
-    let length = (limit / STEPS_A_SECOND).max(1);
+    let length = (limit / STEPS_PER_SECOND).max(1);
     let seconds = noun(length == 1, "second", "seconds");
     let rest = if limit < most {
         format!(in alloc; ": '--limit' allows up to {most}")?

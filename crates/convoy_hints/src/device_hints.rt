@@ -1,5 +1,5 @@
 use convoy_certificate::{Form, form_of};
-use convoy_sketch::Quoted;
+use convoy_hints_sketch::Quoted;
 use std::alloc::{AllocError, Global};
 use std::io::Error;
 

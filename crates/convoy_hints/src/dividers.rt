@@ -1,6 +1,6 @@
 //! Lines that are nearly ones that divide the jobs of a batch.
 
-use convoy_sketch::noun;
+use convoy_hints_sketch::noun;
 use convoy_streams::LONGEST_LABEL;
 use std::alloc::{AllocError, Global};
 

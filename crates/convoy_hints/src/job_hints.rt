@@ -1,7 +1,7 @@
 use super::dividers::hint_for_dividers;
+use convoy_hints_scenario::hint_for_fault;
+use convoy_hints_sketch::noun;
 use convoy_scenario::ScenarioFault;
-use convoy_scenario_hints::hint_for_fault;
-use convoy_sketch::noun;
 use convoy_streams::{JobFault, Splitter};
 use convoy_toml::read_toml;
 use std::alloc::{AllocError, Global};

@@ -4,23 +4,26 @@
 #![tactic(auto)]
 
 pub use certificate_hints::{hint_for_certificate, hint_for_unchecked};
-pub use convoy_scenario_hints::{
+pub use checked_texts::{CheckedText, hint_of_text};
+pub use convoy_hints_scenario::{
     hint_for_given_order, hint_for_given_schedule, hint_for_named_group, hint_for_order_in_ticks,
     hint_for_plain_numbers, hint_for_scenario,
 };
 pub use device_hints::{
     hint_for_jobs, hint_for_length, hint_for_reading, hint_for_writing, line_for_file,
 };
+pub use difference_hints::hint_for_difference;
 pub use job_hints::hint_for_batch;
 pub use search_hints::{
-    hint_for_both, hint_for_ceiling, hint_for_explained, hint_for_first, hint_for_greatest,
-    hint_for_leads, hint_for_limit, hint_for_real_time, hint_for_seconds, hint_for_tickets,
-    is_in_real_time,
+    hint_for_both, hint_for_ceiling, hint_for_first, hint_for_greatest, hint_for_leads,
+    hint_for_limit, hint_for_real_time, hint_for_seconds, hint_for_tickets,
 };
 
 mod body;
 mod certificate_hints;
+mod checked_texts;
 mod device_hints;
+mod difference_hints;
 mod dividers;
 mod job_hints;
 mod lines;

@@ -1,22 +1,28 @@
 use convoy_certificate::{Form, form_of};
+use convoy_hints_sketch::{Part, Sketch};
 use convoy_lines::LineReader;
-use convoy_scenario::{Duration, Scenario, Time, TimeUnit};
+use convoy_scenario::{
+    DraftLink, DraftMulticast, DraftScenario, Duration, Name, Scenario, Time, TimeUnit,
+};
 use convoy_scenario_lines::read_lines;
-use convoy_sketch::{Link, Multicast, Part, PartKind, Sketch};
+use convoy_toml::ScenarioTable;
 use std::alloc::{AllocError, Global};
 
 /// The scenario that stands in the lines of a certificate; what is not of its form is left out.
 pub(crate) fn sketch_of_lines(alloc: Global, text: &str) -> Result<Sketch<'_>, AllocError> {
     let mut sketch = Sketch {
-        time: Time::Ticks,
-        tick: None,
-        delay: 0,
-        least: None,
-        groups: Vec::new(alloc),
+        draft: DraftScenario {
+            time: Time::Ticks,
+            tick: None,
+            delay: 0,
+            groups: Vec::new(alloc),
+            links: Vec::new(alloc),
+            multicasts: Vec::new(alloc),
+            target_message: Name::new(alloc, "")?,
+            target_group: Name::new(alloc, "")?,
+        },
         multicasts: Vec::new(alloc),
         links: Vec::new(alloc),
-        target_message: "",
-        target_group: "",
     };
     for (before, line) in text.lines().enumerate() {
         let words: Vec<&str> = line.split(' ').collect(alloc)?;
@@ -60,49 +66,57 @@ fn add_line<'a>(
     number: usize,
     words: &[&'a str],
 ) -> Result<(), AllocError> {
+    let draft = &mut sketch.draft;
     match words {
-        ["time", word] => sketch.time = Time::named(word).unwrap_or(Time::Ticks),
-        ["tick", count, unit] => sketch.tick = length_of(count, unit),
-        ["delay", delay] => sketch.delay = number_of(delay),
-        ["groups", groups @ ..] => sketch.groups = Vec::from_slice(alloc, groups)?,
+        ["time", word] => draft.time = Time::named(word).unwrap_or(Time::Ticks),
+        ["tick", count, unit] => draft.tick = length_of(count, unit),
+        ["delay", delay] => draft.delay = number_of(delay),
+        ["groups", groups @ ..] => draft.groups = names_of(alloc, groups)?,
         ["link", sender, to, least, most] => {
-            let place = sketch.links.len();
-            sketch.links.push(Link {
-                part: part_at(PartKind::Link, place, None, number),
-                sender: sender_of(sender),
-                to,
+            let table = ScenarioTable::Link(sketch.links.len());
+            sketch.links.push(part_at(table, None, number))?;
+            draft.links.push(DraftLink {
+                sender: sender_of(alloc, sender)?,
+                to: Name::new(alloc, to)?,
                 least: number_of(least),
                 most: number_of(most),
             })?;
         }
         ["multicast", name, sender, at, to @ ..] => {
-            let place = sketch.multicasts.len();
+            let table = ScenarioTable::Multicast(sketch.multicasts.len());
+            sketch.multicasts.push(part_at(table, Some(name), number))?;
             let (at, until) = issue_of(at);
-            sketch.multicasts.push(Multicast {
-                part: part_at(PartKind::Multicast, place, Some(name), number),
-                name,
-                sender: sender_of(sender),
-                to: Vec::from_slice(alloc, to)?,
+            draft.multicasts.push(DraftMulticast {
+                name: Name::new(alloc, name)?,
+                sender: sender_of(alloc, sender)?,
+                to: names_of(alloc, to)?,
                 at,
                 until,
             })?;
         }
         ["target", message, group] => {
-            sketch.target_message = message;
-            sketch.target_group = group;
+            draft.target_message = Name::new(alloc, message)?;
+            draft.target_group = Name::new(alloc, group)?;
         }
         _ => {}
     }
     Ok(())
 }
 
-fn part_at<'a>(kind: PartKind, place: usize, name: Option<&'a str>, line: usize) -> Part<'a> {
+fn part_at<'a>(table: ScenarioTable, name: Option<&'a str>, line: usize) -> Part<'a> {
     Part {
-        kind,
-        place: Some(place),
+        table,
         name,
         line: Some(line),
     }
+}
+
+fn names_of(alloc: Global, words: &[&str]) -> Result<Vec<Name>, AllocError> {
+    let mut names = Vec::new(alloc);
+    for word in words {
+        names.push(Name::new(alloc, word)?)?;
+    }
+    Ok(names)
 }
 
 /// The length of a tick that is so many of a unit; None where there is none such.
@@ -119,8 +133,11 @@ fn issue_of(word: &str) -> (i64, i64) {
 }
 
 /// The sender that a word names; None is a client.
-fn sender_of(word: &str) -> Option<&str> {
-    if word == "client" { None } else { Some(word) }
+fn sender_of(alloc: Global, word: &str) -> Result<Option<Name>, AllocError> {
+    if word == "client" {
+        return Ok(None);
+    }
+    Name::new(alloc, word).map(Some)
 }
 
 /// The number that a word is; 0 where it is none.

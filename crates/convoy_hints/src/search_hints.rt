@@ -1,9 +1,7 @@
 use convoy_ceiling::target_ceiling;
-use convoy_certificate::read;
-use convoy_scenario::{Scenario, Time};
-use convoy_scenario_hints::has_waits;
-use convoy_sketch::noun;
-use convoy_toml::read_toml_any_target;
+use convoy_hints_scenario::has_waits;
+use convoy_hints_sketch::noun;
+use convoy_scenario::Scenario;
 use std::alloc::{AllocError, Global};
 
 /// What an answer of `first` is, for a person who did not ask for it by that word, in one line `hint: ..`.
@@ -27,30 +25,10 @@ pub fn hint_for_ceiling(alloc: Global, simulations: u64, most: u64) -> Result<St
     )
 }
 
-/// What the greatest latency of a scenario text says where messages may wait for their issue and it is the
+/// What the greatest latency of a scenario says where messages may wait for their issue and it is the
 /// ceiling of messages of these kinds at the target's group, in one line `hint: ..`: that only narrower windows change
 /// it. None where it is below the ceiling, or each issue is known.
 pub fn hint_for_greatest(
-    alloc: Global,
-    text: &[u8],
-    greatest: u32,
-) -> Result<Option<String>, AllocError> {
-    match read_toml_any_target(alloc, text) {
-        Ok(input) => hint_at_ceiling(alloc, &input.scenario, greatest),
-        Err(_) => Ok(None),
-    }
-}
-
-/// The same of a certificate that was explained.
-pub fn hint_for_explained(alloc: Global, text: &[u8]) -> Result<Option<String>, AllocError> {
-    match read(alloc, text) {
-        Ok(certificate) => { hint_at_ceiling(alloc, certificate.scenario(), certificate.latency()) }
-        Err(_) => Ok(None),
-    }
-}
-
-/// What to say of a greatest latency that is the ceiling, where messages may wait.
-fn hint_at_ceiling(
     alloc: Global,
     scenario: &Scenario,
     greatest: u32,
@@ -146,10 +124,10 @@ fn way_in_real_time(
         return String::from_str(alloc, "with '--bounds lead' it mostly does");
     }
     if by_leads < most {
-        let noun = noun(by_leads == 1, "ticket", "tickets");
+        let tickets = noun(by_leads == 1, "ticket", "tickets");
         let highest = by_bounds.saturating_add(most);
         return format!(in alloc;
-            "where it has spent its {by_leads} {noun} by leads, '--limit {highest}' allows the most; else more schedules, as with '--seek 1000000', may raise the first number"
+            "where it has spent its {by_leads} {tickets} by leads, '--limit {highest}' allows the most; else more schedules, as with '--seek 1000000', may raise the first number"
         );
     }
     String::from_str(
@@ -161,27 +139,19 @@ fn way_in_real_time(
 /// What to do where a search was stopped after so many seconds, of `most` that it may have, in one line
 /// `hint: ..`: to allow more of them, or to rely on what is known.
 pub fn hint_for_seconds(alloc: Global, seconds: u32, most: u32) -> Result<String, AllocError> {
-    let noun = noun(seconds == 1, "second", "seconds");
+    let unit = noun(seconds == 1, "second", "seconds");
     let rest = if seconds < most {
         format!(in alloc; ", and '--seconds' allows up to {most}")?
     } else {
         String::new(alloc)
     };
     format!(in alloc;
-        "hint: the search was stopped after {seconds} {noun}: no latency is above the second number{rest}\n"
+        "hint: the search was stopped after {seconds} {unit}: no latency is above the second number{rest}\n"
     )
-}
-
-/// Whether a text is that of a scenario in real time. Not so where memory ran out.
-pub fn is_in_real_time(alloc: Global, text: &[u8]) -> bool {
-    match read_toml_any_target(alloc, text) {
-        Ok(input) => input.scenario.time() == Time::Real,
-        Err(_) => false,
-    }
 }
 
 /// The line for a search that did not end with that many tickets: those words, and then the rest.
 fn hint_for_search(alloc: Global, tickets: u64, rest: &str) -> Result<String, AllocError> {
-    let noun = noun(tickets == 1, "ticket", "tickets");
-    format!(in alloc; "hint: the search did not end with {tickets} {noun}{rest}\n")
+    let what = noun(tickets == 1, "ticket", "tickets");
+    format!(in alloc; "hint: the search did not end with {tickets} {what}{rest}\n")
 }

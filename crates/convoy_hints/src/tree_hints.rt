@@ -2,8 +2,8 @@ use super::body::{Body, Line, split_of};
 use super::lines::scenario_in;
 use super::paths::{Half, path_to, range_along};
 use convoy_checker::Refused;
+use convoy_hints_sketch::noun;
 use convoy_packets::Instance;
-use convoy_sketch::noun;
 use std::alloc::{AllocError, Global};
 
 /// Why the latency or the tree of a certificate is refused, whose text has its form. The text may

@@ -1,21 +1,16 @@
-ghost use Rattle.std.specs.Prelude.{◌≡◌, ◌+◌, ◌<◌, ◌≤◌, ◌||◌, ◌-◌, nat_lt, nat_le, true, false, length, IfOk};
-ghost use Rattle.std.specs.List.{list_all};
-ghost use Rattle.convoy_draft.specs.declared.limits.TheConstants.{MOST_GROUPS, MOST_MULTICASTS};
-ghost use Rattle.convoy_scenario.specs.Scenario.{message_at};
+ghost use Rattle.std.specs.Prelude.{◌≡◌, ◌<◌, ◌≤◌, ◌||◌, nat_lt, nat_le, true, false, length, IfOk};
+ghost use Rattle.convoy_draft.specs.declared.limits.TheConstants.{MOST_MULTICASTS};
 ghost use Rattle.convoy_intervals.specs.Bounds.{rivals};
 ghost use Rattle.convoy_sure.specs.SureLeads.{is_earlier, sure_of};
-ghost use Rattle.convoy_sure.specs.Windows.{tables_by, with_arrival};
+ghost use Rattle.convoy_sure.specs.Windows.{tables_by};
 ghost use Rattle.convoy_starts.specs.Tests.{is_less_elsewhere};
 ghost use Rattle.convoy_leads.specs.Leads.{is_led};
-ghost use Rattle.convoy_leads.specs.Closing.{closes_over, is_behind, is_behind_after, is_behind_by};
-ghost use Rattle.convoy_leads.specs.Closing.{is_behind_late, is_behind_target};
+ghost use Rattle.convoy_leads.specs.Closing.{is_behind};
 
 use super::facts::Facts;
-use convoy_scenario::{MOST_GROUPS, MOST_MULTICASTS};
+use convoy_scenario::MOST_MULTICASTS;
 use convoy_starts::Scratch;
-use convoy_sure::{
-    LAST_ARRIVAL, Messages, Sure, Windows, destinations, is_earlier, sure_of, target_group,
-};
+use convoy_sure::{Messages, Sure, Windows, is_earlier, sure_of, target_group};
 use std::alloc::{AllocError, Global};
 
 impl<'a> Facts<'a> {
@@ -155,147 +150,6 @@ impl<'a> Facts<'a> {
         self.is_led(windows, n, scratch)
     }
 
-    /// Whether message `m` cannot arrive at group `k` at that tick or later, or message `n` is behind
-    /// where it does.
-    fn is_behind_by(
-        &self,
-        windows: &Windows,
-        n: usize,
-        m: usize,
-        k: usize,
-        tick: u32,
-        scratch: &mut Scratch,
-    ) -> Result<bool, AllocError>
-        requires message { n < length self.now.scenario.now.multicasts }
-        requires other { m < length self.now.scenario.now.multicasts }
-        requires known { m < MOST_MULTICASTS }
-        requires group { k < MOST_GROUPS }
-        ensures { IfOk result
-            (λ behind. behind ≡ is_behind_by self.now.scenario.now windows.now n m k tick) }
-    {
-        if windows.greatest_arrival(m, k) < tick {
-            return Ok(true);
-        }
-        let cut = windows.with_arrival(scratch.alloc, self.scenario, m, k, tick)?;
-        self.is_behind(&cut, n, scratch)
-    }
-
-    /// Whether the target's stamp of group `f` does not keep the target back until message `n` arrives,
-    /// or `n` is behind where it does.
-    fn is_behind_target(
-        &self,
-        windows: &Windows,
-        n: usize,
-        f: usize,
-        scratch: &mut Scratch,
-    ) -> Result<bool, AllocError>
-        requires message { n < length self.now.scenario.now.multicasts }
-        requires group { f < MOST_GROUPS }
-        ensures { IfOk result
-            (λ behind. behind ≡ is_behind_target self.now.scenario.now windows.now n f) }
-    {
-        let target = self.scenario.target_message();
-        let group = target_group(self.scenario);
-        let arrival = windows.least_arrival(n, group);
-        let tick = arrival.saturating_sub(windows.greatest_proposal(target, f, group));
-        self.is_behind_by(windows, n, target, f, tick, scratch)
-    }
-
-    /// Whether message `n` is behind by way of each group whose stamp may keep the target back until
-    /// `n` arrives.
-    fn is_behind_targets(
-        &self,
-        windows: &Windows,
-        n: usize,
-        scratch: &mut Scratch,
-    ) -> Result<bool, AllocError>
-        requires { n < length self.now.scenario.now.multicasts }
-        ensures { IfOk result
-            (λ behind. behind ≡ list_all (is_behind_target self.now.scenario.now windows.now n)
-            (message_at self.now.scenario.now self.now.scenario.now.target_message).destinations) }
-    {
-        for f in destinations(self.scenario, self.scenario.target_message()) {
-            if !self.is_behind_target(windows, n, *f, scratch)? {
-                return Ok(false);
-            }
-        }
-        Ok(true)
-    }
-
-    /// Whether message `n` is behind where it arrives at group `k` at that tick or later: at once, or
-    /// by way of each group whose stamp may keep the target back until `n` arrives.
-    fn is_behind_after(
-        &self,
-        windows: &Windows,
-        n: usize,
-        k: usize,
-        tick: u32,
-        scratch: &mut Scratch,
-    ) -> Result<bool, AllocError>
-        requires message { n < length self.now.scenario.now.multicasts }
-        requires known { n < MOST_MULTICASTS }
-        requires group { k < MOST_GROUPS }
-        ensures { IfOk result
-            (λ behind. behind ≡ is_behind_after self.now.scenario.now windows.now n k tick) }
-    {
-        if windows.greatest_arrival(n, k) < tick {
-            return Ok(true);
-        }
-        let late = windows.with_arrival(scratch.alloc, self.scenario, n, k, tick)?;
-        if self.is_behind(&late, n, scratch)? {
-            return Ok(true);
-        }
-        self.is_behind_targets(&late, n, scratch)
-    }
-
-    /// Whether message `n` is behind by way of each of its groups whose stamp may keep its commit at
-    /// the target's group back until that tick.
-    fn is_behind_ways(
-        &self,
-        windows: &Windows,
-        tick: u32,
-        n: usize,
-        scratch: &mut Scratch,
-    ) -> Result<bool, AllocError>
-        requires { n < length self.now.scenario.now.multicasts }
-        ensures { IfOk result
-            (λ behind. behind ≡ list_all (λ k. is_behind_after self.now.scenario.now windows.now n k
-            (tick - (tables_by windows.now).greatest_proposal n k self.now.scenario.now.target_group))
-            (message_at self.now.scenario.now n).destinations) }
-    {
-        let group = target_group(self.scenario);
-        for k in destinations(self.scenario, n) {
-            let from = tick.saturating_sub(windows.greatest_proposal(n, *k, group));
-            if !self.is_behind_after(windows, n, *k, from, scratch)? {
-                return Ok(false);
-            }
-        }
-        Ok(true)
-    }
-
-    /// Whether message `n` cannot be committed at the target's group at that tick or later, or is
-    /// behind by way of each group whose stamp may keep it so long.
-    fn is_behind_late(
-        &self,
-        windows: &Windows,
-        tick: u64,
-        n: usize,
-        scratch: &mut Scratch,
-    ) -> Result<bool, AllocError>
-        requires message { n < length self.now.scenario.now.multicasts }
-        requires known { n < MOST_MULTICASTS }
-        ensures { IfOk result
-            (λ behind. behind ≡ is_behind_late self.now.scenario.now windows.now tick n) }
-    {
-        let last = windows.greatest_settling(n, target_group(self.scenario));
-        if u64::from(last) < tick {
-            return Ok(true);
-        }
-        self.is_behind_ways(windows, tick as u32, n, scratch)
-    }
-}
-
-impl<'a> Facts<'a> {
     /// Whether a message may arrive at the target's group by that tick.
     fn may_arrive_by(&self, windows: &Windows, committed: u32, n: usize) -> bool
         requires { n < MOST_MULTICASTS }
@@ -319,47 +173,5 @@ impl<'a> Facts<'a> {
             }
         }
         rivals
-    }
-
-    /// Whether each rival of the target is behind it, or not committed at its group at that tick or
-    /// later.
-    fn are_behind_late(
-        &self,
-        windows: &Windows,
-        tick: u64,
-        scratch: &mut Scratch,
-    ) -> Result<bool, AllocError>
-        ensures { IfOk result
-            (λ behind. behind ≡ list_all (is_behind_late self.now.scenario.now windows.now tick)
-            (rivals self.now.scenario.now (tables_by windows.now).times)) }
-    {
-        let rivals = self.rivals(windows);
-        for n in rivals.numbers() {
-            if !self.is_behind_late(windows, tick, *n, scratch)? {
-                return Ok(false);
-            }
-        }
-        Ok(true)
-    }
-
-    /// Whether windows are closed for a latency: the target and each rival that is committed at its
-    /// group after that latency is behind it.
-    pub(crate) fn closes_over(
-        &self,
-        windows: &Windows,
-        latency: u32,
-        scratch: &mut Scratch,
-    ) -> Result<bool, AllocError>
-        ensures { IfOk result
-            (λ closed. closed ≡ closes_over self.now.scenario.now windows.now latency) }
-    {
-        let target = self.scenario.target_message();
-        let issued = self.scenario.issue_tick(target);
-        let tick = u64::from(issued) + u64::from(latency) + 1;
-        let committed = windows.greatest_settling(target, target_group(self.scenario));
-        if u64::from(committed) >= tick {
-            return Ok(false);
-        }
-        self.are_behind_late(windows, tick, scratch)
     }
 }

@@ -5,13 +5,11 @@ ghost use Rattle.convoy_sim.specs.Delivery.{latency_of};
 ghost use Rattle.convoy_intervals.specs.Boxes.{IsBox, IsIn};
 ghost use Rattle.convoy_leads.specs.Closing.{closes_by_leads};
 
-use super::facts::Facts;
 use super::laws::leads_hold;
+use super::lead_test::LeadTest;
 use convoy_intervals::DelayBox;
 use convoy_intervals::laws::members_are_assignments;
 use convoy_packets::Instance;
-use convoy_starts::Scratch;
-use convoy_sure::Windows;
 use std::alloc::{AllocError, Global};
 
 /// Whether leads close a box for a latency in ticks, so that no schedule of the box has a greater one
@@ -31,9 +29,8 @@ pub fn closes_by_leads(
 {
     leads_hold();
     members_are_assignments();
-    let facts = Facts::of(alloc, instance.scenario())?;
-    let windows = Windows::of(alloc, instance, delay_box)?;
-    let mut scratch = Scratch::new(alloc);
-    let closed = facts.closes_over(&windows, latency, &mut scratch)?;
-    Ok(closed)
+    let _scenario = instance.scenario();
+    let test = LeadTest::of(alloc, instance, delay_box)?;
+    let shown = test.shows(latency)?;
+    Ok(shown.is_closed())
 }

@@ -4,12 +4,16 @@
 
 pub use closing::closes_by_leads;
 pub use convoy_starts::{Commit, Link};
+pub use lead_test::LeadTest;
 pub use open_case::OpenCase;
-pub use opening::{Opening, opening_of};
+pub use opening::Opening;
+pub use shown::Shown;
 
 mod behind;
 mod closing;
 mod facts;
 pub mod laws;
+mod lead_test;
 mod open_case;
 mod opening;
+mod shown;

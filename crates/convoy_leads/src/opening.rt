@@ -1,15 +1,11 @@
-ghost use Rattle.std.specs.Prelude.{◌<◌, length, All, IfOk, IfSome};
-ghost use Rattle.convoy_intervals.specs.Boxes.{IsBox};
+ghost use Rattle.std.specs.Prelude.{◌<◌, length, All, IfOk};
 ghost use Rattle.convoy_starts.specs.Links.{IsLink};
-ghost use Rattle.convoy_leads.specs.Openings.{IsOpening};
 
 use super::facts::Facts;
 use super::open_case::OpenCase;
-use convoy_intervals::DelayBox;
-use convoy_packets::Instance;
 use convoy_starts::{Link, Scratch};
 use convoy_sure::Windows;
-use std::alloc::{AllocError, Global};
+use std::alloc::AllocError;
 
 /// What leads leave open of a box: the first case, and how a stamp of the target may exceed the
 /// rival's there.
@@ -24,7 +20,7 @@ pub struct Opening {
 
 impl<'a> Facts<'a> {
     /// The chain by which a stamp of the target may exceed that of message `n` in windows.
-    fn links(
+    pub(crate) fn links(
         &self,
         windows: &Windows,
         n: usize,
@@ -40,25 +36,4 @@ impl<'a> Facts<'a> {
         let setting = self.setting(windows, &sure, false);
         setting.links(&self.pairs, scratch)
     }
-}
-
-/// What leads leave open of a box for a latency in ticks; none where they close it
-/// ([`closes_by_leads`](super::closes_by_leads)). The error is that memory ran out.
-pub fn opening_of(
-    alloc: Global,
-    instance: &Instance,
-    delay_box: &DelayBox,
-    latency: u32,
-) -> Result<Option<Opening>, AllocError>
-    requires inside { IsBox instance.now delay_box.now }
-    ensures { IfOk result (λ found. IfSome found (IsOpening instance.now)) }
-{
-    let facts = Facts::of(alloc, instance.scenario())?;
-    let windows = Windows::of(alloc, instance, delay_box)?;
-    let mut scratch = Scratch::new(alloc);
-    let Some(case) = facts.open_case(&windows, latency, &mut scratch)? else {
-        return Ok(None);
-    };
-    let links = facts.links(&case.windows, case.rival, &mut scratch)?;
-    Ok(Some(Opening { case, links }))
 }

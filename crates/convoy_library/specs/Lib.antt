@@ -30,12 +30,12 @@ pub use Rattle.convoy_sim.specs.Run
 pub use Rattle.convoy_sim.specs.Record
 pub use Rattle.convoy_sim.specs.Greatest
 -- one scenario in ticks and in finer ones
-pub use Rattle.convoy_finer.specs.FinerTicks
-pub use Rattle.convoy_finer.specs.FinerTexts
+pub use Rattle.convoy_laws.specs.FinerTicks
+pub use Rattle.convoy_laws.specs.FinerTexts
 -- the ceiling, in traffic of a scenario's kinds of messages
 pub use Rattle.convoy_ceiling.specs.Ceiling
 pub use Rattle.convoy_ceiling.specs.Targets
-pub use Rattle.convoy_traffic.specs.Finding
+pub use Rattle.convoy_ceiling.specs.Finding
 -- certificates: their text, and when they are valid
 pub use Rattle.convoy_certificate.specs.Certificate
 pub use Rattle.convoy_certificate.specs.Text
@@ -45,14 +45,14 @@ pub use Rattle.convoy_checker.specs.Validity
 pub use Rattle.convoy_checker.specs.Checks
 pub use Rattle.convoy_checker.specs.declared.refused.Refused
 -- why a run is as late as it is
-pub use Rattle.convoy_explain.specs.Causes
-pub use Rattle.convoy_explain.specs.Explanations
-pub use Rattle.convoy_explain.specs.PacketLists
+pub use Rattle.convoy_timeline.specs.Causes
+pub use Rattle.convoy_timeline.specs.Explanations
+pub use Rattle.convoy_timeline.specs.PacketLists
 -- boxes, and what closes them
 pub use Rattle.convoy_intervals.specs.Boxes
 pub use Rattle.convoy_intervals.specs.Bounds as PlainBounds
 pub use Rattle.convoy_stamps.specs.StampBounds
-pub use Rattle.convoy_monotone.specs.Narrower
+pub use Rattle.convoy_laws.specs.Narrower
 pub use Rattle.convoy_leads.specs.Closing
 -- what seeking and a search answer
 pub use Rattle.convoy_seek.specs.Finds

@@ -2,12 +2,12 @@
 
 ghost use Rattle.std.specs.Prelude.{◌≡◌};
 
+use crate::best_of_three;
 use crate::scenarios::lone;
 use crate::schedules::given;
 use convoy_incumbent::{Board, CloseFault, Hand};
 use convoy_packets::Instance;
 use convoy_sim::Record;
-use convoy_uses::best_of_three;
 use std::alloc::Global;
 use std::process::Abort;
 use std::sync::Wait;
@@ -129,6 +129,21 @@ fn board_of_three_hands(rt: HostRuntime) -> Result<(), Fail> {
     let Err(CloseFault::HandsOut(board, mut first)) = board.close(first) else {
         panic!(rt; "closed while a hand was out");
     };
+    board.join(&mut first, second);
+    assert!(rt; closed(&rt, board, first) == 9);
+    Ok(())
+}
+
+#[test]
+fn look_sees_others(rt: HostRuntime) -> Result<(), Fail> {
+    let alloc = rt.alloc();
+    let instance = lone(alloc)?;
+    let least = record_of(&rt, alloc, &instance, &LATENCY_2);
+    let (board, mut first) = opened(&rt, alloc, least);
+    let mut second = half_of(&rt, &board, &mut first);
+    let found = record_of(&rt, alloc, &instance, &LATENCY_9);
+    assert!(rt; published(&rt, &board, &mut first, found) == 9);
+    assert!(rt; board.look(&mut second) == 9);
     board.join(&mut first, second);
     assert!(rt; closed(&rt, board, first) == 9);
     Ok(())

@@ -1,7 +1,7 @@
 //! Worked rows on ledgers, by one thread and by two.
 
+use crate::draw_together;
 use convoy_ledger::{ClerksOut, Ledger};
-use convoy_uses::draw_together;
 use std::test::Fail;
 
 #[test]

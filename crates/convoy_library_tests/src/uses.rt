@@ -1,15 +1,15 @@
 //! Callers of the library.
 
 use crate::scenarios::{base, swapped};
+use crate::{
+    Answer, Fault, Judgement, check_certificate, exchange, greatest_latency, greatest_latency_by,
+    judge_timeout, latency_under, timeout_in_traffic,
+};
 use convoy_certificate::TextFault;
 use convoy_checker::Refused;
 use convoy_packets::{Instance, ListFault};
 use convoy_scenario::{Limit, ScenarioFault};
 use convoy_scenario_lines::Expected;
-use convoy_uses::{
-    Answer, Fault, Judgement, check_certificate, exchange, greatest_latency, greatest_latency_by,
-    judge_timeout, latency_under, timeout_in_traffic,
-};
 use std::alloc::Global;
 use std::test::Fail;
 

@@ -22,7 +22,7 @@ use Rattle.convoy_checker.specs.Laws.{BoundLeavesCover, LeadLeavesCover, PointLe
 use Rattle.convoy_checker.specs.Leaves.{ClosesByLeads, IsRight}
 use Rattle.convoy_checker.specs.Trees.{boxes_below}
 use Rattle.convoy_checker.proofs.Faults.{node_none}
-use Rattle.convoy_monotone.specs.Laws.{LeadsCloseForMore}
+use Rattle.convoy_laws.specs.Monotone.{LeadsCloseForMore}
 use Rattle.convoy_machine.specs.Laws.{RightLeavesClose}
 use Rattle.convoy_machine.specs.Machine.{closes}
 

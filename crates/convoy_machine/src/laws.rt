@@ -3,7 +3,7 @@
 
 ghost use Rattle.convoy_machine.specs.Laws.{RightLeavesClose};
 
-use convoy_monotone::laws::leads_close_for_more;
+use convoy_laws::monotone::leads_close_for_more;
 
 /// A worker that has seen a latency may close each box over which some leaf is right in a certificate
 /// of that latency.

@@ -54,6 +54,15 @@ impl Instance {
         &self.scenario
     }
 
+    /// The scenario alone.
+    pub fn into_scenario(self) -> Scenario
+        ensures value { result ≡ self }
+        ensures lawful { IsScenario result }
+    {
+        let _delay = self.scenario.delay();
+        self.scenario
+    }
+
     /// The packets of the scenario, for look-ups.
     pub fn table(&self) -> &PacketTable
         ensures value { result.now ≡ table_of self.now }

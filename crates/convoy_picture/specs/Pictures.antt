@@ -9,8 +9,8 @@ use Rattle.convoy_packets.specs.Assignment.{Schedule, delay_of, sender_of}
 use Rattle.convoy_sim.specs.Times.{Tick, issue, arrive}
 use Rattle.convoy_timeline.specs.Timeline.{timeline_of}
 use Rattle.convoy_timeline.specs.declared.entry.Entry.{Entry}
-use Rattle.convoy_explain.specs.Causes.{explanation_of}
-use Rattle.convoy_explain.specs.declared.explanation.Explanation.{Explanation}
+use Rattle.convoy_timeline.specs.Causes.{explanation_of}
+use Rattle.convoy_timeline.specs.declared.explanation.Explanation.{Explanation}
 use Rattle.convoy_picture.specs.declared.flight.Flight.{Flight}
 
 -- the tick at which a packet is sent: a message as it is issued, and a proposal as the message arrives at the group that proposes; a wait begins where its message may first be issued

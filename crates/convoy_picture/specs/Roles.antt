@@ -1,7 +1,7 @@
 -- What a message is to the target of a picture.
 use Rattle.std.specs.Prelude.{ℕ, ◌==◌, Bool, true, false, Option, None, Some, if◌then◌else◌}
 use Rattle.convoy_scenario.specs.Scenario.{Scenario}
-use Rattle.convoy_explain.specs.declared.explanation.Holder.{Holder as HoldingMessage}
+use Rattle.convoy_timeline.specs.declared.explanation.Holder.{Holder as HoldingMessage}
 use Rattle.convoy_picture.specs.Pictures.{Picture}
 use Rattle.convoy_picture.specs.declared.role.Role.{Role}
 use Rattle.convoy_picture.specs.declared.role.Role.TheVariants.{Target, Holder, Other}

@@ -7,9 +7,9 @@ use Rattle.convoy_packets.specs.declared.packet.Packet.TheVariants.{Wait, Multic
 use Rattle.convoy_timeline.specs.declared.entry.Entry.{Entry}
 use Rattle.convoy_timeline.specs.declared.entry.EntryKind.{EntryKind}
 use Rattle.convoy_timeline.specs.declared.entry.EntryKind.TheVariants.{Propose, Commit, Deliver}
-use Rattle.convoy_explain.specs.Explanations.{message_name_at, sender_text, stamp_text, ticks_text}
-use Rattle.convoy_explain.specs.declared.explanation.Explanation.{Explanation}
-use Rattle.convoy_explain.specs.declared.explanation.Holder.{Holder}
+use Rattle.convoy_timeline.specs.Explanations.{message_name_at, sender_text, stamp_text, ticks_text}
+use Rattle.convoy_timeline.specs.declared.explanation.Explanation.{Explanation}
+use Rattle.convoy_timeline.specs.declared.explanation.Holder.{Holder}
 use Rattle.convoy_picture.specs.declared.flight.Flight.{Flight}
 
 -- how late the target is at worst, and in the unit of a tick where its length is known

@@ -5,10 +5,9 @@ ghost use Rattle.convoy_packets.specs.Packets.{is_wait};
 ghost use Rattle.convoy_sim.specs.Run.{IsRunOf};
 
 use super::flight::{Flight, flight_of};
-use convoy_explain::{Explanation, explain};
 use convoy_packets::{Instance, Packet, Schedule};
 use convoy_sim::Run;
-use convoy_timeline::{Entry, entries_of, issue_of};
+use convoy_timeline::{Entry, Explanation, entries_of, explain, issue_of};
 use std::alloc::{AllocError, Global};
 use std::marker::Model;
 

@@ -3,12 +3,11 @@ ghost use Rattle.convoy_picture.specs.Words.{answer_text, doing_text, entry_text
 ghost use Rattle.convoy_packets.specs.Assignment.{receiver_of};
 
 use super::flight::Flight;
-use convoy_explain::{Explanation, sender_name, stamp_text, ticks_text};
 use convoy_packets::Packet;
 use convoy_scenario::Scenario;
 use convoy_scenario::lookup::{first_tick, sender_of};
 use convoy_scenario::naming::{group_name, message_name};
-use convoy_timeline::{Entry, EntryKind};
+use convoy_timeline::{Entry, EntryKind, Explanation, sender_name, stamp_text, ticks_text};
 use std::alloc::{AllocError, Global};
 
 /// The answer: how late the target of the scenario is at worst, in ticks, and in their unit where the

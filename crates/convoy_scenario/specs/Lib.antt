@@ -4,6 +4,7 @@ pub use Rattle.convoy_draft.specs.Draft
 pub use Rattle.convoy_draft.specs.Limits
 pub use Rattle.convoy_draft.specs.Names
 -- scenarios
+pub mod Differences
 pub mod Laws
 pub mod Memory
 pub mod Naming

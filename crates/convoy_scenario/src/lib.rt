@@ -2,6 +2,7 @@
 //! which has names in place of numbers.
 #![tactic(auto)]
 
+pub use comparing::{agree_in, difference};
 pub use convoy_draft::{
     DraftLink, DraftMulticast, DraftScenario, Duration, GREATEST_AT, GREATEST_DELAY,
     GREATEST_UNTIL, GREATEST_WHOLE_DELAY, Key, LONGEST_DURATION, LONGEST_NAME, LONGEST_WAIT, Limit,
@@ -9,15 +10,19 @@ pub use convoy_draft::{
     is_named_alike, is_within,
 };
 pub use link::{Link, is_same_sender};
+pub use part::Part;
 pub use parts::{LinkParts, MessageParts, ScenarioParts};
 pub use scenario::Scenario;
 pub use sender::Sender;
 
+mod comparing;
 pub mod laws;
 mod link;
 pub mod lookup;
 pub mod naming;
 mod numbering;
+mod part;
 mod parts;
+mod same_parts;
 mod scenario;
 mod sender;

@@ -12,7 +12,7 @@ use Rattle.convoy_branch.specs.declared.limit.Limit.{Limit}
 use Rattle.convoy_branch.specs.Fronts.{left_in}
 use Rattle.convoy_branch.specs.Laws.{FrontsBetter}
 use Rattle.convoy_branch.specs.Steps.{IsOpenPoint}
-use Rattle.convoy_deque.specs.Tasks.{AreAllTaken}
+use Rattle.convoy_share_deque.specs.Tasks.{AreAllTaken}
 use Rattle.convoy_share.specs.declared.ending.Ended.{Ended}
 use Rattle.convoy_share.specs.declared.means.Means.{Means}
 use Rattle.convoy_share.specs.declared.owner.OwnerWorker.{OwnerWorker}

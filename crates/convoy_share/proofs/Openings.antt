@@ -5,7 +5,7 @@ use Rattle.std.proofs.Common.{arith, refl, ap, sym, subst, ◌∙◌, length-app
 use Rattle.std.proofs.lemmas.List.Elements.{All-nil, All-push}
 use Rattle.std.proofs.lemmas.List.Sums.{sum_by_push}
 use Rattle.convoy_shares.specs.Shares.{whole}
-use Rattle.convoy_deque.specs.Tasks.{DequeId, whole_share}
+use Rattle.convoy_share_deque.specs.Tasks.{DequeId, whole_share}
 use Rattle.convoy_share.specs.declared.owner.OwnerWorker.{OwnerWorker}
 use Rattle.convoy_share.specs.declared.thief.ThiefWorker.{ThiefWorker}
 use Rattle.convoy_share.specs.Common.{Common}

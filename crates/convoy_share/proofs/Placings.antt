@@ -11,8 +11,8 @@ use Rattle.convoy_ledger.specs.Tickets.{times}
 use Rattle.convoy_scenario.specs.Scenario.{Scenario}
 use Rattle.convoy_intervals.specs.Boxes.{Box, root_of}
 use Rattle.convoy_branch.specs.declared.bounds.Bounds.{Bounds}
-use Rattle.convoy_deque.specs.declared.task.Task.{Task}
-use Rattle.convoy_deque.specs.Tasks.{tasks_at, AreAllTaken, IsPut}
+use Rattle.convoy_share_deque.specs.declared.task.Task.{Task}
+use Rattle.convoy_share_deque.specs.Tasks.{tasks_at, AreAllTaken, IsPut}
 use Rattle.convoy_share.specs.declared.piece.Piece.{Piece}
 use Rattle.convoy_share.specs.declared.piece.Piece.TheVariants.{Pushed}
 use Rattle.convoy_share.specs.Pieces.{places_in, spent, IsPiece}

@@ -16,7 +16,7 @@ use Rattle.convoy_branch.specs.declared.step.Turn.{Turn}
 use Rattle.convoy_branch.specs.declared.step.Turn.TheVariants.{Halves}
 use Rattle.convoy_branch.specs.Fronts.{AreFronts, Spent, Left}
 use Rattle.convoy_branch.specs.Laws.{FrontsBetter}
-use Rattle.convoy_deque.specs.declared.task.Task.{Task}
+use Rattle.convoy_share_deque.specs.declared.task.Task.{Task}
 use Rattle.convoy_share.specs.declared.piece.Piece.{Piece}
 use Rattle.convoy_share.specs.declared.piece.Piece.TheVariants.{Done, Todo, Pushed}
 use Rattle.convoy_share.specs.Pieces.{pushed_number, places_in, spent, IsPiece}

@@ -10,8 +10,8 @@ use Rattle.convoy_intervals.specs.Boxes.{Box}
 use Rattle.convoy_branch.specs.declared.bounds.Bounds.{Bounds}
 use Rattle.convoy_branch.specs.Laws.{FrontsBetter}
 use Rattle.convoy_incumbent.specs.Boards.{Holding}
-use Rattle.convoy_deque.specs.declared.task.Task.{Task}
-use Rattle.convoy_deque.specs.Tasks.{DequeId, OwnerEnd, ThiefEnd, IsPut}
+use Rattle.convoy_share_deque.specs.declared.task.Task.{Task}
+use Rattle.convoy_share_deque.specs.Tasks.{DequeId, OwnerEnd, ThiefEnd, IsPut}
 use Rattle.convoy_share.specs.declared.piece.Piece.{Piece}
 use Rattle.convoy_share.specs.declared.owner.OwnerWorker.{OwnerWorker}
 use Rattle.convoy_share.specs.declared.thief.ThiefWorker.{ThiefWorker}

@@ -10,8 +10,8 @@ use Rattle.convoy_branch.specs.Uppers.{IsUpperOf}
 use Rattle.convoy_intervals.specs.Boxes.{Box}
 use Rattle.convoy_checker.specs.Validity.{IsTree}
 use Rattle.convoy_branch.specs.Fronts.{IsFront, left_in}
-use Rattle.convoy_deque.specs.declared.task.Task.{Task}
-use Rattle.convoy_deque.specs.Tasks.{AreAllTaken}
+use Rattle.convoy_share_deque.specs.declared.task.Task.{Task}
+use Rattle.convoy_share_deque.specs.Tasks.{AreAllTaken}
 use Rattle.convoy_share.specs.declared.piece.Piece.{Piece}
 use Rattle.convoy_share.specs.declared.piece.Piece.TheVariants.{Pushed}
 use Rattle.convoy_share.specs.Pieces.{front, nodes_in}

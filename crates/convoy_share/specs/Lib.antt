@@ -3,7 +3,7 @@ pub use Rattle.convoy_certificate.specs.Certificate
 pub use Rattle.convoy_intervals.specs.Boxes
 pub use Rattle.convoy_intervals.specs.Tracked
 pub use Rattle.convoy_branch.specs.Fronts
-pub use Rattle.convoy_deque.specs.Tasks
+pub use Rattle.convoy_share_deque.specs.Tasks
 -- What workers promise: the pieces of a tree, the trees of one worker, how all trees become one, and the laws of all that.
 pub mod Pieces
 pub mod Subtrees

@@ -1,7 +1,7 @@
 -- The workers, as they are opened.
 use Rattle.std.specs.Prelude.{◌≡◌, ℕ, zero, suc, ◌+◌, ◌-◌, ◌≤◌, List, length}
 use Rattle.std.specs.List.{All}
-use Rattle.convoy_deque.specs.Tasks.{whole_share}
+use Rattle.convoy_share_deque.specs.Tasks.{whole_share}
 use Rattle.convoy_shares.specs.Shares.{whole}
 use Rattle.convoy_share.specs.declared.owner.OwnerWorker.{OwnerWorker}
 use Rattle.convoy_share.specs.declared.thief.ThiefWorker.{ThiefWorker}

@@ -2,7 +2,7 @@
 use Rattle.std.specs.Prelude.{◌≡◌, ℕ, ◌+◌, ◌≤◌, ◌<◌, List, length, slice_index_or, []}
 use Rattle.std.specs.List.{sum, sum_by}
 use Rattle.convoy_intervals.specs.Boxes.{root_of}
-use Rattle.convoy_deque.specs.Tasks.{DequeId}
+use Rattle.convoy_share_deque.specs.Tasks.{DequeId}
 use Rattle.convoy_share.specs.declared.owner.OwnerWorker.{OwnerWorker}
 use Rattle.convoy_share.specs.declared.thief.ThiefWorker.{ThiefWorker}
 use Rattle.convoy_share.specs.Common.{Common}

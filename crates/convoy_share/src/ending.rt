@@ -1,7 +1,7 @@
 //! What all workers have brought, as one tree.
 
 ghost use Rattle.std.specs.Prelude.{◌≡◌, false, length, IfOk, OnOk};
-ghost use Rattle.convoy_deque.specs.Tasks.{whole_share, AreAllTaken};
+ghost use Rattle.convoy_share_deque.specs.Tasks.{whole_share, AreAllTaken};
 ghost use Rattle.convoy_share.specs.Common.{common_of};
 ghost use Rattle.convoy_share.specs.Ended.{IsEnded};
 ghost use Rattle.convoy_share.specs.Workers.{StaysOwner};

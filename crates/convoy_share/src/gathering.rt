@@ -1,7 +1,7 @@
 //! How the owner takes in what the thieves bring.
 
 ghost use Rattle.std.specs.Prelude.{◌≡◌, ◌+◌, ℕ, [], ◌∷◌, ◌++◌, length, OnOk};
-ghost use Rattle.convoy_deque.specs.Tasks.{DequeId};
+ghost use Rattle.convoy_share_deque.specs.Tasks.{DequeId};
 ghost use Rattle.convoy_share.specs.Common.{common_of};
 ghost use Rattle.convoy_share.specs.Workers.{IsOwner, IsThief};
 

@@ -6,12 +6,12 @@ ghost use Rattle.convoy_intervals.specs.Boxes.{Box};
 ghost use Rattle.convoy_share.specs.Halves.{IsPlaced};
 
 use super::piece::Piece;
-use convoy_deque::Owner;
 use convoy_intervals::Tracked;
+use convoy_share_deque::Owner;
 
-/// Where the lower half of a split goes. An implementation says by `takes` of which scenario the branches
-/// are to be, by `put` which of them were put aside, by number, and by `fixed` what it is apart from
-/// those, which no call changes.
+/// Where the lower half of a split goes. An implementation says by `takes` of which scenario the
+/// branches are to be, by `put` which of them were put aside, by number, and by `fixed` what it is
+/// apart from those, which no call changes.
 pub(crate) trait Halves {
     ghost takes: { Self → Scenario → Type 0 };
 

@@ -21,8 +21,8 @@ use convoy_packets::Instance;
 use std::alloc::{AllocError, Global};
 
 /// The tree of a search that has ended with that best latency in ticks, and how many tickets were spent
-/// for it. Unless all of them were, or the search is stopped, each point that is left is closed here if the
-/// bounds close it for that latency: it was left for one that may have been less.
+/// for it. Unless all of them were, or the search is stopped, each point that is left is closed here if
+/// the bounds close it for that latency: it was left for one that may have been less.
 pub(crate) fn settle_points<G: Gate>(
     alloc: Global,
     gate: &G,
@@ -80,8 +80,8 @@ fn look_again(
     Ok((done, spent))
 }
 
-/// What becomes of a piece where that is the best latency, in ticks, and where so many tickets of the limit
-/// were spent, and how many more are: one for a branch that is closed.
+/// What becomes of a piece where that is the best latency, in ticks, and where so many tickets of the
+/// limit were spent, and how many more are: one for a branch that is closed.
 fn look_at(
     alloc: Global,
     instance: &Instance,

@@ -74,11 +74,11 @@ pub(crate) fn take_up<R: Wait, G: Gate>(
     upper_keeps_greatest();
     let _ = shared.instance.table();
     let _delay_box = branch.delay_box();
-    means.taken_up = means.taken_up.saturating_add(1);
-    gate.before_branch(means.worker, means.taken_up);
     if shared.limit.is_over(gate) {
         return Ok(TakenUp::Left(branch));
     }
+    means.taken_up = means.taken_up.saturating_add(1);
+    gate.before_branch(means.worker, means.taken_up);
     let seen = shared.board.look(&mut means.hand);
     let hand = &mut means.hand;
     let Some(known) = known_for_step(rt, shared, hand, &branch, tried, seen)? else {

@@ -2,7 +2,7 @@
 
 ghost use Rattle.std.specs.Prelude.{◌≡◌, ◌≤◌, ◌<◌, ◌-◌, ◌/◌, [], length, IfOk, OnOk};
 ghost use Rattle.convoy_shares.specs.declared.shares.TheConstants.{MOST_WORKERS};
-ghost use Rattle.convoy_deque.specs.Tasks.{whole_share};
+ghost use Rattle.convoy_share_deque.specs.Tasks.{whole_share};
 ghost use Rattle.convoy_shares.specs.Shares.{whole};
 ghost use Rattle.convoy_share.specs.Common.{common_of};
 ghost use Rattle.convoy_share.specs.Opening.{AreOpened};
@@ -12,10 +12,10 @@ use super::means::Means;
 use super::owner::OwnerWorker;
 use super::shared::Shared;
 use super::thief::ThiefWorker;
-use convoy_deque::Owner;
 use convoy_incumbent::Hand;
 use convoy_intervals::Tracked;
 use convoy_ledger::Clerk;
+use convoy_share_deque::Owner;
 use std::alloc::AllocError;
 
 /// The owner of a new deque, in which the root is the one branch.

@@ -10,7 +10,7 @@ use super::tree::{Tree, keep};
 use super::worker::search_branch;
 use convoy_branch::Gate;
 use convoy_branch::laws::fronts_better;
-use convoy_deque::Owner;
+use convoy_share_deque::Owner;
 use std::alloc::AllocError;
 use std::sync::Wait;
 use std::sync::atomic::Ordering;

@@ -4,7 +4,7 @@ ghost use Rattle.std.specs.Prelude.{◌≡◌, ℕ, List, [], replicate, reverse
 ghost use Rattle.convoy_scenario.specs.Scenario.{Scenario};
 ghost use Rattle.convoy_intervals.specs.Boxes.{Box};
 ghost use Rattle.convoy_branch.specs.declared.bounds.Bounds.{Bounds};
-ghost use Rattle.convoy_deque.specs.declared.task.Task.{Task};
+ghost use Rattle.convoy_share_deque.specs.declared.task.Task.{Task};
 ghost use Rattle.convoy_share.specs.Filling.{CanBeFilled, IsFilling, IsPlacing};
 ghost use Rattle.convoy_share.specs.Subtrees.{Subtree};
 

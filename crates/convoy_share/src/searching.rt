@@ -39,11 +39,11 @@ use std::sync::Wait;
 use std::sync::atomic::AtomicBool;
 use std::thread::Threads;
 
-/// Searches for the greatest latency of a scenario with so many workers, each in a thread of its own, by
-/// branch and bound (docs/PROTOCOL.md). It starts from the record of the least delays. The workers draw
-/// their tickets from one ledger of `limit`, and each calls the gate before it takes up a branch; boxes
-/// are closed by those bounds. Where a thread can't be started, its worker runs after the others. One
-/// worker searches alone, as [`convoy_branch::search_alone`] does.
+/// Searches for the greatest latency of a scenario with so many workers, each in a thread of its own,
+/// by branch and bound (docs/PROTOCOL.md). It starts from the record of the least delays. The workers
+/// draw their tickets from one ledger of `limit`, and each calls the gate before it takes up a branch;
+/// boxes are closed by those bounds. Where a thread can't be started, its worker runs after the others.
+/// One worker searches alone, as [`convoy_branch::search_alone`] does.
 ///
 /// The only error is that memory ran out, for any worker or for the outcome. It comes after all threads
 /// have ended.
@@ -69,9 +69,9 @@ pub fn search<R: Threads + Wait + Sync, G: Gate + Sync>(
 }
 
 /// The search of [`search`] from an opening record of the scenario. Its latency is at least that of the
-/// least delays, and the latency that the search finds is at least that of the record. Where the limit says
-/// that the gate may stop the search, and it does, each worker leaves the boxes that it has not taken up:
-/// boxes of any kind may be left with fewer tickets spent.
+/// least delays, and the latency that the search finds is at least that of the record. Where the limit
+/// says that the gate may stop the search, and it does, each worker leaves the boxes that it has not
+/// taken up: boxes of any kind may be left with fewer tickets spent.
 ///
 /// The only error is that memory ran out, for any worker or for the outcome.
 pub fn search_from<'a, R: Threads + Wait + Sync, G: Gate + Sync>(
@@ -150,8 +150,8 @@ pub(crate) struct Closed {
     pieces: Vec<Settled>,
 }
 
-/// Ends board and ledger, of which all workers' shares are back, and looks at what is left once more, unless
-/// the search is stopped.
+/// Ends board and ledger, of which all workers' shares are back, and looks at what is left once more,
+/// unless the search is stopped.
 fn close<G: Gate>(
     alloc: Global,
     gate: &G,

@@ -7,8 +7,8 @@ use convoy_packets::Instance;
 use std::alloc::Global;
 use std::sync::atomic::AtomicBool;
 
-/// What all workers of a search share: the instance, the bounds by which they go, how far the search goes,
-/// the board, the ledger, and how far the owner is.
+/// What all workers of a search share: the instance, the bounds by which they go, how far the search
+/// goes, the board, the ledger, and how far the owner is.
 #[derive(Clone, Copy)]
 pub(crate) struct Shared<'a> {
     pub alloc: Global,

@@ -11,7 +11,7 @@ use super::tree::{Tree, keep};
 use super::worker::search_branch;
 use convoy_branch::Gate;
 use convoy_branch::laws::fronts_better;
-use convoy_deque::Thief;
+use convoy_share_deque::Thief;
 use crossbeam_deque::Steal;
 use std::alloc::AllocError;
 use std::sync::Wait;
@@ -27,8 +27,8 @@ pub(crate) struct ThiefWorker {
     pub trees: Vec<Tree>,
 }
 
-/// Takes a branch, if there is one, and searches it as far as there are tickets, and until the search is
-/// stopped. Answers whether there may be more.
+/// Takes a branch, if there is one, and searches it as far as there are tickets, and until the search
+/// is stopped. Answers whether there may be more.
 fn rob_once<R: Wait, G: Gate>(
     rt: &R,
     gate: &G,

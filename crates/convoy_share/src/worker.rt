@@ -69,9 +69,9 @@ fn advance<R: Wait, G: Gate, H: Halves>(
     Ok(())
 }
 
-/// Searches a branch as far as there are tickets, and until the search is stopped: the upper half of each
-/// split first, and then what became of the lower half. A point in real time that nothing closes stays
-/// left. The pieces of its tree are answered from the last one back.
+/// Searches a branch as far as there are tickets, and until the search is stopped: the upper half of
+/// each split first, and then what became of the lower half. A point in real time that nothing closes
+/// stays left. The pieces of its tree are answered from the last one back.
 pub(crate) fn search_branch<R: Wait, G: Gate, H: Halves>(
     rt: &R,
     gate: &G,

@@ -1,3 +1,4 @@
+pub mod FailureCounts
 pub mod Pieces
 pub mod Growth
 pub mod Stepping

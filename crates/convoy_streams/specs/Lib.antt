@@ -9,3 +9,5 @@ pub mod Streams
 -- how far a splitter has come, and what a byte does to the line that is being read
 pub mod Steps
 pub mod Splitting
+pub mod Inputs
+pub mod Sources

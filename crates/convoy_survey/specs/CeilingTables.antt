@@ -11,9 +11,9 @@ use Rattle.convoy_tables.specs.Formats.{table_text}
 use Rattle.convoy_tables.specs.Tables.{Cell, Table}
 use Rattle.convoy_commands.specs.declared.fault.Fault.{Fault}
 use Rattle.convoy_commands.specs.declared.fault.Fault.TheVariants as faults
-use Rattle.convoy_commands.specs.declared.search_end.SearchEnd.{SearchEnd}
-use Rattle.convoy_commands.specs.Replies.{RuleOf}
-use Rattle.convoy_commands.specs.SearchEnds.{end_by}
+use Rattle.convoy_commands.specs.declared.done.Done.{Done}
+use Rattle.convoy_commands.specs.Replies.{Rule}
+use Rattle.convoy_commands.specs.Ends.{end_by}
 use Rattle.convoy_commands.specs.Searches.{IsFaultyBy}
 use Rattle.convoy_survey.specs.declared.ceiled.Ceiled.{Ceiled}
 use Rattle.convoy_survey.specs.Cells.{duration_cells, duration_columns, target_cells, target_columns}
@@ -34,11 +34,11 @@ abbrev pub table_of_ceilings : Scenario → List Ceiled → Table
 table_of_ceilings scenario rows = record { columns = ceiling_columns scenario.tick; rows = map (ceiling_cells scenario) rows }
 
 -- how the telling of these rows ends: a row for which memory ran out comes before one of which the ceiling is not attained
-abbrev pub end_of_ceilings : List Ceiled → SearchEnd
+abbrev pub end_of_ceilings : List Ceiled → Done
 end_of_ceilings rows = end_by (list_any is_unsought rows) (list_any falls_short rows)
 
 -- THE HEADLINE. What is written is the table, in this format, of the ceilings of all targets of the scenario that was read, or of those at the group that is named, and the end is told by its rows. The text may leave out its own target.
-pub record IsCeilingTable (format : Format) (group : Option (List ℕ)) (text : List ℕ) (end : SearchEnd) (out : List ℕ) : Type 0 where
+pub record IsCeilingTable (format : Format) (group : Option (List ℕ)) (text : List ℕ) (end : Done) (out : List ℕ) : Type 0 where
   pub scenario : Scenario
   pub rows : List Ceiled
   pub read : scenario_of_text_by Optional text ≡ Ok scenario
@@ -56,6 +56,6 @@ pub record IsGroupUnknown (group : Option (List ℕ)) (text : List ℕ) (fault :
   pub told : fault ≡ faults.Scenario UnknownGroup
 
 -- what may be answered for a text where the ceilings of all targets are asked for, or of those at one group
-abbrev pub CeilingsSay : Format → Option (List ℕ) → RuleOf SearchEnd
+abbrev pub CeilingsSay : Format → Option (List ℕ) → Rule
 CeilingsSay format group text (Ok (end, out)) = IsCeilingTable format group text end out
 CeilingsSay format group text (Err fault) = IsFaultyBy Optional text fault ⊎ IsGroupUnknown group text fault

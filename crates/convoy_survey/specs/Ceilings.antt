@@ -9,7 +9,7 @@ use Rattle.convoy_scenario.specs.Scenario.{Scenario, group_name_at}
 use Rattle.convoy_scenario.specs.Targets.{targets_of, with_target}
 use Rattle.convoy_sim.specs.Record.{Record}
 use Rattle.convoy_ceiling.specs.Ceiling.{IsUpperInTraffic, ceiling_at}
-use Rattle.convoy_traffic.specs.Finding.{IsFound}
+use Rattle.convoy_ceiling.specs.Finding.{IsFound}
 use Rattle.convoy_survey.specs.declared.ceiled.Ceiled.{Ceiled}
 
 -- Traffic of the scenario's kinds of messages, in which the same is asked, has this latency under some schedule.

@@ -9,7 +9,7 @@ use Rattle.convoy_sim.specs.Delivery.{latency_of}
 use Rattle.convoy_sim.specs.Greatest.{IsGreatest, IsReached, IsUpper}
 use Rattle.convoy_certificate.specs.Certificate.{Certificate}
 use Rattle.convoy_checker.specs.Validity.{IsValid}
-use Rattle.convoy_explain.specs.Causes.{explanation_of}
+use Rattle.convoy_timeline.specs.Causes.{explanation_of}
 use Rattle.convoy_branch.specs.Options.{Settings, limit_of}
 use Rattle.convoy_commands.specs.Searches.{IsFrontBy}
 use Rattle.convoy_survey.specs.declared.finding.Cause.{Cause}

@@ -2,14 +2,13 @@
 pub use Rattle.convoy_scenario.specs.Scenario
 pub use Rattle.convoy_scenario.specs.Targets
 pub use Rattle.convoy_sim.specs.Greatest
-pub use Rattle.convoy_explain.specs.Causes
+pub use Rattle.convoy_timeline.specs.Causes
 pub use Rattle.convoy_ceiling.specs.Ceiling
 pub use Rattle.convoy_ceiling.specs.Targets as CeilingTargets
-pub use Rattle.convoy_traffic.specs.Finding as Traffic
+pub use Rattle.convoy_ceiling.specs.Finding as Traffic
 pub use Rattle.convoy_branch.specs.Options
 pub use Rattle.convoy_tables.specs.Tables
 pub use Rattle.convoy_tables.specs.Formats
-pub use Rattle.convoy_commands.specs.Runs
 pub use Rattle.convoy_commands.specs.Searches
 -- what a reader has to believe: what a survey finds, and the table that it writes
 pub mod Findings

@@ -10,9 +10,9 @@ use Rattle.convoy_toml.specs.Reading.{scenario_of_text_by}
 use Rattle.convoy_branch.specs.Options.{Settings}
 use Rattle.convoy_tables.specs.declared.format.Format.{Format}
 use Rattle.convoy_tables.specs.Formats.{table_text}
-use Rattle.convoy_commands.specs.declared.search_end.SearchEnd.{SearchEnd}
-use Rattle.convoy_commands.specs.Replies.{RuleOf}
-use Rattle.convoy_commands.specs.SearchEnds.{end_by}
+use Rattle.convoy_commands.specs.declared.done.Done.{Done}
+use Rattle.convoy_commands.specs.Replies.{Rule}
+use Rattle.convoy_commands.specs.Ends.{end_by}
 use Rattle.convoy_commands.specs.Searches.{IsFaultyBy}
 use Rattle.convoy_survey.specs.declared.finding.Finding.{Finding}
 use Rattle.convoy_survey.specs.declared.finding.Surveyed.{Surveyed}
@@ -34,11 +34,11 @@ abbrev pub AreSurveyed : Settings → Scenario → List Surveyed → Type 0
 AreSurveyed settings scenario rows = AreRowsBy scenario (MayAnswer settings scenario) rows
 
 -- how a survey with these rows ends: a fault comes before a search that did not end
-abbrev pub end_of : List Surveyed → SearchEnd
+abbrev pub end_of : List Surveyed → Done
 end_of rows = end_by (list_any (λ row. is_fault row.finding) rows) (list_any (λ row. is_open row.finding) rows)
 
 -- THE HEADLINE. What is written is the table of these rows of the scenario that was read, where the target may be left out, in this format and with the ceilings where they are asked for, and the end is told by them. What a ceiling is worth the law `CeilingHolds` says.
-pub record IsSurvey (format : Format) (with_ceilings : Bool) (settings : Settings) (text : List ℕ) (end : SearchEnd) (out : List ℕ) : Type 0 where
+pub record IsSurvey (format : Format) (with_ceilings : Bool) (settings : Settings) (text : List ℕ) (end : Done) (out : List ℕ) : Type 0 where
   pub scenario : Scenario
   pub rows : List Surveyed
   pub read : scenario_of_text_by Optional text ≡ Ok scenario
@@ -48,6 +48,6 @@ pub record IsSurvey (format : Format) (with_ceilings : Bool) (settings : Setting
   pub ends : end ≡ end_of rows
 
 -- what a survey may answer for a text
-abbrev pub SurveySays : Format → Bool → Settings → RuleOf SearchEnd
+abbrev pub SurveySays : Format → Bool → Settings → Rule
 SurveySays format with_ceilings settings text (Ok (end, out)) = IsSurvey format with_ceilings settings text end out
 SurveySays format with_ceilings settings text (Err fault) = IsFaultyBy Optional text fault

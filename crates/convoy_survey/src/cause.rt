@@ -3,9 +3,9 @@ ghost use Rattle.convoy_packets.specs.Assignment.{IsAssignment};
 ghost use Rattle.convoy_survey.specs.Findings.{cause_in};
 
 use super::finding::Cause;
-use convoy_explain::explain;
 use convoy_packets::{Instance, Schedule};
 use convoy_sim::simulate;
+use convoy_timeline::explain;
 use std::alloc::{AllocError, Global};
 
 /// Why the target of an instance is late in the run of a schedule.

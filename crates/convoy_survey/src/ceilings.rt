@@ -7,10 +7,9 @@ ghost use Rattle.convoy_survey.specs.Ceilings.{AreCeiled, AreCeiledBy, IsAttaine
 ghost use Rattle.convoy_survey.specs.Surveys.{TakesTargets};
 
 use super::ceiled::Ceiled;
-use convoy_ceiling::ceiling;
+use convoy_ceiling::{ceiling, seek_traffic};
 use convoy_scenario::Scenario;
 use convoy_scenario::naming::group_name;
-use convoy_traffic::seek_traffic;
 use std::alloc::{AllocError, Global};
 
 /// The ceiling of each message of a scenario that does not wait, at each group that it goes to, in the

@@ -16,7 +16,7 @@ use std::thread::Threads;
 
 /// Searches for the greatest latency of each message of a scenario at each group that it goes to, in the
 /// order of their numbers, but for messages that may wait: a latency counts from an issue that is known.
-/// Each search goes as [`latency`](convoy_commands::run_latency) does with these options: by
+/// Each search goes as [`latency_answer`](convoy_commands::latency_answer) does with these options: by
 /// their limit of tickets, by their bounds or both ways, and with their number of workers. Where memory
 /// runs out for one of them, that is what its row tells, and the others are searched all the same. Each
 /// search is watched. Fails where there is no memory for the rows, and else never.

@@ -14,7 +14,7 @@ use std::alloc::{AllocError, Global};
 use std::sync::Wait;
 use std::thread::Threads;
 
-/// What a search finds of the latency of an instance's target, as [`latency`](convoy_commands::run_latency)
+/// What a search finds of the latency of an instance's target, as [`latency_answer`](convoy_commands::latency_answer)
 /// does with these options: by their limit of tickets, by their bounds or both ways, and with their number of
 /// workers. The search is watched. Fails where memory runs out, and else never.
 pub fn find<R: Threads + Wait + Sync, W: Watch + Sync>(

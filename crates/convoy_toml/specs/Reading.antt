@@ -15,7 +15,7 @@ use Rattle.convoy_scenario.specs.Numbering.{scenario_of_draft}
 use Rattle.convoy_lines.specs.Results.{◌>>=◌}
 use Rattle.convoy_toml.specs.Shape.{Written, written_of_table}
 use Rattle.convoy_toml.specs.Times.{draft_of_written}
-use Rattle.convoy_toml.specs.Ways.{Way, has_ranges, ways_without_link}
+use Rattle.convoy_toml.specs.Ways.{has_ranges}
 
 -- what a text gives: a scenario, and the delays of one run and the ranks of its moments where they stand beside it
 pub record InputView : Type 0 where
@@ -38,17 +38,6 @@ input_of_written written = do
   scenario ← scenario_of_draft draft
   _ ← need_ranges (is_some written.scenario.least) draft
   Ok (record { scenario = scenario; schedule = written.schedule; order = written.order })
-
--- the ways on which something goes without a link by what is written
-abbrev pub ways_of_written : Written → Result (List Way) ScenarioFault
-ways_of_written written = draft_of_written written.scenario >>= λ draft. Ok (ways_without_link draft)
-
--- the ways on which something goes without a link by a text, in which the target need not be written
-abbrev pub ways_of_text : List ℕ → Result (List Way) ScenarioFault
-ways_of_text text = do
-  table ← table_of_text text
-  written ← written_of_table Optional table
-  ways_of_written written
 
 -- what a table gives, where the target has to be written or not: its shape first, then what is said of that
 abbrev pub input_of_table : TargetKey → Members → Result InputView ScenarioFault

@@ -2,18 +2,27 @@
 //! whose links several in one table, and of the schedule and the order of its ties where they are given.
 #![tactic(auto)]
 
+pub use bundle::Bundle;
 pub use divisor::common_divisor;
 pub use input::Input;
-pub use links::MOST_WRITTEN_LINKS;
-pub use read::{read_toml, read_toml_any_target, ways_without_range};
+pub use links::{MOST_WRITTEN_LINKS, links_of_bundle};
+pub use placed::{Placed, ScenarioTable};
+pub use read::{read_table, read_toml, read_toml_any_target, read_toml_placed};
+pub use shape::{time_of_table, written_of_table};
 pub use target::TargetKey;
-pub use ways::Way;
+pub use times::{bundles_of, draft_of_written, tick_of};
+pub use ways::{Way, ways_without_link};
+pub use written::{
+    LinkEnds, WrittenInput, WrittenLink, WrittenMulticast, WrittenScenario, WrittenTarget,
+    WrittenTime,
+};
 
 mod bundle;
 mod divisor;
 mod input;
 pub mod laws;
 mod links;
+mod placed;
 mod read;
 mod shape;
 mod target;

@@ -46,7 +46,7 @@ fn all_links(alloc: Global, bundles: &[Bundle]) -> Result<Vec<DraftLink>, AllocE
 }
 
 /// The links that a table writes.
-fn links_of_bundle(alloc: Global, bundle: &Bundle) -> Result<Vec<DraftLink>, AllocError>
+pub fn links_of_bundle(alloc: Global, bundle: &Bundle) -> Result<Vec<DraftLink>, AllocError>
     ensures { IfOk result (λ links. links.items ≡ links_of_bundle bundle.now) }
 {
     let mut links = ways_of(alloc, bundle)?;

@@ -3,14 +3,14 @@ ghost use Rattle.std.specs.Result.{result_map_both};
 ghost use Rattle.toml.specs.View.{table_view};
 ghost use Rattle.convoy_scenario.specs.Memory.{IsUnlessMemory};
 ghost use Rattle.convoy_toml.specs.declared.target.TargetKey.TheVariants.{Optional};
-ghost use Rattle.convoy_toml.specs.Reading.{table_of_text, input_of_text, input_of_text_by, input_read, scenario_of_text, scenario_of_text_by, scenario_read, ways_of_text};
-ghost use Rattle.convoy_toml.specs.Shape.{listed};
+ghost use Rattle.convoy_toml.specs.Reading.{table_of_text, input_of_text, input_of_text_by, input_read, scenario_of_text, scenario_of_text_by, scenario_read};
 
 use super::input::Input;
+use super::placed::Placed;
 use super::shape::written_of_table;
 use super::target::TargetKey;
 use super::times::draft_of_written;
-use super::ways::{Way, has_ranges, ways_without_link};
+use super::ways::has_ranges;
 use super::written::WrittenInput;
 use convoy_scenario::{Scenario, ScenarioFault};
 use std::alloc::Global;
@@ -32,7 +32,8 @@ pub fn read_toml(alloc: Global, text: &[u8]) -> Result<Input, ScenarioFault>
     ensures given { IfOk result (λ input. input_of_text text.now
         ≡ Ok (record { scenario = input.scenario; schedule = option_map (λ delays. delays.items) input.schedule; order = option_map (λ ranks. ranks.items) input.order })) }
 {
-    read_by(alloc, text, TargetKey::Required)
+    let input = read_toml_placed(alloc, text, TargetKey::Required)?;
+    Ok(input)
 }
 
 /// Reads a scenario text as [`read_toml`] does, but takes one without a target too.
@@ -49,11 +50,13 @@ pub fn read_toml_any_target(alloc: Global, text: &[u8]) -> Result<Input, Scenari
     ensures given { IfOk result (λ input. input_of_text_by Optional text.now
         ≡ Ok (record { scenario = input.scenario; schedule = option_map (λ delays. delays.items) input.schedule; order = option_map (λ ranks. ranks.items) input.order })) }
 {
-    read_by(alloc, text, TargetKey::Optional)
+    let input = read_toml_placed(alloc, text, TargetKey::Optional)?;
+    Ok(input)
 }
 
-/// Reads a scenario text, in which the target has to be written or not.
-fn read_by(alloc: Global, text: &[u8], target: TargetKey) -> Result<Input, ScenarioFault>
+/// Reads a scenario text, in which the target has to be written or not, as [`read_toml`] and
+/// [`read_toml_any_target`] do, and tells of a fault also which table it is of.
+pub fn read_toml_placed(alloc: Global, text: &[u8], target: TargetKey) -> Result<Input, Placed>
     ensures scenario { IsUnlessMemory ScenarioFault.Memory
         (scenario_of_text_by target text.now) (scenario_read result) }
     ensures input { IsUnlessMemory ScenarioFault.Memory
@@ -71,11 +74,11 @@ fn read_by(alloc: Global, text: &[u8], target: TargetKey) -> Result<Input, Scena
         order,
     } = written;
     let has_least = scenario.least.is_some();
-    let draft = draft_of_written(alloc, scenario)?;
+    let draft = draft_of_written(alloc, &scenario)?;
     let has_ranges = has_ranges(alloc, has_least, &draft)?;
     let scenario = Scenario::from_draft(alloc, draft)?;
     if !has_ranges {
-        return Err(ScenarioFault::NoRange);
+        return Err(Placed::from(ScenarioFault::NoRange));
     }
     Ok(Input {
         scenario,
@@ -84,21 +87,8 @@ fn read_by(alloc: Global, text: &[u8], target: TargetKey) -> Result<Input, Scena
     })
 }
 
-/// The ways on which something goes without a link, by a scenario text, in which the target need not be written: where
-/// time is real and no least delay is written, these have no range. Those of clients come first, and then by sender and
-/// receiver, in the order of the groups.
-///
-/// Of a text that is no draft of a scenario the first fault is told, as by [`read_toml_any_target`].
-pub fn ways_without_range(alloc: Global, text: &[u8]) -> Result<Vec<Way>, ScenarioFault>
-    ensures { IsUnlessMemory ScenarioFault.Memory (ways_of_text text.now) (listed result) }
-{
-    let table = read_table(alloc, text)?;
-    let written = written_of_table(alloc, &table, TargetKey::Optional)?;
-    let draft = draft_of_written(alloc, written.scenario)?;
-    Ok(ways_without_link(alloc, &draft)?)
-}
-
-fn read_table(alloc: Global, text: &[u8]) -> Result<Table, ScenarioFault>
+/// The table of a scenario text, or `ScenarioFault::NotToml` where it is none.
+pub fn read_table(alloc: Global, text: &[u8]) -> Result<Table, ScenarioFault>
     ensures { IsUnlessMemory ScenarioFault.Memory (table_of_text text.now)
         (result_map_both table_view (λ fault. fault) result) }
 {

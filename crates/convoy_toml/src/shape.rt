@@ -8,6 +8,7 @@ ghost use Rattle.convoy_draft.specs.Keys.{key_word};
 ghost use Rattle.convoy_scenario.specs.Memory.{IsUnlessMemory};
 ghost use Rattle.convoy_toml.specs.Shape.{all_of, as_duration, as_when, as_tick, as_least, needs_delay, delay_of_table, need, need_all, wish, wish_all, names_in, as_names, as_both, both_of_table, ends_of_table, has_only, need_only, time_of_table, message_of_table, messages_of, link_of_table, links_of, links_of_table, written_target, target_of_table, scenario_of_table, written_of_table, listed, listed_if_there, tables_listed};
 
+use super::placed::{Placed, ScenarioTable, in_table};
 use super::target::{TargetKey, first_target};
 use super::written::{
     LinkEnds, WrittenInput, WrittenLink, WrittenMulticast, WrittenScenario, WrittenTarget,
@@ -136,7 +137,7 @@ fn integers(alloc: Global, table: &Table, key: Key) -> Result<Option<Vec<i64>>, 
 }
 
 /// How time goes by a scenario's table: in whole ticks where the key is absent.
-fn time_of_table(table: &Table) -> Result<Time, ScenarioFault>
+pub fn time_of_table(table: &Table) -> Result<Time, ScenarioFault>
     ensures { result ≡ time_of_table (table_view table.now) }
 {
     let Some(value) = value_at(table, Key::Time) else {
@@ -304,13 +305,15 @@ fn multicasts_of(
     alloc: Global,
     tables: &[&Table],
     time: Time,
-) -> Result<Vec<WrittenMulticast>, ScenarioFault>
+) -> Result<Vec<WrittenMulticast>, Placed>
     ensures { IsUnlessMemory ScenarioFault.Memory
         (messages_of time (map (λ t. table_view t.now) tables.now)) (listed result) }
 {
     let mut multicasts = Vec::new(alloc);
     for table in tables {
-        multicasts.push(multicast_of_table(alloc, table, time)?)?;
+        let place = ScenarioTable::Multicast(multicasts.len());
+        let multicast = in_table(place, multicast_of_table(alloc, table, time))?;
+        multicasts.push(multicast)?;
     }
     Ok(multicasts)
 }
@@ -408,23 +411,21 @@ fn link_of_table(alloc: Global, table: &Table, time: Time) -> Result<WrittenLink
     Ok(WrittenLink { ends, least, most })
 }
 
-fn links_of(alloc: Global, tables: &[&Table], time: Time) -> Result<Vec<WrittenLink>, ScenarioFault>
+fn links_of(alloc: Global, tables: &[&Table], time: Time) -> Result<Vec<WrittenLink>, Placed>
     ensures { IsUnlessMemory ScenarioFault.Memory
         (links_of time (map (λ t. table_view t.now) tables.now)) (listed result) }
 {
     let mut links = Vec::new(alloc);
     for table in tables {
-        links.push(link_of_table(alloc, table, time)?)?;
+        let place = ScenarioTable::Link(links.len());
+        let link = in_table(place, link_of_table(alloc, table, time))?;
+        links.push(link)?;
     }
     Ok(links)
 }
 
 /// The tables of links of a scenario's table; none where the key is absent.
-fn links_of_table(
-    alloc: Global,
-    table: &Table,
-    time: Time,
-) -> Result<Vec<WrittenLink>, ScenarioFault>
+fn links_of_table(alloc: Global, table: &Table, time: Time) -> Result<Vec<WrittenLink>, Placed>
     ensures { IsUnlessMemory ScenarioFault.Memory
         (links_of_table time (table_view table.now)) (listed result) }
 {
@@ -437,13 +438,14 @@ fn links_of_table(
 }
 
 /// The target that is written in a scenario's table.
-fn written_target(alloc: Global, table: &Table) -> Result<WrittenTarget, ScenarioFault>
+fn written_target(alloc: Global, table: &Table) -> Result<WrittenTarget, Placed>
     ensures { IsUnlessMemory ScenarioFault.Memory (written_target (table_view table.now)) result }
 {
     let target = inner_table(table, Key::Target)?;
-    let message = name(alloc, target, Key::Message)?;
-    let group = name(alloc, target, Key::Group)?;
-    need_only(target, &[Key::Message, Key::Group])?;
+    let message = in_table(ScenarioTable::Target, name(alloc, target, Key::Message))?;
+    let group = in_table(ScenarioTable::Target, name(alloc, target, Key::Group))?;
+    let only = need_only(target, &[Key::Message, Key::Group]);
+    in_table(ScenarioTable::Target, only)?;
     Ok(WrittenTarget { message, group })
 }
 
@@ -455,7 +457,7 @@ fn target_of_table(
     target: TargetKey,
     groups: &[Name],
     multicasts: &[WrittenMulticast],
-) -> Result<WrittenTarget, ScenarioFault>
+) -> Result<WrittenTarget, Placed>
     ensures { IsUnlessMemory ScenarioFault.Memory
         (target_of_table target (table_view table.now) groups.now multicasts.now) result }
 {
@@ -473,7 +475,7 @@ pub fn written_of_table(
     alloc: Global,
     table: &Table,
     target: TargetKey,
-) -> Result<WrittenInput, ScenarioFault>
+) -> Result<WrittenInput, Placed>
     ensures { IsUnlessMemory ScenarioFault.Memory
         (written_of_table target (table_view table.now)) result }
 {
@@ -507,7 +509,7 @@ fn scenario_of_table(
     alloc: Global,
     table: &Table,
     target: TargetKey,
-) -> Result<WrittenScenario, ScenarioFault>
+) -> Result<WrittenScenario, Placed>
     ensures { IsUnlessMemory ScenarioFault.Memory
         (scenario_of_table target (table_view table.now)) result }
 {

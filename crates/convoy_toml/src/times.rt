@@ -8,10 +8,12 @@ ghost use Rattle.convoy_toml.specs.Times.{if_written, whole_if_written, greatest
 use super::bundle::Bundle;
 use super::divisor::common_divisor;
 use super::links::links_of_bundles;
+use super::placed::{Placed, ScenarioTable, in_table};
 use super::ways::with_least;
 use super::written::{LinkEnds, WrittenLink, WrittenMulticast, WrittenScenario, WrittenTime};
 use convoy_scenario::{
-    DraftMulticast, DraftScenario, Duration, Key, Limit, Name, ScenarioFault, Time, is_within,
+    DraftLink, DraftMulticast, DraftScenario, Duration, Key, Limit, Name, ScenarioFault, Time,
+    is_within,
 };
 use std::alloc::{AllocError, Global};
 
@@ -134,7 +136,7 @@ fn tick_between(times: &[WrittenTime]) -> Result<Option<Duration>, ScenarioFault
 }
 
 /// The length of a scenario's tick, if it has one.
-fn tick_of(alloc: Global, scenario: &WrittenScenario) -> Result<Option<Duration>, ScenarioFault>
+pub fn tick_of(alloc: Global, scenario: &WrittenScenario) -> Result<Option<Duration>, ScenarioFault>
     ensures { IsUnlessMemory ScenarioFault.Memory (tick_of scenario.now) result }
 {
     if scenario.tick.is_some() {
@@ -233,13 +235,15 @@ fn draft_multicasts_of(
     alloc: Global,
     tick: Option<u64>,
     multicasts: &[WrittenMulticast],
-) -> Result<Vec<DraftMulticast>, ScenarioFault>
+) -> Result<Vec<DraftMulticast>, Placed>
     ensures { IsUnlessMemory ScenarioFault.Memory
         (draft_messages_of tick multicasts.now) (listed result) }
 {
     let mut drafts = Vec::new(alloc);
     for multicast in multicasts {
-        drafts.push(draft_multicast_of(alloc, tick, multicast)?)?;
+        let place = ScenarioTable::Multicast(drafts.len());
+        let draft = in_table(place, draft_multicast_of(alloc, tick, multicast))?;
+        drafts.push(draft)?;
     }
     Ok(drafts)
 }
@@ -257,16 +261,20 @@ fn bundle_of(alloc: Global, tick: Option<u64>, link: &WrittenLink) -> Result<Bun
     })
 }
 
-fn bundles_of(
+/// The tables of links in ticks of so many nanoseconds, where a tick has a length, in memory of their own; or the first
+/// of their times that is no whole number of ticks, with its table.
+pub fn bundles_of(
     alloc: Global,
     tick: Option<u64>,
     links: &[WrittenLink],
-) -> Result<Vec<Bundle>, ScenarioFault>
+) -> Result<Vec<Bundle>, Placed>
     ensures { IsUnlessMemory ScenarioFault.Memory (bundles_of tick links.now) (listed result) }
 {
     let mut bundles = Vec::new(alloc);
     for link in links {
-        bundles.push(bundle_of(alloc, tick, link)?)?;
+        let place = ScenarioTable::Link(bundles.len());
+        let bundle = in_table(place, bundle_of(alloc, tick, link))?;
+        bundles.push(bundle)?;
     }
     Ok(bundles)
 }
@@ -316,16 +324,37 @@ fn delay_or_greatest(written: Option<i64>, bundles: &[Bundle]) -> i64
     }
 }
 
+/// The draft of a scenario by its times in ticks, in memory of its own.
+fn draft_in_ticks(
+    alloc: Global,
+    scenario: &WrittenScenario,
+    tick: Option<Duration>,
+    delay: i64,
+    links: Vec<DraftLink>,
+    multicasts: Vec<DraftMulticast>,
+) -> Result<DraftScenario, AllocError>
+    ensures { IfOk result (λ draft. draft
+        ≡ (record { time = scenario.now.time; tick = tick; delay = delay; groups = scenario.now.groups; links = links.items; messages = multicasts.items; target_message = scenario.now.target_message; target_group = scenario.now.target_group })) }
+{
+    Ok(DraftScenario {
+        time: scenario.time,
+        tick,
+        delay,
+        groups: copy_names(alloc, &scenario.groups)?,
+        links,
+        multicasts,
+        target_message: scenario.target_message.copy()?,
+        target_group: scenario.target_group.copy()?,
+    })
+}
+
 /// The scenario in ticks, with each link that its tables write, and where a least delay of what goes by none is written,
 /// a link with it for each way of that; or the first time that is no whole number of ticks, or that there are too many
 /// links, or that the least delay is beyond its limits (docs/FORMATS.md, "How faults are found").
-pub fn draft_of_written(
-    alloc: Global,
-    scenario: WrittenScenario,
-) -> Result<DraftScenario, ScenarioFault>
-    ensures { IsUnlessMemory ScenarioFault.Memory (draft_of_written scenario) result }
+pub fn draft_of_written(alloc: Global, scenario: &WrittenScenario) -> Result<DraftScenario, Placed>
+    ensures { IsUnlessMemory ScenarioFault.Memory (draft_of_written scenario.now) result }
 {
-    let tick = tick_of(alloc, &scenario)?;
+    let tick = tick_of(alloc, scenario)?;
     let length = length_of(&tick);
     let written = whole_if_written(length, Key::Delay, scenario.delay)?;
     let least = whole_if_written(length, Key::Least, scenario.least)?;
@@ -334,16 +363,7 @@ pub fn draft_of_written(
     let links = links_of_bundles(alloc, &bundles)?;
     let delay = delay_or_greatest(written, &bundles);
     need_least(scenario.time, delay, least)?;
-    let draft = DraftScenario {
-        time: scenario.time,
-        tick,
-        delay,
-        groups: scenario.groups,
-        links,
-        multicasts,
-        target_message: scenario.target_message,
-        target_group: scenario.target_group,
-    };
+    let draft = draft_in_ticks(alloc, scenario, tick, delay, links, multicasts)?;
     Ok(with_least(alloc, least, draft)?)
 }
 

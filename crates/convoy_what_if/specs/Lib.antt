@@ -8,7 +8,6 @@ pub use Rattle.convoy_sim.specs.Greatest
 pub use Rattle.convoy_branch.specs.Options
 pub use Rattle.convoy_tables.specs.Tables
 pub use Rattle.convoy_tables.specs.Formats
-pub use Rattle.convoy_commands.specs.Runs
 pub use Rattle.convoy_commands.specs.Searches
 pub use Rattle.convoy_survey.specs.Findings
 -- what a reader has to believe: what a change makes of a scenario, and which changes there are; what is tried of each, in which order the rows stand, and the table that is written

@@ -8,9 +8,9 @@ use Rattle.convoy_branch.specs.Options.{Settings}
 use Rattle.convoy_tables.specs.declared.format.Format.{Format}
 use Rattle.convoy_tables.specs.Formats.{table_text}
 use Rattle.convoy_commands.specs.declared.fault.Fault.{Fault}
-use Rattle.convoy_commands.specs.declared.search_end.SearchEnd.{SearchEnd}
-use Rattle.convoy_commands.specs.Replies.{RuleOf}
-use Rattle.convoy_commands.specs.SearchEnds.{end_by}
+use Rattle.convoy_commands.specs.declared.done.Done.{Done}
+use Rattle.convoy_commands.specs.Replies.{Rule}
+use Rattle.convoy_commands.specs.Ends.{end_by}
 use Rattle.convoy_commands.specs.Searches.{IsFaulty}
 use Rattle.convoy_survey.specs.Findings.{is_fault, is_open}
 use Rattle.convoy_what_if.specs.Changes.{changes_of}
@@ -20,11 +20,11 @@ use Rattle.convoy_what_if.specs.Orders.{AreTried}
 use Rattle.convoy_what_if.specs.Tries.{HasBroken}
 
 -- how it ends with these rows: a fault comes before a search that did not end
-abbrev pub end_of : List Tried → SearchEnd
+abbrev pub end_of : List Tried → Done
 end_of rows = end_by (list_any (λ row. is_fault row.finding) rows) (list_any (λ row. is_open row.finding) rows)
 
 -- THE HEADLINE. What is written is the table of all changes of the scenario that was read, each tried, in this format, and the end is told by its rows.
-pub record IsWhatIf (format : Format) (settings : Settings) (text : List ℕ) (end : SearchEnd) (out : List ℕ) : Type 0 where
+pub record IsWhatIf (format : Format) (settings : Settings) (text : List ℕ) (end : Done) (out : List ℕ) : Type 0 where
   pub scenario : Scenario
   pub rows : List Tried
   pub read : scenario_of_text text ≡ Ok scenario
@@ -40,6 +40,6 @@ pub record IsBroken (text : List ℕ) (fault : Fault) : Type 0 where
   pub broken : HasBroken scenario (changes_of scenario) fault
 
 -- what may be answered for a text
-abbrev pub WhatIfSays : Format → Settings → RuleOf SearchEnd
+abbrev pub WhatIfSays : Format → Settings → Rule
 WhatIfSays format settings text (Ok (end, out)) = IsWhatIf format settings text end out
 WhatIfSays format settings text (Err fault) = IsFaulty text fault ⊎ IsBroken text fault

@@ -2,14 +2,15 @@
 //! tried by a search, and a table tells what each saves.
 #![tactic(auto)]
 
+pub use answering::what_if_answer;
 pub use convoy_tables::Format;
 pub use drafting::change;
 pub use kinds::Change;
 pub use listing::changes_of;
 pub use rows::{what_if, what_if_by};
-pub use running::run_what_if;
 pub use tried::{Searched, Tried};
 
+mod answering;
 mod cells;
 mod drafting;
 mod kinds;
@@ -17,7 +18,6 @@ pub mod laws;
 mod listing;
 mod placing;
 mod rows;
-mod running;
 mod table;
 mod tried;
 mod trying;

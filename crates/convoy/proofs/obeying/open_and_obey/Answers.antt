@@ -1,5 +1,5 @@
 use Rattle.convoy_arguments.specs.Verdicts.{file_of, scenario_file_of}
-use Rattle.convoy_inputs.specs.Sources.{IsSource}
+use Rattle.convoy_streams.specs.Sources.{IsSource}
 use Rattle.convoy.proofs.obeying.open_and_obey.Goals as goal
 
 pub returns : goal.returns

@@ -14,8 +14,8 @@ returns-clause-value c =
     let least = c.stamp_bound_at_most_plain.ensures plan box in
     record {
       found = shows.found;
-      fate = elim c.match-look.branch [
-        | in-Some w ↦ rw w.fate-is (turn_of_leaf bounds plan box known look.leaf w.in-Some.leaf shows.named least shows.leaf w.in-Some.is)
-        | in-None+in_ok-fate-in-None w ↦ rw w.fate-is (w.in_ok-fate-in-None.ensures.value bounds known (record { not_closed = open_without bounds plan box known look.leaf shows.named least shows.leaf w.in-None.is; tried = shows.tried w.in-None.is }))
+      fate = elim c.match-leaf.branch [
+        | in-Some w ↦ rw w.fate-is (turn_of_leaf bounds plan box known look.asked.leaf w.in-Some.leaf shows.named least shows.asked.leaf w.in-Some.is)
+        | in-None+in_ok-fate-in-None w ↦ rw w.fate-is (w.in_ok-fate-in-None.ensures.value bounds known (record { not_closed = open_without bounds plan box known look.asked.leaf shows.named least shows.asked.leaf w.in-None.is; tried = shows.tried w.in-None.is }))
       ];
     }

@@ -7,7 +7,7 @@ returns-in-Proved g c =
     inl
     (proof_written _ _ _ _ c.texts_are_read.ensures c.texts_are_short.ensures c.checked_is_valid.ensures c.valid_is_greatest.ensures _ _ _
     (rw c.certificate.view_is at c.certificate.invariant) (rw c.in-Proved.is at c.in_ok-instance.ensures) c.limit-limit.ensures.lawful.few_tickets
-    c.in_ok-proof_text-in-Proved.ensures)
+    c.in_ok-text_of-in-Proved.ensures)
 
 pub returns : goal.returns
 returns g c =

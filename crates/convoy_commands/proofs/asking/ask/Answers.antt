@@ -1,8 +1,5 @@
-use Rattle.convoy_commands.proofs.WithinTexts.{read_is, refused_within}
+use Rattle.convoy_commands.proofs.WithinTexts.{refused_within}
 use Rattle.convoy_commands.proofs.asking.ask.Goals as goal
-
-pub returns-in-Ok : goal.returns-in-Ok
-returns-in-Ok c = c.ask_of.ensures c.args.text.now (rw (← c.certificate.view_is) c.certificate.invariant) (read_is _ _ c.in-Ok.ensures.exact) c.in-Ok.ensures.found
 
 pub returns-in-Err : goal.returns-in-Err
 returns-in-Err c =

@@ -8,4 +8,4 @@ returns c =
     (ceiling_told _ _ c.in_ok-input.input.scenario c.in_ok-found.found.traffic c.in_ok-found.found.record c.target_ceiling-ceiling.result c.latency-latency.result c.ending-done.result
     c.in_ok-input.ensures.read c.target_ceiling-ceiling.ensures.lawful c.target_ceiling-ceiling.ensures.safe
     c.in_ok-found.ensures.found c.in_ok-found.ensures.within c.target_ceiling-ceiling.ensures.value c.latency-latency.ensures.value
-    c.in_ok-out.ensures c.ending-done.ensures)
+    c.in_ok-text.ensures c.ending-done.ensures)

@@ -1,7 +1,7 @@
 use Rattle.std.proofs.Common.{◌≡◌, ◌∙◌, IsTrue, string_bytes}
 use Rattle.std.proofs.lemmas.Result.{IfOk-weaker}
 use Rattle.convoy_scenario.specs.Scenario.{may_wait, message_at}
-use Rattle.convoy_explain.specs.Explanations.{window_text}
+use Rattle.convoy_timeline.specs.Explanations.{window_text}
 use Rattle.convoy_draw.specs.Drawings.{Tells}
 use Rattle.convoy_draw.specs.Layers.{element_text}
 use Rattle.convoy_draw.proofs.Telling.{element_tells}

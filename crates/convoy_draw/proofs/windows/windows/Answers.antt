@@ -1,7 +1,7 @@
 use Rattle.std.proofs.Common.{ℕ, ◌+◌, ◌<◌, ◌≤◌, IsTrue, inl, inr, sym, subst, string_bytes, arith}
 use Rattle.std.proofs.Math.Nat.{eq-or-lt_of_le}
 use Rattle.convoy_scenario.specs.Scenario.{may_wait, message_at}
-use Rattle.convoy_explain.specs.Explanations.{window_text}
+use Rattle.convoy_timeline.specs.Explanations.{window_text}
 use Rattle.convoy_draw.specs.Drawings.{Tells}
 use Rattle.convoy_draw.proofs.Telling.{tells_before, tells_after}
 use Rattle.convoy_draw.proofs.windows.windows.Goals as goal

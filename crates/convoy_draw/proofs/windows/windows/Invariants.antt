@@ -1,6 +1,6 @@
 use Rattle.std.proofs.Common.{ℕ, ◌<◌, IsTrue, string_bytes}
 use Rattle.convoy_scenario.specs.Scenario.{may_wait, message_at}
-use Rattle.convoy_explain.specs.Explanations.{window_text}
+use Rattle.convoy_timeline.specs.Explanations.{window_text}
 use Rattle.convoy_draw.specs.Drawings.{Tells}
 use Rattle.convoy_draw.proofs.windows.windows.Given as goal
 

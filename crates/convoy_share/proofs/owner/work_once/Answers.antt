@@ -1,6 +1,6 @@
 use Rattle.std.proofs.Common.{List, [], ◌∷◌, ◌+◌, ◌≤◌, ◌≡◌, length, reverse, ◌∙◌, ap, refl, sym, subst, ◌++◌}
 use Rattle.convoy_intervals.specs.Boxes.{Box}
-use Rattle.convoy_deque.specs.Tasks.{OwnerEnd}
+use Rattle.convoy_share_deque.specs.Tasks.{OwnerEnd}
 use Rattle.convoy_share.specs.Common.{common_of}
 use Rattle.convoy_share.specs.declared.owner.OwnerWorker.{OwnerWorker}
 use Rattle.convoy_share.specs.Means.{IsGrown}

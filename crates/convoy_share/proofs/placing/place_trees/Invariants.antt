@@ -2,7 +2,7 @@ use Rattle.std.proofs.Common.{ℕ, List, length, reverse}
 use Rattle.convoy_scenario.specs.Scenario.{Scenario}
 use Rattle.convoy_intervals.specs.Boxes.{Box}
 use Rattle.convoy_branch.specs.declared.bounds.Bounds.{Bounds}
-use Rattle.convoy_deque.specs.declared.task.Task.{Task}
+use Rattle.convoy_share_deque.specs.declared.task.Task.{Task}
 use Rattle.convoy_share.specs.Filling.{IsPlacing}
 use Rattle.convoy_share.specs.Subtrees.{Subtree}
 use Rattle.convoy_share.proofs.placing.place_trees.Given as goal

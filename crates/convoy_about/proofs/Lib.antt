@@ -1,3 +1,0 @@
-pub mod Withins
-pub mod Yeses
-pub mod ScenarioReads

@@ -1,8 +1,0 @@
-use Rattle.std.proofs.Common.{take}
-use Rattle.std.specs.List.{All}
-use Rattle.convoy_about.specs.Parts.{AgreeIn}
-use Rattle.convoy_about.proofs.comparing.first_of.Given as goal
-
--- the two agree in each part so far
-abbrev pub invariant-loop-part : goal.invariant-loop-part
-invariant-loop-part l = All (AgreeIn l.wanted l.other) (take l.part-index l.parts)

@@ -1,0 +1,45 @@
+//! What a search learns where it asks whether a box is closed.
+
+use convoy_certificate::Node;
+use convoy_leads::{LeadTest, Shown};
+
+/// What is known of a box where it was asked whether it is closed for a latency.
+#[derive(Drop)]
+pub(crate) struct Asked<'a> {
+    /// The leaf that closes it, if there is one.
+    pub leaf: Option<Node>,
+    /// What leads leave open of it, where they were asked and do not close it: apart from the rest, which
+    /// is little, since most boxes are closed or split without leads.
+    pub left: Option<Box<LeftOpen<'a>>>,
+}
+
+/// A box that leads do not close for a latency: their test of it, and what they show for that latency.
+#[derive(Drop)]
+pub(crate) struct LeftOpen<'a> {
+    pub test: LeadTest<'a>,
+    pub shown: Shown,
+}
+
+impl<'a> Asked<'a> {
+    ghost use Rattle.std.specs.Prelude.{◌≡◌, Some, None};
+
+    /// That of a box which a leaf closes.
+    pub(crate) fn closed(leaf: Node) -> Asked<'a>
+        ensures { result ≡ record { leaf = Some leaf; left = None } }
+    {
+        Asked {
+            leaf: Some(leaf),
+            left: None,
+        }
+    }
+
+    /// That of a box which the bounds do not close, where leads are not asked.
+    pub(crate) fn nothing() -> Asked<'a>
+        ensures { result ≡ record { leaf = None; left = None } }
+    {
+        Asked {
+            leaf: None,
+            left: None,
+        }
+    }
+}

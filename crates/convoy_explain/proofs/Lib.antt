@@ -1,5 +1,0 @@
-pub mod Finding
-pub mod Holders
-pub mod PacketLines
-pub mod Rows
-pub mod Truth

@@ -1,7 +1,0 @@
-use Rattle.convoy_finer.proofs.Stretched.{greatest_in_finer}
-use Rattle.convoy_finer.proofs.laws.greatest_in_finer_ticks.Goals as goal
-
-pub returns : goal.returns
-returns c times scenario finer latency well real finer_real is same greatest =
-    greatest_in_finer c.whole_ticks_are_enough.ensures c.packets_are_those_sent.ensures c.delivery_is_least.ensures c.latency_is_never_negative.ensures
-    times scenario finer latency well real finer_real is same greatest

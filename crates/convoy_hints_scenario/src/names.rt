@@ -1,0 +1,204 @@
+use convoy_hints_sketch::{Ordinal, Part, Quoted, Sketch, words_of};
+use convoy_scenario::{DraftLink, DraftMulticast, LONGEST_NAME, Name, is_named_alike};
+use std::alloc::{AllocError, Global};
+
+/// Which name is none, and why.
+pub(crate) fn hint_for_bad_name(
+    alloc: Global,
+    sketch: &Sketch<'_>,
+) -> Result<Option<String>, AllocError> {
+    match hint_for_bad_group(alloc, &sketch.draft.groups)? {
+        Some(hint) => Ok(Some(hint)),
+        None => hint_for_bad_message(alloc, sketch),
+    }
+}
+
+/// Which name of a group is none, and why.
+fn hint_for_bad_group(alloc: Global, groups: &[Name]) -> Result<Option<String>, AllocError> {
+    for (before, name) in groups.iter().enumerate() {
+        if let Some(hint) = hint_for_group_name(alloc, before, name.as_str())? {
+            return Ok(Some(hint));
+        }
+    }
+    Ok(None)
+}
+
+/// Why the name of a group with so many before it is none.
+fn hint_for_group_name(
+    alloc: Global,
+    before: usize,
+    name: &str,
+) -> Result<Option<String>, AllocError> {
+    let place = Ordinal(before.saturating_add(1));
+    if name == "client" {
+        return format!(in alloc;
+            "the {place} group is named \"client\", which is the word for the clients: a multicast without 'from' is a client's"
+        ).map(Some);
+    }
+    match what_is_bad(name) {
+        Some(why) => {
+            let name = Quoted(name);
+            format!(in alloc; "the name of the {place} group ({name}) {why}: {RULE}").map(Some)
+        }
+        None => Ok(None),
+    }
+}
+
+/// Which name of a message is none, and why.
+fn hint_for_bad_message(alloc: Global, sketch: &Sketch<'_>) -> Result<Option<String>, AllocError> {
+    for (multicast, part) in sketch.draft.multicasts.iter().zip(&sketch.multicasts) {
+        if let Some(why) = what_is_bad(multicast.name.as_str()) {
+            return format!(in alloc; "the name of {part} {why}: {RULE}").map(Some);
+        }
+    }
+    Ok(None)
+}
+
+/// What a name is.
+const RULE: &str = "a name is 1 to 16 of a-z, 0-9, '_' and '-', the first a letter";
+
+const _: () = prove!(LONGEST_NAME == 16);
+
+/// Why a text is no name.
+fn what_is_bad(name: &str) -> Option<&'static str> {
+    let bytes = name.as_bytes();
+    match bytes.first() {
+        None => Some("is empty"),
+        Some(_) if bytes.len() > LONGEST_NAME => Some("is too long"),
+        Some(_) if !bytes.iter().all(|byte| is_name_byte(*byte)) => {
+            Some("has a character that no name has")
+        }
+        Some(first) if !first.is_ascii_lowercase() => Some("does not begin with a letter"),
+        Some(_) => None,
+    }
+}
+
+fn is_name_byte(byte: u8) -> bool {
+    byte.is_ascii_lowercase() || byte.is_ascii_digit() || byte == b'_' || byte == b'-'
+}
+
+/// Which two things have one name.
+pub(crate) fn hint_for_double_name(
+    alloc: Global,
+    sketch: &Sketch<'_>,
+) -> Result<Option<String>, AllocError> {
+    let groups = words_of(alloc, &sketch.draft.groups)?;
+    if let Some((first, second)) = first_double(&groups) {
+        return hint_for_double_group(alloc, &groups, first, second).map(Some);
+    }
+    match hint_for_double_message(alloc, sketch)? {
+        Some(hint) => Ok(Some(hint)),
+        None => hint_for_double_link(alloc, sketch),
+    }
+}
+
+/// The groups at these two places have one name.
+fn hint_for_double_group(
+    alloc: Global,
+    groups: &[&str],
+    first: usize,
+    second: usize,
+) -> Result<String, AllocError> {
+    let name = Quoted(groups.get(first).copied().unwrap_or(""));
+    let first = Ordinal(first.saturating_add(1));
+    let second = Ordinal(second.saturating_add(1));
+    format!(in alloc; "the {first} and the {second} group have one name, {name}")
+}
+
+/// Which two messages have one name.
+fn hint_for_double_message(
+    alloc: Global,
+    sketch: &Sketch<'_>,
+) -> Result<Option<String>, AllocError> {
+    let names = names_of(alloc, &sketch.draft.multicasts)?;
+    let Some((first, second)) = first_double(&names) else {
+        return Ok(None);
+    };
+    match (sketch.multicasts.get(first), sketch.multicasts.get(second)) {
+        (Some(first), Some(second)) => {
+            format!(in alloc; "{first} and {second} have one name").map(Some)
+        }
+        _ => Ok(None),
+    }
+}
+
+/// The names of messages, in their order.
+pub(crate) fn names_of(
+    alloc: Global,
+    multicasts: &[DraftMulticast],
+) -> Result<Vec<&str>, AllocError> {
+    let mut names = Vec::new(alloc);
+    for multicast in multicasts {
+        names.push(multicast.name.as_str())?;
+    }
+    Ok(names)
+}
+
+/// The places of the first name that stands there a second time: the first one, and that.
+pub(crate) fn first_double(names: &[&str]) -> Option<(usize, usize)> {
+    for (second, name) in names.iter().enumerate() {
+        let first = place_of(name, names);
+        if first < second {
+            return Some((first, second));
+        }
+    }
+    None
+}
+
+/// The place of a name among these, or how many there are where it is none of them.
+fn place_of(name: &str, names: &[&str]) -> usize {
+    for (place, other) in names.iter().enumerate() {
+        if *other == name {
+            return place;
+        }
+    }
+    names.len()
+}
+
+/// Which two links lead from one sender to one group.
+fn hint_for_double_link(alloc: Global, sketch: &Sketch<'_>) -> Result<Option<String>, AllocError> {
+    let links = &sketch.draft.links;
+    for (second, link) in links.iter().enumerate() {
+        let first = links
+            .iter()
+            .take(second)
+            .position(|other| is_same_pair(other, link));
+        let Some(first) = first else {
+            continue;
+        };
+        if let (Some(one), Some(other)) = (sketch.links.get(first), sketch.links.get(second)) {
+            return hint_for_same_pair(alloc, link, one, other).map(Some);
+        }
+    }
+    Ok(None)
+}
+
+/// That two links lead from one sender to one group, be they of two tables or of one.
+fn hint_for_same_pair(
+    alloc: Global,
+    link: &DraftLink,
+    one: &Part<'_>,
+    other: &Part<'_>,
+) -> Result<String, AllocError> {
+    let to = Quoted(link.to.as_str());
+    let sender = match &link.sender {
+        Some(sender) => {
+            let sender = Quoted(sender.as_str());
+            format!(in alloc; "{sender}")?
+        }
+        None => String::from_str(alloc, "the clients")?,
+    };
+    if one.table == other.table {
+        return format!(in alloc;
+            "{one} leads from {sender} to {to} twice: name each group once, and leave 'both' out where 'from' and 'to' have the same groups"
+        );
+    }
+    format!(in alloc;
+        "{one} and {other} both lead from {sender} to {to}: write one with the whole range"
+    )
+}
+
+/// Whether two links lead from one sender to one group.
+fn is_same_pair(link: &DraftLink, other: &DraftLink) -> bool {
+    is_named_alike(&link.sender, &other.sender) && link.to.is_same(&other.to)
+}

@@ -1,0 +1,274 @@
+use super::names::{first_double, names_of};
+use convoy_hints_sketch::{Names, Part, Quoted, Sketch, nearest, words_of};
+use convoy_scenario::{DraftLink, DraftMulticast, Name};
+use convoy_toml::ScenarioTable;
+use std::alloc::{AllocError, Global};
+
+/// A name that is that of no group, and where it stands.
+#[derive(Clone, Copy, Drop)]
+struct Stray<'a> {
+    name: &'a str,
+    key: &'static str,
+    part: Part<'a>,
+}
+
+/// Which name is that of no group, and where it stands.
+pub(crate) fn hint_for_unknown_group(
+    alloc: Global,
+    sketch: &Sketch<'_>,
+) -> Result<Option<String>, AllocError> {
+    let stray = stray_in_multicasts(sketch)
+        .or(stray_in_target(sketch))
+        .or(stray_in_links(sketch));
+    match stray {
+        Some(stray) => {
+            let groups = words_of(alloc, &sketch.draft.groups)?;
+            hint_for_stray(alloc, stray, &groups).map(Some)
+        }
+        None => Ok(None),
+    }
+}
+
+/// The first name in a multicast that is that of no group.
+fn stray_in_multicasts<'s>(sketch: &'s Sketch<'_>) -> Option<Stray<'s>> {
+    for (multicast, part) in sketch.draft.multicasts.iter().zip(&sketch.multicasts) {
+        if let Some(stray) = stray_in_multicast(multicast, *part, &sketch.draft.groups) {
+            return Some(stray);
+        }
+    }
+    None
+}
+
+/// The name in a multicast that is none of the groups'.
+fn stray_in_multicast<'s>(
+    multicast: &'s DraftMulticast,
+    part: Part<'s>,
+    groups: &[Name],
+) -> Option<Stray<'s>> {
+    if let Some(name) = unknown_sender(&multicast.sender, groups) {
+        let key = "from";
+        return Some(Stray { name, key, part });
+    }
+    for name in &multicast.to {
+        if let Some(name) = unknown(name, groups) {
+            let key = "to";
+            return Some(Stray { name, key, part });
+        }
+    }
+    None
+}
+
+/// The name of the target's group, where it is that of no group.
+fn stray_in_target<'s>(sketch: &'s Sketch<'_>) -> Option<Stray<'s>> {
+    let name = unknown(&sketch.draft.target_group, &sketch.draft.groups)?;
+    let part = Part::alone(ScenarioTable::Target);
+    let key = "group";
+    Some(Stray { name, key, part })
+}
+
+/// The first name in a link that is that of no group.
+fn stray_in_links<'s>(sketch: &'s Sketch<'_>) -> Option<Stray<'s>> {
+    for (link, part) in sketch.draft.links.iter().zip(&sketch.links) {
+        if let Some(stray) = stray_in_link(link, *part, &sketch.draft.groups) {
+            return Some(stray);
+        }
+    }
+    None
+}
+
+/// The name in a link that is none of the groups'.
+fn stray_in_link<'s>(link: &'s DraftLink, part: Part<'s>, groups: &[Name]) -> Option<Stray<'s>> {
+    if let Some(name) = unknown_sender(&link.sender, groups) {
+        let key = "from";
+        return Some(Stray { name, key, part });
+    }
+    let name = unknown(&link.to, groups)?;
+    let key = "to";
+    Some(Stray { name, key, part })
+}
+
+/// The name of a sender, where it is none of these.
+fn unknown_sender<'s>(sender: &'s Option<Name>, names: &[Name]) -> Option<&'s str> {
+    match sender {
+        Some(name) => unknown(name, names),
+        None => None,
+    }
+}
+
+/// The name, where it is none of these.
+fn unknown<'s>(name: &'s Name, names: &[Name]) -> Option<&'s str> {
+    if name.is_among(names) {
+        None
+    } else {
+        Some(name.as_str())
+    }
+}
+
+/// A name is that of none of the groups.
+fn hint_for_stray(alloc: Global, stray: Stray<'_>, groups: &[&str]) -> Result<String, AllocError> {
+    let Stray { name, key, part } = stray;
+    if name == "client" && key == "from" {
+        let shown = Quoted(name);
+        return format!(in alloc;
+            "'{key}' in {part} is {shown}, which is no group: leave the key '{key}' out where clients send"
+        );
+    }
+    match nearest(alloc, name, groups)? {
+        Some(near) => hint_for_near_group(alloc, stray, near),
+        None => hint_for_no_group(alloc, stray, groups),
+    }
+}
+
+/// A name is that of no group, and near to that of one.
+fn hint_for_near_group(alloc: Global, stray: Stray<'_>, near: &str) -> Result<String, AllocError> {
+    let Stray { name, key, part } = stray;
+    let (shown, near) = (Quoted(name), Quoted(near));
+    format!(in alloc; "'{key}' in {part} names {shown}, which is no group: did you mean {near}?")
+}
+
+/// A name is that of no group, and near to none.
+fn hint_for_no_group(
+    alloc: Global,
+    stray: Stray<'_>,
+    groups: &[&str],
+) -> Result<String, AllocError> {
+    let Stray { name, key, part } = stray;
+    let (shown, groups) = (Quoted(name), Names(groups));
+    format!(in alloc; "'{key}' in {part} names {shown}, which is no group: the groups are {groups}")
+}
+
+/// Which message goes nowhere.
+pub(crate) fn hint_for_no_destination(
+    alloc: Global,
+    sketch: &Sketch<'_>,
+) -> Result<Option<String>, AllocError> {
+    for (multicast, part) in sketch.draft.multicasts.iter().zip(&sketch.multicasts) {
+        if multicast.to.is_empty() {
+            return format!(in alloc; "'to' in {part} is empty: name at least one group").map(Some);
+        }
+    }
+    Ok(None)
+}
+
+/// Which message names a destination twice.
+pub(crate) fn hint_for_double_destination(
+    alloc: Global,
+    sketch: &Sketch<'_>,
+) -> Result<Option<String>, AllocError> {
+    for (multicast, part) in sketch.draft.multicasts.iter().zip(&sketch.multicasts) {
+        let to = words_of(alloc, &multicast.to)?;
+        if let Some((first, _)) = first_double(&to) {
+            let name = to.get(first).copied().unwrap_or("");
+            return hint_for_twice(alloc, *part, name).map(Some);
+        }
+    }
+    Ok(None)
+}
+
+/// A message names a destination twice.
+fn hint_for_twice(alloc: Global, part: Part<'_>, name: &str) -> Result<String, AllocError> {
+    let name = Quoted(name);
+    format!(in alloc; "'to' in {part} names {name} twice")
+}
+
+/// The target's message is no message.
+pub(crate) fn hint_for_unknown_target(
+    alloc: Global,
+    sketch: &Sketch<'_>,
+) -> Result<Option<String>, AllocError> {
+    let names = names_of(alloc, &sketch.draft.multicasts)?;
+    hint_for_no_message(alloc, sketch.draft.target_message.as_str(), &names).map(Some)
+}
+
+/// The name in the target is that of none of the messages.
+fn hint_for_no_message(alloc: Global, name: &str, names: &[&str]) -> Result<String, AllocError> {
+    match nearest(alloc, name, names)? {
+        Some(near) => hint_for_near_message(alloc, name, near),
+        None => hint_for_strange_message(alloc, name, names),
+    }
+}
+
+/// The name in the target is that of no message, and near to that of one.
+fn hint_for_near_message(alloc: Global, name: &str, near: &str) -> Result<String, AllocError> {
+    let (shown, near) = (Quoted(name), Quoted(near));
+    format!(in alloc;
+        "'message' in the target names {shown}, which is no message: did you mean {near}?"
+    )
+}
+
+/// The name in the target is that of no message, and near to none.
+fn hint_for_strange_message(
+    alloc: Global,
+    name: &str,
+    names: &[&str],
+) -> Result<String, AllocError> {
+    let (shown, names) = (Quoted(name), Names(names));
+    format!(in alloc;
+        "'message' in the target names {shown}, which is no message: the messages are {names}"
+    )
+}
+
+/// The target's message does not go to the target's group.
+pub(crate) fn hint_for_target_not_addressed(
+    alloc: Global,
+    sketch: &Sketch<'_>,
+) -> Result<Option<String>, AllocError> {
+    for (multicast, part) in sketch.draft.multicasts.iter().zip(&sketch.multicasts) {
+        if multicast.name.is_same(&sketch.draft.target_message) {
+            let to = words_of(alloc, &multicast.to)?;
+            let group = sketch.draft.target_group.as_str();
+            return hint_for_elsewhere(alloc, *part, group, &to).map(Some);
+        }
+    }
+    Ok(None)
+}
+
+/// A message does not go to the target's group.
+fn hint_for_elsewhere(
+    alloc: Global,
+    part: Part<'_>,
+    group: &str,
+    to: &[&str],
+) -> Result<String, AllocError> {
+    let (group, to) = (Quoted(group), Names(to));
+    format!(in alloc; "the target asks for {part} at {group}, and it goes to {to} alone")
+}
+
+/// The target's message may be issued at several ticks.
+pub(crate) fn hint_for_waiting_target(
+    alloc: Global,
+    sketch: &Sketch<'_>,
+) -> Result<Option<String>, AllocError> {
+    for (multicast, part) in sketch.draft.multicasts.iter().zip(&sketch.multicasts) {
+        if multicast.name.is_same(&sketch.draft.target_message) {
+            return format!(in alloc;
+                "the latency of the target counts from its issue, so that has to be known: leave 'until' out of {part}; windows of the others say how much earlier or later they may come"
+            ).map(Some);
+        }
+    }
+    Ok(None)
+}
+
+/// No target is written, where any message with a known issue may be it, and there is none such.
+pub(crate) fn hint_for_no_known_issue(alloc: Global) -> Result<String, AllocError> {
+    String::from_str(
+        alloc,
+        "each message has an 'until', and a latency counts from an issue that is known: leave 'until' out of one message at least",
+    )
+}
+
+/// Which link leads to its own sender.
+pub(crate) fn hint_for_link_to_itself(
+    alloc: Global,
+    sketch: &Sketch<'_>,
+) -> Result<Option<String>, AllocError> {
+    for (link, part) in sketch.draft.links.iter().zip(&sketch.links) {
+        if !link.leads_elsewhere() {
+            let to = Quoted(link.to.as_str());
+            return format!(in alloc;
+                "{part} leads from {to} to {to}: what a group sends to itself is no packet"
+            ).map(Some);
+        }
+    }
+    Ok(None)
+}

@@ -1,0 +1,250 @@
+use super::damage::{hint_for_bytes, hint_for_damage};
+use super::inputs::is_meant_as_certificate;
+use super::names::{hint_for_bad_name, hint_for_double_name};
+use super::numbers::{hint_for_least_of_all, hint_for_limit, hint_for_many_links};
+use super::ranges::hint_for_no_range;
+use super::references::{
+    hint_for_double_destination, hint_for_link_to_itself, hint_for_no_destination,
+    hint_for_no_known_issue, hint_for_target_not_addressed, hint_for_unknown_group,
+    hint_for_unknown_target, hint_for_waiting_target,
+};
+use convoy_certificate::{Form, form_of};
+use convoy_hints_sketch::{
+    Quoted, ScenarioText, Sketch, hint_for_mixture, hint_for_part_of_tick, hint_for_plain_number,
+    hint_for_shape, sketch_of_draft, spot_at,
+};
+use convoy_scenario::{DraftScenario, Key, Limit, ScenarioFault};
+use convoy_toml::{
+    Placed, TargetKey, WrittenScenario, draft_of_written, read_table, written_of_table,
+};
+use std::alloc::{AllocError, Global};
+use toml::de::Error;
+
+/// What is wrong with the text of a scenario that has that fault, in one line `hint: ..`. None where nothing
+/// can be said beyond the fault.
+pub fn hint_for_scenario(
+    alloc: Global,
+    text: &[u8],
+    fault: ScenarioFault,
+) -> Result<Option<String>, AllocError> {
+    let hint = hint_for_fault(alloc, text, fault)?;
+    with_label(alloc, hint)
+}
+
+/// The same without the label of a hint: for a text that is one of several, as a job of a batch, whose lines
+/// are counted from 1.
+pub fn hint_for_fault(
+    alloc: Global,
+    text: &[u8],
+    fault: ScenarioFault,
+) -> Result<Option<String>, AllocError> {
+    match fault {
+        ScenarioFault::Memory => Ok(None),
+        ScenarioFault::NotToml => hint_for_text(alloc, text),
+        fault => hint_for_table(alloc, text, fault),
+    }
+}
+
+/// What a plain number beside durations is taken for, in a text that is read as a scenario, in one line `hint: ..`. None
+/// where there is none, or the text is no scenario's.
+pub fn hint_for_plain_numbers(alloc: Global, text: &[u8]) -> Result<Option<String>, AllocError> {
+    if !has_durations(text) {
+        return Ok(None);
+    }
+    let (Ok(table), Ok(text)) = (read_table(alloc, text), std::str::from_utf8(text)) else {
+        return Ok(None);
+    };
+    let Ok(written) = written_of_table(alloc, &table, TargetKey::Optional) else {
+        return Ok(None);
+    };
+    let source = ScenarioText {
+        text,
+        table: &table,
+    };
+    let hint = hint_for_plain_number(alloc, source, &written.scenario)?;
+    with_label(alloc, hint)
+}
+
+/// Whether a text has a digit after a quotation mark, as durations are written: any other text is not read once more.
+fn has_durations(text: &[u8]) -> bool {
+    let mut is_after_mark = false;
+    for byte in text {
+        if is_after_mark && byte.is_ascii_digit() {
+            return true;
+        }
+        is_after_mark = *byte == b'"' || *byte == b'\'';
+    }
+    false
+}
+
+/// A hint as a line of its own, `hint: ` before it and byte 10 at its end; None where there is none.
+pub fn with_label(alloc: Global, hint: Option<String>) -> Result<Option<String>, AllocError> {
+    match hint {
+        Some(hint) => format!(in alloc; "hint: {hint}\n").map(Some),
+        None => Ok(None),
+    }
+}
+
+/// Why a text is not TOML.
+fn hint_for_text(alloc: Global, text: &[u8]) -> Result<Option<String>, AllocError> {
+    if let Some(hint) = hint_for_damage(alloc, text)? {
+        return Ok(Some(hint));
+    }
+    if is_meant_as_certificate(text) {
+        return hint_for_given_certificate(alloc, text).map(Some);
+    }
+    match std::str::from_utf8(text) {
+        Ok(words) => hint_for_grammar(alloc, words),
+        Err(error) => hint_for_bytes(alloc, text, error.valid_up_to()).map(Some),
+    }
+}
+
+/// A certificate was given where a scenario is read, or its first line is not of its form.
+fn hint_for_given_certificate(alloc: Global, text: &[u8]) -> Result<String, AllocError> {
+    let hint = match form_of(text) {
+        Form::Certificate(Some(_)) =>
+            "the input is a certificate, and a scenario is read here: 'convoy check' reads certificates",
+        Form::Certificate(None) | Form::Other =>
+            "the input begins as a certificate, but its first line is none of 'convoy 1' to 'convoy 4'",
+    };
+    String::from_str(alloc, hint)
+}
+
+/// Where a text of UTF-8 is not TOML.
+fn hint_for_grammar(alloc: Global, text: &str) -> Result<Option<String>, AllocError> {
+    if let Some(before) = text
+        .lines()
+        .position(|line| line == "---" || line.starts_with("--- "))
+    {
+        let line = before.saturating_add(1);
+        let hint = format!(in alloc;
+            "line {line} begins with '---', which stands between scenarios: 'convoy batch' reads several"
+        )?;
+        return Ok(Some(hint));
+    }
+    match toml::table_from_str(alloc, text) {
+        Ok(_) => Ok(None),
+        Err(error) => hint_for_error(alloc, text, &error),
+    }
+}
+
+/// What the TOML reader says, with the line.
+fn hint_for_error(alloc: Global, text: &str, error: &Error) -> Result<Option<String>, AllocError> {
+    let Some(span) = error.span() else {
+        return Ok(None);
+    };
+    let spot = spot_at(text.as_bytes(), span.start);
+    let (line, column) = (spot.line, spot.column);
+    let words = Quoted(text.lines().nth(line.saturating_sub(1)).unwrap_or(""));
+    let message = error.message();
+    format!(in alloc; "line {line}, column {column}, in {words}: {message}").map(Some)
+}
+
+/// What is wrong with the table of a scenario: it is read as the commands read it, up to the fault.
+fn hint_for_table(
+    alloc: Global,
+    text: &[u8],
+    fault: ScenarioFault,
+) -> Result<Option<String>, AllocError> {
+    let (Ok(table), Ok(text)) = (read_table(alloc, text), std::str::from_utf8(text)) else {
+        return Ok(None);
+    };
+    let source = ScenarioText {
+        text,
+        table: &table,
+    };
+    let written = match written_of_table(alloc, &table, target_for(fault)) {
+        Ok(written) => written.scenario,
+        Err(placed) => return hint_for_key(alloc, source, &placed),
+    };
+    match draft_of_written(alloc, &written) {
+        Ok(draft) => hint_for_draft(alloc, source, &written, draft, fault),
+        Err(placed) => hint_for_times(alloc, source, &written, &placed),
+    }
+}
+
+/// Whether a text that has that fault has to name its target: some commands read it without one, and it is a
+/// fault of others alone.
+fn target_for(fault: ScenarioFault) -> TargetKey {
+    match fault {
+        ScenarioFault::Shape(Key::Target) => TargetKey::Required,
+        _ => TargetKey::Optional,
+    }
+}
+
+/// What is wrong at a key.
+fn hint_for_key(
+    alloc: Global,
+    source: ScenarioText<'_>,
+    placed: &Placed,
+) -> Result<Option<String>, AllocError> {
+    match placed.fault {
+        ScenarioFault::Shape(key) => hint_for_shape(alloc, source, placed.table, key),
+        _ => Ok(None),
+    }
+}
+
+/// What is wrong with the times of a scenario, so that they can't be told in ticks, or with what these write.
+fn hint_for_times(
+    alloc: Global,
+    source: ScenarioText<'_>,
+    written: &WrittenScenario,
+    placed: &Placed,
+) -> Result<Option<String>, AllocError> {
+    match placed.fault {
+        ScenarioFault::Shape(_) => hint_for_mixture(alloc, source, written),
+        ScenarioFault::NotWhole(key) => {
+            hint_for_part_of_tick(alloc, source, written, placed.table, key)
+        }
+        ScenarioFault::OverLimit(Limit::Link) => hint_for_many_links(alloc).map(Some),
+        ScenarioFault::OverLimit(_) => hint_for_least_of_all(alloc, written),
+        _ => Ok(None),
+    }
+}
+
+/// What is wrong with a draft.
+fn hint_for_draft(
+    alloc: Global,
+    source: ScenarioText<'_>,
+    written: &WrittenScenario,
+    draft: DraftScenario,
+    fault: ScenarioFault,
+) -> Result<Option<String>, AllocError> {
+    match fault {
+        ScenarioFault::NoRange => hint_for_no_range(alloc, &draft),
+        ScenarioFault::TargetWaits if !source.table.contains_key(Key::Target.word()) => {
+            hint_for_no_known_issue(alloc).map(Some)
+        }
+        fault => {
+            let sketch = sketch_of_draft(alloc, source, &written.links, draft)?;
+            hint_for_sketch(alloc, &sketch, fault)
+        }
+    }
+}
+
+/// What is wrong with the numbers and the names of a scenario that has that fault, whichever text it is
+/// written in, without the label of a hint. None where the fault is not of these, or the sketch does not
+/// show it.
+pub fn hint_for_sketch(
+    alloc: Global,
+    sketch: &Sketch<'_>,
+    fault: ScenarioFault,
+) -> Result<Option<String>, AllocError> {
+    match fault {
+        ScenarioFault::OverLimit(limit) => hint_for_limit(alloc, sketch, limit),
+        ScenarioFault::BadName => hint_for_bad_name(alloc, sketch),
+        ScenarioFault::DoubleName => hint_for_double_name(alloc, sketch),
+        ScenarioFault::UnknownGroup => hint_for_unknown_group(alloc, sketch),
+        ScenarioFault::NoDestination => hint_for_no_destination(alloc, sketch),
+        ScenarioFault::DoubleDestination => hint_for_double_destination(alloc, sketch),
+        ScenarioFault::UnknownTarget => hint_for_unknown_target(alloc, sketch),
+        ScenarioFault::TargetNotAddressed => hint_for_target_not_addressed(alloc, sketch),
+        ScenarioFault::LinkToItself => hint_for_link_to_itself(alloc, sketch),
+        ScenarioFault::TargetWaits => hint_for_waiting_target(alloc, sketch),
+        ScenarioFault::NotToml
+        | ScenarioFault::Shape(_)
+        | ScenarioFault::NotWhole(_)
+        | ScenarioFault::NoRange
+        | ScenarioFault::Memory => Ok(None),
+    }
+}

@@ -1,0 +1,79 @@
+use convoy_scenario::Key;
+use convoy_toml::ScenarioTable;
+
+/// What a key's value has to be.
+#[derive(Clone, Copy, PartialEq, Eq)]
+pub(crate) enum Kind {
+    Integer,
+    /// A number of ticks, or where time is real a duration.
+    Time,
+    Text,
+    Texts,
+    /// A text, or an array of texts that is not empty.
+    Names,
+    Flag,
+    Integers,
+    Table,
+    Tables,
+}
+
+/// What has to stand at a key of a table, and how it is written.
+#[derive(Clone, Copy)]
+pub(crate) struct Field {
+    pub(crate) kind: Kind,
+    pub(crate) sample: &'static str,
+}
+
+/// What has to stand at a key, which some of the tables of that kind may have.
+pub(crate) fn field_at(table: ScenarioTable, key: Key) -> Field {
+    let is_in_link = matches!(table, ScenarioTable::Link(_));
+    let (kind, sample) = match key {
+        Key::Time => (Kind::Text, "time = \"real\""),
+        Key::Tick => (Kind::Text, "tick = \"50 us\""),
+        Key::Delay => (Kind::Time, "delay = 3"),
+        Key::Groups => (Kind::Texts, "groups = [\"a\", \"b\"]"),
+        Key::Multicast => (Kind::Tables, "[[multicast]]"),
+        Key::Name => (Kind::Text, "name = \"x\""),
+        Key::From if is_in_link => (Kind::Names, "from = \"a\""),
+        Key::From => (Kind::Text, "from = \"a\""),
+        Key::To if is_in_link => (Kind::Names, "to = \"b\""),
+        Key::To => (Kind::Texts, "to = [\"a\", \"b\"]"),
+        Key::At => (Kind::Time, "at = 0"),
+        Key::Until => (Kind::Time, "until = 10"),
+        Key::Target => (Kind::Table, "[target]"),
+        Key::Message => (Kind::Text, "message = \"x\""),
+        Key::Group => (Kind::Text, "group = \"a\""),
+        Key::Link => (Kind::Tables, "[[link]]"),
+        Key::Least => (Kind::Time, "least = 1"),
+        Key::Most => (Kind::Time, "most = 2"),
+        Key::Both => (Kind::Flag, "both = true"),
+        Key::Schedule => (Kind::Integers, "schedule = [1, 3, 1, 2]"),
+        Key::Order => (Kind::Integers, "order = [0, 1, 0, 0]"),
+        Key::Unknown => (Kind::Text, ""),
+    };
+    Field { kind, sample }
+}
+
+/// The keys that a table may have.
+pub(crate) fn keys_of(table: ScenarioTable) -> &'static [Key] {
+    match table {
+        ScenarioTable::Top => &TOP_KEYS,
+        ScenarioTable::Multicast(_) => &[Key::Name, Key::From, Key::To, Key::At, Key::Until],
+        ScenarioTable::Target => &[Key::Message, Key::Group],
+        ScenarioTable::Link(_) => &[Key::From, Key::To, Key::Both, Key::Least, Key::Most],
+    }
+}
+
+/// The keys above the first header.
+pub(crate) const TOP_KEYS: [Key; 10] = [
+    Key::Time,
+    Key::Tick,
+    Key::Delay,
+    Key::Least,
+    Key::Groups,
+    Key::Multicast,
+    Key::Target,
+    Key::Link,
+    Key::Schedule,
+    Key::Order,
+];

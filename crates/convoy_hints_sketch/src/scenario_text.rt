@@ -1,0 +1,66 @@
+use super::headers::header_line;
+use super::part::Part;
+use convoy_scenario::Key;
+use convoy_toml::ScenarioTable;
+use toml::{Table, Value};
+
+/// A scenario text, and its table.
+#[derive(Clone, Copy, Drop)]
+pub struct ScenarioText<'a> {
+    /// The text.
+    pub text: &'a str,
+    /// The table that it is.
+    pub table: &'a Table,
+}
+
+impl<'a> ScenarioText<'a> {
+    /// One of its tables; None where it has none such.
+    pub(crate) fn table_at(&self, table: ScenarioTable) -> Option<&'a Table> {
+        match table {
+            ScenarioTable::Top => Some(self.table),
+            ScenarioTable::Multicast(number) => self
+                .items_at(Key::Multicast)
+                .get(number)?
+                .as_table(),
+            ScenarioTable::Target => self.table.get(Key::Target.word())?.as_table(),
+            ScenarioTable::Link(number) => self.items_at(Key::Link).get(number)?.as_table(),
+        }
+    }
+
+    /// One of its tables, as a person finds it.
+    pub fn part(&self, table: ScenarioTable) -> Part<'a> {
+        let line = match table {
+            ScenarioTable::Top => None,
+            ScenarioTable::Multicast(number) => {
+                self.line_of("[[multicast]]", Key::Multicast, number)
+            }
+            ScenarioTable::Target => header_line(self.text, "[target]", 0, 1),
+            ScenarioTable::Link(number) => self.line_of("[[link]]", Key::Link, number),
+        };
+        let name = self.name_of(table);
+        Part { table, name, line }
+    }
+
+    /// What a table of an array is named.
+    fn name_of(&self, table: ScenarioTable) -> Option<&'a str> {
+        match table {
+            ScenarioTable::Top | ScenarioTable::Target => None,
+            ScenarioTable::Multicast(_) | ScenarioTable::Link(_) => {
+                self.table_at(table)?.get(Key::Name.word())?.as_str()
+            }
+        }
+    }
+
+    /// The line of a table of an array, by its number there.
+    fn line_of(&self, header: &str, key: Key, number: usize) -> Option<usize> {
+        header_line(self.text, header, number, self.items_at(key).len())
+    }
+
+    /// The items of the array at a key; none where there is no array.
+    fn items_at(&self, key: Key) -> &'a [Value] {
+        match self.table.get(key.word()).and_then(Value::as_array) {
+            Some(items) => items.as_slice(),
+            None => &[],
+        }
+    }
+}

@@ -1,0 +1,326 @@
+use super::durations::hint_for_duration;
+use super::fields::{Field, Kind, TOP_KEYS, field_at, keys_of};
+use super::near::nearest;
+use super::part::Part;
+use super::quoting::{Quoted, Words};
+use super::scenario_text::ScenarioText;
+use convoy_scenario::{Duration, Key, Time};
+use convoy_toml::{ScenarioTable, time_of_table};
+use std::alloc::{AllocError, Global};
+use toml::value::Array;
+use toml::{Table, Value};
+
+/// What is wrong at a key of one of the tables of a text, which is absent or of another kind, or with the
+/// first key that the table may not have.
+pub fn hint_for_shape(
+    alloc: Global,
+    source: ScenarioText<'_>,
+    table: ScenarioTable,
+    key: Key,
+) -> Result<Option<String>, AllocError> {
+    let Some(inner) = source.table_at(table) else {
+        return Ok(None);
+    };
+    let part = source.part(table);
+    if key == Key::Unknown {
+        return hint_for_unknown(alloc, inner, &part);
+    }
+    match inner.get(key.word()) {
+        Some(value) => hint_for_value(alloc, source, inner, key, value, &part).map(Some),
+        None => hint_for_absent(alloc, source, inner, key, &part).map(Some),
+    }
+}
+
+/// How time goes by a text: in whole ticks too where that has a fault of its own.
+fn time_of(source: ScenarioText<'_>) -> Time {
+    time_of_table(source.table).unwrap_or(Time::Ticks)
+}
+
+/// What is wrong with the value of a key.
+fn hint_for_value(
+    alloc: Global,
+    source: ScenarioText<'_>,
+    table: &Table,
+    key: Key,
+    value: &Value,
+    part: &Part<'_>,
+) -> Result<String, AllocError> {
+    let field = field_at(part.table, key);
+    let time = time_of(source);
+    match (key, value.as_str()) {
+        (Key::Time, Some(word)) => hint_for_time_word(alloc, word),
+        (Key::Tick, _) if time == Time::Ticks => String::from_str(
+            alloc,
+            "'tick' is the length of a tick where time is real: write 'time = \"real\"', or leave it out",
+        ),
+        (Key::Tick, Some(text)) => hint_for_length(alloc, text, part),
+        (Key::Least, _) if time == Time::Ticks && part.table == ScenarioTable::Top => {
+            String::from_str(
+                alloc,
+                "'least' is the least delay of what goes by no link where time is real, and in whole ticks that is 1 tick: write 'time = \"real\"', or leave it out",
+            )
+        }
+        (Key::Both, _) if leads_back_to_clients(table) => format!(in alloc;
+            "'both' in {part} is true, and nothing is sent to clients: name the groups in 'from', or leave 'both' out"
+        ),
+        _ if field.kind == Kind::Time => hint_for_when(alloc, key, value, part, time),
+        _ => hint_for_kind(alloc, key, value, part),
+    }
+}
+
+/// What is wrong with a text that is to be the length of a tick.
+fn hint_for_length(alloc: Global, text: &str, top: &Part<'_>) -> Result<String, AllocError> {
+    match Duration::read(text.as_bytes()) {
+        None => hint_for_duration(alloc, "tick", top, text),
+        Some(_) => String::from_str(alloc, "'tick' is 0, and a tick lasts 1 ns or more"),
+    }
+}
+
+/// A word is none for how time goes.
+fn hint_for_time_word(alloc: Global, word: &str) -> Result<String, AllocError> {
+    let shown = Quoted(word);
+    let kinds = [Time::Ticks.word(), Time::Real.word()];
+    match nearest(alloc, word, &kinds)? {
+        Some(near) => {
+            let near = Quoted(near);
+            format!(in alloc; "'time' is {shown}: did you mean {near}?")
+        }
+        None => format!(in alloc;
+            "'time' is {shown}: write 'time = \"real\"', or 'time = \"ticks\"', which is so without the key"
+        ),
+    }
+}
+
+/// Whether a table of links from the clients asks for the ways back.
+fn leads_back_to_clients(table: &Table) -> bool {
+    let both = table.get("both").and_then(Value::as_bool);
+    both == Some(true) && !table.contains_key("from")
+}
+
+/// The first item that is of another kind.
+fn odd_item(items: &Array, kind: Kind) -> Option<&Value> {
+    items.iter().find(|item| match kind {
+        Kind::Integer => !item.is_integer(),
+        Kind::Text => !item.is_str(),
+        _ => !item.is_table(),
+    })
+}
+
+/// A time is neither a number of ticks nor, where time is real, a duration.
+fn hint_for_when(
+    alloc: Global,
+    key: Key,
+    value: &Value,
+    part: &Part<'_>,
+    time: Time,
+) -> Result<String, AllocError> {
+    match (value.as_str(), time) {
+        _ if key == Key::At && is_window(value) => format!(in alloc;
+            "'{key}' in {part} is the first time alone: write the last at which the message may be issued as 'until'"
+        ),
+        (Some(text), Time::Real) => hint_for_duration(alloc, key.word(), part, text),
+        (Some(text), Time::Ticks) if Duration::read(text.as_bytes()).is_some() => {
+            let shown = Quoted(text);
+            format!(in alloc;
+                "'{key}' in {part} is the duration {shown}, and time goes in whole ticks: write 'time = \"real\"' above the first header, or an integer"
+            )
+        }
+        _ => hint_for_kind(alloc, key, value, part),
+    }
+}
+
+/// Whether the value is meant as several times, the first and the last of them perhaps.
+fn is_window(value: &Value) -> bool {
+    match value.as_str() {
+        Some(text) => text.contains(".."),
+        None => value.is_array(),
+    }
+}
+
+/// A key is of another kind.
+fn hint_for_kind(
+    alloc: Global,
+    key: Key,
+    value: &Value,
+    part: &Part<'_>,
+) -> Result<String, AllocError> {
+    let Field { kind, sample } = field_at(part.table, key);
+    match kind {
+        Kind::Tables if value.is_table() => format!(in alloc;
+            "'{key}' is one table, and there may be several: write the header '{sample}', in double brackets"
+        ),
+        Kind::Table if value.is_array() => format!(in alloc;
+            "'{key}' is an array, and there is one target: write the header '{sample}', in single brackets"
+        ),
+        kind => {
+            let wanted = words_for(kind);
+            let found = what_is_found(alloc, value, kind)?;
+            format!(in alloc; "'{key}' in {part} {found}: write {wanted}, as '{sample}'")
+        }
+    }
+}
+
+/// What is found where a value of that kind is to stand: `is a string`, `is empty`, or `has a string in
+/// it`.
+fn what_is_found(alloc: Global, value: &Value, kind: Kind) -> Result<String, AllocError> {
+    let (Some(items), Some(inner)) = (value.as_array(), kind_of_items(kind)) else {
+        let found = value.type_str();
+        let article = article_of(found);
+        return format!(in alloc; "is {article} {found}");
+    };
+    match odd_item(items, inner) {
+        Some(item) => {
+            let odd = item.type_str();
+            let article = article_of(odd);
+            format!(in alloc; "has {article} {odd} in it")
+        }
+        None => String::from_str(alloc, "is empty"),
+    }
+}
+
+/// The kind of the items of an array of that kind, if there are such arrays.
+fn kind_of_items(kind: Kind) -> Option<Kind> {
+    match kind {
+        Kind::Texts | Kind::Names => Some(Kind::Text),
+        Kind::Integers => Some(Kind::Integer),
+        Kind::Tables => Some(Kind::Table),
+        _ => None,
+    }
+}
+
+/// What a value of the kind is called.
+fn words_for(kind: Kind) -> &'static str {
+    match kind {
+        Kind::Integer | Kind::Time => "an integer",
+        Kind::Text => "a string",
+        Kind::Texts => "an array of strings",
+        Kind::Names => "a string or an array of strings",
+        Kind::Flag => "true or false",
+        Kind::Integers => "an array of integers",
+        Kind::Table => "a table",
+        Kind::Tables => "an array of tables",
+    }
+}
+
+/// The article of a word.
+fn article_of(word: &str) -> &'static str {
+    match word.as_bytes().first() {
+        Some(b'a' | b'e' | b'i' | b'o' | b'u') => "an",
+        _ => "a",
+    }
+}
+
+/// A key is absent that has to be there.
+fn hint_for_absent(
+    alloc: Global,
+    source: ScenarioText<'_>,
+    table: &Table,
+    key: Key,
+    part: &Part<'_>,
+) -> Result<String, AllocError> {
+    let is_top = part.table == ScenarioTable::Top;
+    if table.is_empty() && is_top {
+        return String::from_str(
+            alloc,
+            "the input has no key: a scenario is read from a file, as by 'convoy latency scenario.toml', or from standard input",
+        );
+    }
+    if let Some(near) = nearest(alloc, key.word(), &keys_in(alloc, table)?)? {
+        let near = Quoted(near);
+        return format!(in alloc; "{part} has no key '{key}', but {near}: did you mean '{key}'?");
+    }
+    if is_top && stands_below(source.table, key) {
+        return format!(in alloc;
+            "'{key}' stands below the header of a table, and so belongs to that: write it above the first header"
+        );
+    }
+    let sample = field_at(part.table, key).sample;
+    format!(in alloc; "{part} has no key '{key}': write it as '{sample}'")
+}
+
+/// The keys of a table, in their order.
+fn keys_in(alloc: Global, table: &Table) -> Result<Vec<&str>, AllocError> {
+    let mut words = Vec::new(alloc);
+    for word in table.keys() {
+        words.push(word.as_str())?;
+    }
+    Ok(words)
+}
+
+/// Whether the key stands in a table below the top.
+fn stands_below(top: &Table, key: Key) -> bool {
+    for value in top.values() {
+        if stands_in(value, key) {
+            return true;
+        }
+    }
+    false
+}
+
+/// Whether the value is a table with that key, or an array with such a table in it.
+fn stands_in(value: &Value, key: Key) -> bool {
+    match value {
+        Value::Array(items) => items.iter().any(|item| has_key(item, key)),
+        value => has_key(value, key),
+    }
+}
+
+/// Whether the value is a table with that key.
+fn has_key(value: &Value, key: Key) -> bool {
+    match value {
+        Value::Table(table) => table.contains_key(key.word()),
+        _ => false,
+    }
+}
+
+/// The first key of the table that it may not have.
+fn hint_for_unknown(
+    alloc: Global,
+    table: &Table,
+    part: &Part<'_>,
+) -> Result<Option<String>, AllocError> {
+    let keys = keys_of(part.table);
+    for word in table.keys() {
+        let word = word.as_str();
+        if !is_key_among(word, keys) {
+            return hint_for_other_key(alloc, word, part).map(Some);
+        }
+    }
+    Ok(None)
+}
+
+/// Whether a word is one of these keys.
+fn is_key_among(word: &str, keys: &[Key]) -> bool {
+    keys.iter().any(|key| key.word() == word)
+}
+
+/// A key is none of those that the table may have.
+fn hint_for_other_key(alloc: Global, word: &str, part: &Part<'_>) -> Result<String, AllocError> {
+    if part.table != ScenarioTable::Top && is_key_among(word, &TOP_KEYS) {
+        return format!(in alloc;
+            "'{word}' stands below the header of {part}, and so belongs to that: write it above the first header"
+        );
+    }
+    if word == Key::Until.word() {
+        return format!(in alloc;
+            "'{word}' stands in {part}, and is a key of a message: write it below the 'at' of that"
+        );
+    }
+    hint_for_strange_key(alloc, word, part)
+}
+
+/// A key is none of any table.
+fn hint_for_strange_key(alloc: Global, word: &str, part: &Part<'_>) -> Result<String, AllocError> {
+    let shown = Quoted(word);
+    let keys = keys_of(part.table);
+    let words: Vec<&str> = keys.iter().map(|key| key.word()).collect(alloc)?;
+    match nearest(alloc, word, &words)? {
+        Some(near) => {
+            format!(in alloc; "{part} has an unknown key, {shown}: did you mean '{near}'?")
+        }
+        None => {
+            let keys = Words(&words);
+            format!(in alloc; "{part} has an unknown key, {shown}: its keys are {keys}")
+        }
+    }
+}

@@ -1,0 +1,245 @@
+use super::durations::{Length, shown_time};
+use super::part::Part;
+use super::quoting::Quoted;
+use super::scenario_text::ScenarioText;
+use convoy_scenario::{Duration, GREATEST_AT, GREATEST_DELAY, Key, LONGEST_WAIT, MOST_UNITS, Time};
+use convoy_toml::{ScenarioTable, WrittenScenario, WrittenTime, common_divisor};
+use std::alloc::{AllocError, Global};
+use toml::Value;
+
+/// A time of a scenario text: where it stands, and what is written.
+#[derive(Clone, Copy, Drop)]
+struct Spell {
+    table: ScenarioTable,
+    key: Key,
+    time: WrittenTime,
+}
+
+impl Spell {
+    /// The nanoseconds of a duration; None for a number of ticks.
+    fn length(&self) -> Option<u64> {
+        match self.time {
+            WrittenTime::Count(_) => None,
+            WrittenTime::Lasting(duration) => Some(duration.nanoseconds()),
+        }
+    }
+
+    /// The number of ticks, where one is written.
+    fn count(&self) -> Option<i64> {
+        match self.time {
+            WrittenTime::Count(ticks) => Some(ticks),
+            WrittenTime::Lasting(_) => None,
+        }
+    }
+
+    /// How many ticks it would be by a smaller tick than this one that goes into it, where a number counts ticks of
+    /// this one.
+    fn ticks_by(&self, tick: u64, smaller: u64) -> u64 {
+        match self.time {
+            WrittenTime::Count(count) => {
+                let each = tick.checked_div(smaller).unwrap_or(0);
+                u64::try_from(count).unwrap_or(0).saturating_mul(each)
+            }
+            WrittenTime::Lasting(length) => {
+                length.nanoseconds().checked_div(smaller).unwrap_or(0)
+            }
+        }
+    }
+
+    /// The table in which it stands, as a person finds it.
+    fn part<'a>(&self, source: ScenarioText<'a>) -> Part<'a> {
+        source.part(self.table)
+    }
+}
+
+/// All times of a scenario, in the order in which faults of them are told.
+fn spells_of(alloc: Global, scenario: &WrittenScenario) -> Result<Vec<Spell>, AllocError> {
+    let mut spells = Vec::new(alloc);
+    add_spell(&mut spells, ScenarioTable::Top, Key::Delay, scenario.delay)?;
+    add_spell(&mut spells, ScenarioTable::Top, Key::Least, scenario.least)?;
+    for (number, multicast) in scenario.multicasts.iter().enumerate() {
+        let table = ScenarioTable::Multicast(number);
+        add_spell(&mut spells, table, Key::At, Some(multicast.at))?;
+        add_spell(&mut spells, table, Key::Until, multicast.until)?;
+    }
+    for (number, link) in scenario.links.iter().enumerate() {
+        let table = ScenarioTable::Link(number);
+        add_spell(&mut spells, table, Key::Least, Some(link.least))?;
+        add_spell(&mut spells, table, Key::Most, Some(link.most))?;
+    }
+    Ok(spells)
+}
+
+/// Adds the time at a key, if one is there.
+fn add_spell(
+    spells: &mut Vec<Spell>,
+    table: ScenarioTable,
+    key: Key,
+    time: Option<WrittenTime>,
+) -> Result<(), AllocError> {
+    if let Some(time) = time {
+        spells.push(Spell { table, key, time })?;
+    }
+    Ok(())
+}
+
+/// The greatest common divisor of all durations, in nanoseconds; None where there is none above 0.
+fn divisor_of(spells: &[Spell]) -> Option<u64> {
+    let mut divisor = 0;
+    for spell in spells {
+        if let Some(length) = spell.length() {
+            divisor = common_divisor(divisor, length);
+        }
+    }
+    if divisor == 0 { None } else { Some(divisor) }
+}
+
+/// So many nanoseconds, as a hint shows them: `1500 us`.
+fn shown(alloc: Global, nanoseconds: u64) -> Result<String, AllocError> {
+    match Duration::from_nanoseconds(nanoseconds) {
+        Some(duration) => {
+            let length = Length(duration);
+            format!(in alloc; "{length}")
+        }
+        None => format!(in alloc; "{nanoseconds} ns"),
+    }
+}
+
+/// That the duration at a key of one of its tables is no whole number of ticks, and which tick would do.
+pub fn hint_for_part_of_tick(
+    alloc: Global,
+    source: ScenarioText<'_>,
+    scenario: &WrittenScenario,
+    table: ScenarioTable,
+    key: Key,
+) -> Result<Option<String>, AllocError> {
+    let (Some(tick), Some(inner)) = (scenario.tick, source.table_at(table)) else {
+        return Ok(None);
+    };
+    let tick = tick.nanoseconds();
+    let written = Quoted(inner.get(key.word()).and_then(Value::as_str).unwrap_or(""));
+    let length = shown(alloc, tick)?;
+    let way = way_out(alloc, &spells_of(alloc, scenario)?, tick)?;
+    let part = source.part(table);
+    format!(in alloc;
+        "'{key}' in {part} is {written}, which is no whole number of ticks of {length}: {way}"
+    ).map(Some)
+}
+
+/// Which tick would do in place of this one, if one does by which no time is too many ticks.
+fn way_out(alloc: Global, spells: &[Spell], tick: u64) -> Result<String, AllocError> {
+    let Some(divisor) = divisor_of(spells) else {
+        return String::from_str(alloc, ROUNDED);
+    };
+    let has_counts = first_count(spells).is_some();
+    let smaller = if has_counts {
+        common_divisor(divisor, tick)
+    } else {
+        divisor
+    };
+    if !is_length_of_tick(smaller) || has_too_many(spells, tick, smaller) {
+        return String::from_str(alloc, ROUNDED);
+    }
+    let length = shown(alloc, smaller)?;
+    let matching = if has_counts { MATCHING } else { "" };
+    format!(in alloc; "'tick = \"{length}\"' would do{matching}")
+}
+
+/// What to write where no tick would do.
+const ROUNDED: &str =
+    "write a duration that is one: 'least' and 'at' of a window no longer, 'most' and 'until' no shorter";
+
+/// What to do besides where some times are numbers of ticks of the present length.
+const MATCHING: &str = ", with the numbers of ticks to match";
+
+/// Whether a tick may last so many nanoseconds.
+fn is_length_of_tick(nanoseconds: u64) -> bool {
+    match Duration::from_nanoseconds(nanoseconds) {
+        Some(length) => length.count() <= MOST_UNITS,
+        None => false,
+    }
+}
+
+/// Whether a time would be more ticks than it may be, by a smaller tick than this one.
+fn has_too_many(spells: &[Spell], tick: u64, smaller: u64) -> bool {
+    let mut before = 0;
+    for spell in spells {
+        let ticks = spell.ticks_by(tick, smaller);
+        if ticks > most_ticks(spell.key, before) {
+            return true;
+        }
+        before = ticks;
+    }
+    false
+}
+
+/// How many ticks the time at a key may be at most, where the time before it is so many: the first issue
+/// has a limit of its own, and the last, which follows it, may be so much later.
+fn most_ticks(key: Key, before: u64) -> u64 {
+    match key {
+        Key::At => u64::from(GREATEST_AT),
+        Key::Until => before.saturating_add(u64::from(LONGEST_WAIT)),
+        _ => u64::from(GREATEST_DELAY),
+    }
+}
+
+/// What a plain number is taken for that stands beside durations, in a text in which a tick is written: the first time
+/// that is such a number. 0, and the least delay of a tick, are none, since they are the same however long a tick is.
+pub fn hint_for_plain_number(
+    alloc: Global,
+    source: ScenarioText<'_>,
+    scenario: &WrittenScenario,
+) -> Result<Option<String>, AllocError> {
+    let (Time::Real, Some(tick)) = (scenario.time, scenario.tick) else {
+        return Ok(None);
+    };
+    let spells = spells_of(alloc, scenario)?;
+    let (Some((spell, ticks)), Some(_)) = (first_plain(&spells), first_lasting(&spells)) else {
+        return Ok(None);
+    };
+    let (key, part) = (spell.key, spell.part(source));
+    let time = shown_time(alloc, ticks, Some(tick))?;
+    let each = Length(tick);
+    format!(in alloc;
+        "'{key}' in {part} is the plain number {ticks}, which counts ticks of {each}: {time}"
+    ).map(Some)
+}
+
+/// The first time that is a number of ticks which says more than 0, or than the least delay of all.
+fn first_plain(spells: &[Spell]) -> Option<(Spell, i64)> {
+    for spell in spells {
+        let least = if spell.key == Key::Least { 1 } else { 0 };
+        match spell.count() {
+            Some(ticks) if ticks != least => return Some((*spell, ticks)),
+            _ => {}
+        }
+    }
+    None
+}
+
+/// Which times are a number of ticks and a duration, where no tick says how they go together.
+pub fn hint_for_mixture(
+    alloc: Global,
+    source: ScenarioText<'_>,
+    scenario: &WrittenScenario,
+) -> Result<Option<String>, AllocError> {
+    let spells = spells_of(alloc, scenario)?;
+    let (Some(count), Some(lasting)) = (first_count(&spells), first_lasting(&spells)) else {
+        return Ok(None);
+    };
+    let (key, part) = (count.key, count.part(source));
+    let (other, there) = (lasting.key, lasting.part(source));
+    format!(in alloc;
+        "'{key}' in {part} is a number of ticks, and '{other}' in {there} is a duration: write 'tick = \"..\"', the length of a tick, or all times as durations"
+    ).map(Some)
+}
+
+/// The first time that is a number of ticks.
+fn first_count(spells: &[Spell]) -> Option<&Spell> {
+    spells.iter().find(|spell| spell.count().is_some())
+}
+
+/// The first time that is a duration.
+fn first_lasting(spells: &[Spell]) -> Option<&Spell> {
+    spells.iter().find(|spell| spell.length().is_some())
+}

@@ -1,0 +1,14 @@
+pub use Rattle.convoy_toml.specs.Times
+pub use Rattle.convoy_toml.specs.Shape
+pub use Rattle.convoy_toml.specs.Reading
+pub use Rattle.convoy_sim.specs.Greatest
+pub use Rattle.convoy_packets.specs.Assignment
+pub use Rattle.convoy_scenario.specs.Scenario
+pub use Rattle.convoy_intervals.specs.Boxes
+pub use Rattle.convoy_intervals.specs.Bounds
+pub use Rattle.convoy_stamps.specs.StampBounds
+pub use Rattle.convoy_leads.specs.Closing
+pub mod Narrower
+pub mod Monotone
+pub mod FinerTicks
+pub mod FinerTexts

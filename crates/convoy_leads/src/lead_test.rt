@@ -1,0 +1,140 @@
+ghost use Rattle.std.specs.Prelude.{◌≡◌, ◌+◌, ◌≤◌, IfOk, IfSome, IsFalse, IsTrue};
+ghost use Rattle.convoy_scenario.specs.Scenario.{message_at};
+ghost use Rattle.convoy_intervals.specs.Boxes.{IsBox};
+ghost use Rattle.convoy_intervals.specs.Tracked.{tracked_of};
+ghost use Rattle.convoy_sure.specs.Windows.{tables_by};
+ghost use Rattle.convoy_leads.specs.Closing.{closes_by_leads, closes_over};
+ghost use Rattle.convoy_leads.specs.Openings.{IsOpenCase, IsOpening, IsShown, is_closed};
+
+use super::facts::Facts;
+use super::open_case::OpenCase;
+use super::opening::Opening;
+use super::shown::Shown;
+use convoy_intervals::DelayBox;
+use convoy_packets::Instance;
+use convoy_sim::Tag;
+use convoy_starts::Scratch;
+use convoy_sure::{Windows, target_group};
+use std::alloc::{AllocError, Global};
+use std::marker::Model;
+
+/// The test of one box by leads (docs/LEADS.md): all that it knows of the box, for any latency.
+#[derive(Drop)]
+pub struct LeadTest<'a> {
+    alloc: Global,
+    facts: Facts<'a>,
+    windows: Windows,
+    delay_box: Tag<DelayBox>,
+}
+
+impl<'a> Model for LeadTest<'a> {
+    ghost use Rattle.std.specs.Prelude.{◌≡◌};
+    ghost use Rattle.convoy_intervals.specs.Tracked.{Tracked};
+    ghost use Rattle.convoy_sure.specs.Windows.{windows_of};
+
+    ghost Value = { Tracked };
+
+    ghost view = { λ t. record { scenario = t.facts.scenario.now; delay_box = t.delay_box.value } };
+
+    ghost invariant = { λ t. t.windows ≡ windows_of t.facts.scenario.now t.delay_box.value };
+}
+
+impl<'a> LeadTest<'a> {
+    /// The test of a box of the instance. The error is that memory ran out.
+    pub fn of(
+        alloc: Global,
+        instance: &'a Instance,
+        delay_box: &DelayBox,
+    ) -> Result<LeadTest<'a>, AllocError>
+        requires inside { IsBox instance.now delay_box.now }
+        ensures { IfOk result (λ test. test ≡ tracked_of instance.now delay_box.now) }
+    {
+        let facts = Facts::of(alloc, instance.scenario())?;
+        let windows = Windows::of(alloc, instance, delay_box)?;
+        Ok(LeadTest {
+            alloc,
+            facts,
+            windows,
+            delay_box: Tag::of(delay_box),
+        })
+    }
+
+    /// What leads show of the box for a latency in ticks. The error is that memory ran out.
+    pub fn shows(&self, latency: u32) -> Result<Shown, AllocError>
+        ensures closed { IfOk result (λ shown. is_closed shown
+            ≡ closes_by_leads self.now.scenario self.now.delay_box latency) }
+        ensures case { IfOk result (IsShown self.now.scenario) }
+    {
+        let mut scratch = Scratch::new(self.alloc);
+        self.facts.shown(&self.windows, latency, &mut scratch)
+    }
+
+    /// What keeps the box open for a latency in ticks, for which leads show that of it: a case, and the
+    /// chain of links of it. None where there is no case: leads close the box, or the target alone may
+    /// be late. The error is that memory ran out.
+    pub fn opening(&self, shown: Shown, latency: u32) -> Result<Option<Opening>, AllocError>
+        requires { IsShown self.now.scenario shown }
+        ensures { IfOk result (λ found. IfSome found (IsOpening self.now.scenario)) }
+    {
+        let mut scratch = Scratch::new(self.alloc);
+        let Some(case) = self.first_case(shown, latency, &mut scratch)? else {
+            return Ok(None);
+        };
+        let links = self.facts.links(&case.windows, case.rival, &mut scratch)?;
+        Ok(Some(Opening { case, links }))
+    }
+
+    /// The first case that leads leave open, which is looked for where the target may be late.
+    fn first_case(
+        &self,
+        shown: Shown,
+        latency: u32,
+        scratch: &mut Scratch,
+    ) -> Result<Option<OpenCase>, AllocError>
+        requires { IsShown self.now.scenario shown }
+        ensures { IfOk result (λ found. IfSome found (IsOpenCase self.now.scenario)) }
+    {
+        match shown {
+            Shown::Closed => Ok(None),
+            Shown::TargetLate => {
+                let tick = self.facts.late_tick(latency);
+                self.facts.first_open(&self.windows, tick, scratch)
+            }
+            Shown::Open(case) => Ok(Some(case)),
+        }
+    }
+}
+
+impl<'a> Facts<'a> {
+    /// The first tick at which the target is delivered later than by a latency in ticks.
+    fn late_tick(&self, latency: u32) -> u64
+        ensures { result ≡ (message_at self.now.scenario.now self.now.scenario.now.target_message).at
+            + latency + 1 }
+    {
+        let issued = self.scenario.issue_tick(self.scenario.target_message());
+        u64::from(issued) + u64::from(latency) + 1
+    }
+
+    /// What leads show of windows for a latency: that they are closed for it if the target and each
+    /// rival that is committed at its group after that latency is behind it.
+    fn shown(
+        &self,
+        windows: &Windows,
+        latency: u32,
+        scratch: &mut Scratch,
+    ) -> Result<Shown, AllocError>
+        ensures closed { IfOk result (λ shown. is_closed shown
+            ≡ closes_over self.now.scenario.now windows.now latency) }
+        ensures case { IfOk result (IsShown self.now.scenario.now) }
+    {
+        let tick = self.late_tick(latency);
+        let last = windows.greatest_settling(self.target(), target_group(self.scenario));
+        if u64::from(last) >= tick {
+            return Ok(Shown::TargetLate);
+        }
+        match self.first_open(windows, tick, scratch)? {
+            None => Ok(Shown::Closed),
+            Some(case) => Ok(Shown::Open(case)),
+        }
+    }
+}

@@ -1,6 +1,0 @@
-use Rattle.convoy_monotone.proofs.ClosedInside.{closed_for_more}
-use Rattle.convoy_monotone.proofs.laws.leads_close_for_more.Goals as goal
-
-pub returns : goal.returns
-returns c scenario ranges latency more well are high closed =
-    closed_for_more c.members_are_enclosed.ensures c.inner_tables_are_narrower.ensures c.windows_are_tables.ensures scenario ranges latency more well are high closed

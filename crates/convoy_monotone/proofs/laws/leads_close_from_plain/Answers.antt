@@ -1,6 +1,0 @@
-use Rattle.convoy_monotone.proofs.ClosedInside.{closed_from_plain}
-use Rattle.convoy_monotone.proofs.laws.leads_close_from_plain.Goals as goal
-
-pub returns : goal.returns
-returns c scenario ranges latency well bound =
-    closed_from_plain c.windows_are_tables.ensures scenario ranges latency well bound

@@ -1,5 +1,0 @@
-use Rattle.convoy_monotone.proofs.NarrowTables.{plain_falls}
-use Rattle.convoy_monotone.proofs.laws.plain_bound_falls_over_tables.Goals as goal
-
-pub returns : goal.returns
-returns c scenario outer inner well narrow = plain_falls scenario outer inner well narrow

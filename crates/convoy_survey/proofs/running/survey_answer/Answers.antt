@@ -1,6 +1,0 @@
-use Rattle.convoy_survey.proofs.KnownMessages.{messages_known}
-use Rattle.convoy_survey.proofs.running.survey_answer.Goals as goal
-
-pub survey_text-requires : goal.survey_text-requires
-survey_text-requires g c =
-    rw c.deref.ensures.value (messages_known c.in_ok-scenario.scenario c.in_ok-rows.rows.items c.in_ok-rows.ensures.targets)

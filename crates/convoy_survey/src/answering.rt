@@ -1,0 +1,74 @@
+ghost use Rattle.std.specs.Prelude.{◌≡◌, IfOk, Ok};
+ghost use Rattle.convoy_scenario.specs.Memory.{IsUnlessMemory};
+ghost use Rattle.convoy_toml.specs.declared.target.TargetKey.TheVariants.{Optional};
+ghost use Rattle.convoy_toml.specs.Reading.{scenario_of_text_by};
+ghost use Rattle.convoy_commands.specs.Replies.{SaysUnlessMemory, reply_of};
+ghost use Rattle.convoy_survey.specs.Surveys.{SurveySays, end_of};
+
+use super::finding::Surveyed;
+use super::rows::survey;
+use super::table::survey_text;
+use convoy_branch::Options;
+use convoy_commands::{Answer, Done, Fault, Known, Watch};
+use convoy_scenario::{Scenario, ScenarioFault};
+use convoy_tables::Format;
+use convoy_toml::read_toml_any_target;
+use std::alloc::Global;
+use std::sync::Wait;
+use std::thread::Threads;
+
+/// The survey of the scenario of a text: a table with a row for each message at each group that it goes to
+/// (docs/FORMATS.md, "What `survey` writes"); what is asked in the text does not matter, and may be left out. The
+/// numbers of a row are those that [`latency_answer`](convoy_commands::latency_answer) tells of the scenario with
+/// that target. With ceilings, a row ends with the [`ceiling`](convoy_ceiling::ceiling) of its message at its
+/// group, in ticks and in the unit of a tick. Each search is watched, by [`NoGate`](convoy_branch::NoGate)
+/// where nobody watches.
+///
+/// A row for which memory runs out has that fault in place of numbers, with its ceiling all the same, and the survey
+/// goes on. Faults of the whole are `Fault::Scenario`, where the text is that of no scenario, and `Fault::Memory`.
+pub fn survey_answer<R: Threads + Wait + Sync, W: Watch + Sync>(
+    rt: &R,
+    alloc: Global,
+    format: Format,
+    with_ceilings: bool,
+    options: &Options,
+    text: &[u8],
+    watch: &W,
+) -> Result<Answer, Fault>
+    ensures { SaysUnlessMemory (SurveySays format with_ceilings options.now) text.now
+        (reply_of result) }
+{
+    let scenario = read_scenario(alloc, text)?;
+    // A scenario is well formed.
+    let _count = scenario.message_count();
+    let rows = survey(rt, alloc, &scenario, options, watch)?;
+    let text = survey_text(alloc, format, with_ceilings, &scenario, &rows)?;
+    Ok(Answer {
+        done: end_of(&rows),
+        text,
+        known: Some(Known {
+            scenario,
+            greatest: None,
+        }),
+    })
+}
+
+/// The scenario of a text in which the target may be left out.
+pub(crate) fn read_scenario(alloc: Global, text: &[u8]) -> Result<Scenario, ScenarioFault>
+    ensures unless_memory { IsUnlessMemory ScenarioFault.Memory (scenario_of_text_by Optional text.now) result }
+    ensures read { IfOk result (λ scenario. scenario_of_text_by Optional text.now ≡ Ok scenario) }
+{
+    Ok(read_toml_any_target(alloc, text)?.scenario)
+}
+
+/// How a survey with these rows ends.
+fn end_of(rows: &[Surveyed]) -> Done
+    ensures { result ≡ end_of rows.now }
+{
+    let (mut any_fault, mut any_open) = (false, false);
+    for row in rows {
+        any_fault |= row.finding.is_fault();
+        any_open |= row.finding.is_open();
+    }
+    Done::by(any_fault, any_open)
+}

@@ -1,0 +1,116 @@
+-- The faults that the rule of a task allows for a text: none is a device's.
+use Rattle.std.proofs.Common.{◌≡◌, inl, inr, ℕ, Bool, true, false, cond, nat_le, List, Option, Some, None, Result, Ok, Err, length, string_bytes}
+use Rattle.std.specs.Option.{option_map}
+use Rattle.convoy_streams.specs.declared.reading.ReadFault.TheVariants.{TooLong}
+use Rattle.convoy_scenario.specs.Scenario.{Scenario}
+use Rattle.convoy_toml.specs.declared.target.TargetKey.{TargetKey}
+use Rattle.convoy_toml.specs.declared.target.TargetKey.TheVariants.{Optional}
+use Rattle.convoy_branch.specs.Options.{Settings}
+use Rattle.convoy_certificate.specs.Certificate.{Certificate}
+use Rattle.convoy_certificate.specs.Reading.{certificate_of}
+use Rattle.convoy_certificate.specs.TextForms.{form_of}
+use Rattle.convoy_certificate.specs.declared.form.Form.{Form}
+use Rattle.convoy_certificate.specs.declared.form.Form.TheVariants as forms
+use Rattle.convoy_certificate.specs.declared.text_fault.TextFault.{TextFault}
+use Rattle.convoy_tables.specs.declared.format.Format.{Format}
+use Rattle.convoy_commands.specs.declared.asking.Asking.TheVariants as askings
+use Rattle.convoy_commands.specs.declared.done.Done.TheVariants.{NotChecked}
+use Rattle.convoy_commands.specs.declared.fault.Fault.{Fault}
+use Rattle.convoy_commands.specs.declared.fault.Fault.TheVariants.{Reading}
+use Rattle.convoy_commands.specs.declared.limits.TheConstants.{LONGEST_JOB}
+use Rattle.convoy_commands.specs.declared.telling.Telling.{Telling}
+use Rattle.convoy_commands.specs.Asks.{AskSays}
+use Rattle.convoy_commands.specs.First.{first_text}
+use Rattle.convoy_commands.specs.Inputs.{reply_of_reading, reply_to_form}
+use Rattle.convoy_commands.specs.Replies.{fine}
+use Rattle.convoy_commands.specs.Searches.{IsFaulty, IsFaultyBy}
+use Rattle.convoy_commands.specs.Tells.{TellSays, certificate_told, job_told}
+use Rattle.convoy_commands.specs.WithCeilings.{explain_says, latency_says}
+use Rattle.convoy_commands.proofs.CheckTexts.{check_no_device, text_fault}
+use Rattle.convoy_commands.proofs.DrawTexts.{draw_no_device}
+use Rattle.convoy_commands.proofs.ExplainTexts.{explain_no_device}
+use Rattle.convoy_commands.proofs.FirstTexts.{first_no_device}
+use Rattle.convoy_commands.proofs.NoDevice.{IsNoDevice, no_device_in_scenario}
+use Rattle.convoy_commands.proofs.TellTexts.{job_no_device as told_no_device}
+use Rattle.convoy_commands.proofs.WithinTexts.{fault_within}
+use Rattle.convoy_survey.specs.CeilingTables.{CeilingsSay}
+use Rattle.convoy_what_if.specs.WhatIf.{WhatIfSays}
+use Rattle.convoy_tasks.specs.declared.task.Task.{Task}
+use Rattle.convoy_tasks.specs.declared.task.Task.TheVariants.{First, Tell, Check, Explain, Draw, Ceiling, Ceilings, Analyse, Latency, Survey, WhatIf, BatchTable}
+use Rattle.convoy_tasks.specs.Abouts.{check_says}
+use Rattle.convoy_tasks.specs.Tasks.{task_says}
+
+-- the fault of an answer is that of the reply
+fault_of_fine : (answer : Result (List ℕ) Fault) (fault : Fault) → Err fault ≡ fine answer → answer ≡ Err fault
+fault_of_fine (Ok out) fault is = cc
+fault_of_fine (Err refused) fault is = cc
+
+-- a job's fault is one of its text, or that it is too long
+job_no_device : (answer : Result (List ℕ) Fault) (fault : Fault) →
+    ((refused : Fault) → answer ≡ Err refused → IsNoDevice refused) → (b : Bool) →
+    Err fault ≡ cond b (fine answer) (Err (Reading (TooLong LONGEST_JOB))) → IsNoDevice fault
+job_no_device answer fault none true is = none fault (fault_of_fine answer fault is)
+job_no_device answer fault none false is = let same : fault ≡ Reading (TooLong LONGEST_JOB) = cc in rw same tt
+
+-- a certificate's fault is want of memory
+reading_no_device : (made : Certificate → List ℕ) (read : Result Certificate TextFault) (fault : Fault) →
+    Err fault ≡ reply_of_reading made read → IsNoDevice fault
+reading_no_device made (Ok certificate) fault is = cc
+reading_no_device made (Err refused) fault is = let none = text_fault (Err refused) fault is in rw none tt
+
+form_no_device : (made : Certificate → List ℕ) (answer : List ℕ → Result (List ℕ) Fault) (text : List ℕ) (form : Form) (fault : Fault) →
+    ((refused : Fault) → answer text ≡ Err refused → IsNoDevice refused) →
+    Err fault ≡ reply_to_form made answer text form → IsNoDevice fault
+form_no_device made answer text (forms.Certificate version) fault none is = reading_no_device made (certificate_of text) fault is
+form_no_device made answer text forms.Other fault none is = job_no_device (answer text) fault none (nat_le (length text) LONGEST_JOB) is
+
+-- the fault of what is told is one of those
+tell_no_device : (telling : Telling) (text : List ℕ) (fault : Fault) → TellSays telling text (Err fault) → IsNoDevice fault
+tell_no_device telling text fault says =
+    form_no_device (certificate_told telling) (job_told telling) text (form_of text) fault (λ refused is. told_no_device telling text refused is) says
+
+-- a search's fault is one of its text
+search_no_device : (text : List ℕ) (fault : Fault) → IsFaulty text fault → IsNoDevice fault
+search_no_device text fault faulty = rw faulty.told (no_device_in_scenario faulty.cause)
+
+-- what the command line names, or leaves out, in the rule of `check`
+about_no_device : (wanted : Option Scenario) (tells : Bool) (text : List ℕ) (fault : Fault) → check_says wanted tells text (Err fault) → IsNoDevice fault
+about_no_device None false text fault says = check_no_device text fault says
+about_no_device None true text fault says = check_no_device text fault says
+about_no_device (Some scenario) tells text fault says = check_no_device text fault says
+
+explained_no_device : (with_ceiling : Bool) (text : List ℕ) (fault : Fault) → explain_says with_ceiling text (Err fault) → IsNoDevice fault
+explained_no_device true text fault says = explain_no_device text fault says
+explained_no_device false text fault says = explain_no_device text fault says
+
+-- the fault of a text in which the target may be left out
+any_target_no_device : (key : TargetKey) (text : List ℕ) (fault : Fault) → IsFaultyBy key text fault → IsNoDevice fault
+any_target_no_device key text fault faulty = rw faulty.told (no_device_in_scenario faulty.cause)
+
+ceilings_no_device : (format : Format) (group : Option (List ℕ)) (text : List ℕ) (fault : Fault) → CeilingsSay format group text (Err fault) → IsNoDevice fault
+ceilings_no_device format group text fault (inl faulty) = any_target_no_device Optional text fault faulty
+ceilings_no_device format group text fault (inr unknown) = rw unknown.told tt
+
+latency_no_device : (with_ceiling : Bool) (settings : Settings) (text : List ℕ) (fault : Fault) → latency_says with_ceiling settings text (Err fault) → IsNoDevice fault
+latency_no_device true settings text fault says = search_no_device text fault says
+latency_no_device false settings text fault says = search_no_device text fault says
+
+what_if_no_device : (format : Format) (settings : Settings) (text : List ℕ) (fault : Fault) → WhatIfSays format settings text (Err fault) → IsNoDevice fault
+what_if_no_device format settings text fault (inl faulty) = search_no_device text fault faulty
+what_if_no_device format settings text fault (inr is) = rw is.broken.makes_none.told tt
+
+pub says_no_device : (task : Task) (wanted : Option Scenario) (text : List ℕ) (fault : Fault) → task_says task wanted text (Err fault) → IsNoDevice fault
+says_no_device First wanted text fault says = first_no_device text fault (fault_of_fine (first_text text) fault says)
+says_no_device (Tell telling) wanted text fault says = tell_no_device telling text fault says
+says_no_device (Check tells limit) wanted text fault says =
+    about_no_device wanted tells text fault (fault_within limit NotChecked (check_says wanted tells) text fault says)
+says_no_device (Explain with_ceiling limit) wanted text fault says =
+    explained_no_device with_ceiling text fault (fault_within limit NotChecked (explain_says with_ceiling) text fault says)
+says_no_device (Draw limit) wanted text fault says = draw_no_device text fault (fault_within limit NotChecked (AskSays askings.Draw) text fault says)
+says_no_device (Ceiling simulations) wanted text fault says = search_no_device text fault says
+says_no_device (Ceilings format group simulations) wanted text fault says = ceilings_no_device format (option_map string_bytes group) text fault says
+says_no_device (Analyse options) wanted text fault says = search_no_device text fault says
+says_no_device (Latency with_ceiling options) wanted text fault says = latency_no_device with_ceiling options text fault says
+says_no_device (Survey format with_ceilings options) wanted text fault says = any_target_no_device Optional text fault says
+says_no_device (WhatIf format options) wanted text fault says = what_if_no_device format options text fault says
+says_no_device (BatchTable format options tells_status) wanted text fault says = rw says.0 tt

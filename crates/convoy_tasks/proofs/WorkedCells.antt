@@ -1,0 +1,32 @@
+-- Worked cells, computed from the definitions alone.
+use Rattle.std.proofs.Common.{◌≡◌, [], ◌∷◌, Some, Err, codes, refl}
+use Rattle.std.specs.Fmt.{digits}
+use Rattle.convoy_streams.specs.declared.reading.ReadFault.TheVariants.{TooLong}
+use Rattle.convoy_tables.specs.Tables.{nothing, word}
+use Rattle.convoy_draft.specs.declared.fault.ScenarioFault.TheVariants.{UnknownGroup}
+use Rattle.convoy_commands.specs.declared.fault.Fault.TheVariants.{Reading, Scenario}
+use Rattle.convoy_commands.specs.declared.limits.TheConstants.{LONGEST_JOB}
+use Rattle.convoy_commands.specs.Faults.{fault_line_of}
+use Rattle.convoy_tasks.specs.JobTables.{column_names, found_cells, label_cell, tick_cell}
+
+names : column_names ≡
+    word (codes "job") ∷ word (codes "label") ∷ word (codes "answer") ∷ word (codes "least") ∷ word (codes "most")
+    ∷ word (codes "tick") ∷ word (codes "rival") ∷ word (codes "tied") ∷ word (codes "nodes") ∷ []
+names = refl
+
+no_group : found_cells (Err (Scenario UnknownGroup)) ≡
+    word (codes "fault 6 unknown group") ∷ nothing ∷ nothing ∷ nothing ∷ nothing ∷ nothing ∷ nothing ∷ []
+unfolding fault_line_of digits
+no_group = refl
+
+too_long : found_cells (Err (Reading (TooLong LONGEST_JOB))) ≡
+    word (codes "fault 42 job too long") ∷ nothing ∷ nothing ∷ nothing ∷ nothing ∷ nothing ∷ nothing ∷ []
+unfolding fault_line_of digits
+too_long = refl
+
+ticks : tick_cell (Some 50000) ≡ word (codes "50 us")
+unfolding digits
+ticks = refl
+
+no_label : label_cell [] ≡ nothing
+no_label = refl

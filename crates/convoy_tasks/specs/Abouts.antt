@@ -1,0 +1,80 @@
+-- What the command `check` writes where the certificate is to be that of a scenario, or where it is to tell what it accepts; and what reading that scenario gives.
+use Rattle.std.specs.Prelude.{◌≡◌, ◌⊎◌, ℕ, ◌≤◌, Bool, true, false, List, ◌++◌, length, Option, Some, None, IfSome, IsSomeAnd, Result, Ok, Err}
+use Rattle.std.specs.List.{FoldsTo}
+use Rattle.convoy_streams.specs.declared.reading.ReadFault.TheVariants as reading
+use Rattle.convoy_streams.specs.Devices.{Answer}
+use Rattle.convoy_streams.specs.Reads.{ReadsText, StopsReading}
+use Rattle.convoy_scenario.specs.Scenario.{Scenario}
+use Rattle.convoy_toml.specs.Reading.{scenario_of_text}
+use Rattle.convoy_certificate.specs.Certificate.{Certificate}
+use Rattle.convoy_commands.specs.declared.done.Done.TheVariants.{Fine, Differs}
+use Rattle.convoy_commands.specs.declared.fault.Fault.{Fault}
+use Rattle.convoy_commands.specs.declared.fault.Fault.TheVariants.{Memory}
+use Rattle.convoy_commands.specs.declared.limits.TheConstants.{LONGEST_JOB}
+use Rattle.convoy_commands.specs.declared.asking.Asking.TheVariants.{Check}
+use Rattle.convoy_commands.specs.Asks.{AskSays}
+use Rattle.convoy_commands.specs.Checks.{CheckSays, IsAccepted}
+use Rattle.convoy_commands.specs.Replies.{Rule}
+use Rattle.convoy_commands.specs.Searches.{IsFaulty}
+use Rattle.convoy_scenario.specs.declared.part.Part.{Part}
+use Rattle.convoy_tasks.specs.AcceptedLines.{differs_line, told_if}
+use Rattle.convoy_tasks.specs.Runs.{IsUnread}
+use Rattle.convoy_scenario.specs.Differences.{IsFirstDifference}
+
+-- the scenario is the one that is wanted, if one is
+abbrev pub IsWanted : Option Scenario → Scenario → Type 0
+IsWanted wanted scenario = IfSome wanted (λ asked. scenario ≡ asked)
+
+-- one is wanted, and this is the first part in which the scenario differs from it
+abbrev pub IsUnwanted : Option Scenario → Scenario → Part → Type 0
+IsUnwanted wanted scenario part = IsSomeAnd wanted (λ asked. IsFirstDifference asked scenario part)
+
+-- THE HEADLINE. `check` accepts the text with this line, which is that of a valid certificate: its latency is the greatest of its scenario, and that scenario is the one that is wanted, if one is. What is written is the yes, and below it what was accepted, where that is to be told.
+pub record IsAcceptedAbout (wanted : Option Scenario) (tells : Bool) (text out : List ℕ) : Type 0 where
+  pub line : List ℕ
+  pub accepted : IsAccepted text line
+  pub of_wanted : IsWanted wanted accepted.certificate.scenario
+  pub written : out ≡ line ++ told_if tells accepted.certificate
+
+-- `check` accepts the text, but its certificate is that of another scenario than the one that is wanted. What is written is that refusal, with the first part that differs.
+pub record IsOfAnother (wanted : Option Scenario) (part : Part) (text out : List ℕ) : Type 0 where
+  pub line : List ℕ
+  pub accepted : IsAccepted text line
+  pub unwanted : IsUnwanted wanted accepted.certificate.scenario part
+  pub written : out ≡ differs_line part
+
+-- What may be answered for a text: a yes, or that it is of another scenario; whatever is neither is answered as `check` does.
+abbrev pub CheckAboutSays : Option Scenario → Bool → Rule
+CheckAboutSays wanted tells text (Ok (Fine, out)) = IsAcceptedAbout wanted tells text out
+CheckAboutSays wanted tells text (Ok (Differs part, out)) = IsOfAnother wanted part text out
+CheckAboutSays wanted tells text other = AskSays Check text other
+
+-- The rule of `check`, by the scenario that is wanted, if one is, and by whether what is accepted is to be told.
+abbrev pub check_says : Option Scenario → Bool → Rule
+check_says None false = CheckSays
+check_says None true = CheckAboutSays None true
+check_says (Some scenario) tells = CheckAboutSays (Some scenario) tells
+
+-- the certificate is the one that `check` accepts with this line
+abbrev pub IsAcceptedAs : Certificate → List ℕ → List ℕ → Type 0
+IsAcceptedAs certificate text line = (accepted : IsAccepted text line) × (accepted.certificate ≡ certificate)
+
+-- What reading a scenario gives, by what the reads answered, where at most so many are made.
+abbrev pub ReadsScenario : ℕ → List Answer → Result Scenario Fault → Type 0
+-- the reads gave a text whole, of no more bytes than a job may have, and it is that of this scenario
+ReadsScenario most_reads reads (Ok scenario) =
+    (text : List ℕ) × ReadsText LONGEST_JOB reads text × (scenario_of_text text ≡ Ok scenario)
+-- memory ran out, in reading or after the text was read
+ReadsScenario most_reads reads (Err Memory) =
+    StopsReading LONGEST_JOB most_reads reads reading.Memory ⊎ ((text : List ℕ) × ReadsText LONGEST_JOB reads text)
+-- reading stopped, or the text has a fault
+ReadsScenario most_reads reads (Err fault) =
+    IsUnread LONGEST_JOB most_reads reads fault ⊎ ((text : List ℕ) × ReadsText LONGEST_JOB reads text × IsFaulty text fault)
+
+-- Over a source that may answer so, from its old state to its new one, there is a reading that gives this result.
+pub record IsScenarioRead {S : Type 0} (most_reads : ℕ) (may_read : S → Answer → S → Type 0) (source new_source : S)
+    (result : Result Scenario Fault) : Type 0 where
+  pub reads : List Answer
+  pub read : FoldsTo may_read source reads new_source
+  pub few : length reads ≤ most_reads
+  pub outcome : ReadsScenario most_reads reads result

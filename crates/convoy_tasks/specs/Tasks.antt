@@ -1,0 +1,62 @@
+-- The tasks: what each may answer for a text, and how long the text may be.
+use Rattle.std.specs.Prelude.{ℕ, Bool, Option, string_bytes}
+use Rattle.std.specs.Option.{option_map}
+use Rattle.convoy_scenario.specs.Scenario.{Scenario}
+use Rattle.convoy_commands.specs.declared.asking.Asking.TheVariants as askings
+use Rattle.convoy_commands.specs.declared.done.Done.TheVariants.{NotChecked}
+use Rattle.convoy_commands.specs.declared.limits.TheConstants.{LONGEST_CERTIFICATE, LONGEST_JOB}
+use Rattle.convoy_commands.specs.Asks.{AskSays}
+use Rattle.convoy_commands.specs.Ceilings.{CeilingSays}
+use Rattle.convoy_commands.specs.First.{FirstSays}
+use Rattle.convoy_commands.specs.Replies.{Rule}
+use Rattle.convoy_commands.specs.Searches.{AnalyseSays}
+use Rattle.convoy_commands.specs.Tells.{TellSays}
+use Rattle.convoy_commands.specs.WithCeilings.{explain_says, latency_says}
+use Rattle.convoy_commands.specs.Withins.{SaysWithin}
+use Rattle.convoy_survey.specs.CeilingTables.{CeilingsSay}
+use Rattle.convoy_survey.specs.Surveys.{SurveySays}
+use Rattle.convoy_what_if.specs.WhatIf.{WhatIfSays}
+use Rattle.convoy_tasks.specs.declared.batch_table.TheConstants.{LONGEST_BATCH}
+use Rattle.convoy_tasks.specs.BatchTables.{BatchTableSays}
+use Rattle.convoy_tasks.specs.declared.task.Task.{Task}
+use Rattle.convoy_tasks.specs.declared.task.Task.TheVariants.{First, Tell, Check, Explain, Draw, Ceiling, Ceilings, Analyse, Latency, Survey, WhatIf, BatchTable}
+use Rattle.convoy_tasks.specs.Abouts.{check_says}
+
+-- THE RULE OF A TASK: what may be answered for a text. The scenario that is wanted, if one is, is that of which a certificate has to be; no other task looks at it.
+abbrev pub task_says : Task → Option Scenario → Rule
+task_says First wanted = FirstSays
+task_says (Tell telling) wanted = TellSays telling
+task_says (Check tells limit) wanted = SaysWithin limit NotChecked (check_says wanted tells)
+task_says (Explain with_ceiling limit) wanted = SaysWithin limit NotChecked (explain_says with_ceiling)
+task_says (Draw limit) wanted = SaysWithin limit NotChecked (AskSays askings.Draw)
+task_says (Ceiling simulations) wanted = CeilingSays
+task_says (Ceilings format group simulations) wanted = CeilingsSay format (option_map string_bytes group)
+task_says (Analyse options) wanted = AnalyseSays options
+task_says (Latency with_ceiling options) wanted = latency_says with_ceiling options
+task_says (Survey format with_ceilings options) wanted = SurveySays format with_ceilings options
+task_says (WhatIf format options) wanted = WhatIfSays format options
+task_says (BatchTable format options tells_status) wanted = BatchTableSays format options
+
+-- HOW LONG ITS TEXT MAY BE, in bytes: as long as a certificate's where it may be one, and as long as a job's else
+abbrev pub longest_for : Task → ℕ
+longest_for First = LONGEST_JOB
+longest_for (Tell telling) = LONGEST_CERTIFICATE
+longest_for (Check tells limit) = LONGEST_CERTIFICATE
+longest_for (Explain with_ceiling limit) = LONGEST_CERTIFICATE
+longest_for (Draw limit) = LONGEST_CERTIFICATE
+longest_for (Ceiling simulations) = LONGEST_JOB
+longest_for (Ceilings format group simulations) = LONGEST_JOB
+longest_for (Analyse options) = LONGEST_JOB
+longest_for (Latency with_ceiling options) = LONGEST_JOB
+longest_for (Survey format with_ceilings options) = LONGEST_JOB
+longest_for (WhatIf format options) = LONGEST_JOB
+longest_for (BatchTable format options tells_status) = LONGEST_BATCH
+
+-- the task is done without a search for the greatest latency
+abbrev pub NeedsNoSearch : Task → Type 0
+NeedsNoSearch (Analyse options) = ⊥
+NeedsNoSearch (Latency with_ceiling options) = ⊥
+NeedsNoSearch (Survey format with_ceilings options) = ⊥
+NeedsNoSearch (WhatIf format options) = ⊥
+NeedsNoSearch (BatchTable format options tells_status) = ⊥
+NeedsNoSearch other = Unit {0}

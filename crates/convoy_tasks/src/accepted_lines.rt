@@ -1,0 +1,128 @@
+//! The lines that tell what was accepted, and the refusal of the certificate of another scenario.
+
+ghost use Rattle.std.specs.Prelude.{◌≡◌, ◌*◌, ◌∷◌, [], ◌++◌, decimal, IfOk, OnOk};
+ghost use Rattle.std.specs.List.{flat_map};
+ghost use Rattle.convoy_lines.specs.Texts.{spaced};
+ghost use Rattle.convoy_draft.specs.Durations.{count_of};
+ghost use Rattle.convoy_scenario.specs.Scenario.{group_name_at, message_at};
+ghost use Rattle.convoy_commands.specs.Lines.{in_unit};
+ghost use Rattle.convoy_tasks.specs.AcceptedLines.{certificate_told, count_line, counts_told, delay_line, differs_line, scenario_told, target_line};
+
+use convoy_certificate::Certificate;
+use convoy_lines::{push_further_word, push_number};
+use convoy_scenario::laws::targets_are_groups;
+use convoy_scenario::{Duration, Part, Scenario};
+use itoa::Buffer;
+use std::alloc::{AllocError, Global};
+
+/// The refusal of a certificate whose scenario differs in this part.
+pub(crate) fn differs_line(alloc: Global, part: Part) -> Result<Vec<u8>, AllocError>
+    ensures { IfOk result (λ line. line.items ≡ differs_line part) }
+{
+    let mut line = Vec::new(alloc);
+    line.extend_from_slice(b"refused 37 scenario differs in ")?;
+    line.extend_from_slice(part.word().as_bytes())?;
+    line.push(b'\n')?;
+    Ok(line)
+}
+
+/// Appends what is told of an accepted certificate.
+pub(crate) fn push_certificate(
+    certificate: &Certificate,
+    out: &mut Vec<u8>,
+) -> Result<(), AllocError>
+    ensures { OnOk result (out.new.items ≡ out.old.items ++ certificate_told certificate.now) }
+{
+    push_scenario(certificate.scenario(), out)?;
+    push_count_line(out, "nodes", certificate.nodes().len())
+}
+
+/// Appends what is told of a scenario.
+#[tactic(auto, using(std::proofs::lemmas::List::append_assoc))]
+fn push_scenario(scenario: &Scenario, out: &mut Vec<u8>) -> Result<(), AllocError>
+    ensures { OnOk result (out.new.items ≡ out.old.items ++ scenario_told scenario.now) }
+{
+    push_target_line(scenario, out)?;
+    push_delay_line(scenario, out)?;
+    push_counts(scenario, out)
+}
+
+/// Appends how many groups, messages and links a scenario has.
+fn push_counts(scenario: &Scenario, out: &mut Vec<u8>) -> Result<(), AllocError>
+    ensures { OnOk result (out.new.items ≡ out.old.items ++ counts_told scenario.now) }
+{
+    push_count_line(out, "groups", scenario.group_count())?;
+    push_count_line(out, "messages", scenario.message_count())?;
+    push_count_line(out, "links", scenario.link_count())
+}
+
+/// Appends the line of the target: the names of its message and of its group.
+fn push_target_line(scenario: &Scenario, out: &mut Vec<u8>) -> Result<(), AllocError>
+    ensures { OnOk result (out.new.items ≡ out.old.items ++ target_line scenario.now) }
+{
+    out.extend_from_slice(b"target")?;
+    push_further_word(out, target_message_name(scenario))?;
+    push_further_word(out, target_group_name(scenario))?;
+    out.push(b'\n')?;
+    Ok(())
+}
+
+/// The name of the message of which the latency is asked.
+fn target_message_name(scenario: &Scenario) -> &str
+    ensures { result.now ≡ (message_at scenario.now scenario.now.target_message).name }
+{
+    scenario.message_name(scenario.target_message())
+}
+
+/// The name of the group at which the latency is asked.
+fn target_group_name(scenario: &Scenario) -> &str
+    ensures { result.now ≡ group_name_at scenario.now scenario.now.target_group }
+{
+    targets_are_groups();
+    scenario.group_name(scenario.target_group())
+}
+
+/// Appends the line of D, in ticks and, where the length of a tick is known, in its unit.
+fn push_delay_line(scenario: &Scenario, out: &mut Vec<u8>) -> Result<(), AllocError>
+    ensures { OnOk result (out.new.items ≡ out.old.items ++ delay_line scenario.now) }
+{
+    let delay = u32::from(scenario.delay());
+    out.extend_from_slice(b"delay ")?;
+    push_number(out, delay)?;
+    push_in_unit(scenario.tick(), delay, out)?;
+    out.push(b'\n')?;
+    Ok(())
+}
+
+/// Appends a number of ticks in the unit of a tick, and the unit, where its length is known.
+fn push_in_unit(tick: Option<Duration>, ticks: u32, out: &mut Vec<u8>) -> Result<(), AllocError>
+    ensures { OnOk result (out.new.items
+        ≡ out.old.items ++ flat_map spaced (in_unit tick (ticks ∷ []))) }
+{
+    let Some(tick) = tick else {
+        return Ok(());
+    };
+    push_time(tick, ticks, out)?;
+    push_further_word(out, tick.unit().word())
+}
+
+/// Appends a space and how many of a tick's unit so many ticks are.
+fn push_time(tick: Duration, ticks: u32, out: &mut Vec<u8>) -> Result<(), AllocError>
+    ensures { OnOk result (out.new.items
+        ≡ out.old.items ++ spaced (decimal (ticks * count_of tick))) }
+{
+    let mut buffer = Buffer::new();
+    let time = u128::from(ticks) * u128::from(tick.count());
+    push_further_word(out, buffer.format(time))
+}
+
+/// Appends the line of how many there are of what a word names.
+fn push_count_line(out: &mut Vec<u8>, word: &str, count: usize) -> Result<(), AllocError>
+    ensures { OnOk result (out.new.items ≡ out.old.items ++ count_line word.now count) }
+{
+    let mut buffer = Buffer::new();
+    out.extend_from_slice(word.as_bytes())?;
+    push_further_word(out, buffer.format(count))?;
+    out.push(b'\n')?;
+    Ok(())
+}

@@ -1,0 +1,176 @@
+ghost use Rattle.std.specs.Prelude.{◌≡◌, string_bytes};
+ghost use Rattle.std.specs.Option.{option_map};
+ghost use Rattle.convoy_commands.specs.Replies.{SaysUnlessMemory, reply_of};
+ghost use Rattle.convoy_commands.specs.WithCeilings.{explain_says, latency_says};
+ghost use Rattle.convoy_commands.specs.Withins.{SaysWithin};
+ghost use Rattle.convoy_commands.specs.declared.done.Done.TheVariants.{NotChecked};
+ghost use Rattle.convoy_survey.specs.CeilingTables.{CeilingsSay};
+ghost use Rattle.convoy_tasks.specs.Tasks.{NeedsNoSearch, longest_for, task_says};
+
+use super::batch_table::{LONGEST_BATCH, batch_table_answer};
+use super::checking::check_answer;
+use super::task::Task;
+use convoy_commands::{
+    Answer, Asking, Fault, LONGEST_CERTIFICATE, LONGEST_JOB, Options, Watch, analyse_answer, ask,
+    ceiling_answer, explain_with_ceiling, first_answer, latency_answer, latency_with_ceiling, tell,
+};
+use convoy_scenario::Scenario;
+use convoy_survey::{ceilings_answer, survey_answer};
+use convoy_tables::Format;
+use convoy_what_if::what_if_answer;
+use std::alloc::Global;
+use std::sync::Wait;
+use std::thread::Threads;
+
+/// Answers a task for a text: how it ends, what is to be written, and what is known besides. A certificate has to be of
+/// the scenario that is wanted, if one is; no other task looks at that. Each search is watched, by
+/// [`NoGate`](convoy_branch::NoGate) where nobody watches: who watches counts the seconds that its options give it.
+///
+/// The faults are those of a text: `Fault::Scenario` where it is that of no scenario, where none of its groups has the
+/// name that is given, or where a change of it makes none; `Fault::Schedule` and `Fault::Order` for a schedule that is
+/// none of it; `Fault::Reading` for a scenario of more than [`LONGEST_JOB`] bytes where a certificate may be longer;
+/// `Fault::TooManyJobs`; and `Fault::Memory`.
+pub fn answer<R: Threads + Wait + Sync, W: Watch + Sync>(
+    rt: &R,
+    alloc: Global,
+    task: &Task,
+    wanted: Option<&Scenario>,
+    text: &[u8],
+    watch: &W,
+) -> Result<Answer, Fault>
+    ensures { SaysUnlessMemory (task_says task.now (option_map (λ s. s.now) wanted.entry)) text.now
+        (reply_of result) }
+{
+    match task {
+        Task::Analyse { options } => analyse_answer(rt, alloc, text, options, watch),
+        Task::Latency {
+            with_ceiling,
+            options,
+        } => answer_latency(rt, alloc, *with_ceiling, text, options, watch),
+        Task::Survey {
+            format,
+            with_ceilings,
+            options,
+        } => survey_answer(rt, alloc, *format, *with_ceilings, options, text, watch),
+        Task::WhatIf { format, options } => {
+            what_if_answer(rt, alloc, *format, options, text, watch)
+        }
+        Task::BatchTable {
+            format,
+            options,
+            ..
+        } => batch_table_answer(rt, alloc, *format, options, text, watch),
+        Task::First
+        | Task::Tell(_)
+        | Task::Check { .. }
+        | Task::Explain { .. }
+        | Task::Draw { .. }
+        | Task::Ceiling { .. }
+        | Task::Ceilings { .. } => answer_at_once(alloc, task, wanted, text),
+    }
+}
+
+/// The same of a task that needs no search, and so no threads.
+pub(crate) fn answer_at_once(
+    alloc: Global,
+    task: &Task,
+    wanted: Option<&Scenario>,
+    text: &[u8],
+) -> Result<Answer, Fault>
+    requires { NeedsNoSearch task.now }
+    ensures { SaysUnlessMemory (task_says task.now (option_map (λ s. s.now) wanted.entry)) text.now
+        (reply_of result) }
+{
+    match task {
+        Task::First => first_answer(alloc, text),
+        Task::Tell(telling) => tell(alloc, *telling, text),
+        Task::Check { tells, limit } => check_answer(alloc, wanted, *tells, *limit, text),
+        Task::Explain {
+            with_ceiling,
+            limit,
+        } => answer_explain(alloc, *with_ceiling, *limit, text),
+        Task::Draw { limit } => ask(alloc, Asking::Draw, *limit, text),
+        Task::Ceiling { simulations } => ceiling_answer(alloc, *simulations, text),
+        Task::Ceilings {
+            format,
+            group,
+            simulations,
+        } => answer_ceilings(alloc, *format, group, *simulations, text),
+        Task::Analyse { .. }
+        | Task::Latency { .. }
+        | Task::Survey { .. }
+        | Task::WhatIf { .. }
+        | Task::BatchTable { .. } => unreachable!(),
+    }
+}
+
+/// The greatest latency, and below it the ceiling where that is asked for.
+fn answer_latency<R: Threads + Wait + Sync, W: Watch + Sync>(
+    rt: &R,
+    alloc: Global,
+    with_ceiling: bool,
+    text: &[u8],
+    options: &Options,
+    watch: &W,
+) -> Result<Answer, Fault>
+    ensures { SaysUnlessMemory (latency_says with_ceiling options.now) text.now (reply_of result) }
+{
+    if with_ceiling {
+        latency_with_ceiling(rt, alloc, text, options, watch)
+    } else {
+        latency_answer(rt, alloc, text, options, watch)
+    }
+}
+
+/// The explanation of a certificate, and below it the ceiling where that is asked for.
+fn answer_explain(
+    alloc: Global,
+    with_ceiling: bool,
+    limit: Option<u64>,
+    text: &[u8],
+) -> Result<Answer, Fault>
+    ensures { SaysUnlessMemory (SaysWithin limit NotChecked (explain_says with_ceiling)) text.now
+        (reply_of result) }
+{
+    if with_ceiling {
+        explain_with_ceiling(alloc, limit, text)
+    } else {
+        ask(alloc, Asking::Explain, limit, text)
+    }
+}
+
+/// The ceilings at all groups, or at the one that is named.
+fn answer_ceilings(
+    alloc: Global,
+    format: Format,
+    group: &Option<String>,
+    simulations: u64,
+    text: &[u8],
+) -> Result<Answer, Fault>
+    ensures { SaysUnlessMemory (CeilingsSay format (option_map string_bytes group.now)) text.now
+        (reply_of result) }
+{
+    match group {
+        Some(name) => ceilings_answer(alloc, format, Some(name.as_str()), simulations, text),
+        None => ceilings_answer(alloc, format, None, simulations, text),
+    }
+}
+
+/// How many bytes the text of a task has at most.
+pub fn longest_of(task: &Task) -> usize
+    ensures { result ≡ longest_for task.now }
+{
+    match task {
+        Task::Tell(_) | Task::Check { .. } | Task::Explain { .. } | Task::Draw { .. } => {
+            LONGEST_CERTIFICATE
+        }
+        Task::BatchTable { .. } => LONGEST_BATCH,
+        Task::First
+        | Task::Ceiling { .. }
+        | Task::Ceilings { .. }
+        | Task::Analyse { .. }
+        | Task::Latency { .. }
+        | Task::Survey { .. }
+        | Task::WhatIf { .. } => LONGEST_JOB,
+    }
+}

@@ -1,0 +1,167 @@
+//! Commands as calls of their own, which nobody watches.
+
+ghost use Rattle.convoy_commands.specs.declared.limits.TheConstants.{LONGEST_CERTIFICATE, LONGEST_JOB};
+ghost use Rattle.convoy_commands.specs.Checks.{CheckSays};
+ghost use Rattle.convoy_commands.specs.declared.done.Done.TheVariants.{NotChecked};
+ghost use Rattle.convoy_commands.specs.First.{FirstSays};
+ghost use Rattle.convoy_tasks.specs.Runs.{IsRun};
+ghost use Rattle.convoy_commands.specs.Searches.{AnalyseSays, LatencySays};
+ghost use Rattle.convoy_commands.specs.Tells.{SimulateSays, TimelineSays};
+ghost use Rattle.convoy_commands.specs.Withins.{SaysWithin};
+
+use super::running::{run_at_once, run_task};
+use super::task::Task;
+use convoy_commands::{Done, Fault, NoGate, Options, Telling};
+use convoy_streams::{Sink, Source};
+use std::alloc::Global;
+use std::sync::Wait;
+use std::thread::Threads;
+
+/// The command `first`: reads a scenario to the end of the source, and writes the latency in ticks
+/// that the schedule of least delays attains, and that schedule (docs/FORMATS.md, "What `first`
+/// writes").
+///
+/// At most `most_reads` reads are made. Nothing is written before the answer is known. The faults are
+/// `Fault::Scenario`, of that of [`read_toml`](convoy_toml::read_toml); `Fault::Reading`, of
+/// `ReadFault::Read` where the source fails, `ReadFault::TooLong` at the read that brings a byte past
+/// [`LONGEST_JOB`](convoy_commands::LONGEST_JOB), and `ReadFault::TooManyReads` where `most_reads` reads give bytes
+/// and none the end; `Fault::Write` where the sink fails, after a front of the answer has gone out; and
+/// `Fault::Memory`.
+pub fn run_first<S: Source, K: Sink>(
+    alloc: Global,
+    source: &mut S,
+    sink: &mut K,
+    most_reads: u64,
+) -> Result<Done, Fault>
+    ensures { IsRun LONGEST_JOB FirstSays most_reads S.reads K.writes source.old source.new sink.old sink.new result }
+{
+    Ok(run_at_once(alloc, &Task::First, source, sink, most_reads)?.done)
+}
+
+/// The command `simulate`: reads a scenario to the end of the source, and writes the latency in ticks
+/// under the schedule that is given beside it, or where none is under the least delays, and that
+/// schedule; or reads a certificate, and writes the same of its schedule (docs/FORMATS.md, "What
+/// `simulate` writes").
+///
+/// At most `most_reads` reads are made. Nothing is written before the answer is known. The faults are
+/// those of [`run_first`](super::run_first), `Fault::Schedule` for delays that are no schedule of the
+/// scenario, and `Fault::Order` for an order of ties that is none of it. A scenario that is too long is
+/// told once it is read. Where the text begins as a certificate does and is none, it ends as
+/// `Done::Refused`, with the refusal of [`run_check`](super::run_check); whether the certificate is
+/// valid is not looked at.
+pub fn run_simulate<S: Source, K: Sink>(
+    alloc: Global,
+    source: &mut S,
+    sink: &mut K,
+    most_reads: u64,
+) -> Result<Done, Fault>
+    ensures { IsRun LONGEST_CERTIFICATE SimulateSays most_reads S.reads K.writes source.old source.new sink.old sink.new result }
+{
+    let task = Task::Tell(Telling::Simulate);
+    Ok(run_at_once(alloc, &task, source, sink, most_reads)?.done)
+}
+
+/// The command `timeline`: reads a scenario to the end of the source, and writes what happens at each
+/// group, tick by tick, under the schedule that is given beside it, or where none is under the least
+/// delays; or reads a certificate, and writes the same of its schedule (docs/FORMATS.md, "What
+/// `timeline` writes").
+///
+/// At most `most_reads` reads are made. Nothing is written before the answer is known. The faults are
+/// those of [`run_simulate`](super::run_simulate).
+pub fn run_timeline<S: Source, K: Sink>(
+    alloc: Global,
+    source: &mut S,
+    sink: &mut K,
+    most_reads: u64,
+) -> Result<Done, Fault>
+    ensures { IsRun LONGEST_CERTIFICATE TimelineSays most_reads S.reads K.writes source.old source.new sink.old sink.new result }
+{
+    let task = Task::Tell(Telling::Timeline);
+    Ok(run_at_once(alloc, &task, source, sink, most_reads)?.done)
+}
+
+/// The command `check`: reads the text of a certificate to the end of the source, and writes the yes
+/// with the latency that is the greatest of its scenario, or the first fault for which the
+/// certificate is refused (docs/FORMATS.md, "What `check` writes").
+///
+/// At most `most_reads` reads are made, and where there is a `limit` at most so many steps are taken (docs/FORMATS.md,
+/// "Steps"): where checking takes more it ends as `Done::NotChecked`, and the line that says so is written.
+/// Nothing is written before the answer is known. It ends as `Done::Fine` or, with the refusal, as
+/// `Done::Refused`. The faults are `Fault::Reading` and `Fault::Write` as of
+/// [`run_first`](super::run_first), but with the limit
+/// [`LONGEST_CERTIFICATE`](convoy_commands::LONGEST_CERTIFICATE), and `Fault::Memory`.
+pub fn run_check<S: Source, K: Sink>(
+    alloc: Global,
+    limit: Option<u64>,
+    source: &mut S,
+    sink: &mut K,
+    most_reads: u64,
+) -> Result<Done, Fault>
+    ensures { IsRun LONGEST_CERTIFICATE (SaysWithin limit NotChecked CheckSays) most_reads
+        S.reads K.writes source.old source.new sink.old sink.new result }
+{
+    let task = Task::Check {
+        tells: false,
+        limit,
+    };
+    Ok(run_at_once(alloc, &task, source, sink, most_reads)?.done)
+}
+
+/// The command `analyse`: reads a scenario to the end of the source, and writes the certificate of its
+/// greatest latency (docs/FORMATS.md, "What `analyse` writes").
+///
+/// At `Done::Fine` what was written is the text of a certificate of the scenario that was read. Its
+/// schedule has the stated latency, and no assignment of delays to the packets has a greater one. The
+/// command `check` accepts the text. At `Done::Open` boxes are left: the search spent all tickets that
+/// the options give it, both ways as many as [`plain_share`](convoy_commands::plain_share) and
+/// [`lead_share`](convoy_commands::lead_share) say, or in real time it left a point that its bounds do not close
+/// for the latency that it found. What was written is the line `open LEAST MOST`, where the greatest
+/// latency is at least LEAST ticks and at most MOST, and then the lines of a schedule that has the
+/// latency LEAST. Nobody watches this search, so seconds in the options do not stop it: for that there
+/// is [`run_task`](super::run_task).
+///
+/// At most `options.most_reads()` reads are made. Nothing is written before the answer is known. The
+/// faults are those of [`run_first`](super::run_first).
+pub fn run_analyse<R: Threads + Wait + Sync, S: Source, K: Sink>(
+    rt: &R,
+    alloc: Global,
+    source: &mut S,
+    sink: &mut K,
+    options: &Options,
+) -> Result<Done, Fault>
+    ensures { IsRun LONGEST_JOB (AnalyseSays options.now) options.now.most_reads
+        S.reads K.writes source.old source.new sink.old sink.new result }
+{
+    let task = Task::Analyse { options: *options };
+    let most_reads = options.most_reads();
+    Ok(run_task(rt, alloc, &task, None, source, sink, most_reads, &NoGate)?.done)
+}
+
+/// The command `latency`: reads a scenario to the end of the source, and writes its greatest latency
+/// (docs/FORMATS.md, "What `latency` writes").
+///
+/// At `Done::Fine` what was written is the line `greatest N`: some assignment of delays to the packets
+/// has the latency of N ticks, and none has a greater one. At `Done::Open` boxes are left, as told of
+/// [`run_analyse`]: what was written is the line `open LEAST MOST`, where the greatest latency is at
+/// least LEAST ticks and at most MOST. Where the length of a tick is known, both lines go on with the
+/// same numbers in the unit of a tick, and the unit.
+///
+/// At most `options.most_reads()` reads are made. Nothing is written before the answer is known. The
+/// faults are those of [`run_first`](super::run_first).
+pub fn run_latency<R: Threads + Wait + Sync, S: Source, K: Sink>(
+    rt: &R,
+    alloc: Global,
+    source: &mut S,
+    sink: &mut K,
+    options: &Options,
+) -> Result<Done, Fault>
+    ensures { IsRun LONGEST_JOB (LatencySays options.now) options.now.most_reads
+        S.reads K.writes source.old source.new sink.old sink.new result }
+{
+    let task = Task::Latency {
+        with_ceiling: false,
+        options: *options,
+    };
+    let most_reads = options.most_reads();
+    Ok(run_task(rt, alloc, &task, None, source, sink, most_reads, &NoGate)?.done)
+}

@@ -1,0 +1,134 @@
+//! The table of a batch: a row for each job.
+
+ghost use Rattle.std.specs.Prelude.{◌≡◌, ◌∷◌, [], ◌++◌, OnOk, IfOk, string_bytes};
+ghost use Rattle.std.specs.List.{All};
+ghost use Rattle.std.specs.Str.{IsUtf8};
+ghost use Rattle.convoy_tables.specs.Formats.{table_text};
+ghost use Rattle.convoy_tasks.specs.JobTables.{cells_of, column_names, fault_cells, fault_words, found_cells, label_cell, searched_cells, table_of, tick_cell, tick_words};
+
+use super::job_row::{JobFinding, JobRow};
+use convoy_commands::{Fault, FaultEnding, fault_row};
+use convoy_scenario::Duration;
+use convoy_survey::{push_cause, push_ticks};
+use convoy_tables::{Format, Row, Table, table_text};
+use std::alloc::{AllocError, Global};
+
+/// The table of the rows of jobs, whose labels are texts, as it is written in a format.
+pub(crate) fn text_of(alloc: Global, format: Format, rows: &[JobRow]) -> Result<Vec<u8>, AllocError>
+    requires labels { All (λ row. IsUtf8 row.label.items) rows.now }
+    ensures { IfOk result (λ text. text.items ≡ table_text format (table_of rows.now)) }
+{
+    let table = table_of(alloc, rows)?;
+    table_text(alloc, &table, format)
+}
+
+/// The table of the rows of jobs, whose labels are texts.
+fn table_of(alloc: Global, rows: &[JobRow]) -> Result<Table, AllocError>
+    requires labels { All (λ row. IsUtf8 row.label.items) rows.now }
+    ensures { IfOk result (λ table. table ≡ table_of rows.now) }
+{
+    let mut table = Table::new(alloc, column_names(alloc)?);
+    for i in 0..rows.len() {
+        table.push(cells_of(alloc, i as u64 + 1, &rows[i])?)?;
+    }
+    Ok(table)
+}
+
+/// The names of the columns.
+fn column_names(alloc: Global) -> Result<Row, AllocError>
+    ensures { IfOk result (λ names. names ≡ column_names) }
+{
+    let mut names = Row::new(alloc);
+    names.push_words(&[
+        "job", "label", "answer", "least", "most", "tick", "rival", "tied", "nodes",
+    ])?;
+    Ok(names)
+}
+
+/// The cells of the row of the job of that number.
+fn cells_of(alloc: Global, number: u64, row: &JobRow) -> Result<Row, AllocError>
+    requires { IsUtf8 row.now.label.items }
+    ensures { IfOk result (λ cells. cells ≡ cells_of number row.now) }
+{
+    let mut cells = Row::new(alloc);
+    cells.push_number(number)?;
+    push_label(&row.label, &mut cells)?;
+    push_found(alloc, &row.found, &mut cells)?;
+    Ok(cells)
+}
+
+/// Puts the label of a job at the end of a row, or nothing where the job has none.
+fn push_label(label: &[u8], cells: &mut Row) -> Result<(), AllocError>
+    requires { IsUtf8 label.now }
+    ensures { OnOk result (cells.new ≡ cells.old ++ label_cell label.now ∷ []) }
+{
+    match str::from_utf8(label) {
+        Ok("") | Err(_) => cells.push_nothing(),
+        Ok(text) => cells.push_word(text),
+    }
+}
+
+/// Puts what was found of a job at the end of a row.
+fn push_found(
+    alloc: Global,
+    found: &Result<JobFinding, Fault>,
+    cells: &mut Row,
+) -> Result<(), AllocError>
+    ensures { OnOk result (cells.new ≡ cells.old ++ found_cells found.now) }
+{
+    match found {
+        Ok(found) => push_searched(alloc, found, cells),
+        Err(fault) => push_fault(alloc, fault, cells),
+    }
+}
+
+/// Puts what a search found at the end of a row.
+fn push_searched(alloc: Global, found: &JobFinding, cells: &mut Row) -> Result<(), AllocError>
+    ensures { OnOk result (cells.new ≡ cells.old ++ searched_cells found.now) }
+{
+    let scenario = found.instance.scenario();
+    cells.push_word(found.finding.answer())?;
+    push_ticks(found.finding, cells)?;
+    push_tick(alloc, scenario.tick(), cells)?;
+    push_cause(scenario, found.finding, cells)
+}
+
+/// Puts the length of a tick at the end of a row, or nothing where it is not known.
+fn push_tick(alloc: Global, tick: Option<Duration>, cells: &mut Row) -> Result<(), AllocError>
+    ensures { OnOk result (cells.new ≡ cells.old ++ tick_cell tick ∷ []) }
+{
+    match tick {
+        Some(tick) => cells.push_word(&tick_words(alloc, tick)?),
+        None => cells.push_nothing(),
+    }
+}
+
+/// The length of a tick, in its unit.
+fn tick_words(alloc: Global, tick: Duration) -> Result<String, AllocError>
+    ensures { IfOk result (λ words. string_bytes words ≡ tick_words tick) }
+{
+    let (count, unit) = (tick.count(), tick.unit().word());
+    format!(in alloc; "{count} {unit}")
+}
+
+/// Puts the words of a fault at the end of a row, and nothing in its further cells.
+fn push_fault(alloc: Global, fault: &Fault, cells: &mut Row) -> Result<(), AllocError>
+    ensures { OnOk result (cells.new ≡ cells.old ++ fault_cells fault.now) }
+{
+    cells.push_word(&fault_words(alloc, fault)?)?;
+    for _ in 0..6_usize {
+        cells.push_nothing()?;
+    }
+    Ok(())
+}
+
+/// The words of a fault: its line without the end.
+fn fault_words(alloc: Global, fault: &Fault) -> Result<String, AllocError>
+    ensures { IfOk result (λ words. string_bytes words ≡ fault_words fault.now) }
+{
+    let (number, phrase, ending) = fault_row(fault);
+    match ending {
+        FaultEnding::Word(word) => format!(in alloc; "fault {number} {phrase}{word}"),
+        FaultEnding::Number(value) => format!(in alloc; "fault {number} {phrase}{value}"),
+    }
+}

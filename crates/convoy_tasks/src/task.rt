@@ -1,0 +1,66 @@
+use convoy_commands::{Options, Telling};
+use convoy_tables::Format;
+
+/// What a run is asked for, with all options that what it answers rests on (docs/FORMATS.md, "Commands").
+#[derive(Drop)]
+pub enum Task {
+    /// The latency that the schedule of least delays attains.
+    First,
+    /// What is to be told of a scenario or of a certificate.
+    Tell(Telling),
+    /// Whether a certificate is valid and, where a scenario is wanted, is of that. Whether what is accepted is told
+    /// below the yes; and how many steps are taken at most to check it, where they are limited.
+    Check {
+        tells: bool,
+        limit: Option<u64>,
+    },
+    /// Why the latency of a certificate's schedule is what it is, and whether the ceiling of its scenario is told below
+    /// it; the certificate is checked with that many steps at most, where they are limited.
+    Explain {
+        with_ceiling: bool,
+        limit: Option<u64>,
+    },
+    /// The run of a certificate's schedule as an image; the certificate is checked so.
+    Draw {
+        limit: Option<u64>,
+    },
+    /// The ceiling of a scenario, and traffic that is sought by so many simulations at most.
+    Ceiling {
+        simulations: u64,
+    },
+    /// The ceiling of each message at each group, or at the group of that name alone, as a table in that format;
+    /// traffic that attains it is sought by so many simulations at most.
+    Ceilings {
+        format: Format,
+        group: Option<String>,
+        simulations: u64,
+    },
+    /// A certificate of the greatest latency.
+    Analyse {
+        options: Options,
+    },
+    /// The greatest latency, and whether the ceiling of the scenario is told below it.
+    Latency {
+        with_ceiling: bool,
+        options: Options,
+    },
+    /// The greatest latency of each message at each group, as a table in that format, and whether each row has
+    /// its ceiling.
+    Survey {
+        format: Format,
+        with_ceilings: bool,
+        options: Options,
+    },
+    /// The greatest latency of the target with each change of one thing, as a table in that format.
+    WhatIf {
+        format: Format,
+        options: Options,
+    },
+    /// A table in that format, with a row for each scenario of a batch. Whether the exit status of a program is to tell
+    /// how their searches end, on which nothing that is answered rests.
+    BatchTable {
+        format: Format,
+        options: Options,
+        tells_status: bool,
+    },
+}

@@ -1,5 +1,0 @@
-use Rattle.convoy_traffic.specs.Finding.{IsFound}
-use Rattle.convoy_traffic.proofs.seeking.TrafficSeeker.try_copies.Given as goal
-
-abbrev pub invariant-loop-copies : goal.invariant-loop-copies
-invariant-loop-copies l = IsFound l.scenario l.self.found.traffic l.self.found.record

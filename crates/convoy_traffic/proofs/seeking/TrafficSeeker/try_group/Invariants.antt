@@ -1,5 +1,0 @@
-use Rattle.convoy_traffic.specs.Finding.{IsFound}
-use Rattle.convoy_traffic.proofs.seeking.TrafficSeeker.try_group.Given as goal
-
-abbrev pub invariant-loop-pusher : goal.invariant-loop-pusher
-invariant-loop-pusher l = IsFound l.scenario l.self.found.traffic l.self.found.record

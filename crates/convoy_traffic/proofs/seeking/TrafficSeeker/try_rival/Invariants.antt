@@ -1,5 +1,0 @@
-use Rattle.convoy_traffic.specs.Finding.{IsFound}
-use Rattle.convoy_traffic.proofs.seeking.TrafficSeeker.try_rival.Given as goal
-
-abbrev pub invariant-loop-via : goal.invariant-loop-via
-invariant-loop-via l = IsFound l.scenario l.self.found.traffic l.self.found.record

@@ -1,5 +1,0 @@
-use Rattle.convoy_traffic.specs.Finding.{IsFound}
-use Rattle.convoy_traffic.proofs.seeking.TrafficSeeker.try_rivals.Given as goal
-
-abbrev pub invariant-loop-rival : goal.invariant-loop-rival
-invariant-loop-rival l = IsFound l.scenario l.self.found.traffic l.self.found.record
