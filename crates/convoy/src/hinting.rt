@@ -10,10 +10,10 @@ use convoy_commands::{
     Options, OrderFault, ReadFault, ScenarioFault, Ways, lead_share, plain_share,
 };
 use convoy_hints::{
-    CheckedText, hint_for_batch, hint_for_both, hint_for_ceiling, hint_for_certificate,
+    CheckedText, Hint, hint_for_batch, hint_for_both, hint_for_ceiling, hint_for_certificate,
     hint_for_difference, hint_for_first, hint_for_given_order, hint_for_given_schedule,
     hint_for_greatest, hint_for_jobs, hint_for_leads, hint_for_length, hint_for_limit,
-    hint_for_named_group, hint_for_order_in_ticks, hint_for_plain_numbers, hint_for_reading,
+    hint_for_named_group, hint_for_order_in_ticks, hint_for_plain_number, hint_for_reading,
     hint_for_real_time, hint_for_scenario, hint_for_seconds, hint_for_tickets, hint_for_unchecked,
     hint_for_writing, hint_of_text, line_for_file,
 };
@@ -120,7 +120,7 @@ fn failed_input<'a, R, W>(run: &Finished<'a, R, W>) -> (Option<&'a str>, Option<
 }
 
 /// The hint for how a run ended; None where there is none.
-fn hint_for<R, W>(alloc: Global, run: &Finished<'_, R, W>) -> Result<Option<String>, AllocError> {
+fn hint_for<R, W>(alloc: Global, run: &Finished<'_, R, W>) -> Hint {
     match (run.verdict, run.result) {
         (
             Verdict::Text {
@@ -140,11 +140,7 @@ fn hint_for<R, W>(alloc: Global, run: &Finished<'_, R, W>) -> Result<Option<Stri
 }
 
 /// The hint, with which text it is of where a certificate is checked against a scenario.
-fn hint_of_one<R, W>(
-    alloc: Global,
-    run: &Finished<'_, R, W>,
-    hint: Option<String>,
-) -> Result<Option<String>, AllocError> {
+fn hint_of_one<R, W>(alloc: Global, run: &Finished<'_, R, W>, hint: Option<String>) -> Hint {
     if is_of_scenario(run) {
         hint_of_text(alloc, CheckedText::Scenario, hint)
     } else if names_scenario(run.verdict) {
@@ -155,11 +151,7 @@ fn hint_of_one<R, W>(
 }
 
 /// The hint for how a task ended.
-fn hint_for_end<R, W>(
-    alloc: Global,
-    run: &Finished<'_, R, W>,
-    end: &End,
-) -> Result<Option<String>, AllocError> {
+fn hint_for_end<R, W>(alloc: Global, run: &Finished<'_, R, W>, end: &End) -> Hint {
     match end.done {
         Done::Refused(refusal) => {
             let reader = run.reader;
@@ -182,11 +174,7 @@ fn hint_for_end<R, W>(
 }
 
 /// The hint for a run that had a fault.
-fn hint_for_fault<R, W>(
-    alloc: Global,
-    run: &Finished<'_, R, W>,
-    fault: &Fault,
-) -> Result<Option<String>, AllocError> {
+fn hint_for_fault<R, W>(alloc: Global, run: &Finished<'_, R, W>, fault: &Fault) -> Hint {
     let reader = if is_of_scenario(run) {
         run.scenario_reader
     } else {
@@ -230,7 +218,7 @@ fn hint_for_scenario_or_group(
     verdict: &Verdict,
     text: &[u8],
     fault: ScenarioFault,
-) -> Result<Option<String>, AllocError> {
+) -> Hint {
     let hint = match (fault, group_of(verdict)) {
         (ScenarioFault::UnknownGroup, Some(group)) => hint_for_named_group(alloc, text, group)?,
         _ => None,
@@ -263,11 +251,7 @@ fn task_of(verdict: &Verdict) -> Option<&Task> {
 }
 
 /// The hint for an order of ties that is none of the scenario.
-fn hint_for_ranks(
-    alloc: Global,
-    text: &[u8],
-    fault: OrderFault,
-) -> Result<Option<String>, AllocError> {
+fn hint_for_ranks(alloc: Global, text: &[u8], fault: OrderFault) -> Hint {
     match fault {
         OrderFault::InTicks => hint_for_order_in_ticks(alloc).map(Some),
         OrderFault::Length => hint_for_given_order(alloc, text, ListFault::Length),
@@ -297,11 +281,7 @@ fn hint_for_long_batch(alloc: Global, most: usize) -> Result<String, AllocError>
 }
 
 /// The hint for a search that did not end, or traffic that does not attain the ceiling.
-fn hint_for_open<R, W>(
-    alloc: Global,
-    run: &Finished<'_, R, W>,
-    known: &Option<Known>,
-) -> Result<Option<String>, AllocError> {
+fn hint_for_open<R, W>(alloc: Global, run: &Finished<'_, R, W>, known: &Option<Known>) -> Hint {
     if let Some(simulations) = traffic_sought(run.verdict) {
         let hint = hint_for_ceiling(alloc, simulations, MOST_SIMULATIONS)?;
         return Ok(Some(hint));
@@ -403,20 +383,22 @@ fn names_bounds(verdict: &Verdict) -> bool {
 
 /// The hints for a run that gave its answer: that for its kind, and what a plain number among durations of its scenario
 /// was taken for.
-fn hint_for_answer<R, W>(
-    alloc: Global,
-    run: &Finished<'_, R, W>,
-    known: &Option<Known>,
-) -> Result<Option<String>, AllocError> {
+fn hint_for_answer<R, W>(alloc: Global, run: &Finished<'_, R, W>, known: &Option<Known>) -> Hint {
     let reader = run.reader;
     if is_batch(run.verdict) {
         return hint_for_batch(alloc, reader.text(), reader.is_whole(), LONGEST_JOB);
     }
     let hint = hint_for_kind_of_answer(alloc, run.verdict, known)?;
-    if !reader.is_whole() {
-        return Ok(hint);
-    }
-    let more = hint_for_plain_numbers(alloc, reader.text())?;
+    let more = match known {
+        Some(
+            Known {
+                scenario,
+                plain: Some(plain),
+                ..
+            },
+        ) if reader.is_whole() => hint_for_plain_number(alloc, reader.text(), scenario, *plain)?,
+        _ => None,
+    };
     match (hint, more) {
         (Some(hint), Some(more)) => format!(in alloc; "{hint}{more}").map(Some),
         (hint, more) => Ok(hint.or(more)),
@@ -425,11 +407,7 @@ fn hint_for_answer<R, W>(
 
 /// The hint for the kind of answer: without a command word the answer is that of one schedule, and a greatest latency
 /// may be the ceiling.
-fn hint_for_kind_of_answer(
-    alloc: Global,
-    verdict: &Verdict,
-    known: &Option<Known>,
-) -> Result<Option<String>, AllocError> {
+fn hint_for_kind_of_answer(alloc: Global, verdict: &Verdict, known: &Option<Known>) -> Hint {
     match verdict {
         Verdict::Ask {
             task: Task::First,
@@ -444,6 +422,7 @@ fn hint_for_kind_of_answer(
                 Known {
                     scenario,
                     greatest: Some(greatest),
+                    ..
                 },
             ) => hint_for_greatest(alloc, scenario, *greatest),
             _ => Ok(None),
@@ -453,7 +432,7 @@ fn hint_for_kind_of_answer(
 }
 
 /// Writes a line that may be missing; where the write fails, that is all.
-pub fn write_line<W: Write>(writer: &mut W, line: Result<Option<String>, AllocError>) {
+pub fn write_line<W: Write>(writer: &mut W, line: Hint) {
     if let Ok(Some(line)) = line {
         let _ = writer.write_all(line.as_bytes());
     }

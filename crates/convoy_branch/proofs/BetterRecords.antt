@@ -1,6 +1,6 @@
 -- The best record of a search after a step: no worse than before, and of the latency that is known then.
-use Rattle.std.specs.Prelude.{◌≡◌, ℕ, ◌≤◌, nat_le, Bool, true, false, ◌||◌, if◌then◌else◌, Option, Some, None, unwrap_or}
-use Rattle.std.proofs.Common.{arith, refl, subst, sym}
+use Rattle.std.specs.Prelude.{◌≡◌, ℕ, ◌≤◌, ◌<◌, nat_le, Bool, true, false, ◌||◌, if◌then◌else◌, Option, Some, None, IfSome, unwrap_or}
+use Rattle.std.proofs.Common.{arith, refl, rules, subst, sym, ◌∙◌}
 use Rattle.std.proofs.lemmas.Bool.{false≢true}
 use Rattle.std.proofs.lemmas.Bool.Decides.{nat_tests}
 use Rattle.convoy_scenario.specs.Scenario.{Scenario}
@@ -9,9 +9,8 @@ use Rattle.convoy_branch.specs.SearchBounds.{closes_for}
 use Rattle.convoy_packets.specs.Assignment.{Schedule}
 use Rattle.convoy_sim.specs.Delivery.{latency_of}
 use Rattle.convoy_sim.specs.Record.{Record, attained_by}
-use Rattle.convoy_intervals.specs.Boxes.{greatest_of}
-use Rattle.convoy_intervals.specs.Boxes.{Box}
-use Rattle.convoy_branch.specs.Steps.{found_in, known_after}
+use Rattle.convoy_intervals.specs.Boxes.{Box, greatest_of}
+use Rattle.convoy_branch.specs.Steps.{IsBetter, IsFound, found_in, known_after}
 
 -- what was found keeps the best record as good as it was, or makes it better
 pub record IsNoWorse (plan : Scenario) (best : Record) (found : Option Record) : Type 0 where
@@ -19,16 +18,39 @@ pub record IsNoWorse (plan : Scenario) (best : Record) (found : Option Record) :
   pub above : best.latency ≤ (unwrap_or found best).latency
   pub known : known_after best.latency found ≡ (unwrap_or found best).latency
 
-pub not_above : (closed : Bool) (latency seen : ℕ) → false ≡ (closed || nat_le latency seen) → seen ≤ latency
-not_above true latency seen is = absurd (false≢true is)
-not_above false latency seen is = grind (arith, nat_tests)
-
-IsNoWorse-tried : (plan : Scenario) (best : Record) (schedule : Schedule) (closed stays : Bool) → best.scenario ≡ plan → stays ≡ (closed || nat_le (latency_of plan schedule) best.latency) → IsNoWorse plan best (if stays then None else Some (attained_by plan schedule))
-IsNoWorse-tried plan best schedule closed true scenario is =
+-- a better record or none does so
+IsNoWorse-better : (plan : Scenario) (best : Record) (found : Option Record) → best.scenario ≡ plan → IfSome found (IsBetter plan best.latency) → IsNoWorse plan best found
+IsNoWorse-better plan best None scenario better =
     record { scenario = scenario; above = omega arith; known = refl }
-IsNoWorse-tried plan best schedule closed false scenario is =
-    record { scenario = refl; above = not_above closed (latency_of plan schedule) best.latency is; known = refl }
+IsNoWorse-better plan best (Some found) scenario better =
+    record { scenario = better.of_scenario; above = omega (arith, better.above); known = refl }
 
-pub IsNoWorse-found : (bounds : Bounds) (plan : Scenario) (best : Record) (box : Box) (found : Option Record) → best.scenario ≡ plan → found ≡ found_in bounds plan box best.latency → IsNoWorse plan best found
-IsNoWorse-found bounds plan best box found scenario is =
-    subst (λ (f : Option Record). IsNoWorse plan best f) (sym is) (IsNoWorse-tried plan best (greatest_of box) (closes_for bounds plan box best.latency) (closes_for bounds plan box best.latency || nat_le (latency_of plan (greatest_of box)) best.latency) scenario refl)
+pub IsNoWorse-found : (bounds : Bounds) (plan : Scenario) (best : Record) (box : Box) (found : Option Record) → best.scenario ≡ plan → IsFound bounds plan box best.latency found → IsNoWorse plan best found
+IsNoWorse-found bounds plan best box found scenario is = IsNoWorse-better plan best found scenario is.better
+
+-- ---- The record of the greatest delays
+
+-- which is above the latency seen where it is found
+above_seen : (closed : Bool) (latency seen : ℕ) → false ≡ (closed || nat_le latency seen) → seen < latency
+above_seen true latency seen is = absurd (false≢true is)
+above_seen false latency seen is = grind (arith, nat_tests)
+
+IsBetter-tried : (plan : Scenario) (schedule : Schedule) (seen : ℕ) (closed stays : Bool) → stays ≡ (closed || nat_le (latency_of plan schedule) seen) → IfSome (if stays then None else Some (attained_by plan schedule)) (IsBetter plan seen)
+IsBetter-tried plan schedule seen closed true is = search rules
+IsBetter-tried plan schedule seen closed false is =
+    record { of_scenario = refl; above = above_seen closed (latency_of plan schedule) seen is }
+
+none_if_closed : (plan : Scenario) (schedule : Schedule) (seen : ℕ) (closed : Bool) → closed ≡ true → (if closed || nat_le (latency_of plan schedule) seen then None else Some (attained_by plan schedule)) ≡ None
+none_if_closed plan schedule seen true is = refl
+none_if_closed plan schedule seen false is = absurd (false≢true is)
+
+-- it is what a look finds, if that finds no better one
+pub IsFound-greatest : (bounds : Bounds) (plan : Scenario) (box : Box) (seen : ℕ) (found : Option Record) → found ≡ found_in bounds plan box seen → IsFound bounds plan box seen found
+IsFound-greatest bounds plan box seen found is =
+    let closed = closes_for bounds plan box seen in
+    let better : IfSome (found_in bounds plan box seen) (IsBetter plan seen) = IsBetter-tried plan (greatest_of box) seen closed (closed || nat_le (latency_of plan (greatest_of box)) seen) refl in
+    record {
+      closed = λ closes. is ∙ none_if_closed plan (greatest_of box) seen closed closes;
+      better = subst (λ (f : Option Record). IfSome f (IsBetter plan seen)) (sym is) better;
+      greatest = λ _. is;
+    }

@@ -3,11 +3,11 @@ use Rattle.std.specs.Prelude.{◌≡◌}
 use Rattle.std.proofs.Common.{ap, sym, subst}
 use Rattle.convoy_scenario.specs.Scenario.{Scenario}
 use Rattle.convoy_packets.specs.Assignment.{AreWithin, IsAssignment, Schedule}
-use Rattle.convoy_packets.specs.Laws.{FixedOrderIsOrder}
+use Rattle.convoy_packets.specs.ScheduleLaws.{FixedOrderIsOrder}
 use Rattle.convoy_packets.specs.Order.{IsOrder, Order, no_order}
 use Rattle.convoy_packets.specs.Table.{PacketTable, table_of}
 use Rattle.convoy_intervals.specs.Boxes.{Box, IsBox, IsIn, greatest_of}
-use Rattle.convoy_intervals.specs.Laws.{MembersAreAssignments}
+use Rattle.convoy_intervals.specs.BoxLaws.{MembersAreAssignments}
 
 pub greatest_assigned : (plan : Scenario) (box : Box) (schedule : Schedule) → MembersAreAssignments → FixedOrderIsOrder → IsBox plan box → IsIn box schedule → schedule ≡ greatest_of box → IsAssignment plan schedule
 greatest_assigned plan box schedule members fixed inside member is =

@@ -15,7 +15,7 @@ use Rattle.convoy_sim.specs.Times.{greatest}
 use Rattle.convoy_intervals.specs.Bounds.{plain_bound}
 use Rattle.convoy_intervals.specs.Boxes.{Box, root_of}
 use Rattle.convoy_leads.specs.Closing.{closes_by_leads}
-use Rattle.convoy_checker.specs.Laws.{TreesCover}
+use Rattle.convoy_checker.specs.TreeLaws.{TreesCover}
 use Rattle.convoy_sim.specs.Greatest.{IsUpper}
 use Rattle.convoy_branch.specs.Fronts.{IsFront, left_in}
 use Rattle.convoy_branch.specs.SearchBounds.{bound_in, least_bound}

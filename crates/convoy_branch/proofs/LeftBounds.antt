@@ -7,7 +7,7 @@ use Rattle.convoy_branch.specs.declared.bounds.Bounds.{Bounds}
 use Rattle.convoy_branch.specs.declared.search.Work.{Work}
 use Rattle.convoy_branch.specs.declared.search.Work.TheVariants.{Branch, Write}
 use Rattle.convoy_branch.specs.Fronts.{left_in}
-use Rattle.convoy_branch.specs.Laws.{UppersRaised}
+use Rattle.convoy_branch.specs.FrontLaws.{UppersRaised}
 use Rattle.convoy_branch.specs.Searching.{IsRaisedOver, front_of}
 use Rattle.convoy_branch.specs.Uppers.{IsUpperOf}
 

@@ -1,3 +1,4 @@
+pub mod Aims
 pub mod Tries
 pub mod FrontTrees
 pub mod FrontCounts

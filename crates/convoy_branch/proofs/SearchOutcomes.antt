@@ -18,12 +18,12 @@ use Rattle.convoy_certificate.specs.declared.node.Node.{Node}
 use Rattle.convoy_intervals.specs.Boxes.{root_of}
 use Rattle.convoy_intervals.specs.Boxes.{Box}
 use Rattle.convoy_intervals.specs.Tracked.{Tracked}
-use Rattle.convoy_checker.specs.Laws.{TreesCover}
+use Rattle.convoy_checker.specs.TreeLaws.{TreesCover}
 use Rattle.convoy_checker.specs.Validity.{IsValid}
 use Rattle.convoy_branch.specs.declared.search.Work.{Work}
 use Rattle.convoy_branch.specs.declared.search.Work.TheVariants.{Branch}
 use Rattle.convoy_branch.specs.Fronts.{AreFronts, FrontNode, Left, Spent, IsFront, left_in}
-use Rattle.convoy_branch.specs.Laws.{FrontsBound}
+use Rattle.convoy_branch.specs.FrontLaws.{FrontsBound}
 use Rattle.convoy_branch.specs.Outcomes.{AreTicketsByWorker, IsProved, IsOpen}
 use Rattle.convoy_branch.specs.Searching.{HasEndedAt, IsSearching, front_of, front_nodes}
 use Rattle.convoy_branch.specs.Steps.{IsOpenPoint}

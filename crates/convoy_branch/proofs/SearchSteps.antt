@@ -16,7 +16,7 @@ use Rattle.convoy_certificate.specs.declared.node.Node.{Node}
 use Rattle.convoy_certificate.specs.declared.node.Node.TheVariants.{Split}
 use Rattle.convoy_intervals.specs.Boxes.{Box, IsBox, greatest_of, lower_half, root_of, upper_half}
 use Rattle.convoy_intervals.specs.Tracked.{Tracked, tracked_of}
-use Rattle.convoy_intervals.specs.Laws.{HalvesAreBoxes, UpperKeepsGreatest}
+use Rattle.convoy_intervals.specs.BoxLaws.{HalvesAreBoxes, UpperKeepsGreatest}
 use Rattle.convoy_branch.specs.declared.search.Search.{Search}
 use Rattle.convoy_branch.specs.declared.search.Work.{Work}
 use Rattle.convoy_branch.specs.declared.search.Work.TheVariants.{Branch, Write}
@@ -24,7 +24,7 @@ use Rattle.convoy_branch.specs.declared.step.Fate.TheVariants.{Stays}
 use Rattle.convoy_branch.specs.declared.step.Turn.{Turn}
 use Rattle.convoy_branch.specs.declared.step.Turn.TheVariants.{Closed, Halves}
 use Rattle.convoy_branch.specs.Fronts.{AreFronts, FrontNode, Spent, Left, front_after, spent_in}
-use Rattle.convoy_branch.specs.Steps.{IsFate, IsOpenPoint, IsTurn, found_in, known_after}
+use Rattle.convoy_branch.specs.Steps.{IsFate, IsFound, IsOpenPoint, IsTurn, known_after}
 use Rattle.convoy_branch.specs.Searching.{HasStayed, HasTurned, IsSearching, IsWork, front_of, front_nodes, work_after, nodes_after}
 use Rattle.convoy_branch.proofs.FrontTrees.{AreFronts-better, AreFronts-filled, AreFronts-turned}
 use Rattle.convoy_branch.proofs.FrontCounts.{spent_in-turned}
@@ -156,13 +156,13 @@ turned bounds plan best work nodes tickets branch tried turn are_boxes keeps tab
     }
 
 -- the search with the record that a step has found
-found : (bounds : Bounds) (plan : Scenario) (best : Record) (work : List Work) (nodes : List Node) (tickets : ℕ) (box : Box) (noted : Option Record) → noted ≡ found_in bounds plan box best.latency → IsSearching bounds plan best work nodes tickets → IsSearching bounds plan (unwrap_or noted best) work nodes tickets
+found : (bounds : Bounds) (plan : Scenario) (best : Record) (work : List Work) (nodes : List Node) (tickets : ℕ) (box : Box) (noted : Option Record) → IsFound bounds plan box best.latency noted → IsSearching bounds plan best work nodes tickets → IsSearching bounds plan (unwrap_or noted best) work nodes tickets
 found bounds plan best work nodes tickets box noted is searching =
     let no_worse = IsNoWorse-found bounds plan best box noted searching.of_scenario is in
     better bounds plan best (unwrap_or noted best) work nodes tickets no_worse.scenario no_worse.above searching
 
 -- a step that spends a ticket for the box
-IsSearching-step : (bounds : Bounds) (plan : Scenario) (best : Record) (work : List Work) (nodes : List Node) (tickets : ℕ) (branch : Tracked) (tried : Bool) (noted : Option Record) (turn : Turn) → HalvesAreBoxes → UpperKeepsGreatest → IsTable (table_of plan) → noted ≡ found_in bounds plan branch.delay_box best.latency → IsTurn bounds plan branch.delay_box (known_after best.latency noted) turn → IsSearching bounds plan best (work ++ Branch branch tried ∷ []) nodes tickets → IsSearching bounds plan (unwrap_or noted best) (work_after work turn) (nodes_after nodes turn) (tickets + 1)
+IsSearching-step : (bounds : Bounds) (plan : Scenario) (best : Record) (work : List Work) (nodes : List Node) (tickets : ℕ) (branch : Tracked) (tried : Bool) (noted : Option Record) (turn : Turn) → HalvesAreBoxes → UpperKeepsGreatest → IsTable (table_of plan) → IsFound bounds plan branch.delay_box best.latency noted → IsTurn bounds plan branch.delay_box (known_after best.latency noted) turn → IsSearching bounds plan best (work ++ Branch branch tried ∷ []) nodes tickets → IsSearching bounds plan (unwrap_or noted best) (work_after work turn) (nodes_after nodes turn) (tickets + 1)
 IsSearching-step bounds plan best work nodes tickets branch tried noted turn are_boxes keeps table is_found is searching =
     let next = unwrap_or noted best in
     let no_worse = IsNoWorse-found bounds plan best branch.delay_box noted searching.of_scenario is_found in
@@ -176,9 +176,9 @@ length-work_after work (Halves packet at lower upper) =
     omega (arith, length_push ((work ++ Write (Split packet at) ∷ []) ++ Branch lower false ∷ []) (Branch upper true), length_push (work ++ Write (Split packet at) ∷ []) (Branch lower false), length_push work (Write (Split packet at)))
 
 -- the same by what the program makes of its parts
-pub HasTurned-taken : (bounds : Bounds) (plan : Scenario) (old new : Search) (seen : ℕ) (branch : Tracked) (tried : Bool) (noted : Option Record) (turn : Turn) → HalvesAreBoxes → UpperKeepsGreatest → IsTable (table_of plan) → seen ≡ old.best.latency → noted ≡ found_in bounds plan branch.delay_box seen → IsTurn bounds plan branch.delay_box (known_after seen noted) turn → new.best ≡ unwrap_or noted old.best → new.work.items ≡ work_after old.work.items turn → new.nodes.items ≡ nodes_after old.nodes.items turn → new.tickets ≡ old.tickets + 1 → IsSearching bounds plan old.best (old.work.items ++ Branch branch tried ∷ []) old.nodes.items old.tickets → HasTurned bounds plan old new
+pub HasTurned-taken : (bounds : Bounds) (plan : Scenario) (old new : Search) (seen : ℕ) (branch : Tracked) (tried : Bool) (noted : Option Record) (turn : Turn) → HalvesAreBoxes → UpperKeepsGreatest → IsTable (table_of plan) → seen ≡ old.best.latency → IsFound bounds plan branch.delay_box seen noted → IsTurn bounds plan branch.delay_box (known_after seen noted) turn → new.best ≡ unwrap_or noted old.best → new.work.items ≡ work_after old.work.items turn → new.nodes.items ≡ nodes_after old.nodes.items turn → new.tickets ≡ old.tickets + 1 → IsSearching bounds plan old.best (old.work.items ++ Branch branch tried ∷ []) old.nodes.items old.tickets → HasTurned bounds plan old new
 HasTurned-taken bounds plan old new seen branch tried noted turn are_boxes keeps table seen_is found_is is best_is work_is nodes_is tickets_is searching =
-    let found_is' : noted ≡ found_in bounds plan branch.delay_box old.best.latency = found_is ∙ ap (λ (n : ℕ). found_in bounds plan branch.delay_box n) seen_is in
+    let found_is' : IsFound bounds plan branch.delay_box old.best.latency noted = subst (λ (n : ℕ). IsFound bounds plan branch.delay_box n noted) seen_is found_is in
     let is' : IsTurn bounds plan branch.delay_box (known_after old.best.latency noted) turn = subst (λ (n : ℕ). IsTurn bounds plan branch.delay_box (known_after n noted) turn) seen_is is in
     record {
       searching = rw (best_is, work_is, nodes_is, tickets_is) (IsSearching-step bounds plan old.best old.work.items old.nodes.items old.tickets branch tried noted turn are_boxes keeps table found_is' is' searching);
@@ -196,9 +196,9 @@ next_of_scenario bounds plan best work nodes tickets branch tried searching =
     let parts = All-front (IsWork plan best.latency) work (Branch branch tried) searching.all_work in
     ap (λ (s : Scenario). tracked_of s branch.delay_box) parts.1.2
 
-pub HasStayed-taken : (bounds : Bounds) (plan : Scenario) (old new : Search) (seen : ℕ) (branch left : Tracked) (tried : Bool) (noted : Option Record) → seen ≡ old.best.latency → noted ≡ found_in bounds plan branch.delay_box seen → IsFate bounds plan branch.delay_box (known_after seen noted) (Stays left) → new ≡ record old { best = unwrap_or noted old.best } → IsSearching bounds plan old.best (old.work.items ++ Branch branch tried ∷ []) old.nodes.items old.tickets → HasStayed bounds plan old new tried left
+pub HasStayed-taken : (bounds : Bounds) (plan : Scenario) (old new : Search) (seen : ℕ) (branch left : Tracked) (tried : Bool) (noted : Option Record) → seen ≡ old.best.latency → IsFound bounds plan branch.delay_box seen noted → IsFate bounds plan branch.delay_box (known_after seen noted) (Stays left) → new ≡ record old { best = unwrap_or noted old.best } → IsSearching bounds plan old.best (old.work.items ++ Branch branch tried ∷ []) old.nodes.items old.tickets → HasStayed bounds plan old new tried left
 HasStayed-taken bounds plan old new seen branch left tried noted seen_is found_is is new_is searching =
-    let found_is' : noted ≡ found_in bounds plan branch.delay_box old.best.latency = found_is ∙ ap (λ (n : ℕ). found_in bounds plan branch.delay_box n) seen_is in
+    let found_is' : IsFound bounds plan branch.delay_box old.best.latency noted = subst (λ (n : ℕ). IsFound bounds plan branch.delay_box n noted) seen_is found_is in
     let same : left ≡ branch = is.1 ∙ sym (next_of_scenario bounds plan old.best old.work.items old.nodes.items old.tickets branch tried searching) in
     let no_worse = IsNoWorse-found bounds plan old.best branch.delay_box noted searching.of_scenario found_is' in
     let here : HasStayed bounds plan old (record old { best = unwrap_or noted old.best }) tried branch = record {

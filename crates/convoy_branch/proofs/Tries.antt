@@ -1,5 +1,5 @@
 -- Which leaf closes a box in a search, and what a look shows at a box that is closed at once.
-use Rattle.std.specs.Prelude.{◌≡◌, ◌≢◌, ℕ, ◌≤◌, ◌<◌, ◌^◌, nat_le, Bool, true, false, ◌||◌, if◌then◌else◌, Option, Some, None, is_some, refl}
+use Rattle.std.specs.Prelude.{◌≡◌, ◌≢◌, ℕ, ◌≤◌, ◌<◌, ◌^◌, nat_le, Bool, true, false, ◌||◌, if◌then◌else◌, Option, Some, None, IfSome, is_some, refl}
 use Rattle.std.proofs.Common.{arith, ap, sym, subst, ◌∙◌}
 use Rattle.std.proofs.lemmas.Bool.{false≢true}
 use Rattle.std.proofs.lemmas.Bool.Decides.{nat_tests}
@@ -17,12 +17,14 @@ use Rattle.convoy_stamps.specs.StampBounds.{stamp_bound}
 use Rattle.convoy_leads.specs.Closing.{closes_by_leads}
 use Rattle.convoy_branch.specs.Asked.{IsAsked}
 use Rattle.convoy_branch.specs.declared.asked.Asked.{Asked}
-use Rattle.convoy_branch.specs.Looks.{IsLook}
+use Rattle.convoy_branch.specs.Looks.{IsLook, IsLookAtGreatest}
+use Rattle.convoy_branch.specs.declared.step.Look.{Look}
 use Rattle.convoy_branch.specs.SearchBounds.{bound_in, closes_for, further_leaf, leaf_for, least_bound}
 use Rattle.convoy_checker.specs.Leaves.{ClosesByStamps}
-use Rattle.convoy_branch.specs.Steps.{IsTurn}
+use Rattle.convoy_branch.specs.Steps.{IsBetter, IsFound, IsTurn, found_in, known_after}
+use Rattle.convoy_branch.proofs.BetterRecords.{IsFound-greatest}
 use Rattle.convoy_sim.specs.Delivery.{latency_of}
-use Rattle.convoy_sim.specs.Record.{attained_by}
+use Rattle.convoy_sim.specs.Record.{Record, attained_by}
 
 -- ---- Which bounds they are
 
@@ -112,8 +114,8 @@ closed_since bounds plan box known (Some node) some is = is.1
 
 -- ---- Looks
 
--- a box that is closed at once
-pub look_closed : (bounds : Bounds) (plan : Scenario) (box : Box) (seen : ℕ) (asked : Asked) → seen < 2 ^ 32 → stamp_bound plan box ≤ plain_bound plan box → IsAsked bounds plan box seen asked → is_some asked.leaf ≡ true → IsLook bounds plan box seen (record { found = None; asked = asked })
+-- a look at the greatest delays of a box that is closed at once
+pub look_closed : (bounds : Bounds) (plan : Scenario) (box : Box) (seen : ℕ) (asked : Asked) → seen < 2 ^ 32 → stamp_bound plan box ≤ plain_bound plan box → IsAsked bounds plan box seen asked → is_some asked.leaf ≡ true → IsLookAtGreatest bounds plan box seen (record { found = None; asked = asked })
 look_closed bounds plan box seen asked small least is some =
     let closes : closes_for bounds plan box seen ≡ true = closed_since bounds plan box seen asked.leaf some (subst (λ (l : Option Node). IsLeafFor bounds plan box seen l) (sym is.leaf) (IsLeafFor-first plan box seen small (least_at_most_plain plan box least) bounds)) in
     let rest = nat_le (latency_of plan (greatest_of box)) seen in
@@ -123,3 +125,51 @@ look_closed bounds plan box seen asked small least is some =
       tried = λ none. absurd (false≢true (sym (ap is_some none) ∙ some));
       named = small;
     }
+
+-- with no wish run the look is that at the greatest delays
+pub look_greatest : (bounds : Bounds) (plan : Scenario) (box : Box) (seen : ℕ) (look : Look) → IsLookAtGreatest bounds plan box seen look → IsLook bounds plan box seen look
+look_greatest bounds plan box seen look is = record {
+  found = IsFound-greatest bounds plan box seen look.found is.found;
+  asked = is.asked;
+  tried = is.tried;
+  named = is.named;
+}
+
+not_closed : (closed : Bool) → (closed ≡ true → ⊥) → closed ≡ false
+not_closed true never = absurd (never refl)
+not_closed false never = refl
+
+some≢none : {X : Type 0} {x : X} → Some x ≡ None → ⊥
+some≢none {X} {x} same = false≢true (sym (ap is_some same))
+
+-- a box that is open for the latency known is open for the one seen
+open_seen : (bounds : Bounds) (plan : Scenario) (box : Box) (seen : ℕ) (found : Option Record) → IsFound bounds plan box seen found → closes_for bounds plan box (known_after seen found) ≡ false → closes_for bounds plan box seen ≡ false
+open_seen bounds plan box seen None is stays = stays
+open_seen bounds plan box seen (Some found) is stays = not_closed (closes_for bounds plan box seen) (λ closes. some≢none (is.closed closes))
+
+-- the latency known is no less than the one seen
+seen_known : (plan : Scenario) (seen : ℕ) (found : Option Record) → IfSome found (IsBetter plan seen) → seen ≤ known_after seen found
+seen_known plan seen None better = omega arith
+seen_known plan seen (Some found) better = omega (arith, better.above)
+
+-- a wish run that was found in a search by leads at a box that stays open
+pub look_wished : (bounds : Bounds) (plan : Scenario) (box : Box) (seen : ℕ) (look : Look) (found : Record) (asked : Asked) → bounds ≡ Lead → stamp_bound plan box ≤ plain_bound plan box → IsLookAtGreatest bounds plan box seen look → look.asked.leaf ≡ None → IsBetter plan (known_after seen look.found) found → found.latency < 2 ^ 32 → IsAsked bounds plan box found.latency asked → IsLook bounds plan box seen (record { found = Some found; asked = asked })
+look_wished bounds plan box seen look found asked lead least is none better small is_asked =
+    let first = IsFound-greatest bounds plan box seen look.found is.found in
+    let stays = open_seen bounds plan box seen look.found first (open_without bounds plan box (known_after seen look.found) look.asked.leaf is.named least is.asked.leaf none) in
+    let low : seen ≤ known_after seen look.found = seen_known plan seen look.found first.better in
+    let tried = is.tried none in
+    record {
+      found = record {
+        closed = λ closes. absurd (false≢true (sym stays ∙ closes));
+        better = record { of_scenario = better.of_scenario; above = omega (arith, low, better.above) };
+        greatest = λ other. absurd (other lead);
+      };
+      asked = is_asked;
+      tried = λ _. omega (arith, tried, better.above);
+      named = small;
+    }
+
+pub none_of : (leaf : Option Node) → is_some leaf ≡ false → leaf ≡ None
+none_of None is = refl
+none_of (Some node) is = absurd (false≢true (sym is))

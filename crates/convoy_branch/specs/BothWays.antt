@@ -1,11 +1,13 @@
 -- A search both ways: by plain bounds, and where boxes are left then, by leads from the root.
-use Rattle.std.specs.Prelude.{◌≡◌, ◌⊎◌, ℕ, ◌-◌, ◌≤◌, min, false, List}
+use Rattle.std.specs.Prelude.{◌≡◌, ◌⊎◌, ℕ, ◌-◌, ◌≤◌, min, true, false, List}
 use Rattle.convoy_scenario.specs.Scenario.{Scenario}
 use Rattle.convoy_sim.specs.Greatest.{IsReached, IsUpper}
 use Rattle.convoy_sim.specs.Record.{Record}
 use Rattle.convoy_certificate.specs.declared.certificate.TheConstants.{MOST_LEADS}
 use Rattle.convoy_branch.specs.declared.bounds.Bounds.TheVariants.{Plain, Lead}
 use Rattle.convoy_branch.specs.declared.limit.Limit.{Limit}
+use Rattle.convoy_branch.specs.declared.ways.AfterPlain.{AfterPlain}
+use Rattle.convoy_branch.specs.declared.ways.AfterPlain.TheVariants.{Ended, ByLeads}
 use Rattle.convoy_branch.specs.declared.ways.TheConstants.{PLAIN_TICKETS}
 use Rattle.convoy_branch.specs.declared.outcome.Outcome.{Outcome}
 use Rattle.convoy_branch.specs.declared.outcome.Outcome.TheVariants.{Proved, Open}
@@ -62,3 +64,18 @@ IsOutcomeBothWays scenario workers plain leads (Proved certificate tickets by_wo
 IsOutcomeBothWays scenario workers plain leads (Open best upper tickets by_worker) =
     ((leads ≡ 0) × IsOpen Plain scenario workers plain best upper tickets by_worker.items)
     ⊎ IsOpenBothWays scenario workers plain leads best upper tickets by_worker.items
+
+-- the search by plain bounds ends the search both ways: nothing is left, or there is no ticket for leads, or the search may be stopped
+abbrev pub IsLast : Limit → Outcome → Type 0
+IsLast limit (Proved certificate tickets by_worker) = Unit {0}
+IsLast limit (Open best upper tickets by_worker) = (lead_share limit.tickets ≡ 0) ⊎ (limit.may_stop ≡ true)
+
+-- boxes are left, with that best record and that upper bound
+abbrev pub IsLeftAt : Record → ℕ → Outcome → Type 0
+IsLeftAt best upper (Proved certificate tickets by_worker) = ⊥
+IsLeftAt best upper (Open found above tickets by_worker) = (found ≡ best) × (above ≡ upper)
+
+-- what comes after a search by plain bounds with that outcome: nothing where it ends the search, or the search by leads where boxes are left and there is a ticket for leads
+abbrev pub IsAfterPlain : Limit → Outcome → AfterPlain → Type 0
+IsAfterPlain limit first (Ended outcome) = (outcome ≡ first) × IsLast limit first
+IsAfterPlain limit first (ByLeads best upper) = IsLeftAt best upper first × (1 ≤ lead_share limit.tickets)

@@ -24,10 +24,12 @@ pub mod Fronts
 pub mod Outcomes
 pub mod Limits
 pub mod BothWays
-pub mod Laws
+pub mod FrontLaws
 -- Where the program stands between two steps: no promise above this crate rests on it.
 pub mod Asked
 pub mod Looks
 pub mod Searching
 -- Words for where a box is split: no promise rests on them.
 pub mod Chains
+-- Words for seeking from above: no promise rests on them.
+pub mod Aims

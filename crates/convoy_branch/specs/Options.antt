@@ -1,5 +1,5 @@
 -- How a search runs.
-use Rattle.std.specs.Prelude.{ℕ, ◌≤◌, Option}
+use Rattle.std.specs.Prelude.{ℕ, ◌≤◌, None}
 use Rattle.std.specs.Option.{is_some}
 use Rattle.convoy_certificate.specs.declared.certificate.TheConstants.{MOST_NODES}
 use Rattle.convoy_branch.specs.declared.bounds.Bounds.{Bounds}
@@ -8,6 +8,7 @@ use Rattle.convoy_branch.specs.SearchBounds.{most_nodes}
 use Rattle.convoy_shares.specs.declared.shares.TheConstants.{MOST_WORKERS}
 use Rattle.convoy_branch.specs.declared.limit.Limit.{Limit}
 use Rattle.convoy_branch.specs.declared.options.TheConstants.{MOST_SIMULATIONS}
+use Rattle.convoy_branch.specs.declared.options.Settings as options
 use Rattle.convoy_branch.specs.declared.options.Ways.{Ways}
 use Rattle.convoy_branch.specs.declared.options.Ways.TheVariants.{One, Both}
 
@@ -22,13 +23,19 @@ first_bounds (One bounds) = bounds
 first_bounds Both = Plain
 
 -- how many workers there are, how many tickets they spend at most, how many schedules are simulated before at most, how many reads of the input are made at most, and by which bounds of boxes, or by leads, the search goes, or both ways; and after how many seconds it stops, if it is to
-pub record Settings : Type 0 where
-  pub workers : ℕ
-  pub limit : ℕ
-  pub simulations : ℕ
-  pub most_reads : ℕ
-  pub ways : Ways
-  pub seconds : Option ℕ
+abbrev pub Settings : Type 0
+Settings = options.Settings
+
+-- those of a search both ways that starts from the least delays, and that nothing stops
+abbrev pub both_ways_settings : ℕ → ℕ → ℕ → Settings
+both_ways_settings workers limit most_reads = record {
+  workers = workers;
+  limit = limit;
+  simulations = 0;
+  most_reads = most_reads;
+  ways = Both;
+  seconds = None;
+}
 
 -- how far a search with these settings goes: it may be stopped where there are seconds to stop it after
 abbrev pub limit_of : Settings → Limit

@@ -32,6 +32,17 @@ found_in bounds scenario box seen =
 abbrev pub IsTriedIf : Scenario → Box → Bool → ℕ → Type 0
 IsTriedIf scenario box tried seen = IsTrue tried → latency_of scenario (greatest_of box) ≤ seen
 
+-- a record of the scenario, of a latency above the one known
+pub record IsBetter (scenario : Scenario) (known : ℕ) (found : Record) : Type 0 where
+  pub of_scenario : found.scenario ≡ scenario
+  pub above : known < found.latency
+
+-- What a step may find, where a record of that latency was seen: nothing where the search closes the box at once, and else a better record or nothing; but for a search by leads just the record of the greatest delays.
+pub record IsFound (bounds : Bounds) (scenario : Scenario) (box : Box) (seen : ℕ) (found : Option Record) : Type 0 where
+  pub closed : closes_for bounds scenario box seen ≡ true → found ≡ None
+  pub better : IfSome found (IsBetter scenario seen)
+  pub greatest : bounds ≢ bounds_of.Lead → found ≡ found_in bounds scenario box seen
+
 -- the greatest latency that is known after a step
 abbrev pub known_after : ℕ → Option Record → ℕ
 known_after seen None = seen
@@ -86,7 +97,7 @@ IsFate bounds scenario box known (Stays left) =
 
 -- a step over the box, where a record of that latency was seen
 pub record IsStep (bounds : Bounds) (scenario : Scenario) (box : Box) (seen : ℕ) (step : Step) : Type 0 where
-  pub found : step.found ≡ found_in bounds scenario box seen
+  pub found : IsFound bounds scenario box seen step.found
   pub fate : IsFate bounds scenario box (known_after seen step.found) step.fate
 
 -- a step makes a turn of the box, where that latency is known: if the box is a point in real time, the search closes it
@@ -95,7 +106,7 @@ CanTurn bounds scenario box known = IsRealPoint scenario box → closes_for boun
 
 -- what is known of the box before a ticket is spent for it, where a record of that latency was seen
 pub record IsProspect (bounds : Bounds) (scenario : Scenario) (box : Box) (seen : ℕ) (prospect : Prospect) : Type 0 where
-  pub found : IfSome prospect.found (λ found. found ≡ attained_by scenario (greatest_of box))
+  pub found : IfSome prospect.found (IsBetter scenario seen)
   pub known : prospect.known ≡ known_after seen prospect.found
   pub above : seen ≤ prospect.known
   pub turns : IsTrue prospect.turns → CanTurn bounds scenario box prospect.known

@@ -1,7 +1,7 @@
 //! What a search learns where it asks whether a box is closed.
 
 use convoy_certificate::Node;
-use convoy_leads::{LeadTest, Shown};
+use convoy_leads::{LeadTest, Opening};
 
 /// What is known of a box where it was asked whether it is closed for a latency.
 #[derive(Drop)]
@@ -13,11 +13,12 @@ pub(crate) struct Asked<'a> {
     pub left: Option<Box<LeftOpen<'a>>>,
 }
 
-/// A box that leads do not close for a latency: their test of it, and what they show for that latency.
+/// A box that leads do not close for a latency: their test of it, and what keeps it open for that latency, if
+/// that is a case of a rival.
 #[derive(Drop)]
 pub(crate) struct LeftOpen<'a> {
     pub test: LeadTest<'a>,
-    pub shown: Shown,
+    pub opening: Option<Opening>,
 }
 
 impl<'a> Asked<'a> {

@@ -4,7 +4,7 @@ ghost use Rattle.convoy_intervals.specs.Boxes.{IsBox};
 ghost use Rattle.convoy_leads.specs.Closing.{closes_by_leads};
 ghost use Rattle.convoy_branch.specs.declared.step.Turn.TheVariants.{Closed};
 ghost use Rattle.convoy_branch.specs.Asked.{IsAsked, IsLeftOpen};
-ghost use Rattle.convoy_branch.specs.SearchBounds.{closes_for, further_leaf, least_bound, most_nodes};
+ghost use Rattle.convoy_branch.specs.SearchBounds.{closes_for, least_bound, most_nodes};
 ghost use Rattle.convoy_branch.specs.Steps.{IsTurn};
 ghost use Rattle.convoy_branch.specs.Uppers.{IsRaised, IsRaisedByLeads};
 
@@ -14,7 +14,7 @@ use convoy_intervals::{DelayBox, Tracked};
 use convoy_leads::LeadTest;
 use convoy_packets::Instance;
 use convoy_scenario::Time;
-use convoy_stamps::laws::stamp_bound_at_most_plain;
+use convoy_stamps::stamp_bound_laws::stamp_bound_at_most_plain;
 use convoy_stamps::stamp_bound_of;
 use std::alloc::{AllocError, Global};
 
@@ -79,23 +79,6 @@ impl Bounds {
         if branch.bound() <= latency {
             return Ok(Asked::closed(Node::Bound));
         }
-        self.ask_further(alloc, instance, branch, latency)
-    }
-
-    /// The same of a box that its plain bound does not close.
-    fn ask_further<'a>(
-        self,
-        alloc: Global,
-        instance: &'a Instance,
-        branch: &Tracked,
-        latency: u32,
-    ) -> Result<Asked<'a>, AllocError>
-        requires of_scenario { branch.now.scenario ≡ instance.now }
-        ensures leaf { IfOk result
-            (λ asked. asked.leaf ≡ further_leaf self instance.now branch.now.delay_box latency) }
-        ensures left { IfOk result
-            (λ asked. IfSome asked.left (λ left. IsLeftOpen instance.now branch.now.delay_box left.value)) }
-    {
         if self == Bounds::Plain {
             return Ok(Asked::nothing());
         }
@@ -151,9 +134,10 @@ fn ask_leads<'a>(
     if shown.is_closed() {
         return Ok(Asked::closed(Node::Lead { latency }));
     }
+    let opening = test.opening(shown, latency)?;
     Ok(Asked {
         leaf: None,
-        left: Some(Box::new(alloc, LeftOpen { test, shown })?),
+        left: Some(Box::new(alloc, LeftOpen { test, opening })?),
     })
 }
 

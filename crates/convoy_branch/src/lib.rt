@@ -1,23 +1,25 @@
 //! Branch and bound: the step over one box, the search of one worker, and that of both ways.
 #![tactic(auto)]
 
+pub use above::{FromAbove, from_above};
 pub use bounds::Bounds;
 pub use convoy_shares::MOST_WORKERS;
 pub use gate::{Gate, NoGate};
 pub use limit::Limit;
 pub use options::{
-    DEFAULT_LIMIT, DEFAULT_SIMULATIONS, MOST_SIMULATIONS, MOST_TICKETS, Options, Ways,
+    DEFAULT_LIMIT, DEFAULT_SIMULATIONS, MOST_SIMULATIONS, MOST_TICKETS, Options, Settings, Ways,
 };
 pub use outcome::Outcome;
 pub use prospect::{Prospect, prospect_of};
 pub use search::{search_alone, search_alone_from};
 pub use step::{Fate, Step, Turn, step_branch};
-pub use ways::{PLAIN_TICKETS, lead_share, plain_share, search_both_ways};
+pub use ways::{AfterPlain, PLAIN_TICKETS, after_plain, lead_share, plain_share, search_both_ways};
 
+mod above;
 mod asked;
 mod bounds;
+pub mod front_laws;
 mod gate;
-pub mod laws;
 mod limit;
 mod options;
 mod outcome;

@@ -1,7 +1,7 @@
-ghost use Rattle.std.specs.Prelude.{◌≡◌, ◌↔◌, ◌≤◌, min, None, Some, IfSome, IsSome};
+ghost use Rattle.std.specs.Prelude.{◌≡◌, ◌↔◌, ◌≤◌, min, Some, IfSome, IsSome};
 ghost use Rattle.convoy_branch.specs.SearchBounds.{most_nodes};
-ghost use Rattle.convoy_branch.specs.Options.{AreSettings, first_bounds, limit_of};
-ghost use Rattle.convoy_branch.specs.declared.options.Ways.TheVariants.{One, Both};
+ghost use Rattle.convoy_branch.specs.Options.{AreSettings, both_ways_settings, first_bounds, limit_of};
+ghost use Rattle.convoy_branch.specs.declared.options.Ways.TheVariants.{One};
 
 use super::bounds::Bounds;
 use super::limit::Limit;
@@ -43,6 +43,17 @@ impl Ways {
     }
 }
 
+/// What [`Options`] are made of: contracts see options as this.
+#[derive(Clone, Copy)]
+pub struct Settings {
+    pub workers: u32,
+    pub limit: u64,
+    pub simulations: u64,
+    pub most_reads: u64,
+    pub ways: Ways,
+    pub seconds: Option<u32>,
+}
+
 /// How a search runs: its workers, from 1 to [`MOST_WORKERS`]; its limit of tickets, from 1 to
 /// [`MOST_TICKETS`], or by leads to as many as lead leaves are read; how many schedules are simulated
 /// at most to find a good one to start from, up to [`MOST_SIMULATIONS`]; how many reads of the input
@@ -50,79 +61,42 @@ impl Ways {
 /// stops, if it is to.
 #[derive(Clone, Copy)]
 pub struct Options {
-    workers: u32,
-    limit: u64,
-    simulations: u64,
-    most_reads: u64,
-    ways: Ways,
-    seconds: Option<u32>,
+    settings: Settings,
 }
 
 impl Model for Options {
-    ghost use Rattle.convoy_branch.specs.Options.{AreSettings, Settings};
+    ghost use Rattle.convoy_branch.specs.Options.{AreSettings};
+    ghost use Rattle.convoy_branch.specs.declared.options.Settings.{Settings};
 
     ghost Value = { Settings };
 
-    ghost view = { λ o. record {
-      workers = o.workers;
-      limit = o.limit;
-      simulations = o.simulations;
-      most_reads = o.most_reads;
-      ways = o.ways;
-      seconds = o.seconds;
-    } };
+    ghost view = { λ o. o.settings };
 
-    ghost inverse = { λ s. record {
-      workers = s.workers;
-      limit = s.limit;
-      simulations = s.simulations;
-      most_reads = s.most_reads;
-      ways = s.ways;
-      seconds = s.seconds;
-    } };
+    ghost inverse = { λ s. record { settings = s } };
 
-    ghost invariant = { λ o. AreSettings (record {
-      workers = o.workers;
-      limit = o.limit;
-      simulations = o.simulations;
-      most_reads = o.most_reads;
-      ways = o.ways;
-      seconds = o.seconds;
-    }) };
+    ghost invariant = { λ o. AreSettings o.settings };
 }
 
 impl Options {
     /// Options of these numbers, of a search both ways that starts from the least delays; none where the
     /// workers or the limit are out of range.
     pub fn new(workers: u32, limit: u64, most_reads: u64) -> Option<Options>
-        ensures range { IsSome result ↔ AreSettings (record {
-          workers = workers;
-          limit = limit;
-          simulations = 0;
-          most_reads = most_reads;
-          ways = Both;
-          seconds = None;
-        }) }
-        ensures value { IfSome result (λ options. options ≡ record {
-          workers = workers;
-          limit = limit;
-          simulations = 0;
-          most_reads = most_reads;
-          ways = Both;
-          seconds = None;
-        }) }
+        ensures range { IsSome result ↔ AreSettings (both_ways_settings workers limit most_reads) }
+        ensures value { IfSome result
+            (λ options. options ≡ both_ways_settings workers limit most_reads) }
     {
         if workers < 1 || workers > MOST_WORKERS || limit < 1 || limit > MOST_TICKETS {
             return None;
         }
-        Some(Options {
+        let settings = Settings {
             workers,
             limit,
             simulations: 0,
             most_reads,
             ways: Ways::Both,
             seconds: None,
-        })
+        };
+        Some(Options { settings })
     }
 
     /// The same options, of a search that starts from the best schedule that so many simulations
@@ -131,10 +105,11 @@ impl Options {
         requires { simulations ≤ MOST_SIMULATIONS }
         ensures { result ≡ record self { simulations = simulations } }
     {
-        Options {
+        let settings = Settings {
             simulations,
-            ..self
-        }
+            ..self.settings
+        };
+        Options { settings }
     }
 
     /// The same options, of a search by those bounds alone, or by leads. It spends no more tickets than
@@ -142,21 +117,23 @@ impl Options {
     pub fn going_by(self, bounds: Bounds) -> Options
         ensures { result ≡ record self { limit = min self.limit (most_nodes bounds); ways = One bounds } }
     {
-        Options {
-            limit: self.limit.min(bounds.most_nodes() as u64),
+        let settings = Settings {
+            limit: self.settings.limit.min(bounds.most_nodes() as u64),
             ways: Ways::One(bounds),
-            ..self
-        }
+            ..self.settings
+        };
+        Options { settings }
     }
 
     /// The same options, of a search that stops after so many seconds, which its gate counts.
     pub fn stopping_after(self, seconds: u32) -> Options
         ensures { result ≡ record self { seconds = Some seconds } }
     {
-        Options {
+        let settings = Settings {
             seconds: Some(seconds),
-            ..self
-        }
+            ..self.settings
+        };
+        Options { settings }
     }
 
     /// How many workers search.
@@ -164,7 +141,7 @@ impl Options {
         ensures value { result ≡ self.now.workers }
         ensures lawful { AreSettings self.now }
     {
-        self.workers
+        self.settings.workers
     }
 
     /// How many tickets are spent at most.
@@ -172,21 +149,21 @@ impl Options {
         ensures value { result ≡ self.now.limit }
         ensures lawful { AreSettings self.now }
     {
-        self.limit
+        self.settings.limit
     }
 
     /// How many schedules are simulated at most before the search.
     pub fn simulations(&self) -> u64
         ensures { result ≡ self.now.simulations }
     {
-        self.simulations
+        self.settings.simulations
     }
 
     /// How many reads are made at most.
     pub fn most_reads(&self) -> u64
         ensures { result ≡ self.now.most_reads }
     {
-        self.most_reads
+        self.settings.most_reads
     }
 
     /// By what the search closes boxes, or that it goes both ways.
@@ -194,14 +171,14 @@ impl Options {
         ensures value { result ≡ self.now.ways }
         ensures lawful { AreSettings self.now }
     {
-        self.ways
+        self.settings.ways
     }
 
     /// After how many seconds the search stops, if it is to.
     pub fn seconds(&self) -> Option<u32>
         ensures { result ≡ self.now.seconds }
     {
-        self.seconds
+        self.settings.seconds
     }
 
     /// How far the search goes: to its last ticket, or until its gate stops it where there are seconds to
@@ -210,8 +187,8 @@ impl Options {
         ensures { result ≡ limit_of self.now }
     {
         Limit {
-            tickets: self.limit,
-            may_stop: self.seconds.is_some(),
+            tickets: self.settings.limit,
+            may_stop: self.settings.seconds.is_some(),
         }
     }
 }

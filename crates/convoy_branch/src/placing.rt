@@ -1,12 +1,12 @@
 ghost use Rattle.std.specs.Prelude.{◌<◌, length, IfOk, IfSome};
-ghost use Rattle.convoy_intervals.specs.Boxes.{CanSplit, IsBox};
-ghost use Rattle.convoy_branch.specs.Asked.{IsLeftOpen};
+ghost use Rattle.convoy_intervals.specs.Boxes.{CanSplit};
+ghost use Rattle.convoy_leads.specs.Openings.{IsOpening};
 ghost use Rattle.convoy_branch.specs.Chains.{IsWide};
 
-use super::asked::LeftOpen;
 use super::want::Want;
 use super::wants::{some_may_wait, wants_of};
 use convoy_intervals::DelayBox;
+use convoy_leads::Opening;
 use convoy_packets::Instance;
 use std::alloc::{AllocError, Global};
 
@@ -25,18 +25,14 @@ pub(crate) fn place_by_leads(
     alloc: Global,
     instance: &Instance,
     delay_box: &DelayBox,
-    left: LeftOpen,
+    opening: &Opening,
     latency: u32,
 ) -> Result<Option<(u16, u16)>, AllocError>
-    requires open_box { IsLeftOpen instance.now delay_box.now left }
+    requires open_box { IsOpening instance.now opening.now }
     ensures part { IfOk result
         (λ found. IfSome found (λ place. CanSplit delay_box.now place.0 place.1)) }
 {
-    let LeftOpen { test, shown } = left;
-    let Some(opening) = test.opening(shown, latency)? else {
-        return Ok(None);
-    };
-    let wants = wants_of(alloc, instance, delay_box, &opening, latency)?;
+    let wants = wants_of(alloc, instance, delay_box, opening, latency)?;
     Ok(place_by_wants(instance, delay_box, &wants))
 }
 

@@ -7,7 +7,7 @@ use convoy_intervals::Tracked;
 use convoy_packets::Instance;
 use convoy_scenario::Time;
 use convoy_sim::Record;
-use convoy_stamps::laws::stamp_bound_at_most_plain;
+use convoy_stamps::stamp_bound_laws::stamp_bound_at_most_plain;
 use std::alloc::{AllocError, Global};
 
 /// What is known of a box before a ticket is spent for it.

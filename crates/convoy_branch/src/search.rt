@@ -14,16 +14,16 @@ ghost use Rattle.convoy_branch.specs.Searching.{IsRaisedOver, front_of, nodes_af
 ghost use Rattle.convoy_branch.specs.Uppers.{IsUpperOf};
 
 use super::bounds::Bounds;
+use super::front_laws::{fronts_bound, uppers_begin, uppers_raised};
 use super::gate::{Gate, NoGate};
-use super::laws::{fronts_bound, uppers_begin, uppers_raised};
 use super::limit::Limit;
 use super::outcome::Outcome;
 use super::step::{Fate, Turn, step_branch};
 use convoy_certificate::{Certificate, Node};
-use convoy_checker::laws::trees_cover;
+use convoy_checker::tree_laws::trees_cover;
 use convoy_intervals::Tracked;
-use convoy_intervals::laws::{halves_are_boxes, upper_keeps_greatest};
-use convoy_packets::laws::fixed_order_is_order;
+use convoy_intervals::box_laws::{halves_are_boxes, upper_keeps_greatest};
+use convoy_packets::schedule_laws::fixed_order_is_order;
 use convoy_packets::{Instance, Schedule};
 use convoy_sim::Record;
 use std::alloc::{AllocError, Global};

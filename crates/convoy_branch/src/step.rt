@@ -3,30 +3,32 @@ ghost use Rattle.std.specs.Prelude.{IfErr, IfOk, IfSome, IsNone};
 ghost use Rattle.convoy_scenario.specs.Scenario.{Scenario};
 ghost use Rattle.convoy_sim.specs.Delivery.{latency_of};
 ghost use Rattle.convoy_sim.specs.Record.{attained_by};
-ghost use Rattle.convoy_intervals.specs.Boxes.{IsBox, IsPoint, greatest_of};
-ghost use Rattle.convoy_intervals.specs.Boxes.{CanSplit};
+ghost use Rattle.convoy_intervals.specs.Boxes.{CanSplit, IsBox, IsPoint, greatest_of};
 ghost use Rattle.convoy_branch.specs.declared.bounds.Bounds.{Bounds};
+ghost use Rattle.convoy_branch.specs.declared.bounds.Bounds.TheVariants.{Lead};
 ghost use Rattle.convoy_branch.specs.Asked.{IsLeftOpen};
-ghost use Rattle.convoy_branch.specs.Steps.{IsFate, IsStep, IsTriedIf, StaysOpen, known_after};
-ghost use Rattle.convoy_branch.specs.Looks.{IsLook};
+ghost use Rattle.convoy_branch.specs.Steps.{IsBetter, IsFate, IsStep, IsTriedIf, StaysOpen, known_after};
+ghost use Rattle.convoy_branch.specs.Looks.{IsLook, IsLookAtGreatest};
 
 use super::asked::{Asked, LeftOpen};
 use super::bounds::Bounds;
 use super::placing::place_by_leads;
 use convoy_certificate::Node;
-use convoy_intervals::laws::members_are_assignments;
+use convoy_intervals::box_laws::members_are_assignments;
 use convoy_intervals::{DelayBox, Tracked};
-use convoy_packets::laws::fixed_order_is_order;
+use convoy_packets::schedule_laws::fixed_order_is_order;
 use convoy_packets::{Instance, PacketTable};
 use convoy_scenario::Time;
 use convoy_sim::Record;
-use convoy_stamps::laws::stamp_bound_at_most_plain;
+use convoy_stamps::stamp_bound_laws::stamp_bound_at_most_plain;
+use convoy_wishes::wish;
 use std::alloc::{AllocError, Global};
 
 /// What a step over a box gave.
 #[derive(Drop)]
 pub struct Step {
-    /// A record of a greater latency than was seen, if the greatest delays of the box have one.
+    /// A record of a greater latency than was seen, if the greatest delays of the box have one, or in a
+    /// search by leads a run that does what keeps the box open.
     pub found: Option<Record>,
     /// What becomes of the box.
     pub fate: Fate,
@@ -64,9 +66,9 @@ pub enum Turn {
 /// The box is closed for `seen` if a bound of it is at most that: the plain one, or else, where the
 /// search asks for it, the stamp bound; or else, where it goes by leads, if these close it. Else the
 /// schedule of its greatest delays is simulated, unless it was tried, and a latency above `seen` is
-/// found; then the box is closed for that, or in whole ticks where it has one member, and else is
-/// split; in real time a box of one delay for each packet stays (docs/PROTOCOL.md). Where memory runs
-/// out the box comes back as it was.
+/// found; by leads, wish runs of the case that they leave open are simulated too. Then the box is closed for
+/// what was found, or in whole ticks where it has one member, and else is split; in real time a box of one
+/// delay for each packet stays (docs/PROTOCOL.md). Where memory runs out the box comes back as it was.
 pub fn step_branch(
     alloc: Global,
     instance: &Instance,
@@ -106,8 +108,8 @@ pub(crate) struct Look<'a> {
     pub asked: Asked<'a>,
 }
 
-/// Asks whether the box is closed for the latency seen, in ticks, then for that of its greatest
-/// delays, and then whether it is closed for that if it is greater.
+/// Asks whether the box is closed for the latency seen, in ticks, then for that of its greatest delays if it
+/// is greater, and then for that of a wish run.
 pub(crate) fn look_at<'a>(
     alloc: Global,
     instance: &'a Instance,
@@ -119,6 +121,87 @@ pub(crate) fn look_at<'a>(
     requires of_scenario { branch.now.scenario ≡ instance.now }
     requires known { IsTriedIf instance.now branch.now.delay_box tried seen }
     ensures value { IfOk result (λ look. IsLook bounds instance.now branch.now.delay_box seen look) }
+{
+    let look = look_at_greatest(alloc, instance, branch, tried, seen, bounds)?;
+    match bounds {
+        Bounds::Lead => look_by_wishes(alloc, instance, branch, seen, look),
+        Bounds::Plain | Bounds::Stamp => Ok(look),
+    }
+}
+
+/// What a search by leads sees of a box at whose greatest delays it has looked: where it is open, wish runs are
+/// simulated, and where one of these has a greater latency it asks for that.
+fn look_by_wishes<'a>(
+    alloc: Global,
+    instance: &'a Instance,
+    branch: &Tracked,
+    seen: u32,
+    look: Look<'a>,
+) -> Result<Look<'a>, AllocError>
+    requires of_scenario { branch.now.scenario ≡ instance.now }
+    requires look { IsLookAtGreatest Lead instance.now branch.now.delay_box seen look }
+    ensures { IfOk result (λ look. IsLook Lead instance.now branch.now.delay_box seen look) }
+{
+    stamp_bound_at_most_plain();
+    if look.asked.leaf.is_some() {
+        return Ok(look);
+    }
+    let known = known_after(&look.found, seen);
+    match wished(alloc, instance, branch, &look.asked, known)? {
+        None => Ok(look),
+        Some(found) => {
+            let asked = Bounds::Lead.ask(alloc, instance, branch, found.latency())?;
+            Ok(Look {
+                found: Some(found),
+                asked,
+            })
+        }
+    }
+}
+
+/// The record of a wish run of what leads leave open of a box, if its latency is above the one known, in ticks.
+pub(crate) fn wished(
+    alloc: Global,
+    instance: &Instance,
+    branch: &Tracked,
+    asked: &Asked,
+    known: u32,
+) -> Result<Option<Record>, AllocError>
+    requires of_scenario { branch.now.scenario ≡ instance.now }
+    requires left { IfSome asked.now.left (λ left. IsLeftOpen instance.now branch.now.delay_box left.value) }
+    ensures { IfOk result (λ found. IfSome found (IsBetter instance.now known)) }
+{
+    let Some(left) = &asked.left else {
+        return Ok(None);
+    };
+    let Some(opening) = &left.opening else {
+        return Ok(None);
+    };
+    let links = left.test.barred_links(&opening.case)?;
+    wish(
+        alloc,
+        instance,
+        branch.delay_box(),
+        &opening.case,
+        &links,
+        known,
+    )
+}
+
+/// Asks whether the box is closed for the latency seen, in ticks, then for that of its greatest
+/// delays, and then whether it is closed for that if it is greater.
+fn look_at_greatest<'a>(
+    alloc: Global,
+    instance: &'a Instance,
+    branch: &Tracked,
+    tried: bool,
+    seen: u32,
+    bounds: Bounds,
+) -> Result<Look<'a>, AllocError>
+    requires of_scenario { branch.now.scenario ≡ instance.now }
+    requires known { IsTriedIf instance.now branch.now.delay_box tried seen }
+    ensures value { IfOk result
+        (λ look. IsLookAtGreatest bounds instance.now branch.now.delay_box seen look) }
 {
     stamp_bound_at_most_plain();
     let asked = bounds.ask(alloc, instance, branch, seen)?;
@@ -222,7 +305,7 @@ fn point_fate(instance: &Instance, branch: Tracked) -> Fate
 /// Where to split a box that is not closed for the latency that is known, in ticks: by what leads leave
 /// open of it, where they were asked, if the chain that keeps it open says so, and else in the middle of
 /// the widest range. None where each packet has one delay left. The error is that memory ran out.
-fn place_to_split(
+pub(crate) fn place_to_split(
     alloc: Global,
     instance: &Instance,
     branch: &DelayBox,
@@ -235,8 +318,10 @@ fn place_to_split(
     ensures part { IfOk result
         (λ found. IfSome found (λ place. CanSplit branch.now place.0 place.1)) }
 {
-    if let Some(left) = left {
-        let place = place_by_leads(alloc, instance, branch, Box::into_inner(left), latency)?;
+    if let Some(left) = left
+        && let Some(opening) = &left.opening
+    {
+        let place = place_by_leads(alloc, instance, branch, opening, latency)?;
         if place.is_some() {
             return Ok(place);
         }

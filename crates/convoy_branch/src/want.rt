@@ -115,6 +115,28 @@ impl Want {
     }
 }
 
+/// When something is to happen, in ticks.
+#[derive(Clone, Copy)]
+pub(crate) enum When {
+    /// At that tick or later.
+    Since(u32),
+    /// By that tick.
+    By(u32),
+}
+
+impl When {
+    /// What is wanted of a delay at whose end it happens, where that tick comes before the delay, and
+    /// after it at least, and at most, so many others as well.
+    pub(crate) fn wanted(self, issued: u32, others: (u32, u32)) -> Want {
+        match self {
+            When::Since(tick) => {
+                Want::at_least(tick.saturating_sub(issued).saturating_sub(others.1))
+            }
+            When::By(tick) => Want::at_most(tick.saturating_sub(issued).saturating_sub(others.0)),
+        }
+    }
+}
+
 /// The delay of a range, but not its last, that is nearest to so many ticks.
 fn nearest(ticks: u32, range: (u16, u16)) -> u16
     requires { range.0 < range.1 }

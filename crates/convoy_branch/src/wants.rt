@@ -3,7 +3,7 @@ ghost use Rattle.convoy_draft.specs.declared.limits.TheConstants.{MOST_GROUPS, M
 ghost use Rattle.convoy_starts.specs.Links.{IsLink};
 ghost use Rattle.convoy_leads.specs.Openings.{IsOpenCase, IsOpening};
 
-use super::want::Want;
+use super::want::{Want, When};
 use convoy_intervals::DelayBox;
 use convoy_leads::{Commit, Link, OpenCase, Opening};
 use convoy_packets::Instance;
@@ -84,51 +84,38 @@ impl<'a> Scene<'a> {
         }
     }
 
-    /// A message is to arrive at a group at that tick or later, by its delay on the way there or by its
-    /// wait.
-    fn arrives_from(&self, wants: &mut [Want], message: usize, group: usize, tick: u32)
+    /// A message is to arrive at a group in time, by its delay on the way there or by its wait.
+    fn arrives(&self, wants: &mut [Want], message: usize, group: usize, when: When)
         requires { message < length self.now.instance.now.multicasts }
     {
         let table = self.instance.table();
         let (wait, delay) = (table.wait(message), table.multicast_to(message, group));
-        let ticks = tick.saturating_sub(self.instance.issue_tick(message));
-        let (_, longest) = self.range_at(wait);
-        let (_, slowest) = self.range_at(delay);
-        add(wants, delay, Want::at_least(ticks.saturating_sub(longest)));
-        add(wants, wait, Want::at_least(ticks.saturating_sub(slowest)));
+        let issued = self.instance.issue_tick(message);
+        add(wants, delay, when.wanted(issued, self.range_at(wait)));
+        add(wants, wait, when.wanted(issued, self.range_at(delay)));
     }
 
-    /// A message is to arrive at a group by that tick, by its delay on the way there or by its wait.
-    fn arrives_by(&self, wants: &mut [Want], message: usize, group: usize, tick: u32)
-        requires { message < length self.now.instance.now.multicasts }
-    {
-        let table = self.instance.table();
-        let (wait, delay) = (table.wait(message), table.multicast_to(message, group));
-        let ticks = tick.saturating_sub(self.instance.issue_tick(message));
-        let (shortest, _) = self.range_at(wait);
-        let (fastest, _) = self.range_at(delay);
-        add(wants, delay, Want::at_most(ticks.saturating_sub(shortest)));
-        add(wants, wait, Want::at_most(ticks.saturating_sub(fastest)));
-    }
-
-    /// The stamp of a message at group `from` is to come to another group at that tick or later.
-    fn comes_from(&self, wants: &mut [Want], message: usize, from: usize, to: usize, tick: u32)
+    /// The stamp of a message at group `from` is to come to another group in time.
+    fn comes(&self, wants: &mut [Want], message: usize, from: usize, to: usize, when: When)
         requires message { message < MOST_MULTICASTS }
         requires from { from < MOST_GROUPS }
     {
         let place = self.instance.table().propose(message, from, to);
-        let delay = tick.saturating_sub(self.windows.greatest_arrival(message, from));
-        add(wants, place, Want::at_least(delay));
+        let least = self.windows.least_arrival(message, from);
+        let most = self.windows.greatest_arrival(message, from);
+        add(wants, place, when.wanted(0, (least, most)));
     }
 
-    /// The stamp of a message at group `from` is to come to another group by that tick.
-    fn comes_by(&self, wants: &mut [Want], message: usize, from: usize, to: usize, tick: u32)
-        requires message { message < MOST_MULTICASTS }
-        requires from { from < MOST_GROUPS }
+    /// A message is to arrive at group `by` as early as it may, or later, and its stamp is to come from there to
+    /// another group at that tick or later.
+    fn comes_late(&self, wants: &mut [Want], message: usize, by: usize, to: usize, tick: u32)
+        requires message { message < length self.now.instance.now.multicasts }
+        requires few { message < MOST_MULTICASTS }
+        requires by { by < MOST_GROUPS }
     {
-        let place = self.instance.table().propose(message, from, to);
-        let delay = tick.saturating_sub(self.windows.least_arrival(message, from));
-        add(wants, place, Want::at_most(delay));
+        let first = self.windows.least_arrival(message, by);
+        self.arrives(wants, message, by, When::Since(first));
+        self.comes(wants, message, by, to, When::Since(tick));
     }
 
     /// Adds what an open case wants: the rival is committed after the latency, by way of the one
@@ -138,16 +125,13 @@ impl<'a> Scene<'a> {
     {
         let target = self.instance.target_message();
         let group = target_group(self.instance.scenario());
-        let (rival, by) = (case.rival, case.rival_by);
+        let rival = case.rival;
         let late = (self.instance.issue_tick(target).saturating_add(latency)).saturating_add(1);
-        self.arrives_from(wants, rival, by, self.windows.least_arrival(rival, by));
-        self.comes_from(wants, rival, by, group, late);
-        let by = case.target_by;
+        self.comes_late(wants, rival, case.rival_by, group, late);
         let first = self.windows.least_arrival(rival, group);
-        self.arrives_from(wants, target, by, self.windows.least_arrival(target, by));
-        self.comes_from(wants, target, by, group, first);
+        self.comes_late(wants, target, case.target_by, group, first);
         let committed = self.windows.greatest_settling(target, group);
-        self.arrives_by(wants, rival, group, committed);
+        self.arrives(wants, rival, group, When::By(committed));
     }
 
     /// Adds what is wanted where the rival arrives at the target's group before the target.
@@ -160,8 +144,8 @@ impl<'a> Scene<'a> {
             self.windows.least_arrival(rival, group),
             self.windows.greatest_arrival(target, group),
         );
-        self.arrives_by(wants, rival, group, last);
-        self.arrives_from(wants, target, group, first);
+        self.arrives(wants, rival, group, When::By(last));
+        self.arrives(wants, target, group, When::Since(first));
     }
 
     /// Adds what a link wants: its message and those that it counts arrive in time, after the commit
@@ -169,11 +153,11 @@ impl<'a> Scene<'a> {
     fn add_link(&self, wants: &mut [Want], link: &Link)
         requires { IsLink self.now.instance.now link.now }
     {
-        self.arrives_from(wants, link.message, link.group, link.since);
-        self.arrives_by(wants, link.message, link.group, link.by);
+        self.arrives(wants, link.message, link.group, When::Since(link.since));
+        self.arrives(wants, link.message, link.group, When::By(link.by));
         for message in link.others.numbers() {
-            self.arrives_from(wants, *message, link.group, link.since);
-            self.arrives_by(wants, *message, link.group, link.by);
+            self.arrives(wants, *message, link.group, When::Since(link.since));
+            self.arrives(wants, *message, link.group, When::By(link.by));
         }
         if let Some(commit) = link.commit {
             self.add_commit(wants, commit, link.group);
@@ -188,8 +172,8 @@ impl<'a> Scene<'a> {
         let Commit { message, at } = commit;
         for from in destinations(self.instance.scenario(), message) {
             let sent = at.saturating_sub(self.windows.least_proposal(message, *from, group));
-            self.arrives_by(wants, message, *from, sent);
-            self.comes_by(wants, message, *from, group, at);
+            self.arrives(wants, message, *from, When::By(sent));
+            self.comes(wants, message, *from, group, When::By(at));
         }
     }
 }

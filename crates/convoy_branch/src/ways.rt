@@ -6,7 +6,7 @@ ghost use Rattle.convoy_packets.specs.Assignment.{ranges_of};
 ghost use Rattle.convoy_packets.specs.Table.{least_of};
 ghost use Rattle.convoy_sim.specs.Delivery.{latency_of};
 ghost use Rattle.convoy_sim.specs.Record.{Record};
-ghost use Rattle.convoy_branch.specs.BothWays.{IsWithinBothWays, IsOutcomeBothWays, lead_share, plain_share};
+ghost use Rattle.convoy_branch.specs.BothWays.{IsAfterPlain, IsWithinBothWays, IsOutcomeBothWays, lead_share, plain_share};
 ghost use Rattle.convoy_branch.specs.Outcomes.{IsOpen, IsOutcome, best_of};
 ghost use Rattle.convoy_branch.specs.declared.bounds.Bounds.TheVariants.{Lead, Plain};
 
@@ -62,17 +62,57 @@ pub fn search_both_ways<G: Gate>(
         IsWithinBothWays limit (λ plain leads. IsOutcomeBothWays instance.now 1 plain leads outcome)) }
     ensures opened { IfOk result (λ outcome. opening.latency ≤ best_of outcome) }
 {
-    let (by_plain, by_leads) = (plain_share(limit.tickets), lead_share(limit.tickets));
-    let (plain, lead) = (limit.with_tickets(by_plain), limit.with_tickets(by_leads));
+    let plain = limit.by_plain();
     let first = search_alone_from(alloc, instance, opening, plain, Bounds::Plain, gate)?;
-    match first {
-        Outcome::Proved { .. } => Ok(first),
-        Outcome::Open { best, upper, .. } if by_leads > 0 && !limit.is_over(gate) => {
-            gate.begins_anew(Bounds::Lead, by_leads, best.latency(), upper);
+    match after_plain(first, limit, gate) {
+        AfterPlain::Ended(outcome) => Ok(outcome),
+        AfterPlain::ByLeads { best, upper } => {
+            let lead = limit.by_leads();
             let second = search_alone_from(alloc, instance, best, lead, Bounds::Lead, gate)?;
             Ok(second.with_upper(upper))
         }
-        Outcome::Open { .. } => Ok(first),
+    }
+}
+
+/// What comes in a search both ways after its search by plain bounds.
+#[derive(Drop)]
+pub enum AfterPlain {
+    /// Nothing: this is the outcome.
+    Ended(Outcome),
+    /// The search by leads, from the best record so far; no latency is above `upper`, in ticks.
+    ByLeads { best: Record, upper: u32 },
+}
+
+/// What comes in a search both ways with that limit after its first search, by plain bounds, has ended so. The
+/// search by leads comes where boxes are left, some tickets are for leads, and the gate does not stop the search;
+/// the gate is told of it.
+pub fn after_plain<G: Gate>(first: Outcome, limit: Limit, gate: &G) -> AfterPlain
+    ensures { IsAfterPlain limit first result }
+{
+    let by_leads = lead_share(limit.tickets);
+    match first {
+        Outcome::Proved { .. } => AfterPlain::Ended(first),
+        Outcome::Open { best, upper, .. } if by_leads > 0 && !limit.is_over(gate) => {
+            gate.begins_anew(Bounds::Lead, by_leads, best.latency(), upper);
+            AfterPlain::ByLeads { best, upper }
+        }
+        Outcome::Open { .. } => AfterPlain::Ended(first),
+    }
+}
+
+impl Limit {
+    /// How far the first search of a search both ways goes, by plain bounds.
+    pub fn by_plain(self) -> Limit
+        ensures { result ≡ record self { tickets = plain_share self.tickets } }
+    {
+        self.with_tickets(plain_share(self.tickets))
+    }
+
+    /// How far the second search of a search both ways goes, by leads.
+    pub fn by_leads(self) -> Limit
+        ensures { result ≡ record self { tickets = lead_share self.tickets } }
+    {
+        self.with_tickets(lead_share(self.tickets))
     }
 }
 

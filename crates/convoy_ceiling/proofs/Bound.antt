@@ -10,7 +10,7 @@ use Rattle.convoy_packets.specs.declared.packet.Packet.TheVariants.{Multicast}
 use Rattle.convoy_packets.specs.Assignment.{Schedule, AreWithin, delay_of, ranges_of}
 use Rattle.convoy_sim.specs.Times.{arrive, issue, settle, propose_arrive}
 use Rattle.convoy_sim.specs.Delivery.{addressed_to, last_commit, latency_at, latency_of}
-use Rattle.convoy_sim.specs.Laws.{arrive_by}
+use Rattle.convoy_sim.specs.ProtocolLaws.{arrive_by}
 use Rattle.convoy_sim.proofs.Membership.{IsIn, in_of_filter, in_greatest, greatest_most}
 use Rattle.convoy_sim.proofs.Addressed.{goes_from_in, goes_of_addressed, in-addressed}
 use Rattle.convoy_ceiling.specs.Ceiling.{CeilingHolds, CeilingHoldsInFinerTicks, CeilingIsUpper, IsFinerTrafficOf, IsOfKind, ceiling_at, ceiling_of, delays_between, longest_by, longest_to_commit, longest_from_arrival, longest_after}

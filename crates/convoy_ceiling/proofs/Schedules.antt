@@ -2,7 +2,7 @@
 use Rattle.std.proofs.Common.{◌≡◌, ap, subst, sym}
 use Rattle.convoy_scenario.specs.Scenario.{Scenario}
 use Rattle.convoy_packets.specs.Assignment.{AreWithin, IsAssignment, Schedule}
-use Rattle.convoy_packets.specs.Laws.{FixedOrderIsOrder}
+use Rattle.convoy_packets.specs.ScheduleLaws.{FixedOrderIsOrder}
 use Rattle.convoy_packets.specs.Order.{IsOrder, Order}
 use Rattle.convoy_packets.specs.Table.{PacketTable, least_of, table_of}
 

@@ -1,5 +1,5 @@
 -- The laws of packets and of the protocol on which the proofs of this crate stand.
-use Rattle.convoy_packets.specs.Laws.{DelaysAreWithin, FixedOrderIsOrder, UnsentTakesNoTime}
+use Rattle.convoy_packets.specs.ScheduleLaws.{DelaysAreWithin, FixedOrderIsOrder, UnsentTakesNoTime}
 use Rattle.convoy_sim.specs.Traffic.{TrafficDeliveryBound}
 
 pub record Used : Type 0 where

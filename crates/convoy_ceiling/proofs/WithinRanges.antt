@@ -7,7 +7,7 @@ use Rattle.convoy_packets.specs.declared.packet.Packet.{Packet}
 use Rattle.convoy_packets.specs.declared.packet.Packet.TheVariants.{Multicast, Propose}
 use Rattle.convoy_packets.specs.Packets.{is_wait}
 use Rattle.convoy_packets.specs.Assignment.{Schedule, AreWithin, IsWithin, delay_of, in_fixed_order, range_of, ranges_of, receiver_of, sender_of}
-use Rattle.convoy_packets.specs.Laws.{is_sent}
+use Rattle.convoy_packets.specs.ScheduleLaws.{is_sent}
 use Rattle.convoy_ceiling.specs.Ceiling.{IsFinerTrafficOf, delays_between}
 use Rattle.convoy_ceiling.proofs.Used.{Used}
 use Rattle.convoy_ceiling.proofs.Senders.{sends_itself}

@@ -7,7 +7,7 @@ use Rattle.convoy_scenario.specs.WellFormed.{IsScenario}
 use Rattle.convoy_packets.specs.declared.packet.Packet.{Packet}
 use Rattle.convoy_packets.specs.Packets.{is_wait}
 use Rattle.convoy_packets.specs.Assignment.{Schedule, AreWithin, range_of, ranges_of, receiver_of, sender_of}
-use Rattle.convoy_packets.specs.Laws.{is_sent}
+use Rattle.convoy_packets.specs.ScheduleLaws.{is_sent}
 use Rattle.convoy_sim.specs.Times.{greatest}
 use Rattle.convoy_sim.specs.Delivery.{addressed_to, latency_at}
 use Rattle.convoy_sim.specs.Greatest.{IsUpper}

@@ -13,7 +13,7 @@ ghost use Rattle.convoy_ceiling.specs.Ceiling.{
   longest_to_commit,
 };
 
-use super::laws::ceiling_holds;
+use super::ceiling_laws::ceiling_holds;
 use convoy_scenario::{Scenario, Sender};
 
 /// The ceiling of a message at a group, in ticks: whatever messages of the scenario's kinds are issued, of

@@ -9,8 +9,8 @@ pub use computing::{
 pub use seeking::{Found, seek_traffic};
 
 mod asking;
+pub mod ceiling_laws;
 mod computing;
-pub mod laws;
 mod naming;
 mod plan;
 mod seeking;

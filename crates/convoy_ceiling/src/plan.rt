@@ -3,7 +3,7 @@ ghost use Rattle.convoy_packets.specs.Assignment.{IsAssignment};
 
 use super::naming::name_for;
 use super::ticks::IssueTicks;
-use convoy_packets::laws::fixed_order_is_order;
+use convoy_packets::schedule_laws::fixed_order_is_order;
 use convoy_packets::{Instance, Packet, Schedule};
 use convoy_scenario::naming::{
     draft_destinations, draft_group, draft_groups, draft_link, draft_sender,

@@ -4,9 +4,9 @@ ghost use Rattle.convoy_ceiling.specs.Finding.{IsFound};
 
 use super::plan::{Plan, Push};
 use super::traffic::traffic_of;
-use crate::laws::{ceiling_bounds_traffic, own_kinds_are_traffic};
+use crate::ceiling_laws::{ceiling_bounds_traffic, own_kinds_are_traffic};
 use crate::{ceiling, goes_to, longest_from_arrival, longest_to_commit};
-use convoy_packets::laws::fixed_order_is_order;
+use convoy_packets::schedule_laws::fixed_order_is_order;
 use convoy_packets::{Instance, Schedule};
 use convoy_scenario::Scenario;
 use convoy_seek::seek;

@@ -7,16 +7,16 @@ use Rattle.std.proofs.lemmas.List.Elements.{All-head, All-tail, recursion_from_A
 use Rattle.convoy_scenario_lines.specs.declared.line_fault.Expected.{Expected}
 use Rattle.convoy_scenario_lines.specs.declared.line_fault.Expected.TheVariants as expected
 use Rattle.convoy_scenario_lines.specs.declared.version.Version.{Version as LinesVersion}
-use Rattle.convoy_scenario_lines.specs.Laws.{CanSay, CanSayTime, CanSayLinks, ScenarioLinesAreLines, ScenariosAreTheirLines}
+use Rattle.convoy_scenario_lines.specs.ScenarioLineLaws.{CanSay, CanSayTime, CanSayLinks, ScenarioLinesAreLines, ScenariosAreTheirLines}
 use Rattle.convoy_draft.specs.declared.time.Time.{Time}
 use Rattle.convoy_draft.specs.declared.time.Time.TheVariants.{Ticks, Real}
 use Rattle.convoy_scenario.specs.Scenario.{Scenario, is_timed}
 use Rattle.convoy_scenario.specs.WellFormed.{IsScenario}
 use Rattle.convoy_lines.specs.Labels.{number_in}
-use Rattle.convoy_lines.specs.Laws.{IsWord, IsLine}
+use Rattle.convoy_lines.specs.LineLaws.{IsWord, IsLine}
 use Rattle.convoy_lines.specs.Places.{Lines, Place, place_before, is_at_end, lines_in}
 use Rattle.convoy_scenario_lines.specs.LineReading.{form_at, scenario_at}
-use Rattle.convoy_scenario_lines.specs.Lines.{scenario_lines}
+use Rattle.convoy_scenario_lines.specs.ScenarioLines.{scenario_lines}
 use Rattle.convoy_packets.specs.Assignment.{AreWithin, IsAssignment, Schedule, ranges_of, range_of}
 use Rattle.convoy_packets.specs.Order.{IsOrder, Order, no_order}
 use Rattle.convoy_packets.specs.OrderLists.{order_of}
@@ -34,7 +34,7 @@ use Rattle.convoy_certificate.specs.declared.text_fault.TextFault.TheVariants as
 use Rattle.convoy_certificate.specs.Certificate.{Certificate, IsNode, IsNodeWhere, IsCertificate}
 use Rattle.convoy_certificate.specs.Forms.{version_in, numbers_in, list_in, schedule_in, order_in, node_or_end, greatest_listed}
 use Rattle.convoy_certificate.specs.Reading.{in_text, is_same_version, whole, is_assignment, is_order_list, order_in_time, order_at, leads_with, are_too_many, nodes_in, nodes_at, schedule_at, tree_at, certificate_of, AreReadable, IsTextOf}
-use Rattle.convoy_certificate.specs.Laws.{TextsAreRead}
+use Rattle.convoy_certificate.specs.CertificateLaws.{TextsAreRead}
 use Rattle.convoy_scenario.specs.Memory.{IsUnlessMemory}
 use Rattle.convoy_certificate.specs.Text.{is_stamp, is_lead, says_time, lines_version, version_for, version_of, version_line, latency_line, schedule_line, order_line, order_lines, ranks_written, schedule_lines, node_line, end_line, certificate_lines, certificate_text}
 use Rattle.convoy_certificate.proofs.Assigned.{passes}

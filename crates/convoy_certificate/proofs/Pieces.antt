@@ -5,7 +5,7 @@ use Rattle.std.proofs.lemmas.List.{append-nil, take_all}
 use Rattle.std.proofs.lemmas.List.Concat.{flat_map-append}
 use Rattle.std.proofs.lemmas.List.Folds.{flat_map-map}
 use Rattle.convoy_lines.specs.Texts.{ended, text_of}
-use Rattle.convoy_scenario_lines.specs.Lines.{scenario_lines, scenario_text}
+use Rattle.convoy_scenario_lines.specs.ScenarioLines.{scenario_lines, scenario_text}
 use Rattle.convoy_scenario.specs.Scenario.{Scenario}
 use Rattle.convoy_packets.specs.Assignment.{Schedule}
 use Rattle.convoy_certificate.specs.declared.node.Node.{Node}

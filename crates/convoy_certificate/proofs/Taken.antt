@@ -14,7 +14,7 @@ use Rattle.convoy_lines.specs.Words.{number_of}
 use Rattle.convoy_lines.specs.Places.{Lines, lines_in, Place, place_before, is_at_end}
 use Rattle.convoy_scenario_lines.specs.LineReading.{form_at, scenario_at}
 use Rattle.convoy_lines.specs.Texts.{line_of}
-use Rattle.convoy_scenario_lines.specs.Lines.{scenario_lines}
+use Rattle.convoy_scenario_lines.specs.ScenarioLines.{scenario_lines}
 use Rattle.convoy_scenario_lines.specs.declared.line_fault.Expected.{Expected}
 use Rattle.convoy_packets.specs.Order.{Order, no_order}
 use Rattle.convoy_packets.specs.OrderLists.{order_of}
@@ -24,7 +24,7 @@ use Rattle.convoy_scenario.specs.Scenario.{Scenario, is_timed}
 use Rattle.convoy_packets.specs.Assignment.{Schedule}
 use Rattle.convoy_lines.proofs.LabelLemmas.{same_bytes, label_takes, number_line_takes}
 use Rattle.convoy_lines.proofs.Spelling.{number_takes, text_takes}
-use Rattle.convoy_scenario_lines.specs.Laws.{ScenariosAreTheirLines}
+use Rattle.convoy_scenario_lines.specs.ScenarioLineLaws.{ScenariosAreTheirLines}
 use Rattle.convoy_certificate.proofs.Orders.{list_kept}
 use Rattle.convoy_certificate.proofs.Steps.{after_version, after_scenario, after_latency, after_schedule, after_tree, after_delays, order_after, after_order, in_steps, bind_ok}
 use Rattle.convoy_certificate.proofs.NodeLaws.{neither, leads_more, and_then_takes, map_takes, node_takes}
@@ -37,7 +37,7 @@ use Rattle.convoy_certificate.specs.declared.text_fault.TextFault.TheVariants as
 use Rattle.convoy_certificate.specs.Certificate.{Certificate}
 use Rattle.convoy_certificate.specs.Forms.{version_in, numbers_in, list_in, schedule_in, order_in, node_in, node_or_end, greatest_listed}
 use Rattle.convoy_certificate.specs.Reading.{in_text, is_same_version, is_assignment, is_order_list, order_in_time, order_at, leads_with, are_too_many, from_node, nodes_in, nodes_at, schedule_at, whole, tree_at, certificate_with, certificate_of, AreReadable, IsTextOf}
-use Rattle.convoy_certificate.specs.Laws.{TextsAreKept}
+use Rattle.convoy_certificate.specs.CertificateLaws.{TextsAreKept}
 use Rattle.convoy_certificate.specs.Text.{is_lead, lines_version, version_for, version_line, latency_line, schedule_line, schedule_lines, order_line, order_lines, ranks_written, node_line, end_line, certificate_lines, certificate_text}
 
 same_ok : {A : Type 0} (x y : A) → ◌≡◌ {A = Result A TextFault} (Ok x) (Ok y) → x ≡ y

@@ -9,14 +9,14 @@ pub use Rattle.convoy_packets.specs.Assignment
 pub use Rattle.convoy_packets.specs.Order
 pub use Rattle.convoy_packets.specs.OrderLists
 pub use Rattle.convoy_scenario_lines.specs.LineReading
-pub use Rattle.convoy_scenario_lines.specs.Lines
+pub use Rattle.convoy_scenario_lines.specs.ScenarioLines
 pub use Rattle.convoy_scenario.specs.Memory
 pub use Rattle.convoy_scenario.specs.Scenario
 pub use Rattle.convoy_scenario.specs.WellFormed
 -- what a reader has to believe: what a certificate says, its text, and what is proved of texts
 pub mod Certificate
 pub mod Text
-pub mod Laws
+pub mod CertificateLaws
 -- which text is read as what, and which fault it has
 pub mod Forms
 pub mod TextForms

@@ -10,7 +10,7 @@ use Rattle.convoy_packets.specs.Order.{Order}
 use Rattle.convoy_packets.specs.OrderLists.{is_no_order, ranks_of}
 use Rattle.convoy_scenario_lines.specs.declared.version.Version.{Version as LinesVersion}
 use Rattle.convoy_scenario_lines.specs.declared.version.Version.TheVariants as lines
-use Rattle.convoy_scenario_lines.specs.Lines.{scenario_lines}
+use Rattle.convoy_scenario_lines.specs.ScenarioLines.{scenario_lines}
 use Rattle.convoy_certificate.specs.declared.node.Node.{Node}
 use Rattle.convoy_certificate.specs.declared.node.Node.TheVariants.{Split, Bound, Point, Stamp, Lead}
 use Rattle.convoy_certificate.specs.declared.version.Version.{Version}

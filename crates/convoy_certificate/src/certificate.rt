@@ -1,7 +1,7 @@
 ghost use Rattle.std.specs.Prelude.{◌≡◌};
 ghost use Rattle.std.specs.List.{All, list_any};
 ghost use Rattle.convoy_packets.specs.Assignment.{IsAssignment};
-ghost use Rattle.convoy_certificate.specs.Certificate.{IsNode, IsCertificate};
+ghost use Rattle.convoy_certificate.specs.Certificate.{IsNode, IsCertificate, Certificate};
 ghost use Rattle.convoy_certificate.specs.Text.{is_stamp, is_lead, version_for, version_of};
 
 use super::node::Node;
@@ -36,23 +36,12 @@ pub struct Certificate {
 }
 
 impl Model for Certificate {
-    ghost use Rattle.convoy_certificate.specs.Certificate.{Certificate, IsCertificate};
-
     ghost Value = { Certificate };
 
-    ghost view = { λ c. record {
-      scenario = c.instance;
-      latency = c.latency;
-      schedule = c.schedule;
-      nodes = c.nodes.items;
-    } };
+    ghost view = { λ c.
+        record { scenario = c.instance; latency = c.latency; schedule = c.schedule; nodes = c.nodes.items } };
 
-    ghost invariant = { λ c. IsCertificate (record {
-      scenario = c.instance;
-      latency = c.latency;
-      schedule = c.schedule;
-      nodes = c.nodes.items;
-    }) };
+    ghost invariant = { λ c. IsCertificate (view c) };
 }
 
 impl Certificate {
@@ -164,12 +153,7 @@ pub(crate) fn version_for(timed: bool, links: usize, nodes: &[Node]) -> Version
 fn has_stamp(nodes: &[Node]) -> bool
     ensures { result ≡ list_any is_stamp nodes.now }
 {
-    for node in nodes {
-        if is_stamp(*node) {
-            return true;
-        }
-    }
-    false
+    nodes.iter().any(|node| is_stamp(*node))
 }
 
 fn is_stamp(node: Node) -> bool
@@ -185,12 +169,7 @@ fn is_stamp(node: Node) -> bool
 fn has_lead(nodes: &[Node]) -> bool
     ensures { result ≡ list_any is_lead nodes.now }
 {
-    for node in nodes {
-        if is_lead(*node) {
-            return true;
-        }
-    }
-    false
+    nodes.iter().any(|node| is_lead(*node))
 }
 
 /// Whether a node is a lead leaf.

@@ -2,7 +2,7 @@ ghost use Rattle.std.specs.Prelude.{◌≡◌};
 ghost use Rattle.convoy_draft.specs.Names.{is_digit};
 ghost use Rattle.convoy_certificate.specs.TextForms.{form_of};
 
-use super::lines::version_in;
+use super::certificate_lines::version_in;
 use super::version::Version;
 use convoy_lines::begins_with;
 

@@ -10,9 +10,9 @@ pub use version::Version;
 pub use writing::{push_schedule, text_of, write};
 
 mod certificate;
+pub mod certificate_laws;
+mod certificate_lines;
 mod form;
-pub mod laws;
-mod lines;
 mod node;
 mod reading;
 mod text_fault;

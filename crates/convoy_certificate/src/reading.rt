@@ -16,17 +16,20 @@ ghost use Rattle.convoy_certificate.specs.Reading.{in_text, is_same_version, is_
 ghost use Rattle.convoy_certificate.specs.Text.{lines_version, says_time};
 
 use super::certificate::{Certificate, MOST_LEADS, MOST_NODES, is_lead, version_for};
-use super::laws::{texts_are_kept, texts_are_read};
-use super::lines::{list_in, node_or_end, version_in};
+use super::certificate_laws::{texts_are_kept, texts_are_read};
+use super::certificate_lines::{list_in, node_or_end, version_in};
 use super::node::Node;
 use super::text_fault::TextFault;
 use super::version::Version;
 use convoy_lines::{LineReader, number_in};
-use convoy_packets::laws::{fixed_order_is_order, no_ranks_give_fixed_order};
+use convoy_packets::schedule_laws::{fixed_order_is_order, no_ranks_give_fixed_order};
 use convoy_packets::{GREATEST_RANK, Instance, Order, Schedule};
 use convoy_scenario::{Scenario, Time};
 use convoy_scenario_lines::{Expected, read_lines};
-use std::alloc::Global;
+use std::alloc::{AllocError, Global};
+
+/// What is read of a text, or the first fault there.
+type Read<T> = Result<T, TextFault>;
 
 /// Reads the text of a certificate (docs/FORMATS.md, "Certificate text").
 ///
@@ -51,7 +54,7 @@ pub fn read(alloc: Global, text: &[u8]) -> Result<Certificate, TextFault>
 }
 
 #[tactic(auto, unfolding(crate::specs::Reading::certificate_of))]
-fn read_all(alloc: Global, text: &[u8]) -> Result<Certificate, TextFault>
+fn read_all(alloc: Global, text: &[u8]) -> Read<Certificate>
     ensures { IsUnlessMemory TextFault.Memory (certificate_of text.now) result }
 {
     let mut reader = LineReader::over(text);
@@ -75,7 +78,7 @@ fn is_same_version(version: Version, other: Version) -> bool
     }
 }
 
-fn read_version(reader: &mut LineReader) -> Result<Version, TextFault>
+fn read_version(reader: &mut LineReader) -> Read<Version>
     ensures { result_map_both (λ version. (version, reader.new)) (λ fault. fault) result
         ≡ in_text (form_at Expected.Convoy version_in reader.old) }
 {
@@ -85,11 +88,7 @@ fn read_version(reader: &mut LineReader) -> Result<Version, TextFault>
 }
 
 /// The scenario of the next lines, with its packets.
-fn read_instance(
-    alloc: Global,
-    version: Version,
-    reader: &mut LineReader,
-) -> Result<Instance, TextFault>
+fn read_instance(alloc: Global, version: Version, reader: &mut LineReader) -> Read<Instance>
     ensures { IsUnlessMemory TextFault.Memory
         (in_text (scenario_at (lines_version version) reader.old))
         (result_map_both (λ instance. (instance, reader.new)) (λ fault. fault) result) }
@@ -98,7 +97,7 @@ fn read_instance(
     Ok(Instance::of(alloc, scenario)?)
 }
 
-fn read_latency(reader: &mut LineReader) -> Result<u32, TextFault>
+fn read_latency(reader: &mut LineReader) -> Read<u32>
     ensures { result_map_both (λ latency. (latency, reader.new)) (λ fault. fault) result
         ≡ in_text (form_at Expected.Latency (number_in (codes "latency")) reader.old) }
 {
@@ -109,11 +108,7 @@ fn read_latency(reader: &mut LineReader) -> Result<u32, TextFault>
 
 /// The schedule of the next lines: one delay for each packet, each in its packet's range, and the order
 /// of ties.
-fn read_schedule(
-    alloc: Global,
-    instance: &Instance,
-    reader: &mut LineReader,
-) -> Result<Schedule, TextFault>
+fn read_schedule(alloc: Global, instance: &Instance, reader: &mut LineReader) -> Read<Schedule>
     ensures value { IsUnlessMemory TextFault.Memory (schedule_at instance.now reader.old)
         (result_map_both (λ schedule. (schedule, reader.new)) (λ fault. fault) result) }
     ensures lawful { IfOk result (λ schedule. IsAssignment instance.now schedule) }
@@ -126,7 +121,7 @@ fn read_schedule(
     Ok(Schedule::with_order(delays, order))
 }
 
-fn read_delays(alloc: Global, reader: &mut LineReader) -> Result<Vec<u16>, TextFault>
+fn read_delays(alloc: Global, reader: &mut LineReader) -> Read<Vec<u16>>
     ensures { IsUnlessMemory TextFault.Memory
         (in_text (form_at Expected.Schedule schedule_in reader.old))
         (result_map_both (λ delays. (delays.items, reader.new)) (λ fault. fault) result) }
@@ -154,11 +149,7 @@ fn are_within(ranges: &[(u16, u16)], delays: &[u16]) -> bool
 }
 
 /// The order of ties: that of the next line in real time, and the fixed one in whole ticks.
-fn read_order(
-    alloc: Global,
-    scenario: &Scenario,
-    reader: &mut LineReader,
-) -> Result<Order, TextFault>
+fn read_order(alloc: Global, scenario: &Scenario, reader: &mut LineReader) -> Read<Order>
     ensures value { IsUnlessMemory TextFault.Memory (order_at scenario.now reader.old)
         (result_map_both (λ order. (order, reader.new)) (λ fault. fault) result) }
     ensures lawful { IfOk result (λ order. IsOrder scenario.now order) }
@@ -173,7 +164,7 @@ fn read_order(
     }
 }
 
-fn read_ranks(alloc: Global, reader: &mut LineReader) -> Result<Vec<u16>, TextFault>
+fn read_ranks(alloc: Global, reader: &mut LineReader) -> Read<Vec<u16>>
     ensures { IsUnlessMemory TextFault.Memory (in_text (form_at Expected.Order order_in reader.old))
         (result_map_both (λ ranks. (ranks.items, reader.new)) (λ fault. fault) result) }
 {
@@ -216,7 +207,7 @@ fn read_tree(
     version: Version,
     scenario: &Scenario,
     reader: &mut LineReader,
-) -> Result<Vec<Node>, TextFault>
+) -> Read<Vec<Node>>
     ensures value { IsUnlessMemory TextFault.Memory (tree_at version scenario.now reader.old)
         (result_map_both (λ nodes. nodes.items) (λ fault. fault) result) }
     ensures lawful { IfOk result (λ nodes. All (IsNode scenario.now) nodes.items) }
@@ -238,7 +229,7 @@ fn read_nodes(
     version: Version,
     time: Time,
     reader: &mut LineReader,
-) -> Result<Vec<Node>, TextFault>
+) -> Read<Vec<Node>>
     ensures value { IsUnlessMemory TextFault.Memory (nodes_at version time 0 0 reader.old)
         (result_map_both (λ nodes. (nodes.items, reader.new)) (λ fault. fault) result) }
     ensures lawful { IfOk result (λ nodes. All (IsNodeWhere (says_time version) time) nodes.items) }
@@ -250,7 +241,7 @@ fn read_nodes(
         if are_too_many(nodes.len(), leads) {
             return Err(TextFault::TreeCount);
         }
-        nodes.push(node)?;
+        nodes.push(node).map_err(AllocError::from)?;
     }
     Ok(nodes)
 }
@@ -271,11 +262,7 @@ fn are_too_many(count: usize, leads: usize) -> bool
 }
 
 /// The node of the next line, or None at the line `end`.
-fn read_node(
-    version: Version,
-    time: Time,
-    reader: &mut LineReader,
-) -> Result<Option<Node>, TextFault>
+fn read_node(version: Version, time: Time, reader: &mut LineReader) -> Read<Option<Node>>
     ensures value { result_map_both (λ node. (node, reader.new)) (λ fault. fault) result
         ≡ in_text (form_at Expected.Node (node_or_end version time) reader.old) }
     ensures lawful { IfOk result (λ node. IfSome node (IsNodeWhere (says_time version) time)) }

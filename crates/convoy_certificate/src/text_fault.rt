@@ -1,6 +1,10 @@
+ghost use Rattle.std.specs.Prelude.{◌≡◌};
+ghost use Rattle.convoy_certificate.specs.Reading.{text_fault};
+ghost use Rattle.convoy_certificate.specs.declared.text_fault.TextFault.TheVariants.{Memory};
+
 use convoy_scenario::ScenarioFault;
 use convoy_scenario_lines::{Expected, LineFault};
-use std::alloc::{AllocError, AllocFailed};
+use std::alloc::AllocError;
 use thiserror::Error;
 
 /// Why a text is no certificate. Where it has several faults, the first in the order of the lines is
@@ -31,9 +35,6 @@ pub enum TextFault {
 }
 
 impl From<LineFault> for TextFault {
-    ghost use Rattle.std.specs.Prelude.{◌≡◌};
-    ghost use Rattle.convoy_certificate.specs.Reading.{text_fault};
-
     ghost from_gives = { λ fault text. text ≡ text_fault fault };
 
     fn from(fault: LineFault) -> TextFault {
@@ -46,23 +47,9 @@ impl From<LineFault> for TextFault {
 }
 
 impl From<AllocError> for TextFault {
-    ghost use Rattle.std.specs.Prelude.{◌≡◌};
-    ghost use Rattle.convoy_certificate.specs.declared.text_fault.TextFault.TheVariants.{Memory};
-
     ghost from_gives = { λ _ fault. fault ≡ Memory };
 
     fn from(_error: AllocError) -> TextFault {
-        TextFault::Memory
-    }
-}
-
-impl<T: Drop> From<AllocFailed<T>> for TextFault {
-    ghost use Rattle.std.specs.Prelude.{◌≡◌};
-    ghost use Rattle.convoy_certificate.specs.declared.text_fault.TextFault.TheVariants.{Memory};
-
-    ghost from_gives = { λ _ fault. fault ≡ Memory };
-
-    fn from(_error: AllocFailed<T>) -> TextFault {
         TextFault::Memory
     }
 }

@@ -9,7 +9,7 @@ use Rattle.convoy_certificate.specs.Certificate.{Certificate, IsCertificate}
 use Rattle.convoy_checker.specs.declared.refused.Refused.{Refused}
 use Rattle.convoy_checker.specs.declared.refused.Refused.TheVariants as refused
 use Rattle.convoy_checker.specs.Checks.{checked, verdict, first_fault}
-use Rattle.convoy_checker.specs.Laws.{CheckedIsValid, ValidIsGreatest}
+use Rattle.convoy_checker.specs.TreeLaws.{CheckedIsValid, ValidIsGreatest}
 use Rattle.convoy_checker.specs.Steps.{allows, checked_within, steps_of}
 use Rattle.convoy_checker.specs.Validity.{IsValid}
 use Rattle.convoy_sim.specs.Greatest.{IsGreatest}

@@ -9,11 +9,11 @@ use Rattle.convoy_packets.specs.Assignment.{Schedule}
 use Rattle.convoy_packets.specs.Order.{IsOrder}
 use Rattle.convoy_sim.specs.Delivery.{latency_of}
 use Rattle.convoy_intervals.specs.Boxes.{IsBox, IsIn, lower_half, upper_half}
-use Rattle.convoy_intervals.specs.Laws.{HalvesAreBoxes, HalvesPartition}
+use Rattle.convoy_intervals.specs.BoxLaws.{HalvesAreBoxes, HalvesPartition}
 use Rattle.convoy_intervals.specs.Boxes.{CanSplit}
 use Rattle.convoy_certificate.specs.declared.node.Node.{Node}
 use Rattle.convoy_certificate.specs.declared.node.Node.TheVariants.{Split, Bound, Point, Stamp, Lead}
-use Rattle.convoy_checker.specs.Laws.{BoundLeavesCover, LeadLeavesCover, PointLeavesCover, StampLeavesCover}
+use Rattle.convoy_checker.specs.TreeLaws.{BoundLeavesCover, LeadLeavesCover, PointLeavesCover, StampLeavesCover}
 use Rattle.convoy_checker.specs.Leaves.{IsRight}
 use Rattle.convoy_checker.specs.Trees.{AreTrees, boxes_below}
 use Rattle.convoy_intervals.specs.Boxes.{Box}

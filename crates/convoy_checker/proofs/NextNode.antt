@@ -8,7 +8,7 @@ use Rattle.convoy_scenario.specs.Scenario.{Scenario}
 use Rattle.convoy_certificate.specs.declared.node.Node.{Node}
 use Rattle.convoy_certificate.specs.declared.node.Node.TheVariants.{Split, Bound, Point, Stamp, Lead}
 use Rattle.convoy_intervals.specs.Boxes.{IsBox, lower_half, upper_half}
-use Rattle.convoy_intervals.specs.Laws.{HalvesAreBoxes}
+use Rattle.convoy_intervals.specs.BoxLaws.{HalvesAreBoxes}
 use Rattle.convoy_checker.specs.declared.refused.Refused.{Refused}
 use Rattle.convoy_checker.specs.declared.refused.Refused.TheVariants.{TreeCount}
 use Rattle.convoy_checker.specs.Checks.{first_fault, node_fault}

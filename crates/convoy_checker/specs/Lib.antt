@@ -19,7 +19,7 @@ pub mod Leaves
 pub mod Validity
 pub mod Checks
 pub mod Steps
-pub mod Laws
+pub mod TreeLaws
 -- How the program goes over a tree: no promise above this crate rests on it.
 pub mod Walks
 pub mod Looks

@@ -10,12 +10,12 @@ ghost use Rattle.convoy_checker.specs.Validity.{IsValid};
 ghost use Rattle.convoy_sim.specs.Greatest.{IsGreatest};
 
 use super::accepted::Accepted;
-use super::laws::{checked_is_valid, valid_is_greatest};
 use super::refused::Refused;
 use super::steps::node_steps;
+use super::tree_laws::{checked_is_valid, valid_is_greatest};
 use super::walk::Walk;
 use convoy_certificate::{Certificate, Node};
-use convoy_intervals::laws::halves_are_boxes;
+use convoy_intervals::box_laws::halves_are_boxes;
 use convoy_intervals::{DelayBox, bound};
 use convoy_leads::closes_by_leads;
 use convoy_packets::Instance;

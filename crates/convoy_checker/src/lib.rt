@@ -8,8 +8,8 @@ pub use refused::Refused;
 
 mod accepted;
 mod checking;
-pub mod laws;
 mod refusal;
 mod refused;
 mod steps;
+pub mod tree_laws;
 mod walk;

@@ -1,3 +1,6 @@
+ghost use Rattle.std.specs.Prelude.{◌≡◌};
+ghost use Rattle.convoy_checker.specs.declared.refused.Refused.TheVariants.{Memory};
+
 use std::alloc::AllocError;
 use thiserror::Error;
 
@@ -37,9 +40,6 @@ pub enum Refused {
 }
 
 impl From<AllocError> for Refused {
-    ghost use Rattle.std.specs.Prelude.{◌≡◌};
-    ghost use Rattle.convoy_checker.specs.declared.refused.Refused.TheVariants.{Memory};
-
     ghost from_gives = { λ _ refused. refused ≡ Memory };
 
     fn from(_error: AllocError) -> Refused {

@@ -12,10 +12,10 @@ ghost use Rattle.convoy_checker.specs.Steps.{is_late, node_steps, pair_steps, te
 use convoy_certificate::Node;
 use convoy_intervals::DelayBox;
 use convoy_packets::Instance;
-use convoy_scenario::{MOST_GROUPS, MOST_MULTICASTS, Scenario, Time};
+use convoy_scenario::{AllocResult, MOST_GROUPS, MOST_MULTICASTS, Scenario, Time};
 use convoy_stamps::Pair;
 use convoy_sure::{LAST_SETTLING, Windows, destinations, list_pairs, target_group};
-use std::alloc::{AllocError, Global};
+use std::alloc::Global;
 
 /// How many steps one pair takes in a test of leads at most.
 const MOST_PAIR_STEPS: u64 = LAST_SETTLING as u64 + 2;
@@ -29,7 +29,7 @@ pub(crate) fn node_steps(
     instance: &Instance,
     node: Node,
     delay_box: &DelayBox,
-) -> Result<u64, AllocError>
+) -> AllocResult<u64>
     requires inside { IsBox instance.now delay_box.now }
     ensures { IfOk result (λ steps. steps ≡ node_steps instance.now node delay_box.now) }
 {
@@ -42,7 +42,7 @@ pub(crate) fn node_steps(
 }
 
 /// How many steps a stamp leaf takes.
-fn stamp_steps(alloc: Global, scenario: &Scenario) -> Result<u64, AllocError>
+fn stamp_steps(alloc: Global, scenario: &Scenario) -> AllocResult<u64>
     ensures { IfOk result (λ steps. steps ≡ node_steps scenario.now Node.Stamp []) }
 {
     let pairs = list_pairs(alloc, scenario)?;
@@ -55,7 +55,7 @@ fn lead_steps(
     instance: &Instance,
     latency: u32,
     delay_box: &DelayBox,
-) -> Result<u64, AllocError>
+) -> AllocResult<u64>
     requires inside { IsBox instance.now delay_box.now }
     ensures { IfOk result (λ steps. steps
         ≡ node_steps instance.now (Node.Lead latency) delay_box.now) }

@@ -7,10 +7,10 @@ use Rattle.convoy_sim.specs.Delivery.{latency_of}
 use Rattle.convoy_sim.specs.Greatest.{IsGreatest, IsReached, IsUpper}
 use Rattle.convoy_sim.specs.Record.{Record, IsAttained}
 use Rattle.convoy_certificate.specs.Certificate.{Certificate, IsCertificate}
-use Rattle.convoy_certificate.specs.Laws.{TextsAreRead, TextsAreShort}
+use Rattle.convoy_certificate.specs.CertificateLaws.{TextsAreRead, TextsAreShort}
 use Rattle.convoy_certificate.specs.Reading.{AreReadable}
 use Rattle.convoy_certificate.specs.Text.{certificate_text, is_lead, is_stamp}
-use Rattle.convoy_checker.specs.Laws.{CheckedIsValid, ValidIsGreatest}
+use Rattle.convoy_checker.specs.TreeLaws.{CheckedIsValid, ValidIsGreatest}
 use Rattle.convoy_checker.specs.Validity.{IsValid}
 use Rattle.convoy_branch.specs.declared.bounds.Bounds.{Bounds}
 use Rattle.convoy_branch.specs.declared.bounds.Bounds.TheVariants.{Plain, Lead}
@@ -24,7 +24,7 @@ use Rattle.convoy_branch.specs.declared.options.Ways.{Ways}
 use Rattle.convoy_branch.specs.declared.options.Ways.TheVariants.{One, Both}
 use Rattle.convoy_commands.specs.declared.done.Done.TheVariants.{Fine}
 use Rattle.convoy_commands.specs.Checks.{check_reply}
-use Rattle.convoy_commands.specs.Lines.{accepted_line, greatest_line, open_line, schedule_text}
+use Rattle.convoy_commands.specs.ReplyLines.{accepted_line, greatest_line, open_line, schedule_text}
 use Rattle.convoy_commands.specs.Searches.{IsFrontBy, IsFrontTold, IsGreatestTold, IsOpenBetween, IsOpenProof, IsOutcomeBy, IsProof, IsSearchOf}
 
 -- the text of a valid certificate gets a yes

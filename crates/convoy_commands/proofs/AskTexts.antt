@@ -2,12 +2,12 @@
 use Rattle.std.proofs.Common.{◌≡◌, ◌⊎◌, ◌∙◌, ap, inl, inr, ℕ, List, Result, Ok, Err, IfOk}
 use Rattle.convoy_scenario.specs.Memory.{IsUnlessMemory}
 use Rattle.convoy_certificate.specs.Certificate.{Certificate, IsCertificate}
-use Rattle.convoy_certificate.specs.Laws.{TextsAreRead}
+use Rattle.convoy_certificate.specs.CertificateLaws.{TextsAreRead}
 use Rattle.convoy_certificate.specs.Reading.{certificate_of, IsTextOf}
 use Rattle.convoy_certificate.specs.declared.text_fault.TextFault.{TextFault}
 use Rattle.convoy_certificate.specs.declared.text_fault.TextFault.TheVariants as texts
 use Rattle.convoy_checker.specs.Checks.{checked}
-use Rattle.convoy_checker.specs.Laws.{CheckedIsValid}
+use Rattle.convoy_checker.specs.TreeLaws.{CheckedIsValid}
 use Rattle.convoy_checker.specs.Validity.{IsValid}
 use Rattle.convoy_sim.specs.Greatest.{IsGreatest}
 use Rattle.convoy_checker.specs.declared.refused.Refused.{Refused as Fault-of-check}

@@ -1,16 +1,27 @@
--- What `explain` answers with the ceiling below it, where the steps are limited.
-use Rattle.std.proofs.Common.{◌≡◌, inl, inr, refl, ℕ, List, Option, Ok, Err}
-use Rattle.convoy_certificate.specs.declared.text_fault.TextFault.{TextFault}
-use Rattle.convoy_certificate.specs.declared.text_fault.TextFault.TheVariants as texts
+-- What is answered with the ceiling below it.
+use Rattle.std.proofs.Common.{◌≡◌, inl, inr, refl, ℕ, Bool, true, false, List, Option, Ok, Err}
+use Rattle.convoy_branch.specs.Options.{Settings}
 use Rattle.convoy_commands.specs.declared.asking.Asking.TheVariants.{Explain}
 use Rattle.convoy_commands.specs.declared.done.Done.{Done}
 use Rattle.convoy_commands.specs.declared.done.Done.TheVariants.{Fine, Open, Faulty, Refused, Differs, NotChecked}
+use Rattle.convoy_commands.specs.declared.fault.Fault.{Fault}
 use Rattle.convoy_commands.specs.Asks.{AskSays}
-use Rattle.convoy_commands.specs.Checks.{reply_of_text}
-use Rattle.convoy_commands.specs.Replies.{IsReply, Reply, SaysUnlessMemory}
-use Rattle.convoy_commands.specs.WithCeilings.{ExplainWithCeilingSays, IsExplanationWithCeiling}
+use Rattle.convoy_commands.specs.Replies.{Rule, SaysUnlessMemory}
+use Rattle.convoy_commands.specs.Searches.{LatencySays}
+use Rattle.convoy_commands.specs.WithCeilings.{ExplainWithCeilingSays, IsExplanationWithCeiling, latency_says}
 use Rattle.convoy_commands.specs.Withins.{SaysWithin}
-use Rattle.convoy_commands.proofs.WithinTexts.{asked_so, kept_so}
+use Rattle.convoy_commands.proofs.WithinTexts.{AllowsOthers, asked_so}
+
+-- what is answered with an end is what the rule allows
+pub says_ended : (says : Rule) (text out : List ℕ) (done : Done) → SaysUnlessMemory says text (Ok (done, out)) → says text (Ok (done, out))
+says_ended says text out done (inl said) = said
+says_ended says text out done (inr none) = absurd cc
+
+-- below a fault of `latency` stands no ceiling
+pub latency_fault : (with_ceiling : Bool) (settings : Settings) (text : List ℕ) (fault : Fault) →
+    SaysUnlessMemory (LatencySays settings) text (Err fault) → SaysUnlessMemory (latency_says with_ceiling settings) text (Err fault)
+latency_fault true settings text fault said = said
+latency_fault false settings text fault said = said
 
 -- an explanation
 pub explained_so : (limit : Option ℕ) (text answer out : List ℕ) →
@@ -22,27 +33,10 @@ explained_so limit text answer out (inl said) next =
 explained_so limit text answer out (inr none) next = absurd cc
 
 -- what is no explanation is answered as by `explain`
-as_explained : (text out : List ℕ) (done : Done) → (done ≡ Fine → ⊥) → AskSays Explain text (Ok (done, out)) → ExplainWithCeilingSays text (Ok (done, out))
+pub as_explained : AllowsOthers Explain ExplainWithCeilingSays
 as_explained text out Fine not says = absurd (not refl)
 as_explained text out Open not says = says
 as_explained text out Faulty not says = says
 as_explained text out (Refused refusal) not says = says
 as_explained text out (Differs part) not says = says
 as_explained text out NotChecked not says = says
-
--- nor is a text of no certificate
-pub refused_so : (limit : Option ℕ) (text : List ℕ) (fault : TextFault) (reply : Reply) → IsReply (reply_of_text (Err fault)) reply →
-    SaysUnlessMemory (SaysWithin limit NotChecked (AskSays Explain)) text reply →
-    SaysUnlessMemory (SaysWithin limit NotChecked ExplainWithCeilingSays) text reply
-refused_so limit text fault reply told (inr none) = inr none
-refused_so limit text fault reply (inr none) said = inr none
-refused_so limit text texts.Memory reply (inl told) (inl said) = inr told
-refused_so limit text fault reply (inl told) (inl said) =
-    inl (rw told (kept_so limit NotChecked text (AskSays Explain) ExplainWithCeilingSays (reply_of_text (Err fault)) (rw told at said) (λ says. says)))
-
-pub others_so : (limit : Option ℕ) (text out : List ℕ) (done : Done) → (done ≡ Fine → ⊥) →
-    SaysUnlessMemory (SaysWithin limit NotChecked (AskSays Explain)) text (Ok (done, out)) →
-    SaysUnlessMemory (SaysWithin limit NotChecked ExplainWithCeilingSays) text (Ok (done, out))
-others_so limit text out done not (inr none) = absurd cc
-others_so limit text out done not (inl said) =
-    inl (kept_so limit NotChecked text (AskSays Explain) ExplainWithCeilingSays (Ok (done, out)) said (λ says. as_explained text out done not says))

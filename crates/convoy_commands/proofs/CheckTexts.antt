@@ -3,11 +3,11 @@ use Rattle.std.proofs.Common.{◌≡◌, ◌∙◌, ap, inl, inr, ℕ, List, Res
 use Rattle.convoy_scenario.specs.Memory.{IsUnlessMemory}
 use Rattle.convoy_certificate.specs.Certificate.{Certificate, IsCertificate}
 use Rattle.convoy_certificate.specs.Reading.{certificate_of, IsTextOf}
-use Rattle.convoy_certificate.specs.Laws.{TextsAreRead}
+use Rattle.convoy_certificate.specs.CertificateLaws.{TextsAreRead}
 use Rattle.convoy_certificate.specs.declared.text_fault.TextFault.{TextFault}
 use Rattle.convoy_certificate.specs.declared.text_fault.TextFault.TheVariants as texts
 use Rattle.convoy_checker.specs.Checks.{checked}
-use Rattle.convoy_checker.specs.Laws.{CheckedIsValid}
+use Rattle.convoy_checker.specs.TreeLaws.{CheckedIsValid}
 use Rattle.convoy_checker.specs.Validity.{IsValid}
 use Rattle.convoy_sim.specs.Greatest.{IsGreatest}
 use Rattle.convoy_checker.specs.declared.refused.Refused.{Refused as Fault-of-check}
@@ -15,7 +15,7 @@ use Rattle.convoy_checker.specs.declared.refused.Refused.TheVariants as checks
 use Rattle.convoy_commands.specs.declared.fault.Fault.{Fault}
 use Rattle.convoy_commands.specs.declared.fault.Fault.TheVariants.{Memory}
 use Rattle.convoy_commands.specs.Checks.{CheckSays, GivesYes, MeansYes, check_reply, reply_of_check, reply_of_text}
-use Rattle.convoy_commands.specs.Lines.{accepted_line}
+use Rattle.convoy_commands.specs.ReplyLines.{accepted_line}
 use Rattle.convoy_commands.specs.Replies.{IsReply, Reply, SaysUnlessMemory}
 use Rattle.convoy_commands.proofs.Acceptance.{accepts}
 use Rattle.convoy_commands.proofs.NoDevice.{IsNoDevice}

@@ -4,34 +4,30 @@ use Rattle.std.specs.Result.{result_map_both, result_transpose}
 use Rattle.std.proofs.lemmas.Bool.{le-leb}
 use Rattle.convoy_scenario.specs.Memory.{IsUnlessMemory}
 use Rattle.convoy_certificate.specs.Certificate.{Certificate, IsCertificate}
-use Rattle.convoy_certificate.specs.Laws.{TextsAreRead}
+use Rattle.convoy_certificate.specs.CertificateLaws.{TextsAreRead}
 use Rattle.convoy_certificate.specs.Reading.{certificate_of, IsTextOf}
 use Rattle.convoy_certificate.specs.declared.text_fault.TextFault.{TextFault}
 use Rattle.convoy_certificate.specs.declared.text_fault.TextFault.TheVariants as texts
 use Rattle.convoy_checker.specs.Checks.{checked}
-use Rattle.convoy_checker.specs.Laws.{CheckedIsValid}
+use Rattle.convoy_checker.specs.TreeLaws.{CheckedIsValid}
 use Rattle.convoy_checker.specs.Steps.{checked_within, steps_of}
 use Rattle.convoy_checker.specs.Validity.{IsValid}
 use Rattle.convoy_checker.specs.declared.refused.Refused.{Refused as Fault-of-check}
 use Rattle.convoy_checker.specs.declared.refused.Refused.TheVariants as checks
+use Rattle.convoy_checker.specs.declared.refusal.Refusal.TheVariants as refusals
 use Rattle.convoy_sim.specs.Greatest.{IsGreatest}
 use Rattle.convoy_commands.specs.declared.asking.Asking.{Asking}
 use Rattle.convoy_commands.specs.declared.done.Done.{Done}
-use Rattle.convoy_commands.specs.declared.done.Done.TheVariants.{NotChecked}
+use Rattle.convoy_commands.specs.declared.done.Done.TheVariants.{Fine, NotChecked, Refused}
 use Rattle.convoy_commands.specs.declared.fault.Fault.{Fault}
 use Rattle.convoy_commands.specs.declared.fault.Fault.TheVariants.{Memory}
 use Rattle.convoy_commands.specs.Asks.{AskSays, RepliesTo}
 use Rattle.convoy_commands.specs.Checks.{reply_of_text}
-use Rattle.convoy_commands.specs.Lines.{not_checked_line}
+use Rattle.convoy_commands.specs.ReplyLines.{not_checked_line}
+use Rattle.convoy_commands.specs.Refusals.{refused_line, row_of_text}
 use Rattle.convoy_commands.specs.Replies.{IsReply, Reply, Rule, SaysUnlessMemory}
 use Rattle.convoy_commands.specs.Withins.{SaysIf, SaysWithin, steps_of_reading, steps_of_text}
 use Rattle.convoy_commands.proofs.AskTexts.{checked_asked, refused_asked}
-
--- what was read, where it is a certificate
-pub read_is : (read : Result Certificate TextFault) (certificate : Certificate) →
-    IsUnlessMemory texts.Memory read (Ok certificate) → read ≡ Ok certificate
-read_is read certificate (inl same) = sym same
-read_is read certificate (inr none) = cc
 
 -- what a rule allows is allowed where it is to be answered
 says_so : (b : Bool) (end : Done) (line text : List ℕ) (says : Rule) (reply : Reply) →
@@ -212,3 +208,28 @@ pub fault_within : (limit : Option ℕ) (end : Done) (says : Rule) (text : List 
     SaysWithin limit end says text (Err fault) → says text (Err fault)
 fault_within None end says text fault said = said
 fault_within (Some most) end says text fault said = fault_when (nat_le (steps_of_text text) most) end (not_checked_line most) says text fault said
+
+-- A rule allows what else than a yes is answered to what is asked.
+abbrev pub AllowsOthers : Asking → Rule → Type 0
+AllowsOthers asking then =
+    (text out : List ℕ) (done : Done) → (done ≡ Fine → ⊥) → AskSays asking text (Ok (done, out)) → then text (Ok (done, out))
+
+-- it allows it within a limit of steps
+pub others_as_asked : (limit : Option ℕ) (asking : Asking) (then : Rule) (text out : List ℕ) (done : Done) →
+    AllowsOthers asking then → (done ≡ Fine → ⊥) →
+    SaysUnlessMemory (SaysWithin limit NotChecked (AskSays asking)) text (Ok (done, out)) →
+    SaysUnlessMemory (SaysWithin limit NotChecked then) text (Ok (done, out))
+others_as_asked limit asking then text out done others not (inr none) = absurd cc
+others_as_asked limit asking then text out done others not (inl said) =
+    inl (kept_so limit NotChecked text (AskSays asking) then (Ok (done, out)) said (others text out done not))
+
+-- and what is answered to a text of no certificate
+pub refused_as_asked : (limit : Option ℕ) (asking : Asking) (then : Rule) (text : List ℕ) (fault : TextFault) (reply : Reply) →
+    AllowsOthers asking then → IsReply (reply_of_text (Err fault)) reply →
+    SaysUnlessMemory (SaysWithin limit NotChecked (AskSays asking)) text reply →
+    SaysUnlessMemory (SaysWithin limit NotChecked then) text reply
+refused_as_asked limit asking then text fault reply others told (inr none) = inr none
+refused_as_asked limit asking then text fault reply others (inr none) said = inr none
+refused_as_asked limit asking then text texts.Memory reply others (inl told) (inl said) = inr told
+refused_as_asked limit asking then text fault reply others (inl told) (inl said) =
+    inl (rw told (kept_so limit NotChecked text (AskSays asking) then (reply_of_text (Err fault)) (rw told at said) (others text (refused_line (row_of_text fault)) (Refused (refusals.Text fault)) (λ is. cc))))

@@ -8,9 +8,9 @@ use Rattle.convoy_packets.specs.Assignment.{Schedule}
 use Rattle.convoy_packets.specs.Order.{Order, no_order}
 use Rattle.convoy_packets.specs.OrderLists.{order_given}
 use Rattle.convoy_toml.specs.Reading.{InputView}
-use Rattle.convoy_toml_writer.specs.Laws.{GivesSchedule, SchedulesAreGiven, TextsAreRead, input_for}
+use Rattle.convoy_toml_writer.specs.WrittenTextLaws.{GivesSchedule, SchedulesAreGiven, TextsAreRead, input_for}
 use Rattle.convoy_commands.specs.Faults.{told_of_order}
-use Rattle.convoy_commands.specs.Laws.{WrittenTextsAreTold}
+use Rattle.convoy_commands.specs.CommandLaws.{WrittenTextsAreTold}
 use Rattle.convoy_commands.specs.Schedules.{chosen_order, order_in, scheduled_by, scheduled_of_input}
 
 order_chosen : (scenario : Scenario) (given : Option (List ℤ)) (order : Order)

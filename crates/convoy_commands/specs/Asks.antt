@@ -8,7 +8,7 @@ use Rattle.convoy_commands.specs.declared.done.Done.TheVariants.{Fine}
 use Rattle.convoy_commands.specs.Checks.{CheckSays, reply_of_check}
 use Rattle.convoy_commands.specs.Draws.{DrawSays, IsImageOf}
 use Rattle.convoy_commands.specs.Explains.{ExplainSays, certificate_explained}
-use Rattle.convoy_commands.specs.Lines.{accepted_line}
+use Rattle.convoy_commands.specs.ReplyLines.{accepted_line}
 use Rattle.convoy_commands.specs.Replies.{Reply, Rule}
 
 -- what is written where the checker accepts it: the yes, why its schedule has its latency, or an image of the schedule's run

@@ -9,7 +9,7 @@ use Rattle.convoy_ceiling.specs.Ceiling.{IsUpperInTraffic, ceiling_of}
 use Rattle.convoy_ceiling.specs.Finding.{IsFound}
 use Rattle.convoy_commands.specs.declared.done.Done.{Done}
 use Rattle.convoy_commands.specs.declared.done.Done.TheVariants.{Fine, Open}
-use Rattle.convoy_commands.specs.Lines.{attained_line, ticks_line}
+use Rattle.convoy_commands.specs.ReplyLines.{attained_line, ticks_line}
 use Rattle.convoy_commands.specs.Replies.{Rule}
 use Rattle.convoy_commands.specs.Searches.{IsFaulty}
 

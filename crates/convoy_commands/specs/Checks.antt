@@ -12,7 +12,7 @@ use Rattle.convoy_checker.specs.declared.refused.Refused.TheVariants as checks
 use Rattle.convoy_checker.specs.declared.refusal.Refusal.TheVariants.{Text, Check}
 use Rattle.convoy_commands.specs.declared.done.Done.TheVariants.{Fine, Refused}
 use Rattle.convoy_commands.specs.declared.fault.Fault.TheVariants as faults
-use Rattle.convoy_commands.specs.Lines.{accepted_line}
+use Rattle.convoy_commands.specs.ReplyLines.{accepted_line}
 use Rattle.convoy_commands.specs.Refusals.{row_of_text, row_of_check, refused_line}
 use Rattle.convoy_commands.specs.Replies.{Reply, Rule}
 

@@ -8,7 +8,7 @@ use Rattle.convoy_packets.specs.Table.{least_of}
 use Rattle.convoy_sim.specs.Delivery.{latency_of}
 use Rattle.convoy_commands.specs.declared.fault.Fault.{Fault}
 use Rattle.convoy_commands.specs.Faults.{told_of}
-use Rattle.convoy_commands.specs.Lines.{attained_line, schedule_text}
+use Rattle.convoy_commands.specs.ReplyLines.{attained_line, schedule_text}
 use Rattle.convoy_commands.specs.Replies.{Answers, Rule, fine}
 
 -- the schedule in which each packet takes its least delay

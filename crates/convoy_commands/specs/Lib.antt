@@ -2,7 +2,7 @@
 pub use Rattle.convoy_scenario.specs.Scenario
 pub use Rattle.convoy_scenario.specs.WellFormed
 pub use Rattle.convoy_scenario.specs.Naming
-pub use Rattle.convoy_scenario_lines.specs.Lines as ScenarioLines
+pub use Rattle.convoy_scenario_lines.specs.ScenarioLines
 pub use Rattle.convoy_toml.specs.Reading
 pub use Rattle.convoy_draft.specs.Keys
 pub use Rattle.convoy_toml.specs.Shape
@@ -43,7 +43,7 @@ pub use Rattle.convoy_branch.specs.Limits
 pub use Rattle.convoy_branch.specs.BothWays
 pub use Rattle.convoy_branch.specs.Options
 -- what a reader has to believe: which answers each command may give
-pub mod Lines
+pub mod ReplyLines
 pub mod Faults
 pub mod Refusals
 pub mod Replies
@@ -60,4 +60,4 @@ pub mod Searches
 pub mod Ceilings
 pub mod WithCeilings
 pub mod Ends
-pub mod Laws
+pub mod CommandLaws

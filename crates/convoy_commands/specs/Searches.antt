@@ -31,7 +31,7 @@ use Rattle.convoy_commands.specs.declared.fault.Fault.TheVariants.{Memory}
 use Rattle.convoy_commands.specs.declared.limits.TheConstants.{LONGEST_CERTIFICATE}
 use Rattle.convoy_commands.specs.Checks.{check_reply}
 use Rattle.convoy_commands.specs.Faults.{told_of}
-use Rattle.convoy_commands.specs.Lines.{accepted_line, greatest_line, open_line, schedule_text}
+use Rattle.convoy_commands.specs.ReplyLines.{accepted_line, greatest_line, open_line, schedule_text}
 use Rattle.convoy_commands.specs.Replies.{Rule}
 
 -- The text has this fault, where the target has to be written or not.

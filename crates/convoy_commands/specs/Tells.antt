@@ -15,7 +15,7 @@ use Rattle.convoy_commands.specs.declared.telling.Telling.{Telling}
 use Rattle.convoy_commands.specs.declared.telling.Telling.TheVariants.{Simulate, Timeline, Packets, Toml}
 use Rattle.convoy_commands.specs.Faults.{told_of}
 use Rattle.convoy_commands.specs.Inputs.{reply_by_form}
-use Rattle.convoy_commands.specs.Lines.{schedule_text}
+use Rattle.convoy_commands.specs.ReplyLines.{schedule_text}
 use Rattle.convoy_commands.specs.Replies.{Answers, Rule}
 use Rattle.convoy_commands.specs.Schedules.{scheduled_in, scheduled_of_text}
 

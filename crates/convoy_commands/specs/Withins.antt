@@ -1,12 +1,12 @@
 -- Commands that check a certificate and may take no more steps for that than a limit.
 use Rattle.std.specs.Prelude.{◌≡◌, ℕ, nat_le, Bool, true, false, List, Option, Some, None, Result, Ok, Err}
-use Rattle.convoy_certificate.specs.Certificate.{Certificate}
-use Rattle.convoy_certificate.specs.Reading.{certificate_of}
+use Rattle.convoy_certificate.specs.Certificate.{Certificate, IsCertificate}
+use Rattle.convoy_certificate.specs.Reading.{IsTextOf, certificate_of}
 use Rattle.convoy_certificate.specs.declared.text_fault.TextFault.{TextFault}
 use Rattle.convoy_checker.specs.Steps.{steps_of}
 use Rattle.convoy_commands.specs.declared.done.Done.{Done}
-use Rattle.convoy_commands.specs.Lines.{not_checked_line}
-use Rattle.convoy_commands.specs.Replies.{Rule}
+use Rattle.convoy_commands.specs.ReplyLines.{not_checked_line}
+use Rattle.convoy_commands.specs.Replies.{Reply, Rule, SaysUnlessMemory}
 
 -- how many steps it takes to check what was read: none where that is no certificate
 abbrev pub steps_of_reading : Result Certificate TextFault → ℕ
@@ -27,3 +27,8 @@ abbrev pub SaysWithin : Option ℕ → Done → Rule → Rule
 SaysWithin None end says text reply = says text reply
 SaysWithin (Some limit) end says text reply =
     SaysIf (nat_le (steps_of_text text) limit) end (not_checked_line limit) says text reply
+
+-- the rule allows the reply, unless memory ran out, for each text that is read as the certificate
+abbrev pub AnswersCertificate : Rule → Certificate → Reply → Type 0
+AnswersCertificate says certificate reply =
+    (text : List ℕ) → IsCertificate certificate → certificate_of text ≡ Ok certificate → IsTextOf certificate text → SaysUnlessMemory says text reply

@@ -1,18 +1,18 @@
 ghost use Rattle.std.specs.Prelude.{◌≡◌, ◌++◌, None, IfOk};
-ghost use Rattle.convoy_commands.specs.Lines.{open_line, schedule_text};
+ghost use Rattle.convoy_commands.specs.ReplyLines.{open_line, schedule_text};
 ghost use Rattle.convoy_commands.specs.Replies.{SaysUnlessMemory, reply_of};
 ghost use Rattle.convoy_commands.specs.Searches.{AnalyseSays};
 
 use super::answer::{Answer, Known};
 use super::done::Done;
 use super::fault::Fault;
-use super::lines::push_open;
+use super::reply_lines::push_open;
 use super::search::search_text;
 use super::watch::Watch;
 use convoy_branch::{Options, Outcome};
-use convoy_certificate::laws::{texts_are_read, texts_are_short};
+use convoy_certificate::certificate_laws::{texts_are_read, texts_are_short};
 use convoy_certificate::{push_schedule, text_of};
-use convoy_checker::laws::{checked_is_valid, valid_is_greatest};
+use convoy_checker::tree_laws::{checked_is_valid, valid_is_greatest};
 use convoy_scenario::Scenario;
 use convoy_sim::Record;
 use std::alloc::{AllocError, Global};
@@ -21,8 +21,8 @@ use std::thread::Threads;
 
 /// A certificate of the greatest latency of the scenario of a text (docs/FORMATS.md, "What `analyse` writes"), or where
 /// the search does not end within its limits what it found. Who watches is told of the search, by
-/// [`NoGate`](convoy_branch::NoGate) where nobody cares. The faults are those of [`read_toml`](convoy_toml::read_toml), and
-/// `Fault::Memory`.
+/// [`NoGate`](convoy_branch::NoGate) where nobody cares. The faults are those of
+/// [`read_toml`](convoy_toml::read_toml), and `Fault::Memory`.
 pub fn analyse_answer<R: Threads + Wait + Sync, W: Watch + Sync>(
     rt: &R,
     alloc: Global,
@@ -37,17 +37,17 @@ pub fn analyse_answer<R: Threads + Wait + Sync, W: Watch + Sync>(
     checked_is_valid();
     valid_is_greatest();
     let _limit = options.limit();
-    let (instance, outcome) = search_text(rt, alloc, text, options, watch)?;
+    let (read, outcome) = search_text(rt, alloc, text, options, watch)?;
     match outcome {
         Outcome::Proved { certificate, .. } => Ok(Answer {
             done: Done::Fine,
             text: text_of(alloc, &certificate)?,
-            known: Some(Known::of(instance, Some(certificate.latency()))),
+            known: Some(Known::of(read, Some(certificate.latency()))),
         }),
         Outcome::Open { best, upper, .. } => Ok(Answer {
             done: Done::Open,
-            text: open_text(alloc, instance.scenario(), &best, upper)?,
-            known: Some(Known::of(instance, None)),
+            text: open_text(alloc, read.scenario(), &best, upper)?,
+            known: Some(Known::of(read, None)),
         }),
     }
 }

@@ -1,6 +1,4 @@
-ghost use Rattle.std.specs.Prelude.{◌≡◌, ◌⊎◌, ℕ, List, Some, Ok, Err, IfOk};
-ghost use Rattle.convoy_certificate.specs.Certificate.{IsCertificate};
-ghost use Rattle.convoy_certificate.specs.Reading.{IsTextOf, certificate_of};
+ghost use Rattle.std.specs.Prelude.{◌≡◌, ◌⊎◌, ℕ, Some, Ok, Err, IfOk};
 ghost use Rattle.convoy_commands.specs.declared.done.Done.TheVariants as ends;
 ghost use Rattle.convoy_commands.specs.declared.done.Done.TheVariants.{NotChecked};
 ghost use Rattle.convoy_commands.specs.declared.fault.Fault.TheVariants as faults;
@@ -8,18 +6,18 @@ ghost use Rattle.convoy_commands.specs.Asks.{AskSays, IsTextAsked, RepliesTo};
 ghost use Rattle.convoy_commands.specs.Checks.{reply_of_check, reply_of_text};
 ghost use Rattle.convoy_commands.specs.Draws.{IsImageOf};
 ghost use Rattle.convoy_commands.specs.Explains.{certificate_explained};
-ghost use Rattle.convoy_commands.specs.Lines.{accepted_line, not_checked_line};
+ghost use Rattle.convoy_commands.specs.ReplyLines.{accepted_line, not_checked_line};
 ghost use Rattle.convoy_commands.specs.Refusals.{refused_line, row_of_refusal};
 ghost use Rattle.convoy_commands.specs.Replies.{IsReply, SaysUnlessMemory, reply_of};
-ghost use Rattle.convoy_commands.specs.Withins.{SaysWithin};
+ghost use Rattle.convoy_commands.specs.Withins.{AnswersCertificate, SaysWithin};
 
 use super::answer::Answer;
 use super::done::Done;
 use super::fault::Fault;
 use super::refusal::refusal_line;
-use convoy_certificate::laws::texts_are_read;
+use convoy_certificate::certificate_laws::texts_are_read;
 use convoy_certificate::{Certificate, TextFault, read};
-use convoy_checker::laws::checked_is_valid;
+use convoy_checker::tree_laws::checked_is_valid;
 use convoy_checker::{Accepted, Refusal, Refused, check_within};
 use convoy_draw::write_drawing;
 use convoy_lines::{push_further_word, push_number_line};
@@ -67,9 +65,8 @@ pub fn ask_certificate(
     limit: Option<u64>,
     certificate: &Certificate,
 ) -> Result<Answer, Fault>
-    ensures { (text : List ℕ) → IsCertificate certificate.now
-        → certificate_of text ≡ Ok certificate.now → IsTextOf certificate.now text
-        → SaysUnlessMemory (SaysWithin limit NotChecked (AskSays asking)) text (reply_of result) }
+    ensures { AnswersCertificate (SaysWithin limit NotChecked (AskSays asking)) certificate.now
+        (reply_of result) }
 {
     texts_are_read();
     checked_is_valid();

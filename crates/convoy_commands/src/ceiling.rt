@@ -4,10 +4,10 @@ ghost use Rattle.convoy_commands.specs.declared.done.Done.TheVariants.{Fine, Ope
 ghost use Rattle.convoy_commands.specs.Ceilings.{CeilingSays, ceiling_text};
 ghost use Rattle.convoy_commands.specs.Replies.{SaysUnlessMemory, reply_of};
 
-use super::answer::Answer;
+use super::answer::{Answer, Known};
 use super::done::Done;
 use super::fault::Fault;
-use super::lines::push_ceiling;
+use super::reply_lines::push_ceiling;
 use convoy_ceiling::{Found, seek_traffic, target_ceiling};
 use convoy_lines::push_number_line;
 use convoy_scenario::Scenario;
@@ -30,7 +30,11 @@ pub fn ceiling_answer(alloc: Global, simulations: u64, text: &[u8]) -> Result<An
     Ok(Answer {
         done,
         text,
-        known: None,
+        known: Some(Known {
+            scenario,
+            greatest: None,
+            plain: input.plain,
+        }),
     })
 }
 

@@ -5,12 +5,12 @@ ghost use Rattle.convoy_commands.specs.Memory.{IsUnlessMemory};
 ghost use Rattle.convoy_commands.specs.First.{FirstSays, attained_text, first_text, least_schedule};
 ghost use Rattle.convoy_commands.specs.Replies.{SaysUnlessMemory, fine, reply_of};
 
-use super::answer::Answer;
+use super::answer::{Answer, Known, ReadInstance};
 use super::done::Done;
 use super::fault::Fault;
 use convoy_certificate::push_schedule;
 use convoy_lines::push_number_line;
-use convoy_packets::laws::fixed_order_is_order;
+use convoy_packets::schedule_laws::fixed_order_is_order;
 use convoy_packets::{Instance, Schedule};
 use convoy_sim::latency;
 use convoy_toml::read_toml;
@@ -25,24 +25,15 @@ pub fn first_answer(alloc: Global, text: &[u8]) -> Result<Answer, Fault>
 }
 
 /// The answer of a command that ends well whenever it has one.
-fn fine(text: Result<Vec<u8>, Fault>) -> Result<Answer, Fault>
-    ensures { reply_of result ≡ fine (result_map_both (λ out. out.items) (λ fault. fault) text) }
+fn fine(told: Result<(Vec<u8>, Known), Fault>) -> Result<Answer, Fault>
+    ensures { reply_of result ≡ fine (result_map_both (λ told. told.0.items) (λ fault. fault) told) }
 {
+    let (text, known) = told?;
     Ok(Answer {
         done: Done::Fine,
-        text: text?,
-        known: None,
+        text,
+        known: Some(known),
     })
-}
-
-/// What is written for a text.
-fn first_text(alloc: Global, text: &[u8]) -> Result<Vec<u8>, Fault>
-    ensures { IsUnlessMemory Memory (first_text text.now)
-        (result_map_both (λ answer. answer.items) (λ fault. fault) result) }
-{
-    let input = read_toml(alloc, text)?;
-    let instance = Instance::of(alloc, input.scenario)?;
-    Ok(attained(alloc, &instance)?)
 }
 
 /// The latency that the least delays attain, and those delays.
@@ -56,4 +47,19 @@ fn attained(alloc: Global, instance: &Instance) -> Result<Vec<u8>, AllocError>
     push_number_line(&mut text, "attained", attained)?;
     push_schedule(alloc, instance.scenario(), &schedule, &mut text)?;
     Ok(text)
+}
+
+/// What is written for a text, and what is known of its scenario.
+fn first_text(alloc: Global, text: &[u8]) -> Result<(Vec<u8>, Known), Fault>
+    ensures { IsUnlessMemory Memory (first_text text.now)
+        (result_map_both (λ told. told.0.items) (λ fault. fault) result) }
+{
+    let input = read_toml(alloc, text)?;
+    let instance = Instance::of(alloc, input.scenario)?;
+    let attained = attained(alloc, &instance)?;
+    let read = ReadInstance {
+        instance,
+        plain: input.plain,
+    };
+    Ok((attained, Known::of(read, None)))
 }

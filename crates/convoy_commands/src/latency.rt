@@ -1,14 +1,16 @@
 ghost use Rattle.std.specs.Prelude.{◌≡◌, ℕ, List, IfOk};
-ghost use Rattle.convoy_commands.specs.Lines.{greatest_line, open_line};
+ghost use Rattle.convoy_commands.specs.WithCeilings.{latency_says};
+ghost use Rattle.convoy_commands.specs.ReplyLines.{greatest_line, open_line};
 ghost use Rattle.convoy_commands.specs.Replies.{SaysUnlessMemory, reply_of};
 ghost use Rattle.convoy_commands.specs.Searches.{IsSearchOf, LatencySays};
 
 use super::answer::Answer;
 use super::done::Done;
 use super::fault::Fault;
-use super::lines::{push_greatest, push_open};
+use super::reply_lines::{push_open, push_ticks_line};
 use super::search::search_text;
 use super::watch::Watch;
+use super::with_ceiling::put_ceiling;
 use convoy_branch::{Options, Outcome};
 use convoy_scenario::{Duration, Scenario};
 use std::alloc::{AllocError, Global};
@@ -16,25 +18,28 @@ use std::sync::Wait;
 use std::thread::Threads;
 
 /// The greatest latency of the scenario of a text (docs/FORMATS.md, "What `latency` writes"), or where the search does
-/// not end within its limits what it found. Who watches is told of the search, by
-/// [`NoGate`](convoy_branch::NoGate) where nobody cares. The faults are those of [`read_toml`](convoy_toml::read_toml), and
-/// `Fault::Memory`.
+/// not end within its limits what it found; and below it the ceiling of the scenario where that is asked for
+/// (docs/FORMATS.md, "What `ceiling` writes"). Who watches is told of the search, by
+/// [`NoGate`](convoy_branch::NoGate) where nobody cares. The faults are those of
+/// [`read_toml`](convoy_toml::read_toml), and `Fault::Memory`.
 pub fn latency_answer<R: Threads + Wait + Sync, W: Watch + Sync>(
     rt: &R,
     alloc: Global,
+    with_ceiling: bool,
     text: &[u8],
     options: &Options,
     watch: &W,
 ) -> Result<Answer, Fault>
-    ensures { SaysUnlessMemory (LatencySays options.now) text.now (reply_of result) }
+    ensures { SaysUnlessMemory (latency_says with_ceiling options.now) text.now (reply_of result) }
 {
-    let (instance, outcome) = search_text(rt, alloc, text, options, watch)?;
-    let told = latency_told(alloc, options, instance.scenario(), &outcome)?;
-    Ok(told.with(instance, greatest_of(&outcome)))
+    let (read, outcome) = search_text(rt, alloc, text, options, watch)?;
+    let answer = latency_told(alloc, options, read.scenario(), &outcome)?;
+    let told = put_ceiling(with_ceiling, read.scenario(), answer)?;
+    Ok(told.with(read, greatest_of(&outcome)))
 }
 
 /// What `latency` tells of the outcome of a search for a scenario, and how it ends.
-pub(crate) fn latency_told(
+fn latency_told(
     alloc: Global,
     options: &Options,
     scenario: &Scenario,
@@ -60,7 +65,7 @@ pub(crate) fn latency_told(
 }
 
 /// The greatest latency in ticks, where the search found it.
-pub(crate) fn greatest_of(outcome: &Outcome) -> Option<u32> {
+fn greatest_of(outcome: &Outcome) -> Option<u32> {
     match outcome {
         Outcome::Proved { certificate, .. } => Some(certificate.latency()),
         Outcome::Open { .. } => None,
@@ -71,7 +76,7 @@ fn greatest_text(alloc: Global, tick: Option<Duration>, latency: u32) -> Result<
     ensures { IfOk result (λ text. text.items ≡ greatest_line tick latency) }
 {
     let mut text = Vec::new(alloc);
-    push_greatest(tick, latency, &mut text)?;
+    push_ticks_line("greatest", tick, latency, &mut text)?;
     Ok(text)
 }
 

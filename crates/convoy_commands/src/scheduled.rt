@@ -2,16 +2,17 @@ ghost use Rattle.std.specs.Prelude.{IfOk};
 ghost use Rattle.std.specs.Option.{option_map};
 ghost use Rattle.convoy_packets.specs.Assignment.{AreWithin};
 ghost use Rattle.convoy_packets.specs.Order.{IsOrder};
-ghost use Rattle.convoy_commands.specs.declared.fault.Fault.TheVariants.{Memory};
 ghost use Rattle.convoy_commands.specs.Memory.{IsUnlessMemory};
+ghost use Rattle.convoy_commands.specs.declared.fault.Fault.TheVariants.{Memory};
 ghost use Rattle.convoy_commands.specs.Schedules.{chosen_order, chosen_schedule, order_in};
 
+use super::answer::{Known, ReadInstance};
 use super::fault::{Fault, OrderFault, fault_of_order};
 use convoy_certificate::Certificate;
-use convoy_packets::laws::fixed_order_is_order;
+use convoy_packets::schedule_laws::fixed_order_is_order;
 use convoy_packets::{Instance, Order, PacketTable, Schedule};
 use convoy_scenario::{Scenario, Time};
-use convoy_toml::{Input, read_toml};
+use convoy_toml::{Input, PlainNumber, read_toml};
 use std::alloc::Global;
 use std::marker::Model;
 
@@ -20,6 +21,8 @@ use std::marker::Model;
 pub(crate) struct Scheduled {
     instance: Instance,
     schedule: Schedule,
+    /// The plain number beside durations of the text, of which no contract speaks.
+    plain: Option<PlainNumber>,
 }
 
 impl Model for Scheduled {
@@ -49,11 +52,16 @@ impl Scheduled {
             scenario,
             schedule,
             order,
+            plain,
         } = read_toml(alloc, text)?;
         let instance = Instance::of(alloc, scenario)?;
         let mut schedule = choose_schedule(alloc, instance.table(), &schedule)?;
         schedule.set_order(choose_order(alloc, instance.scenario(), &order)?);
-        Ok(Scheduled { instance, schedule })
+        Ok(Scheduled {
+            instance,
+            schedule,
+            plain,
+        })
     }
 
     /// What a certificate gives.
@@ -62,7 +70,21 @@ impl Scheduled {
     {
         let _ = certificate.schedule();
         let (instance, _, schedule, _) = certificate.into_parts();
-        Scheduled { instance, schedule }
+        Scheduled {
+            instance,
+            schedule,
+            plain: None,
+        }
+    }
+
+    /// What is known of the scenario.
+    pub(crate) fn into_known(self) -> Known {
+        let Scheduled {
+            instance,
+            plain,
+            ..
+        } = self;
+        Known::of(ReadInstance { instance, plain }, None)
     }
 
     /// The scenario with its packets.
@@ -85,30 +107,26 @@ impl Scheduled {
 fn choose_schedule(
     alloc: Global,
     table: &PacketTable,
-    given: &Option<Vec<i64>>,
+    list: &Option<Vec<i64>>,
 ) -> Result<Schedule, Fault>
     ensures value { IsUnlessMemory Memory
-        (chosen_schedule table.now.ranges (option_map (λ numbers. numbers.items) given.now)) result }
+        (chosen_schedule table.now.ranges (option_map (λ numbers. numbers.items) list.now)) result }
     ensures within { IfOk result (λ schedule. AreWithin table.now.ranges schedule.delays) }
 {
-    match given {
+    match list {
         None => Ok(Schedule::least(alloc, table)?),
         Some(numbers) => Ok(Schedule::from_list(alloc, table, numbers)?),
     }
 }
 
 /// The order of ties that is given, and where none is the fixed one.
-fn choose_order(
-    alloc: Global,
-    scenario: &Scenario,
-    given: &Option<Vec<i64>>,
-) -> Result<Order, Fault>
+fn choose_order(alloc: Global, scenario: &Scenario, list: &Option<Vec<i64>>) -> Result<Order, Fault>
     ensures value { IsUnlessMemory Memory
-        (chosen_order scenario.now (option_map (λ ranks. ranks.items) given.now)) result }
+        (chosen_order scenario.now (option_map (λ ranks. ranks.items) list.now)) result }
     ensures lawful { IfOk result (λ order. IsOrder scenario.now order) }
 {
     fixed_order_is_order();
-    match given {
+    match list {
         None => Ok(Order::none()),
         Some(ranks) => order_in(alloc, scenario, ranks),
     }

@@ -2,12 +2,16 @@ ghost use Rattle.std.specs.Prelude.{◌≡◌, ◌≤◌, IfOk};
 ghost use Rattle.convoy_packets.specs.Assignment.{ranges_of};
 ghost use Rattle.convoy_packets.specs.Table.{least_of};
 ghost use Rattle.convoy_sim.specs.Delivery.{latency_of};
+ghost use Rattle.convoy_seek.specs.Finds.{IsNoLower};
 ghost use Rattle.convoy_commands.specs.Searches.{IsEnd, SearchGives};
 
+use super::answer::ReadInstance;
 use super::fault::Fault;
 use super::watch::Watch;
-use convoy_branch::{Options, Outcome, Ways, plain_share, search_alone};
-use convoy_packets::laws::fixed_order_is_order;
+use convoy_branch::{
+    Bounds, FromAbove, Options, Outcome, Ways, from_above, lead_share, plain_share, search_alone,
+};
+use convoy_packets::schedule_laws::fixed_order_is_order;
 use convoy_packets::{Instance, Schedule};
 use convoy_seek::seek;
 use convoy_sim::Record;
@@ -15,6 +19,9 @@ use convoy_toml::read_toml;
 use std::alloc::{AllocError, Global};
 use std::sync::Wait;
 use std::thread::Threads;
+
+/// How many schedules are simulated at most before runs are sought from above.
+const FIRST_SIMULATIONS: u64 = 500;
 
 /// Searches for the greatest latency of the scenario that a text gives, by the options' limit of
 /// tickets, by their bounds or both ways, and with their number of workers: that scenario with its
@@ -25,13 +32,16 @@ pub(crate) fn search_text<R: Threads + Wait + Sync, W: Watch + Sync>(
     text: &[u8],
     options: &Options,
     watch: &W,
-) -> Result<(Instance, Outcome), Fault>
+) -> Result<(ReadInstance, Outcome), Fault>
     ensures { SearchGives options.now text.now result }
 {
-    let scenario = read_toml(alloc, text)?.scenario;
-    let instance = Instance::of(alloc, scenario)?;
-    let outcome = search_instance(rt, alloc, &instance, options, watch)?;
-    Ok((instance, outcome))
+    let input = read_toml(alloc, text)?;
+    let read = ReadInstance {
+        instance: Instance::of(alloc, input.scenario)?,
+        plain: input.plain,
+    };
+    let outcome = search_instance(rt, alloc, &read.instance, options, watch)?;
+    Ok((read, outcome))
 }
 
 /// Searches for the greatest latency of an instance as `latency` does: by the options' limit of tickets,
@@ -80,15 +90,60 @@ fn search<R: Threads + Wait + Sync, W: Watch + Sync>(
     }
     match search_alone(alloc, instance, 1, options.ways().first_bounds())? {
         Outcome::Open { best, upper, .. } => {
-            match seek(alloc, instance, best, upper, simulations) {
-                Ok(found) => {
-                    tell_begin(watch, instance, options, found.latency(), Some(upper));
-                    search_opened(rt, alloc, instance, found, options, watch)
-                }
-                Err((_, error)) => Err(error),
-            }
+            let found = sought(alloc, instance, best, upper, options, watch)?;
+            tell_begin(watch, instance, options, found.latency(), Some(upper));
+            search_opened(rt, alloc, instance, found, options, watch)
         }
         proved => Ok(proved),
+    }
+}
+
+/// A record of a good schedule to start a search from, which is no lower than the one given: where the search may
+/// ask leads, some schedules are simulated, then runs are sought from above, and then the rest of the options'
+/// number of simulations is made if these have not shown the greatest latency; else all of them at once.
+fn sought<W: Watch>(
+    alloc: Global,
+    instance: &Instance,
+    known: Record,
+    upper: u32,
+    options: &Options,
+    watch: &W,
+) -> Result<Record, AllocError>
+    requires of_scenario { known.scenario ≡ instance.now }
+    ensures { IfOk result (λ found. IsNoLower known found) }
+{
+    let (simulations, limit) = (options.simulations(), options.search_limit());
+    if !asks_leads(options) {
+        return seek_within(alloc, instance, known, upper, simulations);
+    }
+    let few = simulations.min(FIRST_SIMULATIONS);
+    let found = seek_within(alloc, instance, known, upper, few)?;
+    let FromAbove { best, bound } = from_above(alloc, instance, found, limit, watch)?;
+    seek_within(alloc, instance, best, bound, simulations)
+}
+
+/// Whether a search by the options may ask leads.
+fn asks_leads(options: &Options) -> bool {
+    match options.ways() {
+        Ways::One(bounds) => bounds == Bounds::Lead,
+        Ways::Both => lead_share(options.limit()) > 0,
+    }
+}
+
+/// Seeks as [`seek`] does, without the best record where memory runs out.
+fn seek_within(
+    alloc: Global,
+    instance: &Instance,
+    known: Record,
+    until: u32,
+    budget: u64,
+) -> Result<Record, AllocError>
+    requires of_scenario { known.scenario ≡ instance.now }
+    ensures { IfOk result (λ found. IsNoLower known found) }
+{
+    match seek(alloc, instance, known, until, budget) {
+        Ok(found) => Ok(found),
+        Err((_, error)) => Err(error),
     }
 }
 

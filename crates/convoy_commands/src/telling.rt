@@ -9,7 +9,7 @@ ghost use Rattle.convoy_commands.specs.Memory.{IsUnlessMemory};
 ghost use Rattle.convoy_commands.specs.Replies.{IsReply, SaysUnlessMemory, reply_of};
 ghost use Rattle.convoy_commands.specs.Tells.{TellSays, certificate_told, job_told, packets_told, scheduled_told, text_told};
 
-use super::answer::Answer;
+use super::answer::{Answer, Known, ReadInstance};
 use super::asking::answer_to_fault;
 use super::done::Done;
 use super::fault::Fault;
@@ -75,17 +75,19 @@ fn tell_job(alloc: Global, telling: Telling, text: &[u8]) -> Result<Answer, Faul
     if text.len() > LONGEST_JOB {
         return Err(Fault::Reading(ReadFault::TooLong(LONGEST_JOB)));
     }
+    let (text, known) = told_of_job(alloc, telling, text)?;
     Ok(Answer {
         done: Done::Fine,
-        text: told_of_job(alloc, telling, text)?,
-        known: None,
+        text,
+        known: Some(known),
     })
 }
 
-/// What is written for a scenario's text. Where packets are told, no schedule is looked at.
-fn told_of_job(alloc: Global, telling: Telling, text: &[u8]) -> Result<Vec<u8>, Fault>
+/// What is written for a scenario's text, and what is known of the scenario. Where packets are told, no schedule is
+/// looked at.
+fn told_of_job(alloc: Global, telling: Telling, text: &[u8]) -> Result<(Vec<u8>, Known), Fault>
     ensures { IsUnlessMemory Memory (job_told telling text.now)
-        (result_map_both (λ answer. answer.items) (λ fault. fault) result) }
+        (result_map_both (λ told. told.0.items) (λ fault. fault) result) }
 {
     match telling {
         Telling::Simulate | Telling::Timeline | Telling::Toml => {
@@ -96,22 +98,32 @@ fn told_of_job(alloc: Global, telling: Telling, text: &[u8]) -> Result<Vec<u8>, 
 }
 
 /// What is told of the scenario and the schedule that a text gives.
-fn told_with_schedule(alloc: Global, telling: Telling, text: &[u8]) -> Result<Vec<u8>, Fault>
+fn told_with_schedule(
+    alloc: Global,
+    telling: Telling,
+    text: &[u8],
+) -> Result<(Vec<u8>, Known), Fault>
     ensures { IsUnlessMemory Memory (scheduled_told telling text.now)
-        (result_map_both (λ answer. answer.items) (λ fault. fault) result) }
+        (result_map_both (λ told. told.0.items) (λ fault. fault) result) }
 {
     let scheduled = Scheduled::read(alloc, text)?;
-    Ok(told(alloc, telling, &scheduled)?)
+    let told = told(alloc, telling, &scheduled)?;
+    Ok((told, scheduled.into_known()))
 }
 
 /// The packets of the scenario that a text gives.
-fn told_without_schedule(alloc: Global, text: &[u8]) -> Result<Vec<u8>, Fault>
+fn told_without_schedule(alloc: Global, text: &[u8]) -> Result<(Vec<u8>, Known), Fault>
     ensures { IsUnlessMemory Memory (packets_told text.now)
-        (result_map_both (λ answer. answer.items) (λ fault. fault) result) }
+        (result_map_both (λ told. told.0.items) (λ fault. fault) result) }
 {
     let input = read_toml(alloc, text)?;
     let instance = Instance::of(alloc, input.scenario)?;
-    Ok(listed(alloc, &instance)?)
+    let listed = listed(alloc, &instance)?;
+    let read = ReadInstance {
+        instance,
+        plain: input.plain,
+    };
+    Ok((listed, Known::of(read, None)))
 }
 
 /// The packets of a scenario.

@@ -1,63 +1,40 @@
 //! An answer with the ceiling of its scenario in a line below it (docs/FORMATS.md, "What `ceiling` writes").
 
-ghost use Rattle.std.specs.Prelude.{◌≡◌, ℕ, List, Ok, OnOk};
-ghost use Rattle.convoy_certificate.specs.Certificate.{IsCertificate};
-ghost use Rattle.convoy_certificate.specs.Reading.{IsTextOf, certificate_of};
+ghost use Rattle.std.specs.Prelude.{◌≡◌, ℕ, List, Ok, IfOk, OnOk};
+ghost use Rattle.convoy_toml.specs.Reading.{scenario_of_text};
+ghost use Rattle.convoy_branch.specs.Options.{Settings};
 ghost use Rattle.convoy_commands.specs.declared.done.Done.TheVariants.{NotChecked};
-ghost use Rattle.convoy_commands.specs.Replies.{SaysUnlessMemory, reply_of};
-ghost use Rattle.convoy_commands.specs.Searches.{IsSearchOf};
-ghost use Rattle.convoy_commands.specs.WithCeilings.{
-  ExplainWithCeilingSays,
-  HasCeilingBelow,
-  LatencyWithCeilingSays,
-};
-ghost use Rattle.convoy_commands.specs.Withins.{SaysWithin};
+ghost use Rattle.convoy_commands.specs.Replies.{SaysUnlessMemory, reply_of, told_of_answer};
+ghost use Rattle.convoy_commands.specs.Searches.{LatencySays};
+ghost use Rattle.convoy_commands.specs.WithCeilings.{ExplainWithCeilingSays, HasCeilingBelow, latency_says};
+ghost use Rattle.convoy_commands.specs.Withins.{AnswersCertificate, SaysWithin};
 
 use super::answer::Answer;
 use super::asking::{Asking, answer_to_fault, ask_certificate};
 use super::done::Done;
 use super::fault::Fault;
-use super::latency::{greatest_of, latency_told};
-use super::lines::push_ceiling;
-use super::search::search_text;
-use super::watch::Watch;
-use convoy_branch::{Options, Outcome};
+use super::reply_lines::push_ceiling;
 use convoy_ceiling::target_ceiling;
-use convoy_certificate::laws::texts_are_read;
+use convoy_certificate::certificate_laws::texts_are_read;
 use convoy_certificate::{Certificate, read};
-use convoy_checker::laws::checked_is_valid;
+use convoy_checker::tree_laws::checked_is_valid;
 use convoy_scenario::Scenario;
 use std::alloc::{AllocError, Global};
-use std::sync::Wait;
-use std::thread::Threads;
 
-/// What `latency` answers for a text, and below it the ceiling of the text's scenario; the faults are those of
-/// [`latency_answer`](super::latency_answer).
-pub fn latency_with_ceiling<R: Threads + Wait + Sync, W: Watch + Sync>(
-    rt: &R,
-    alloc: Global,
-    text: &[u8],
-    options: &Options,
-    watch: &W,
-) -> Result<Answer, Fault>
-    ensures { SaysUnlessMemory (LatencyWithCeilingSays options.now) text.now (reply_of result) }
-{
-    let (instance, outcome) = search_text(rt, alloc, text, options, watch)?;
-    let told = told_with_ceiling(alloc, options, instance.scenario(), &outcome)?;
-    Ok(told.with(instance, greatest_of(&outcome)))
-}
-
-/// What `latency` tells of the outcome of a search for a scenario, and below it the ceiling of the scenario.
-fn told_with_ceiling(
-    alloc: Global,
-    options: &Options,
+/// An answer of `latency` for a scenario, and below it the scenario's ceiling where that is asked for.
+pub(crate) fn put_ceiling(
+    with_ceiling: bool,
     scenario: &Scenario,
-    outcome: &Outcome,
-) -> Result<Answer, Fault>
-    ensures { (text : List ℕ) → IsSearchOf options.now text scenario.now outcome.now
-        → SaysUnlessMemory (LatencyWithCeilingSays options.now) text (reply_of result) }
+    answer: Answer,
+) -> Result<Answer, AllocError>
+    ensures { (settings : Settings) (text : List ℕ) → scenario_of_text text ≡ Ok scenario.now
+        → LatencySays settings text (Ok (told_of_answer answer))
+        → IfOk result (λ told. latency_says with_ceiling settings text (Ok (told_of_answer told))) }
 {
-    let Answer { done, text, .. } = latency_told(alloc, options, scenario, outcome)?;
+    if !with_ceiling {
+        return Ok(answer);
+    }
+    let Answer { done, text, .. } = answer;
     let mut text = text;
     push_ceiling_of(scenario, &mut text)?;
     Ok(Answer {
@@ -91,9 +68,8 @@ fn explained_with_ceiling(
     limit: Option<u64>,
     certificate: &Certificate,
 ) -> Result<Answer, Fault>
-    ensures { (text : List ℕ) → IsCertificate certificate.now
-        → certificate_of text ≡ Ok certificate.now → IsTextOf certificate.now text
-        → SaysUnlessMemory (SaysWithin limit NotChecked ExplainWithCeilingSays) text (reply_of result) }
+    ensures { AnswersCertificate (SaysWithin limit NotChecked ExplainWithCeilingSays)
+        certificate.now (reply_of result) }
 {
     let answer = ask_certificate(alloc, Asking::Explain, limit, certificate)?;
     match answer.done {

@@ -1,3 +1,5 @@
+ghost use Rattle.convoy_draft.specs.Draft.{DraftMessage, DraftLink, Draft};
+
 use super::duration::Duration;
 use super::name::Name;
 use super::time::Time;
@@ -18,8 +20,6 @@ pub struct DraftMulticast {
 }
 
 impl Model for DraftMulticast {
-    ghost use Rattle.convoy_draft.specs.Draft.{DraftMessage};
-
     ghost Value = { DraftMessage };
 
     ghost view = { λ m. record { name = m.name; sender = m.sender; to = m.to.items; at = m.at; until = m.until } };
@@ -39,8 +39,6 @@ pub struct DraftLink {
 }
 
 impl Model for DraftLink {
-    ghost use Rattle.convoy_draft.specs.Draft.{DraftLink};
-
     ghost Value = { DraftLink };
 
     ghost view = { λ l. record { sender = l.sender; to = l.to; least = l.least; most = l.most } };
@@ -69,8 +67,6 @@ pub struct DraftScenario {
 }
 
 impl Model for DraftScenario {
-    ghost use Rattle.convoy_draft.specs.Draft.{Draft};
-
     ghost Value = { Draft };
 
     ghost view = { λ d. record {

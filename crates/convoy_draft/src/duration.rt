@@ -20,18 +20,6 @@ pub enum TimeUnit {
 }
 
 impl TimeUnit {
-    /// The word for the unit in a text: `s`, `ms`, `us` or `ns`.
-    pub fn word(self) -> &'static str
-        ensures { result.now ≡ unit_word self }
-    {
-        match self {
-            TimeUnit::Seconds => "s",
-            TimeUnit::Milliseconds => "ms",
-            TimeUnit::Microseconds => "us",
-            TimeUnit::Nanoseconds => "ns",
-        }
-    }
-
     /// The unit that the word names, if it names one.
     pub fn named(word: &[u8]) -> Option<TimeUnit>
         ensures { result ≡ unit_named word.now }
@@ -42,6 +30,18 @@ impl TimeUnit {
             [b'u', b's'] => Some(TimeUnit::Microseconds),
             [b'n', b's'] => Some(TimeUnit::Nanoseconds),
             _ => None,
+        }
+    }
+
+    /// The word for the unit in a text: `s`, `ms`, `us` or `ns`.
+    pub fn word(self) -> &'static str
+        ensures { result.now ≡ unit_word self }
+    {
+        match self {
+            TimeUnit::Seconds => "s",
+            TimeUnit::Milliseconds => "ms",
+            TimeUnit::Microseconds => "us",
+            TimeUnit::Nanoseconds => "ns",
         }
     }
 

@@ -1,3 +1,6 @@
+ghost use Rattle.std.specs.Prelude.{◌≡◌};
+ghost use Rattle.convoy_draft.specs.declared.fault.ScenarioFault.TheVariants.{Memory};
+
 use super::duration::{LONGEST_DURATION, MOST_UNITS};
 use super::limits::{
     GREATEST_AT, GREATEST_DELAY, GREATEST_WHOLE_DELAY, LONGEST_NAME, LONGEST_WAIT, MOST_GROUPS,
@@ -181,9 +184,6 @@ impl fmt::Display for Limit {
 }
 
 impl From<AllocError> for ScenarioFault {
-    ghost use Rattle.std.specs.Prelude.{◌≡◌};
-    ghost use Rattle.convoy_draft.specs.declared.fault.ScenarioFault.TheVariants.{Memory};
-
     ghost from_gives = { λ _ fault. fault ≡ Memory };
 
     fn from(_error: AllocError) -> ScenarioFault {
@@ -192,9 +192,6 @@ impl From<AllocError> for ScenarioFault {
 }
 
 impl<T: Drop> From<AllocFailed<T>> for ScenarioFault {
-    ghost use Rattle.std.specs.Prelude.{◌≡◌};
-    ghost use Rattle.convoy_draft.specs.declared.fault.ScenarioFault.TheVariants.{Memory};
-
     ghost from_gives = { λ _ fault. fault ≡ Memory };
 
     fn from(_error: AllocFailed<T>) -> ScenarioFault {

@@ -10,6 +10,7 @@ pub use limits::{
     GREATEST_AT, GREATEST_DELAY, GREATEST_UNTIL, GREATEST_WHOLE_DELAY, LONGEST_NAME, LONGEST_WAIT,
     MOST_GROUPS, MOST_LINKS, MOST_MULTICASTS,
 };
+pub use memory::AllocResult;
 pub use name::Name;
 pub use time::Time;
 
@@ -18,5 +19,6 @@ mod draft;
 mod duration;
 mod fault;
 mod limits;
+mod memory;
 mod name;
 mod time;

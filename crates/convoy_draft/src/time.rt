@@ -18,16 +18,6 @@ pub enum Time {
 }
 
 impl Time {
-    /// The word for this kind in a scenario text and in a certificate: `ticks` or `real`.
-    pub fn word(self) -> &'static str
-        ensures { result.now ≡ time_word self }
-    {
-        match self {
-            Time::Ticks => "ticks",
-            Time::Real => "real",
-        }
-    }
-
     /// The greatest value of D, the greatest delay of a packet, in ticks.
     pub fn greatest_delay(self) -> u16
         ensures { result ≡ greatest_delay self }
@@ -35,6 +25,16 @@ impl Time {
         match self {
             Time::Ticks => GREATEST_WHOLE_DELAY,
             Time::Real => GREATEST_DELAY,
+        }
+    }
+
+    /// The word for this kind in a scenario text and in a certificate: `ticks` or `real`.
+    pub fn word(self) -> &'static str
+        ensures { result.now ≡ time_word self }
+    {
+        match self {
+            Time::Ticks => "ticks",
+            Time::Real => "real",
         }
     }
 

@@ -1,5 +1,5 @@
 ghost use Rattle.std.specs.Prelude.{◌≡◌, IfOk, string_bytes};
-ghost use Rattle.convoy_draw.specs.Layers.{element_text};
+ghost use Rattle.convoy_draw.specs.Layers.{element_text, Layers};
 
 use convoy_picture::Role;
 use std::alloc::{AllocError, Global};
@@ -15,16 +15,10 @@ pub(crate) struct Layers {
 }
 
 impl Model for Layers {
-    ghost use Rattle.std.specs.Prelude.{string_bytes};
-    ghost use Rattle.convoy_draw.specs.Layers.{Layers};
-
     ghost Value = { Layers };
 
-    ghost view = { λ l. record {
-      others = string_bytes l.others;
-      holder = string_bytes l.holder;
-      target = string_bytes l.target;
-    } };
+    ghost view = { λ l.
+        record { others = string_bytes l.others; holder = string_bytes l.holder; target = string_bytes l.target } };
 }
 
 impl Layers {

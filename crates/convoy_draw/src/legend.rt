@@ -7,11 +7,11 @@ use super::shown::placed_words;
 use super::signs::sign;
 use super::style::{BAR, color_of};
 use convoy_picture::{MARGIN, MarkKind, Role, width_of};
-use convoy_scenario::Scenario;
 use convoy_scenario::lookup::may_wait;
 use convoy_scenario::naming::message_name;
+use convoy_scenario::{AllocResult, Scenario};
 use convoy_timeline::Holder;
-use std::alloc::{AllocError, Global};
+use std::alloc::Global;
 use std::marker::Model;
 
 /// How wide a sample is, with the gap after it.
@@ -34,7 +34,7 @@ const NOTE: &str =
     "2.b is the stamp that group b gives at time 2 of its clock; of several messages the later ones have their signs a little to the right of their tick";
 
 /// The legend: the colours of messages, the lines of packets, the signs of what happens, and a note.
-pub(crate) fn legend(scene: &Scene) -> Result<String, AllocError>
+pub(crate) fn legend(scene: &Scene) -> AllocResult<String>
     ensures { IfOk result (λ legend. (wordless : ℕ)
         × ShowsLines (legend_lines scene.now.scenario.now scene.now.picture.now.why wordless) (string_bytes legend)) }
 {
@@ -103,11 +103,7 @@ impl LegendRows {
 
     /// The colours of the messages.
     #[tactic(auto, unfolding(crate::specs::Shown::no_words_after))]
-    fn push_colors(
-        &mut self,
-        scenario: &Scenario,
-        holder: &Option<Holder>,
-    ) -> Result<(), AllocError>
+    fn push_colors(&mut self, scenario: &Scenario, holder: &Option<Holder>) -> AllocResult<()>
         ensures { OnOk result (ShowsMore (color_lines scenario.now holder.now) self.old self.new) }
     {
         self.push_target(scenario)?;
@@ -117,7 +113,7 @@ impl LegendRows {
 
     /// The colour of the target.
     #[tactic(auto, unfolding(crate::specs::Shown::no_words_after))]
-    fn push_target(&mut self, scenario: &Scenario) -> Result<(), AllocError>
+    fn push_target(&mut self, scenario: &Scenario) -> AllocResult<()>
         ensures { OnOk result (ShowsMore (target_line scenario.now ∷ []) self.old self.new) }
     {
         let name = message_name(scenario, scenario.target_message());
@@ -127,11 +123,7 @@ impl LegendRows {
 
     /// The colour of the message that holds the target back, if there is one.
     #[tactic(auto, unfolding(crate::specs::Shown::no_words_after))]
-    fn push_holder(
-        &mut self,
-        scenario: &Scenario,
-        holder: &Option<Holder>,
-    ) -> Result<(), AllocError>
+    fn push_holder(&mut self, scenario: &Scenario, holder: &Option<Holder>) -> AllocResult<()>
         ensures { OnOk result (ShowsMore (holder_lines scenario.now holder.now) self.old self.new) }
     {
         match holder {
@@ -146,7 +138,7 @@ impl LegendRows {
 
     /// The lines of packets.
     #[tactic(auto, unfolding(crate::specs::Shown::no_words_after))]
-    fn push_packets(&mut self) -> Result<(), AllocError>
+    fn push_packets(&mut self) -> AllocResult<()>
         ensures { OnOk result (ShowsMore packet_lines self.old self.new) }
     {
         self.push_line("#000000", PLAIN, "a message on its way")?;
@@ -156,7 +148,7 @@ impl LegendRows {
 
     /// The bar along the ticks at which a message may be issued, where some message may wait.
     #[tactic(auto, unfolding(crate::specs::Shown::no_words_after))]
-    fn push_bar(&mut self, scenario: &Scenario) -> Result<(), AllocError>
+    fn push_bar(&mut self, scenario: &Scenario) -> AllocResult<()>
         ensures { OnOk result (ShowsMore (bar_lines scenario.now) self.old self.new) }
     {
         if has_windows(scenario) {
@@ -167,7 +159,7 @@ impl LegendRows {
     }
 
     /// How many signs have no words, if there are any.
-    fn push_wordless(&mut self, count: usize) -> Result<(), AllocError>
+    fn push_wordless(&mut self, count: usize) -> AllocResult<()>
         ensures { OnOk result (ShowsMore (wordless_lines count) self.old self.new) }
     {
         if count == 0 {
@@ -178,7 +170,7 @@ impl LegendRows {
     }
 
     /// The signs of what happens; that of the target's wait only where it waits.
-    fn push_signs(&mut self, holder: &Option<Holder>) -> Result<(), AllocError>
+    fn push_signs(&mut self, holder: &Option<Holder>) -> AllocResult<()>
         ensures { OnOk result (ShowsMore (sign_lines holder.now) self.old self.new) }
     {
         self.push_sign(MarkKind::Issue, "issue")?;
@@ -189,7 +181,7 @@ impl LegendRows {
     }
 
     /// The sign of the target's wait, if it waits.
-    fn push_wait(&mut self, holder: &Option<Holder>) -> Result<(), AllocError>
+    fn push_wait(&mut self, holder: &Option<Holder>) -> AllocResult<()>
         ensures { OnOk result (ShowsMore (wait_lines holder.now) self.old self.new) }
     {
         match holder {
@@ -199,7 +191,7 @@ impl LegendRows {
     }
 
     /// A sign, with words.
-    fn push_sign(&mut self, kind: MarkKind, words: &str) -> Result<(), AllocError>
+    fn push_sign(&mut self, kind: MarkKind, words: &str) -> AllocResult<()>
         ensures { OnOk result (ShowsMore (words.now ∷ []) self.old self.new) }
     {
         let sample = sign_sample(*self.text.allocator(), kind, self.across, self.down)?;
@@ -207,7 +199,7 @@ impl LegendRows {
     }
 
     /// A line of that colour and style, with words.
-    fn push_line(&mut self, color: &str, style: &str, words: &str) -> Result<(), AllocError>
+    fn push_line(&mut self, color: &str, style: &str, words: &str) -> AllocResult<()>
         requires color { IsTrue (is_wordless color.now) }
         requires style { IsTrue (is_wordless style.now) }
         ensures { OnOk result (ShowsMore (words.now ∷ []) self.old self.new) }
@@ -217,7 +209,7 @@ impl LegendRows {
     }
 
     /// What is drawn as a sample, and words after it.
-    fn push_sample(&mut self, sample: &str, words: &str) -> Result<(), AllocError>
+    fn push_sample(&mut self, sample: &str, words: &str) -> AllocResult<()>
         requires { IsTrue (is_wordless sample.now) }
         ensures { OnOk result (ShowsMore (words.now ∷ []) self.old self.new) }
     {
@@ -230,7 +222,7 @@ impl LegendRows {
     }
 
     /// Words with no sample before them.
-    fn push_words(&mut self, words: &str) -> Result<(), AllocError>
+    fn push_words(&mut self, words: &str) -> AllocResult<()>
         ensures { OnOk result (ShowsMore (words.now ∷ []) self.old self.new) }
     {
         let line = placed_words(*self.text.allocator(), self.across, self.down, words)?;
@@ -245,7 +237,7 @@ fn line_sample(
     down: u32,
     color: &str,
     style: &str,
-) -> Result<String, AllocError>
+) -> AllocResult<String>
     requires color { IsTrue (is_wordless color.now) }
     requires style { IsTrue (is_wordless style.now) }
     ensures { IfOk result (λ sample. IsTrue (is_wordless (string_bytes sample))) }
@@ -255,7 +247,7 @@ fn line_sample(
 }
 
 /// The sign of a kind of mark, in a row of the legend.
-fn sign_sample(alloc: Global, kind: MarkKind, across: u32, down: u32) -> Result<String, AllocError>
+fn sign_sample(alloc: Global, kind: MarkKind, across: u32, down: u32) -> AllocResult<String>
     ensures { IfOk result (λ sample. IsTrue (is_wordless (string_bytes sample))) }
 {
     let sign = sign(

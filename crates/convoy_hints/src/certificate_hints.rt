@@ -1,5 +1,6 @@
 use super::body::{has_order, says_time};
-use super::lines::{numbers_of, scenario_in, sketch_of_lines};
+use super::scenario_lines::{numbers_of, scenario_in, sketch_of_lines};
+use super::search_hints::rest_of_option;
 use super::tree_hints::hint_for_refused;
 use convoy_certificate::{TextFault, read};
 use convoy_checker::{Refusal, Refused};
@@ -7,7 +8,7 @@ use convoy_hints_scenario::{
     hint_for_bytes, hint_for_damage, hint_for_order, hint_for_schedule, hint_for_sketch,
     is_meant_as_certificate, is_meant_as_scenario, with_label,
 };
-use convoy_hints_sketch::{Quoted, noun};
+use convoy_hints_sketch::{Hint, Quoted, noun};
 use convoy_packets::{Instance, ListFault, Order, Schedule};
 use convoy_scenario::{Scenario, ScenarioFault};
 use convoy_scenario_lines::Expected;
@@ -15,12 +16,7 @@ use std::alloc::{AllocError, Global};
 
 /// Why a certificate is refused, in one line `hint: ..`: by its text, which may have been cut where it
 /// is not `whole`, and by the refusal that was answered. None where nothing can be said beyond that.
-pub fn hint_for_certificate(
-    alloc: Global,
-    text: &[u8],
-    whole: bool,
-    refusal: Refusal,
-) -> Result<Option<String>, AllocError> {
+pub fn hint_for_certificate(alloc: Global, text: &[u8], whole: bool, refusal: Refusal) -> Hint {
     let hint = match refusal {
         // Whether there are too many nodes to be read or for a tree, it is the tree that shows it.
         Refusal::Text(TextFault::TreeCount) => {
@@ -41,23 +37,14 @@ pub fn hint_for_unchecked(alloc: Global, limit: u64, most: u64) -> Result<String
     let steps = noun(limit == 1, "step", "steps");
     let length = (limit / STEPS_PER_SECOND).max(1);
     let seconds = noun(length == 1, "second", "seconds");
-    let rest = if limit < most {
-        format!(in alloc; ": '--limit' allows up to {most}")?
-    } else {
-        String::new(alloc)
-    };
+    let rest = rest_of_option(alloc, ": '--limit'", limit, most)?;
     format!(in alloc;
         "hint: checking the certificate takes more than {limit} {steps}, and so many last about {length} {seconds} at most{rest}\n"
     )
 }
 
 /// Why a text is that of no certificate.
-fn hint_for_refused_text(
-    alloc: Global,
-    text: &[u8],
-    whole: bool,
-    fault: TextFault,
-) -> Result<Option<String>, AllocError> {
+fn hint_for_refused_text(alloc: Global, text: &[u8], whole: bool, fault: TextFault) -> Hint {
     match hint_for_damage(alloc, text)? {
         Some(hint) => Ok(Some(hint)),
         None if is_meant_as_certificate(text) => hint_for_lines(alloc, text, whole, fault),
@@ -98,12 +85,7 @@ fn hint_for_other_text(alloc: Global, text: &[u8]) -> Result<String, AllocError>
 }
 
 /// What is wrong with a text that begins as a certificate does, and has that fault.
-fn hint_for_lines(
-    alloc: Global,
-    text: &[u8],
-    whole: bool,
-    fault: TextFault,
-) -> Result<Option<String>, AllocError> {
+fn hint_for_lines(alloc: Global, text: &[u8], whole: bool, fault: TextFault) -> Hint {
     let words = match std::str::from_utf8(text) {
         Ok(words) => words,
         Err(error) => return hint_for_cut_bytes(alloc, text, whole, error.valid_up_to()),
@@ -135,12 +117,7 @@ fn has_fault(alloc: Global, text: &[u8], fault: TextFault) -> bool {
 const LONGEST_CHARACTER: usize = 4;
 
 /// Where the bytes are not UTF-8, unless the text was cut in the middle of a character.
-fn hint_for_cut_bytes(
-    alloc: Global,
-    text: &[u8],
-    whole: bool,
-    offset: usize,
-) -> Result<Option<String>, AllocError> {
+fn hint_for_cut_bytes(alloc: Global, text: &[u8], whole: bool, offset: usize) -> Hint {
     if !whole && text.len().saturating_sub(offset) < LONGEST_CHARACTER {
         return Ok(None);
     }
@@ -168,17 +145,13 @@ fn line_at(text: &str, number: usize) -> Option<&str> {
 }
 
 /// What is wrong with the scenario in a certificate.
-fn hint_for_scenario_lines(
-    alloc: Global,
-    text: &str,
-    fault: ScenarioFault,
-) -> Result<Option<String>, AllocError> {
+fn hint_for_scenario_lines(alloc: Global, text: &str, fault: ScenarioFault) -> Hint {
     hint_for_sketch(alloc, &sketch_of_lines(alloc, text)?, fault)
 }
 
 /// What is wrong with the schedule in a certificate, or else with the order of its ties. Which of the two is
 /// no part of the fault.
-fn hint_for_schedule_lines(alloc: Global, text: &[u8]) -> Result<Option<String>, AllocError> {
+fn hint_for_schedule_lines(alloc: Global, text: &[u8]) -> Hint {
     let Some((scenario, mut reader)) = scenario_in(alloc, text) else {
         return Ok(None);
     };
@@ -193,11 +166,7 @@ fn hint_for_schedule_lines(alloc: Global, text: &[u8]) -> Result<Option<String>,
 }
 
 /// What is wrong with the delays of a line; None where they are a schedule.
-fn hint_for_delays(
-    alloc: Global,
-    instance: &Instance,
-    line: &[u8],
-) -> Result<Option<String>, AllocError> {
+fn hint_for_delays(alloc: Global, instance: &Instance, line: &[u8]) -> Hint {
     let delays = numbers_of(alloc, line)?;
     match fault_of_delays(alloc, instance, &delays) {
         Some(ListFault::Memory) => Err(AllocError),
@@ -212,11 +181,7 @@ fn fault_of_delays(alloc: Global, instance: &Instance, delays: &[i64]) -> Option
 }
 
 /// What is wrong with the ranks of a line, the delays before it being right.
-fn hint_for_ranks(
-    alloc: Global,
-    scenario: &Scenario,
-    line: &[u8],
-) -> Result<Option<String>, AllocError> {
+fn hint_for_ranks(alloc: Global, scenario: &Scenario, line: &[u8]) -> Hint {
     let ranks = numbers_of(alloc, line)?;
     match Order::from_list(alloc, scenario, &ranks) {
         Err(fault) => hint_for_order(alloc, scenario, &ranks, fault),

@@ -1,4 +1,5 @@
-use std::alloc::{AllocError, Global};
+use convoy_hints_sketch::Hint;
+use std::alloc::Global;
 
 /// One of the two texts of a check against a scenario that is wanted.
 #[derive(Clone, Copy, PartialEq, Eq)]
@@ -21,11 +22,7 @@ impl CheckedText {
 
 /// The hint, a line `hint: ..`, with which of the two texts it is of: `hint: the certificate: ..`. None where there is
 /// no hint.
-pub fn hint_of_text(
-    alloc: Global,
-    text: CheckedText,
-    hint: Option<String>,
-) -> Result<Option<String>, AllocError> {
+pub fn hint_of_text(alloc: Global, text: CheckedText, hint: Option<String>) -> Hint {
     let Some(hint) = hint else {
         return Ok(None);
     };

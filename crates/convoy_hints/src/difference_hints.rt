@@ -1,6 +1,6 @@
 //! How the scenario of a certificate differs from the one that is wanted.
 
-use convoy_hints_sketch::{Length, Names, Ordinal, Quoted, noun, shown_time, words_of};
+use convoy_hints_sketch::{Hint, Length, Names, Ordinal, Quoted, noun, shown_time, words_of};
 use convoy_scenario::naming::{draft_message, group_name, message_name};
 use convoy_scenario::{DraftMulticast, Link, Scenario, Sender};
 use std::alloc::{AllocError, Global};
@@ -26,11 +26,7 @@ pub fn hint_for_difference(
 
 /// The first difference of a certificate's scenario from the one that is wanted. Where the lengths of a tick differ, a
 /// tick that is not written follows from the times, so that it is told only where nothing else differs.
-fn first_difference(
-    alloc: Global,
-    found: &Scenario,
-    wanted: &Scenario,
-) -> Result<Option<String>, AllocError> {
+fn first_difference(alloc: Global, found: &Scenario, wanted: &Scenario) -> Hint {
     if let Some(line) = difference_in_time(alloc, found, wanted)? {
         return Ok(Some(line));
     }
@@ -46,11 +42,7 @@ fn first_difference(
 }
 
 /// The first difference in what follows the length of a tick, told in time where that is known.
-fn difference_in_parts(
-    alloc: Global,
-    found: &Scenario,
-    wanted: &Scenario,
-) -> Result<Option<String>, AllocError> {
+fn difference_in_parts(alloc: Global, found: &Scenario, wanted: &Scenario) -> Hint {
     let (here, there) = (delay_in(alloc, found)?, delay_in(alloc, wanted)?);
     if let Some(line) = told(alloc, "'delay' is", here.as_str(), there.as_str())? {
         return Ok(Some(line));
@@ -68,12 +60,7 @@ fn difference_in_parts(
 }
 
 /// What is so in the certificate, and otherwise in the scenario that is wanted; None where it is the same.
-fn told(
-    alloc: Global,
-    what: &str,
-    found: &str,
-    wanted: &str,
-) -> Result<Option<String>, AllocError> {
+fn told(alloc: Global, what: &str, found: &str, wanted: &str) -> Hint {
     if found == wanted {
         return Ok(None);
     }
@@ -83,11 +70,7 @@ fn told(
 }
 
 /// How time goes.
-fn difference_in_time(
-    alloc: Global,
-    found: &Scenario,
-    wanted: &Scenario,
-) -> Result<Option<String>, AllocError> {
+fn difference_in_time(alloc: Global, found: &Scenario, wanted: &Scenario) -> Hint {
     let (here, there) = (Quoted(found.time().word()), Quoted(wanted.time().word()));
     let (here, there) = (format!(in alloc; "{here}")?, format!(in alloc; "{there}")?);
     told(alloc, "'time' is", here.as_str(), there.as_str())
@@ -110,11 +93,7 @@ fn delay_in(alloc: Global, scenario: &Scenario) -> Result<String, AllocError> {
 }
 
 /// The groups, by their names and in their order.
-fn difference_in_groups(
-    alloc: Global,
-    found: &Scenario,
-    wanted: &Scenario,
-) -> Result<Option<String>, AllocError> {
+fn difference_in_groups(alloc: Global, found: &Scenario, wanted: &Scenario) -> Hint {
     let (here, there) = (groups_in(alloc, found)?, groups_in(alloc, wanted)?);
     told(alloc, "the groups are", here.as_str(), there.as_str())
 }
@@ -130,11 +109,7 @@ fn groups_in(alloc: Global, scenario: &Scenario) -> Result<String, AllocError> {
 }
 
 /// The first link, of either, with another range than in the other one. Without a link the range is 1 to D.
-fn difference_in_links(
-    alloc: Global,
-    found: &Scenario,
-    wanted: &Scenario,
-) -> Result<Option<String>, AllocError> {
+fn difference_in_links(alloc: Global, found: &Scenario, wanted: &Scenario) -> Hint {
     for link in wanted.links().iter().chain(found.links()) {
         if let Some(line) = difference_in_link(alloc, found, wanted, link)? {
             return Ok(Some(line));
@@ -144,12 +119,7 @@ fn difference_in_links(
 }
 
 /// The range of what goes the way of a link.
-fn difference_in_link(
-    alloc: Global,
-    found: &Scenario,
-    wanted: &Scenario,
-    link: &Link,
-) -> Result<Option<String>, AllocError> {
+fn difference_in_link(alloc: Global, found: &Scenario, wanted: &Scenario, link: &Link) -> Hint {
     let (sender, to) = (
         sender_in(alloc, wanted, link.sender)?,
         Quoted(group_name(wanted, link.to)),
@@ -187,11 +157,7 @@ fn range_in(alloc: Global, scenario: &Scenario, link: &Link) -> Result<String, A
 
 /// The first message that differs, in the first of its name, its sender, its destinations and its issue; or how many
 /// there are.
-fn difference_in_messages(
-    alloc: Global,
-    found: &Scenario,
-    wanted: &Scenario,
-) -> Result<Option<String>, AllocError> {
+fn difference_in_messages(alloc: Global, found: &Scenario, wanted: &Scenario) -> Hint {
     let (here, there) = (messages_in(alloc, found)?, messages_in(alloc, wanted)?);
     for (before, (here, there)) in here.iter().zip(&there).enumerate() {
         if let Some(line) = difference_in_message(alloc, before, here, there)? {
@@ -243,12 +209,7 @@ fn issue_of(
 }
 
 /// In what two messages differ that have so many before them.
-fn difference_in_message(
-    alloc: Global,
-    before: usize,
-    found: &Message,
-    wanted: &Message,
-) -> Result<Option<String>, AllocError> {
+fn difference_in_message(alloc: Global, before: usize, found: &Message, wanted: &Message) -> Hint {
     let place = Ordinal(before.saturating_add(1));
     let what = format!(in alloc; "the {place} multicast is")?;
     if let Some(line) = told(
@@ -281,11 +242,7 @@ fn count_of(alloc: Global, messages: &[Message]) -> Result<String, AllocError> {
 }
 
 /// The message of which the latency is asked, and the group at which it is asked.
-fn difference_in_target(
-    alloc: Global,
-    found: &Scenario,
-    wanted: &Scenario,
-) -> Result<Option<String>, AllocError> {
+fn difference_in_target(alloc: Global, found: &Scenario, wanted: &Scenario) -> Hint {
     let (here, there) = (target_in(alloc, found)?, target_in(alloc, wanted)?);
     told(alloc, "the target is", here.as_str(), there.as_str())
 }

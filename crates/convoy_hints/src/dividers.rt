@@ -1,12 +1,12 @@
 //! Lines that are nearly ones that divide the jobs of a batch.
 
-use convoy_hints_sketch::noun;
+use convoy_hints_sketch::{Hint, noun};
 use convoy_streams::LONGEST_LABEL;
 use std::alloc::{AllocError, Global};
 
 /// Which line of a text is nearly one that divides jobs, and what it has for which it is none. Lines are
 /// counted from 1. None where there is no such line.
-pub(crate) fn hint_for_dividers(alloc: Global, text: &[u8]) -> Result<Option<String>, AllocError> {
+pub(crate) fn hint_for_dividers(alloc: Global, text: &[u8]) -> Hint {
     let mut first = None;
     let mut others: usize = 0;
     for (before, line) in text.split(|byte| *byte == b'\n').enumerate() {

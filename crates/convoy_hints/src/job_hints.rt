@@ -1,6 +1,6 @@
 use super::dividers::hint_for_dividers;
 use convoy_hints_scenario::hint_for_fault;
-use convoy_hints_sketch::noun;
+use convoy_hints_sketch::{Hint, noun};
 use convoy_scenario::ScenarioFault;
 use convoy_streams::{JobFault, Splitter};
 use convoy_toml::read_toml;
@@ -9,12 +9,7 @@ use std::alloc::{AllocError, Global};
 /// What is wrong with the jobs of a batch, in a line `hint: job ..` for each that has a fault. Each has
 /// at most `longest` bytes. The text may have been cut, where it is not `whole`: of the job that was cut
 /// it is told at most that it is too long. None where no job has a fault of which anything can be said.
-pub fn hint_for_batch(
-    alloc: Global,
-    text: &[u8],
-    whole: bool,
-    longest: usize,
-) -> Result<Option<String>, AllocError> {
+pub fn hint_for_batch(alloc: Global, text: &[u8], whole: bool, longest: usize) -> Hint {
     let mut jobs = Jobs::of(alloc, text, longest);
     for byte in text {
         jobs.take(*byte)?;
@@ -143,7 +138,7 @@ impl<'a> Jobs<'a> {
 }
 
 /// What is wrong with the scenario of a job; None where nothing is. Lines are counted within the job.
-fn hint_for_job(alloc: Global, label: &str, text: &[u8]) -> Result<Option<String>, AllocError> {
+fn hint_for_job(alloc: Global, label: &str, text: &[u8]) -> Hint {
     match read_toml(alloc, text) {
         Ok(_) | Err(ScenarioFault::Memory) => Ok(None),
         Err(_) if text.iter().all(|byte| byte.is_ascii_whitespace()) => {

@@ -7,8 +7,9 @@ pub use certificate_hints::{hint_for_certificate, hint_for_unchecked};
 pub use checked_texts::{CheckedText, hint_of_text};
 pub use convoy_hints_scenario::{
     hint_for_given_order, hint_for_given_schedule, hint_for_named_group, hint_for_order_in_ticks,
-    hint_for_plain_numbers, hint_for_scenario,
+    hint_for_plain_number, hint_for_scenario,
 };
+pub use convoy_hints_sketch::Hint;
 pub use device_hints::{
     hint_for_jobs, hint_for_length, hint_for_reading, hint_for_writing, line_for_file,
 };
@@ -26,7 +27,7 @@ mod device_hints;
 mod difference_hints;
 mod dividers;
 mod job_hints;
-mod lines;
 mod paths;
+mod scenario_lines;
 mod search_hints;
 mod tree_hints;

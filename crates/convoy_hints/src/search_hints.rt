@@ -1,6 +1,6 @@
 use convoy_ceiling::target_ceiling;
 use convoy_hints_scenario::has_waits;
-use convoy_hints_sketch::noun;
+use convoy_hints_sketch::{Hint, noun};
 use convoy_scenario::Scenario;
 use std::alloc::{AllocError, Global};
 
@@ -28,11 +28,7 @@ pub fn hint_for_ceiling(alloc: Global, simulations: u64, most: u64) -> Result<St
 /// What the greatest latency of a scenario says where messages may wait for their issue and it is the
 /// ceiling of messages of these kinds at the target's group, in one line `hint: ..`: that only narrower windows change
 /// it. None where it is below the ceiling, or each issue is known.
-pub fn hint_for_greatest(
-    alloc: Global,
-    scenario: &Scenario,
-    greatest: u32,
-) -> Result<Option<String>, AllocError> {
+pub fn hint_for_greatest(alloc: Global, scenario: &Scenario, greatest: u32) -> Hint {
     if !has_waits(scenario) || greatest < target_ceiling(scenario) {
         return Ok(None);
     }
@@ -66,8 +62,11 @@ pub fn hint_for_both(
     by_leads: u64,
     most: u64,
 ) -> Result<String, AllocError> {
-    let rest = rest_of_both(alloc, by_plain, by_leads, most)?;
-    hint_for_search(alloc, by_plain, rest.as_str())
+    hint_for_search(
+        alloc,
+        by_plain,
+        &rest_of_both(alloc, by_plain, by_leads, most)?,
+    )
 }
 
 /// How the line of such a search goes on after its tickets by plain bounds.
@@ -140,11 +139,7 @@ fn way_in_real_time(
 /// `hint: ..`: to allow more of them, or to rely on what is known.
 pub fn hint_for_seconds(alloc: Global, seconds: u32, most: u32) -> Result<String, AllocError> {
     let unit = noun(seconds == 1, "second", "seconds");
-    let rest = if seconds < most {
-        format!(in alloc; ", and '--seconds' allows up to {most}")?
-    } else {
-        String::new(alloc)
-    };
+    let rest = rest_of_option(alloc, ", and '--seconds'", seconds.into(), most.into())?;
     format!(in alloc;
         "hint: the search was stopped after {seconds} {unit}: no latency is above the second number{rest}\n"
     )
@@ -154,4 +149,17 @@ pub fn hint_for_seconds(alloc: Global, seconds: u32, most: u32) -> Result<String
 fn hint_for_search(alloc: Global, tickets: u64, rest: &str) -> Result<String, AllocError> {
     let what = noun(tickets == 1, "ticket", "tickets");
     format!(in alloc; "hint: the search did not end with {tickets} {what}{rest}\n")
+}
+
+/// How such a line ends where an option allowed so much, of `most`: that it allows more, if it does.
+pub(crate) fn rest_of_option(
+    alloc: Global,
+    option: &str,
+    allowed: u64,
+    most: u64,
+) -> Result<String, AllocError> {
+    if allowed < most {
+        return format!(in alloc; "{option} allows up to {most}");
+    }
+    Ok(String::new(alloc))
 }

@@ -1,19 +1,14 @@
 use super::body::{Body, Line, split_of};
-use super::lines::scenario_in;
 use super::paths::{Half, path_to, range_along};
+use super::scenario_lines::scenario_in;
 use convoy_checker::Refused;
-use convoy_hints_sketch::noun;
+use convoy_hints_sketch::{Hint, noun};
 use convoy_packets::Instance;
 use std::alloc::{AllocError, Global};
 
 /// Why the latency or the tree of a certificate is refused, whose text has its form. The text may
 /// have been cut, where it is not `whole`.
-pub(crate) fn hint_for_refused(
-    alloc: Global,
-    text: &[u8],
-    whole: bool,
-    refused: Refused,
-) -> Result<Option<String>, AllocError> {
+pub(crate) fn hint_for_refused(alloc: Global, text: &[u8], whole: bool, refused: Refused) -> Hint {
     let Some(body) = Body::of(text, whole) else {
         return Ok(None);
     };
@@ -44,11 +39,7 @@ fn hint_for_latency(alloc: Global, body: &Body<'_>, simulated: u32) -> Result<St
 }
 
 /// A split names no packet of the scenario, or a delay after which the packet's range can't be split.
-fn hint_for_split(
-    alloc: Global,
-    body: &Body<'_>,
-    node: usize,
-) -> Result<Option<String>, AllocError> {
+fn hint_for_split(alloc: Global, body: &Body<'_>, node: usize) -> Hint {
     let line = body.line_of(node);
     let Some((packet, at)) = line.split() else {
         return format!(in alloc;
@@ -120,7 +111,7 @@ fn hint_for_packet(
 
 /// The nodes end before the tree is whole, or go on after it. None where what is at hand does not show
 /// it.
-fn hint_for_count(alloc: Global, body: &Body<'_>) -> Result<Option<String>, AllocError> {
+fn hint_for_count(alloc: Global, body: &Body<'_>) -> Hint {
     let mut open: usize = 1;
     for (node, text) in body.text.lines().skip(body.head).enumerate() {
         let line = body.head.saturating_add(node).saturating_add(1);
@@ -169,11 +160,7 @@ fn hint_for_bound(
 }
 
 /// The box of a point leaf has several schedules, or one of a latency above the stated one.
-fn hint_for_point(
-    alloc: Global,
-    body: &Body<'_>,
-    node: usize,
-) -> Result<Option<String>, AllocError> {
+fn hint_for_point(alloc: Global, body: &Body<'_>, node: usize) -> Hint {
     let line = body.line_of(node);
     if line.text.is_none() {
         return hint_for_box(alloc, body, &line, "several schedules, or of one").map(Some);

@@ -1,11 +1,11 @@
 use super::inputs::is_meant_as_certificate;
-use convoy_hints_sketch::spot_at;
+use convoy_hints_sketch::{Hint, spot_at};
 use std::alloc::{AllocError, Global};
 
 /// What has happened to a text on its way, a scenario or a certificate: a byte order mark, the marks of a
 /// mail, or carriage returns in a certificate. The label of a hint is not in it. None where none of these
 /// is there.
-pub fn hint_for_damage(alloc: Global, text: &[u8]) -> Result<Option<String>, AllocError> {
+pub fn hint_for_damage(alloc: Global, text: &[u8]) -> Hint {
     let hint = if text.starts_with(&[0xEF, 0xBB, 0xBF]) {
         "the input begins with a byte order mark: take its first three bytes away"
     } else if text.starts_with(b"> ") || text.starts_with(b">convoy") {

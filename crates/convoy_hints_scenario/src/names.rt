@@ -1,12 +1,9 @@
-use convoy_hints_sketch::{Ordinal, Part, Quoted, Sketch, words_of};
+use convoy_hints_sketch::{Hint, Ordinal, Part, Quoted, Sketch, words_of};
 use convoy_scenario::{DraftLink, DraftMulticast, LONGEST_NAME, Name, is_named_alike};
 use std::alloc::{AllocError, Global};
 
 /// Which name is none, and why.
-pub(crate) fn hint_for_bad_name(
-    alloc: Global,
-    sketch: &Sketch<'_>,
-) -> Result<Option<String>, AllocError> {
+pub(crate) fn hint_for_bad_name(alloc: Global, sketch: &Sketch<'_>) -> Hint {
     match hint_for_bad_group(alloc, &sketch.draft.groups)? {
         Some(hint) => Ok(Some(hint)),
         None => hint_for_bad_message(alloc, sketch),
@@ -14,7 +11,7 @@ pub(crate) fn hint_for_bad_name(
 }
 
 /// Which name of a group is none, and why.
-fn hint_for_bad_group(alloc: Global, groups: &[Name]) -> Result<Option<String>, AllocError> {
+fn hint_for_bad_group(alloc: Global, groups: &[Name]) -> Hint {
     for (before, name) in groups.iter().enumerate() {
         if let Some(hint) = hint_for_group_name(alloc, before, name.as_str())? {
             return Ok(Some(hint));
@@ -24,11 +21,7 @@ fn hint_for_bad_group(alloc: Global, groups: &[Name]) -> Result<Option<String>, 
 }
 
 /// Why the name of a group with so many before it is none.
-fn hint_for_group_name(
-    alloc: Global,
-    before: usize,
-    name: &str,
-) -> Result<Option<String>, AllocError> {
+fn hint_for_group_name(alloc: Global, before: usize, name: &str) -> Hint {
     let place = Ordinal(before.saturating_add(1));
     if name == "client" {
         return format!(in alloc;
@@ -45,7 +38,7 @@ fn hint_for_group_name(
 }
 
 /// Which name of a message is none, and why.
-fn hint_for_bad_message(alloc: Global, sketch: &Sketch<'_>) -> Result<Option<String>, AllocError> {
+fn hint_for_bad_message(alloc: Global, sketch: &Sketch<'_>) -> Hint {
     for (multicast, part) in sketch.draft.multicasts.iter().zip(&sketch.multicasts) {
         if let Some(why) = what_is_bad(multicast.name.as_str()) {
             return format!(in alloc; "the name of {part} {why}: {RULE}").map(Some);
@@ -78,10 +71,7 @@ fn is_name_byte(byte: u8) -> bool {
 }
 
 /// Which two things have one name.
-pub(crate) fn hint_for_double_name(
-    alloc: Global,
-    sketch: &Sketch<'_>,
-) -> Result<Option<String>, AllocError> {
+pub(crate) fn hint_for_double_name(alloc: Global, sketch: &Sketch<'_>) -> Hint {
     let groups = words_of(alloc, &sketch.draft.groups)?;
     if let Some((first, second)) = first_double(&groups) {
         return hint_for_double_group(alloc, &groups, first, second).map(Some);
@@ -106,10 +96,7 @@ fn hint_for_double_group(
 }
 
 /// Which two messages have one name.
-fn hint_for_double_message(
-    alloc: Global,
-    sketch: &Sketch<'_>,
-) -> Result<Option<String>, AllocError> {
+fn hint_for_double_message(alloc: Global, sketch: &Sketch<'_>) -> Hint {
     let names = names_of(alloc, &sketch.draft.multicasts)?;
     let Some((first, second)) = first_double(&names) else {
         return Ok(None);
@@ -156,7 +143,7 @@ fn place_of(name: &str, names: &[&str]) -> usize {
 }
 
 /// Which two links lead from one sender to one group.
-fn hint_for_double_link(alloc: Global, sketch: &Sketch<'_>) -> Result<Option<String>, AllocError> {
+fn hint_for_double_link(alloc: Global, sketch: &Sketch<'_>) -> Hint {
     let links = &sketch.draft.links;
     for (second, link) in links.iter().enumerate() {
         let first = links

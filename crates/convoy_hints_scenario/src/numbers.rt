@@ -1,4 +1,4 @@
-use convoy_hints_sketch::{Length, Part, Sketch, shown_time, shown_written};
+use convoy_hints_sketch::{Hint, Length, Part, Sketch, shown_time, shown_written};
 use convoy_scenario::{
     DraftLink, DraftMulticast, DraftScenario, Duration, GREATEST_AT, GREATEST_DELAY, LONGEST_WAIT,
     Limit, MOST_GROUPS, MOST_MULTICASTS, Time,
@@ -7,11 +7,7 @@ use convoy_toml::{MOST_WRITTEN_LINKS, WrittenScenario, WrittenTime, tick_of};
 use std::alloc::{AllocError, Global};
 
 /// Which number is outside its limit, and what the limit is.
-pub(crate) fn hint_for_limit(
-    alloc: Global,
-    sketch: &Sketch<'_>,
-    limit: Limit,
-) -> Result<Option<String>, AllocError> {
+pub(crate) fn hint_for_limit(alloc: Global, sketch: &Sketch<'_>, limit: Limit) -> Hint {
     let draft = &sketch.draft;
     match limit {
         Limit::Delay => hint_for_delay(alloc, draft).map(Some),
@@ -108,7 +104,7 @@ fn larger_tick(delay: i64, tick: Duration, greatest: u16) -> Option<Duration> {
 }
 
 /// That a tick is too great a number of its unit.
-fn hint_for_long_tick(alloc: Global, tick: Option<Duration>) -> Result<Option<String>, AllocError> {
+fn hint_for_long_tick(alloc: Global, tick: Option<Duration>) -> Hint {
     let Some(tick) = tick else {
         return Ok(None);
     };
@@ -118,7 +114,7 @@ fn hint_for_long_tick(alloc: Global, tick: Option<Duration>) -> Result<Option<St
     ).map(Some)
 }
 
-fn hint_for_at(alloc: Global, sketch: &Sketch<'_>) -> Result<Option<String>, AllocError> {
+fn hint_for_at(alloc: Global, sketch: &Sketch<'_>) -> Hint {
     for (multicast, part) in sketch.draft.multicasts.iter().zip(&sketch.multicasts) {
         if multicast.at < 0 || multicast.at > i64::from(GREATEST_AT) {
             return hint_for_issue(alloc, multicast.at, part, sketch.draft.tick).map(Some);
@@ -145,7 +141,7 @@ fn hint_for_issue(
     }
 }
 
-fn hint_for_until(alloc: Global, sketch: &Sketch<'_>) -> Result<Option<String>, AllocError> {
+fn hint_for_until(alloc: Global, sketch: &Sketch<'_>) -> Hint {
     for (multicast, part) in sketch.draft.multicasts.iter().zip(&sketch.multicasts) {
         let latest = multicast.at.saturating_add(i64::from(LONGEST_WAIT));
         if multicast.until < multicast.at || latest < multicast.until {
@@ -189,7 +185,7 @@ pub(crate) fn hint_for_many_links(alloc: Global) -> Result<String, AllocError> {
     )
 }
 
-fn hint_for_range(alloc: Global, sketch: &Sketch<'_>) -> Result<Option<String>, AllocError> {
+fn hint_for_range(alloc: Global, sketch: &Sketch<'_>) -> Hint {
     let (links, delay) = (&sketch.draft.links, sketch.draft.delay);
     for (link, part) in links.iter().zip(&sketch.links) {
         if link.least >= 1 && link.least <= link.most && link.most <= delay {
@@ -204,10 +200,7 @@ fn hint_for_range(alloc: Global, sketch: &Sketch<'_>) -> Result<Option<String>, 
 }
 
 /// That the least delay of what goes by no link is below a tick, or above the greatest delay.
-pub(crate) fn hint_for_least_of_all(
-    alloc: Global,
-    scenario: &WrittenScenario,
-) -> Result<Option<String>, AllocError> {
+pub(crate) fn hint_for_least_of_all(alloc: Global, scenario: &WrittenScenario) -> Hint {
     let (Some(least), Some(delay)) = (&scenario.least, &scenario.delay) else {
         return Ok(None);
     };

@@ -1,13 +1,10 @@
-use convoy_hints_sketch::{Quoted, noun};
+use convoy_hints_sketch::{Hint, Quoted, noun};
 use convoy_scenario::DraftScenario;
 use convoy_toml::{Way, ways_without_link};
 use std::alloc::{AllocError, Global};
 
 /// On which way something goes in real time for which no range is written, on how many others, and what to write.
-pub(crate) fn hint_for_no_range(
-    alloc: Global,
-    draft: &DraftScenario,
-) -> Result<Option<String>, AllocError> {
+pub(crate) fn hint_for_no_range(alloc: Global, draft: &DraftScenario) -> Hint {
     let ways = ways_without_link(alloc, draft)?;
     let Some(first) = ways.first() else {
         return Ok(None);

@@ -1,5 +1,5 @@
 use super::names::{first_double, names_of};
-use convoy_hints_sketch::{Names, Part, Quoted, Sketch, nearest, words_of};
+use convoy_hints_sketch::{Hint, Names, Part, Quoted, Sketch, nearest, words_of};
 use convoy_scenario::{DraftLink, DraftMulticast, Name};
 use convoy_toml::ScenarioTable;
 use std::alloc::{AllocError, Global};
@@ -13,10 +13,7 @@ struct Stray<'a> {
 }
 
 /// Which name is that of no group, and where it stands.
-pub(crate) fn hint_for_unknown_group(
-    alloc: Global,
-    sketch: &Sketch<'_>,
-) -> Result<Option<String>, AllocError> {
+pub(crate) fn hint_for_unknown_group(alloc: Global, sketch: &Sketch<'_>) -> Hint {
     let stray = stray_in_multicasts(sketch)
         .or(stray_in_target(sketch))
         .or(stray_in_links(sketch));
@@ -138,10 +135,7 @@ fn hint_for_no_group(
 }
 
 /// Which message goes nowhere.
-pub(crate) fn hint_for_no_destination(
-    alloc: Global,
-    sketch: &Sketch<'_>,
-) -> Result<Option<String>, AllocError> {
+pub(crate) fn hint_for_no_destination(alloc: Global, sketch: &Sketch<'_>) -> Hint {
     for (multicast, part) in sketch.draft.multicasts.iter().zip(&sketch.multicasts) {
         if multicast.to.is_empty() {
             return format!(in alloc; "'to' in {part} is empty: name at least one group").map(Some);
@@ -151,10 +145,7 @@ pub(crate) fn hint_for_no_destination(
 }
 
 /// Which message names a destination twice.
-pub(crate) fn hint_for_double_destination(
-    alloc: Global,
-    sketch: &Sketch<'_>,
-) -> Result<Option<String>, AllocError> {
+pub(crate) fn hint_for_double_destination(alloc: Global, sketch: &Sketch<'_>) -> Hint {
     for (multicast, part) in sketch.draft.multicasts.iter().zip(&sketch.multicasts) {
         let to = words_of(alloc, &multicast.to)?;
         if let Some((first, _)) = first_double(&to) {
@@ -172,10 +163,7 @@ fn hint_for_twice(alloc: Global, part: Part<'_>, name: &str) -> Result<String, A
 }
 
 /// The target's message is no message.
-pub(crate) fn hint_for_unknown_target(
-    alloc: Global,
-    sketch: &Sketch<'_>,
-) -> Result<Option<String>, AllocError> {
+pub(crate) fn hint_for_unknown_target(alloc: Global, sketch: &Sketch<'_>) -> Hint {
     let names = names_of(alloc, &sketch.draft.multicasts)?;
     hint_for_no_message(alloc, sketch.draft.target_message.as_str(), &names).map(Some)
 }
@@ -209,10 +197,7 @@ fn hint_for_strange_message(
 }
 
 /// The target's message does not go to the target's group.
-pub(crate) fn hint_for_target_not_addressed(
-    alloc: Global,
-    sketch: &Sketch<'_>,
-) -> Result<Option<String>, AllocError> {
+pub(crate) fn hint_for_target_not_addressed(alloc: Global, sketch: &Sketch<'_>) -> Hint {
     for (multicast, part) in sketch.draft.multicasts.iter().zip(&sketch.multicasts) {
         if multicast.name.is_same(&sketch.draft.target_message) {
             let to = words_of(alloc, &multicast.to)?;
@@ -235,10 +220,7 @@ fn hint_for_elsewhere(
 }
 
 /// The target's message may be issued at several ticks.
-pub(crate) fn hint_for_waiting_target(
-    alloc: Global,
-    sketch: &Sketch<'_>,
-) -> Result<Option<String>, AllocError> {
+pub(crate) fn hint_for_waiting_target(alloc: Global, sketch: &Sketch<'_>) -> Hint {
     for (multicast, part) in sketch.draft.multicasts.iter().zip(&sketch.multicasts) {
         if multicast.name.is_same(&sketch.draft.target_message) {
             return format!(in alloc;
@@ -258,10 +240,7 @@ pub(crate) fn hint_for_no_known_issue(alloc: Global) -> Result<String, AllocErro
 }
 
 /// Which link leads to its own sender.
-pub(crate) fn hint_for_link_to_itself(
-    alloc: Global,
-    sketch: &Sketch<'_>,
-) -> Result<Option<String>, AllocError> {
+pub(crate) fn hint_for_link_to_itself(alloc: Global, sketch: &Sketch<'_>) -> Hint {
     for (link, part) in sketch.draft.links.iter().zip(&sketch.links) {
         if !link.leads_elsewhere() {
             let to = Quoted(link.to.as_str());

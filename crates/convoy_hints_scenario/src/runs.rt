@@ -1,5 +1,6 @@
 use super::scenario_hints::with_label;
 use super::schedules::{hint_for_order, hint_for_schedule};
+use convoy_hints_sketch::Hint;
 use convoy_packets::{Instance, ListFault};
 use convoy_scenario::Scenario;
 use convoy_toml::{Input, read_toml};
@@ -7,11 +8,7 @@ use std::alloc::{AllocError, Global};
 
 /// What is wrong with the schedule that stands beside the scenario of that text and has that fault, in one
 /// line `hint: ..`. None where the text is that of no scenario, or nothing can be said beyond the fault.
-pub fn hint_for_given_schedule(
-    alloc: Global,
-    text: &[u8],
-    fault: ListFault,
-) -> Result<Option<String>, AllocError> {
+pub fn hint_for_given_schedule(alloc: Global, text: &[u8], fault: ListFault) -> Hint {
     match read_toml(alloc, text) {
         Ok(input) => with_label(alloc, hint_for_delays(alloc, input, fault)?),
         Err(_) => Ok(None),
@@ -19,11 +16,7 @@ pub fn hint_for_given_schedule(
 }
 
 /// What is wrong with the schedule that a text gives.
-fn hint_for_delays(
-    alloc: Global,
-    input: Input,
-    fault: ListFault,
-) -> Result<Option<String>, AllocError> {
+fn hint_for_delays(alloc: Global, input: Input, fault: ListFault) -> Hint {
     let Input {
         scenario,
         schedule,
@@ -49,11 +42,7 @@ pub fn hint_for_order_in_ticks(alloc: Global) -> Result<String, AllocError> {
 
 /// What is wrong with the order of ties that stands beside the scenario of that text and has that fault, in
 /// one line `hint: ..`. None where the text is that of no scenario, or nothing can be said beyond the fault.
-pub fn hint_for_given_order(
-    alloc: Global,
-    text: &[u8],
-    fault: ListFault,
-) -> Result<Option<String>, AllocError> {
+pub fn hint_for_given_order(alloc: Global, text: &[u8], fault: ListFault) -> Hint {
     match read_toml(alloc, text) {
         Ok(input) => with_label(
             alloc,
@@ -69,7 +58,7 @@ fn hint_for_ranks(
     scenario: &Scenario,
     order: &Option<Vec<i64>>,
     fault: ListFault,
-) -> Result<Option<String>, AllocError> {
+) -> Hint {
     match order {
         Some(ranks) => hint_for_order(alloc, scenario, ranks, fault),
         None => Ok(None),

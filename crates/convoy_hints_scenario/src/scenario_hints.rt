@@ -10,34 +10,26 @@ use super::references::{
 };
 use convoy_certificate::{Form, form_of};
 use convoy_hints_sketch::{
-    Quoted, ScenarioText, Sketch, hint_for_mixture, hint_for_part_of_tick, hint_for_plain_number,
-    hint_for_shape, sketch_of_draft, spot_at,
+    Hint, Quoted, ScenarioText, Sketch, hint_for_mixture, hint_for_part_of_tick, hint_for_shape,
+    sketch_of_draft, spot_at,
 };
-use convoy_scenario::{DraftScenario, Key, Limit, ScenarioFault};
+use convoy_scenario::{DraftScenario, Key, Limit, Scenario, ScenarioFault};
 use convoy_toml::{
-    Placed, TargetKey, WrittenScenario, draft_of_written, read_table, written_of_table,
+    Placed, PlainNumber, TargetKey, WrittenScenario, draft_of_written, read_table, written_of_table,
 };
 use std::alloc::{AllocError, Global};
 use toml::de::Error;
 
 /// What is wrong with the text of a scenario that has that fault, in one line `hint: ..`. None where nothing
 /// can be said beyond the fault.
-pub fn hint_for_scenario(
-    alloc: Global,
-    text: &[u8],
-    fault: ScenarioFault,
-) -> Result<Option<String>, AllocError> {
+pub fn hint_for_scenario(alloc: Global, text: &[u8], fault: ScenarioFault) -> Hint {
     let hint = hint_for_fault(alloc, text, fault)?;
     with_label(alloc, hint)
 }
 
 /// The same without the label of a hint: for a text that is one of several, as a job of a batch, whose lines
 /// are counted from 1.
-pub fn hint_for_fault(
-    alloc: Global,
-    text: &[u8],
-    fault: ScenarioFault,
-) -> Result<Option<String>, AllocError> {
+pub fn hint_for_fault(alloc: Global, text: &[u8], fault: ScenarioFault) -> Hint {
     match fault {
         ScenarioFault::Memory => Ok(None),
         ScenarioFault::NotToml => hint_for_text(alloc, text),
@@ -45,40 +37,23 @@ pub fn hint_for_fault(
     }
 }
 
-/// What a plain number beside durations is taken for, in a text that is read as a scenario, in one line `hint: ..`. None
-/// where there is none, or the text is no scenario's.
-pub fn hint_for_plain_numbers(alloc: Global, text: &[u8]) -> Result<Option<String>, AllocError> {
-    if !has_durations(text) {
-        return Ok(None);
-    }
-    let (Ok(table), Ok(text)) = (read_table(alloc, text), std::str::from_utf8(text)) else {
+/// What a plain number beside durations was taken for, in the text from which the scenario was read, in one line
+/// `hint: ..`.
+pub fn hint_for_plain_number(
+    alloc: Global,
+    text: &[u8],
+    scenario: &Scenario,
+    plain: PlainNumber,
+) -> Hint {
+    let Ok(text) = std::str::from_utf8(text) else {
         return Ok(None);
     };
-    let Ok(written) = written_of_table(alloc, &table, TargetKey::Optional) else {
-        return Ok(None);
-    };
-    let source = ScenarioText {
-        text,
-        table: &table,
-    };
-    let hint = hint_for_plain_number(alloc, source, &written.scenario)?;
+    let hint = convoy_hints_sketch::hint_for_plain_number(alloc, text, scenario, plain)?;
     with_label(alloc, hint)
 }
 
-/// Whether a text has a digit after a quotation mark, as durations are written: any other text is not read once more.
-fn has_durations(text: &[u8]) -> bool {
-    let mut is_after_mark = false;
-    for byte in text {
-        if is_after_mark && byte.is_ascii_digit() {
-            return true;
-        }
-        is_after_mark = *byte == b'"' || *byte == b'\'';
-    }
-    false
-}
-
 /// A hint as a line of its own, `hint: ` before it and byte 10 at its end; None where there is none.
-pub fn with_label(alloc: Global, hint: Option<String>) -> Result<Option<String>, AllocError> {
+pub fn with_label(alloc: Global, hint: Option<String>) -> Hint {
     match hint {
         Some(hint) => format!(in alloc; "hint: {hint}\n").map(Some),
         None => Ok(None),
@@ -86,7 +61,7 @@ pub fn with_label(alloc: Global, hint: Option<String>) -> Result<Option<String>,
 }
 
 /// Why a text is not TOML.
-fn hint_for_text(alloc: Global, text: &[u8]) -> Result<Option<String>, AllocError> {
+fn hint_for_text(alloc: Global, text: &[u8]) -> Hint {
     if let Some(hint) = hint_for_damage(alloc, text)? {
         return Ok(Some(hint));
     }
@@ -111,7 +86,7 @@ fn hint_for_given_certificate(alloc: Global, text: &[u8]) -> Result<String, Allo
 }
 
 /// Where a text of UTF-8 is not TOML.
-fn hint_for_grammar(alloc: Global, text: &str) -> Result<Option<String>, AllocError> {
+fn hint_for_grammar(alloc: Global, text: &str) -> Hint {
     if let Some(before) = text
         .lines()
         .position(|line| line == "---" || line.starts_with("--- "))
@@ -129,7 +104,7 @@ fn hint_for_grammar(alloc: Global, text: &str) -> Result<Option<String>, AllocEr
 }
 
 /// What the TOML reader says, with the line.
-fn hint_for_error(alloc: Global, text: &str, error: &Error) -> Result<Option<String>, AllocError> {
+fn hint_for_error(alloc: Global, text: &str, error: &Error) -> Hint {
     let Some(span) = error.span() else {
         return Ok(None);
     };
@@ -141,11 +116,7 @@ fn hint_for_error(alloc: Global, text: &str, error: &Error) -> Result<Option<Str
 }
 
 /// What is wrong with the table of a scenario: it is read as the commands read it, up to the fault.
-fn hint_for_table(
-    alloc: Global,
-    text: &[u8],
-    fault: ScenarioFault,
-) -> Result<Option<String>, AllocError> {
+fn hint_for_table(alloc: Global, text: &[u8], fault: ScenarioFault) -> Hint {
     let (Ok(table), Ok(text)) = (read_table(alloc, text), std::str::from_utf8(text)) else {
         return Ok(None);
     };
@@ -173,11 +144,7 @@ fn target_for(fault: ScenarioFault) -> TargetKey {
 }
 
 /// What is wrong at a key.
-fn hint_for_key(
-    alloc: Global,
-    source: ScenarioText<'_>,
-    placed: &Placed,
-) -> Result<Option<String>, AllocError> {
+fn hint_for_key(alloc: Global, source: ScenarioText<'_>, placed: &Placed) -> Hint {
     match placed.fault {
         ScenarioFault::Shape(key) => hint_for_shape(alloc, source, placed.table, key),
         _ => Ok(None),
@@ -190,7 +157,7 @@ fn hint_for_times(
     source: ScenarioText<'_>,
     written: &WrittenScenario,
     placed: &Placed,
-) -> Result<Option<String>, AllocError> {
+) -> Hint {
     match placed.fault {
         ScenarioFault::Shape(_) => hint_for_mixture(alloc, source, written),
         ScenarioFault::NotWhole(key) => {
@@ -209,7 +176,7 @@ fn hint_for_draft(
     written: &WrittenScenario,
     draft: DraftScenario,
     fault: ScenarioFault,
-) -> Result<Option<String>, AllocError> {
+) -> Hint {
     match fault {
         ScenarioFault::NoRange => hint_for_no_range(alloc, &draft),
         ScenarioFault::TargetWaits if !source.table.contains_key(Key::Target.word()) => {
@@ -225,11 +192,7 @@ fn hint_for_draft(
 /// What is wrong with the numbers and the names of a scenario that has that fault, whichever text it is
 /// written in, without the label of a hint. None where the fault is not of these, or the sketch does not
 /// show it.
-pub fn hint_for_sketch(
-    alloc: Global,
-    sketch: &Sketch<'_>,
-    fault: ScenarioFault,
-) -> Result<Option<String>, AllocError> {
+pub fn hint_for_sketch(alloc: Global, sketch: &Sketch<'_>, fault: ScenarioFault) -> Hint {
     match fault {
         ScenarioFault::OverLimit(limit) => hint_for_limit(alloc, sketch, limit),
         ScenarioFault::BadName => hint_for_bad_name(alloc, sketch),

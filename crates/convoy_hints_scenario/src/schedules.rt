@@ -1,4 +1,4 @@
-use convoy_hints_sketch::{Quoted, noun};
+use convoy_hints_sketch::{Hint, Quoted, noun};
 use convoy_packets::{GREATEST_RANK, Instance, ListFault};
 use convoy_scenario::Scenario;
 use convoy_scenario::naming::group_name;
@@ -13,7 +13,7 @@ pub fn hint_for_schedule(
     instance: &Instance,
     delays: &[i64],
     fault: ListFault,
-) -> Result<Option<String>, AllocError> {
+) -> Hint {
     match fault {
         ListFault::Length => {
             let wanted = instance.table().len();
@@ -52,12 +52,7 @@ pub fn has_waits(scenario: &Scenario) -> bool {
 }
 
 /// A packet may not take its delay, or a message not wait so long.
-fn hint_for_outside(
-    alloc: Global,
-    instance: &Instance,
-    packet: usize,
-    delay: i64,
-) -> Result<Option<String>, AllocError> {
+fn hint_for_outside(alloc: Global, instance: &Instance, packet: usize, delay: i64) -> Hint {
     let mut lines = Vec::new(alloc);
     write_packets(instance, &mut lines)?;
     let Some(line) = line_at(&lines, packet) else {
@@ -83,12 +78,7 @@ struct Moment<'a> {
 /// What is wrong with an order of the scenario's ties that has that fault: how many ranks there are, or
 /// which one is too great. Ranks go by message and by group, that of the arrival before that of the commit
 /// (docs/PROTOCOL.md). The label of a hint is not in it. None where nothing can be said of the fault.
-pub fn hint_for_order(
-    alloc: Global,
-    scenario: &Scenario,
-    ranks: &[i64],
-    fault: ListFault,
-) -> Result<Option<String>, AllocError> {
+pub fn hint_for_order(alloc: Global, scenario: &Scenario, ranks: &[i64], fault: ListFault) -> Hint {
     let moments = moments_of(alloc, scenario)?;
     match fault {
         ListFault::Length => hint_for_count(alloc, ranks.len(), moments.len()).map(Some),

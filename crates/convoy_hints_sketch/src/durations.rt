@@ -22,10 +22,7 @@ pub fn shown_time(alloc: Global, ticks: i64, tick: Option<Duration>) -> Result<S
     };
     let each = Length(tick);
     match time_after(ticks, tick) {
-        Some(time) => {
-            let time = Length(time);
-            format!(in alloc; "{time}")
-        }
+        Some(time) => shown_length(alloc, time),
         None => format!(in alloc; "{ticks} ticks of {each}"),
     }
 }
@@ -38,11 +35,14 @@ pub fn shown_written(
 ) -> Result<String, AllocError> {
     match time {
         WrittenTime::Count(ticks) => shown_time(alloc, ticks, tick),
-        WrittenTime::Lasting(duration) => {
-            let length = Length(duration);
-            format!(in alloc; "{length}")
-        }
+        WrittenTime::Lasting(duration) => shown_length(alloc, duration),
     }
+}
+
+/// A duration, as a hint shows it.
+pub(crate) fn shown_length(alloc: Global, duration: Duration) -> Result<String, AllocError> {
+    let length = Length(duration);
+    format!(in alloc; "{length}")
 }
 
 /// How long so many ticks last; None for less than none, and where that is longer than a duration may be.

@@ -6,6 +6,7 @@
 
 pub use counting::noun;
 pub use durations::{Length, shown_time, shown_written};
+pub use hint::Hint;
 pub use near::nearest;
 pub use part::Part;
 pub use quoting::{Names, Ordinal, Quoted};
@@ -19,6 +20,7 @@ mod counting;
 mod durations;
 mod fields;
 mod headers;
+mod hint;
 mod near;
 mod part;
 mod quoting;

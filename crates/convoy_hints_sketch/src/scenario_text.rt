@@ -29,16 +29,12 @@ impl<'a> ScenarioText<'a> {
 
     /// One of its tables, as a person finds it.
     pub fn part(&self, table: ScenarioTable) -> Part<'a> {
-        let line = match table {
-            ScenarioTable::Top => None,
-            ScenarioTable::Multicast(number) => {
-                self.line_of("[[multicast]]", Key::Multicast, number)
-            }
-            ScenarioTable::Target => header_line(self.text, "[target]", 0, 1),
-            ScenarioTable::Link(number) => self.line_of("[[link]]", Key::Link, number),
+        let among = match table {
+            ScenarioTable::Top | ScenarioTable::Target => 1,
+            ScenarioTable::Multicast(_) => self.items_at(Key::Multicast).len(),
+            ScenarioTable::Link(_) => self.items_at(Key::Link).len(),
         };
-        let name = self.name_of(table);
-        Part { table, name, line }
+        part_of(self.text, table, among, self.name_of(table))
     }
 
     /// What a table of an array is named.
@@ -51,11 +47,6 @@ impl<'a> ScenarioText<'a> {
         }
     }
 
-    /// The line of a table of an array, by its number there.
-    fn line_of(&self, header: &str, key: Key, number: usize) -> Option<usize> {
-        header_line(self.text, header, number, self.items_at(key).len())
-    }
-
     /// The items of the array at a key; none where there is no array.
     fn items_at(&self, key: Key) -> &'a [Value] {
         match self.table.get(key.word()).and_then(Value::as_array) {
@@ -63,4 +54,20 @@ impl<'a> ScenarioText<'a> {
             None => &[],
         }
     }
+}
+
+/// A table of a text, of which there are so many of its kind, as a person finds it by its name.
+pub(crate) fn part_of<'a>(
+    text: &str,
+    table: ScenarioTable,
+    among: usize,
+    name: Option<&'a str>,
+) -> Part<'a> {
+    let line = match table {
+        ScenarioTable::Top => None,
+        ScenarioTable::Multicast(number) => header_line(text, "[[multicast]]", number, among),
+        ScenarioTable::Target => header_line(text, "[target]", 0, among),
+        ScenarioTable::Link(number) => header_line(text, "[[link]]", number, among),
+    };
+    Part { table, name, line }
 }

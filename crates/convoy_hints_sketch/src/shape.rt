@@ -1,5 +1,6 @@
 use super::durations::hint_for_duration;
 use super::fields::{Field, Kind, TOP_KEYS, field_at, keys_of};
+use super::hint::Hint;
 use super::near::nearest;
 use super::part::Part;
 use super::quoting::{Quoted, Words};
@@ -17,7 +18,7 @@ pub fn hint_for_shape(
     source: ScenarioText<'_>,
     table: ScenarioTable,
     key: Key,
-) -> Result<Option<String>, AllocError> {
+) -> Hint {
     let Some(inner) = source.table_at(table) else {
         return Ok(None);
     };
@@ -274,11 +275,7 @@ fn has_key(value: &Value, key: Key) -> bool {
 }
 
 /// The first key of the table that it may not have.
-fn hint_for_unknown(
-    alloc: Global,
-    table: &Table,
-    part: &Part<'_>,
-) -> Result<Option<String>, AllocError> {
+fn hint_for_unknown(alloc: Global, table: &Table, part: &Part<'_>) -> Hint {
     let keys = keys_of(part.table);
     for word in table.keys() {
         let word = word.as_str();

@@ -1,9 +1,12 @@
-use super::durations::{Length, shown_time};
+use super::durations::{Length, shown_length, shown_time};
+use super::hint::Hint;
 use super::part::Part;
 use super::quoting::Quoted;
-use super::scenario_text::ScenarioText;
-use convoy_scenario::{Duration, GREATEST_AT, GREATEST_DELAY, Key, LONGEST_WAIT, MOST_UNITS, Time};
-use convoy_toml::{ScenarioTable, WrittenScenario, WrittenTime, common_divisor};
+use super::scenario_text::{ScenarioText, part_of};
+use convoy_scenario::{
+    Duration, GREATEST_AT, GREATEST_DELAY, Key, LONGEST_WAIT, MOST_UNITS, Scenario,
+};
+use convoy_toml::{PlainNumber, ScenarioTable, WrittenScenario, WrittenTime, common_divisor};
 use std::alloc::{AllocError, Global};
 use toml::Value;
 
@@ -97,10 +100,7 @@ fn divisor_of(spells: &[Spell]) -> Option<u64> {
 /// So many nanoseconds, as a hint shows them: `1500 us`.
 fn shown(alloc: Global, nanoseconds: u64) -> Result<String, AllocError> {
     match Duration::from_nanoseconds(nanoseconds) {
-        Some(duration) => {
-            let length = Length(duration);
-            format!(in alloc; "{length}")
-        }
+        Some(duration) => shown_length(alloc, duration),
         None => format!(in alloc; "{nanoseconds} ns"),
     }
 }
@@ -112,7 +112,7 @@ pub fn hint_for_part_of_tick(
     scenario: &WrittenScenario,
     table: ScenarioTable,
     key: Key,
-) -> Result<Option<String>, AllocError> {
+) -> Hint {
     let (Some(tick), Some(inner)) = (scenario.tick, source.table_at(table)) else {
         return Ok(None);
     };
@@ -183,21 +183,25 @@ fn most_ticks(key: Key, before: u64) -> u64 {
     }
 }
 
-/// What a plain number is taken for that stands beside durations, in a text in which a tick is written: the first time
-/// that is such a number. 0, and the least delay of a tick, are none, since they are the same however long a tick is.
+/// What a plain number was taken for that stands beside durations in the text from which the scenario was read. None
+/// where a tick has no length.
 pub fn hint_for_plain_number(
     alloc: Global,
-    source: ScenarioText<'_>,
-    scenario: &WrittenScenario,
-) -> Result<Option<String>, AllocError> {
-    let (Time::Real, Some(tick)) = (scenario.time, scenario.tick) else {
+    text: &str,
+    scenario: &Scenario,
+    plain: PlainNumber,
+) -> Hint {
+    let Some(tick) = scenario.tick() else {
         return Ok(None);
     };
-    let spells = spells_of(alloc, scenario)?;
-    let (Some((spell, ticks)), Some(_)) = (first_plain(&spells), first_lasting(&spells)) else {
-        return Ok(None);
+    let (key, ticks) = (plain.key, plain.ticks);
+    let name = match plain.table {
+        ScenarioTable::Multicast(number) if number < scenario.message_count() => {
+            Some(scenario.message_name(number))
+        }
+        _ => None,
     };
-    let (key, part) = (spell.key, spell.part(source));
+    let part = part_of(text, plain.table, plain.among, name);
     let time = shown_time(alloc, ticks, Some(tick))?;
     let each = Length(tick);
     format!(in alloc;
@@ -205,24 +209,12 @@ pub fn hint_for_plain_number(
     ).map(Some)
 }
 
-/// The first time that is a number of ticks which says more than 0, or than the least delay of all.
-fn first_plain(spells: &[Spell]) -> Option<(Spell, i64)> {
-    for spell in spells {
-        let least = if spell.key == Key::Least { 1 } else { 0 };
-        match spell.count() {
-            Some(ticks) if ticks != least => return Some((*spell, ticks)),
-            _ => {}
-        }
-    }
-    None
-}
-
 /// Which times are a number of ticks and a duration, where no tick says how they go together.
 pub fn hint_for_mixture(
     alloc: Global,
     source: ScenarioText<'_>,
     scenario: &WrittenScenario,
-) -> Result<Option<String>, AllocError> {
+) -> Hint {
     let spells = spells_of(alloc, scenario)?;
     let (Some(count), Some(lasting)) = (first_count(&spells), first_lasting(&spells)) else {
         return Ok(None);

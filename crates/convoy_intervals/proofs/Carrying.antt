@@ -10,7 +10,7 @@ use Rattle.convoy_packets.specs.declared.packet.Packet.{Packet}
 use Rattle.convoy_packets.specs.declared.packet.Packet.TheVariants.{Wait, Multicast, Propose}
 use Rattle.convoy_packets.specs.Packets.{packets_of, place_of}
 use Rattle.convoy_packets.specs.Assignment.{delay_of, in_fixed_order}
-use Rattle.convoy_packets.specs.Laws.{PlacesLeadBack}
+use Rattle.convoy_packets.specs.ScheduleLaws.{PlacesLeadBack}
 use Rattle.convoy_sim.specs.Times.{greatest, arrive, propose_arrive, settle}
 use Rattle.convoy_intervals.specs.Spans.{moves_arrival, moves_settling, arrival_span, settling_span}
 

@@ -12,7 +12,7 @@ use Rattle.convoy_packets.specs.Assignment.{IsAssignment, Schedule, ranges_of}
 use Rattle.convoy_packets.specs.Table.{least_of, least_delays, greatest_delays}
 use Rattle.convoy_packets.proofs.Orders.{fixed_is_order}
 use Rattle.convoy_sim.specs.Times.{issue}
-use Rattle.convoy_sim.specs.Laws.{ArrivesWithinOneDelay}
+use Rattle.convoy_sim.specs.ProtocolLaws.{ArrivesWithinOneDelay}
 use Rattle.convoy_sim.proofs.Destinations.{issued_soon}
 use Rattle.convoy_intervals.specs.Boxes.{IsBox, greatest_of}
 use Rattle.convoy_intervals.specs.Spans.{arrival_span}

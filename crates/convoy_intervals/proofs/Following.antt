@@ -5,12 +5,12 @@ use Rattle.std.proofs.Common.{refl, sym, ap, ◌∙◌, arith, set, inl, inr}
 use Rattle.std.proofs.lemmas.Bool.{cases_eq}
 use Rattle.std.proofs.lemmas.Bool.Decides.{nat_tests}
 use Rattle.convoy_scenario.specs.Scenario.{Scenario, GoesTo, message_at, is_addressed}
-use Rattle.convoy_packets.specs.Laws.{is_sent}
+use Rattle.convoy_packets.specs.ScheduleLaws.{is_sent}
 use Rattle.convoy_packets.specs.declared.packet.Packet.{Packet}
 use Rattle.convoy_packets.specs.declared.packet.Packet.TheVariants.{Propose}
 use Rattle.convoy_packets.specs.Packets.{packets_of}
 use Rattle.convoy_intervals.specs.declared.spans.Span.{Span}
-use Rattle.convoy_intervals.specs.Laws.{SpansAreCarried}
+use Rattle.convoy_intervals.specs.BoxLaws.{SpansAreCarried}
 use Rattle.convoy_intervals.specs.Spans.{AreSpans, AreSpansBut, moves_settling, span_at, span_place, arrival_span, settling_span}
 use Rattle.convoy_intervals.proofs.SpanRows.{written, kept_message, kept_group, all_set}
 

@@ -11,7 +11,7 @@ use Rattle.convoy_packets.specs.declared.packet.Packet.{Packet}
 use Rattle.convoy_intervals.specs.declared.spans.Span.{Span}
 use Rattle.convoy_intervals.specs.Boxes.{Box, IsBox, range_at}
 use Rattle.convoy_intervals.specs.Bounds.{plain_bound, plain_bound_over, tables_of}
-use Rattle.convoy_intervals.specs.Laws.{SpansAreCarried}
+use Rattle.convoy_intervals.specs.BoxLaws.{SpansAreCarried}
 use Rattle.convoy_intervals.specs.Spans.{AreSpans, AreSpansBut, tables_in}
 use Rattle.convoy_intervals.specs.Tracked.{Tracked, IsTracked}
 use Rattle.convoy_intervals.proofs.Destinations.{group_of_goes, message_of_goes}

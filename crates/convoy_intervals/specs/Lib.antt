@@ -13,4 +13,4 @@ pub mod Boxes
 pub mod Bounds
 pub mod Spans
 pub mod Tracked
-pub mod Laws
+pub mod BoxLaws

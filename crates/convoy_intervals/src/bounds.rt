@@ -8,8 +8,8 @@ ghost use Rattle.convoy_intervals.specs.Boxes.{IsBox, IsIn};
 ghost use Rattle.convoy_intervals.specs.Bounds.{plain_bound, plain_bound_over};
 ghost use Rattle.convoy_intervals.specs.Spans.{tables_in, AreAllSpans};
 
+use super::box_laws::plain_bound_holds;
 use super::delay_box::DelayBox;
-use super::laws::plain_bound_holds;
 use super::spans::{Span, place};
 use super::times::{arrivals, settlings};
 use convoy_packets::Instance;

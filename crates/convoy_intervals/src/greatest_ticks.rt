@@ -6,7 +6,7 @@ use super::tracked::Tracked;
 use convoy_packets::Instance;
 use convoy_scenario::Scenario;
 use convoy_sim::Ticks;
-use convoy_sim::laws::fixed_ranks_are_none;
+use convoy_sim::protocol_laws::fixed_ranks_are_none;
 use std::marker::Model;
 
 /// When messages arrive and are committed under the schedule of the greatest delays of a box, as the

@@ -1,16 +1,16 @@
 ghost use Rattle.std.specs.Prelude.{◌≡◌, ◌*◌, ◌+◌, ◌<◌, ◌≤◌, length, slice_set, IfOk, IsTrue};
 ghost use Rattle.convoy_scenario.specs.WellFormed.{IsScenario};
-ghost use Rattle.convoy_packets.specs.Laws.{is_sent};
+ghost use Rattle.convoy_packets.specs.ScheduleLaws.{is_sent};
 ghost use Rattle.convoy_intervals.specs.Boxes.{IsBox};
 ghost use Rattle.convoy_intervals.specs.Spans.{arrival_span, settling_span, span_place, span_at};
 ghost use Rattle.convoy_intervals.specs.Spans.{AreAllSpans, AreArrivals, AreOthersKept, AreSettlings};
 ghost use Rattle.convoy_intervals.specs.Spans.{AreSpans, AreSpansBut};
 
 use super::delay_box::DelayBox;
-use super::times::{arrivals, proposals_after};
+use super::times::{Window, arrivals, proposals_after};
 use convoy_packets::{Instance, Packet};
 use convoy_scenario::GREATEST_UNTIL;
-use convoy_sim::laws::arrives_within_one_delay;
+use convoy_sim::protocol_laws::arrives_within_one_delay;
 use std::alloc::{AllocError, Global};
 
 /// From when to when a message may arrive at a group, and be committed there, over the members of a
@@ -18,9 +18,9 @@ use std::alloc::{AllocError, Global};
 #[derive(Clone, Copy)]
 pub struct Span {
     /// The least and the greatest tick at which the message arrives.
-    pub arrival: (u32, u32),
+    pub arrival: Window,
     /// The least and the greatest tick at which it is committed.
-    pub settling: (u32, u32),
+    pub settling: Window,
 }
 
 impl Span {
@@ -162,7 +162,7 @@ fn settling_from(
     delay_box: &DelayBox,
     message: usize,
     group: usize,
-) -> (u32, u32)
+) -> Window
     requires known { message < length instance.now.multicasts }
     requires inside { IsBox instance.now delay_box.now }
     requires all { AreAllSpans instance.now spans.now }
@@ -188,7 +188,7 @@ fn arrival_from(
     delay_box: &DelayBox,
     message: usize,
     group: usize,
-) -> (u32, u32)
+) -> Window
     requires known { message < length instance.now.multicasts }
     requires group { group < length instance.now.groups }
     requires inside { IsBox instance.now delay_box.now }

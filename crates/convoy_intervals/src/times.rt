@@ -12,6 +12,9 @@ use super::delay_box::DelayBox;
 use convoy_packets::Instance;
 use convoy_scenario::GREATEST_UNTIL;
 
+/// From when to when something may happen: the least and the greatest tick.
+pub type Window = (u32, u32);
+
 /// The range of the packet at that place; what is no packet takes no time.
 fn range_of(delay_box: &DelayBox, place: Option<u16>) -> (u16, u16)
     requires { IfSome place (λ i. i < length delay_box.now) }
@@ -22,7 +25,7 @@ fn range_of(delay_box: &DelayBox, place: Option<u16>) -> (u16, u16)
 
 /// The least and the greatest tick at which a message is issued, over the members of a box: those of
 /// the box's least and greatest waits.
-fn issues(instance: &Instance, delay_box: &DelayBox, message: usize) -> (u32, u32)
+fn issues(instance: &Instance, delay_box: &DelayBox, message: usize) -> Window
     requires known { message < length instance.now.multicasts }
     requires inside { IsBox instance.now delay_box.now }
     ensures least { result.0 ≡ issue instance.now (least_of delay_box.now) message }
@@ -53,12 +56,7 @@ pub fn multicast_delays(
 
 /// The least and the greatest tick at which a message arrives at a group, over the members of a box:
 /// those of the box's least and greatest delays (docs/PROTOCOL.md).
-pub fn arrivals(
-    instance: &Instance,
-    delay_box: &DelayBox,
-    message: usize,
-    group: usize,
-) -> (u32, u32)
+pub fn arrivals(instance: &Instance, delay_box: &DelayBox, message: usize, group: usize) -> Window
     requires known { message < length instance.now.multicasts }
     requires inside { IsBox instance.now delay_box.now }
     ensures least { result.0 ≡ arrive instance.now (least_of delay_box.now) message group }
@@ -78,7 +76,7 @@ fn proposals(
     message: usize,
     from: usize,
     to: usize,
-) -> (u32, u32)
+) -> Window
     requires known { message < length instance.now.multicasts }
     requires inside { IsBox instance.now delay_box.now }
     ensures least { result.0
@@ -94,11 +92,11 @@ fn proposals(
 pub(crate) fn proposals_after(
     instance: &Instance,
     delay_box: &DelayBox,
-    arrival: (u32, u32),
+    arrival: Window,
     message: usize,
     from: usize,
     to: usize,
-) -> (u32, u32)
+) -> Window
     requires inside { IsBox instance.now delay_box.now }
     requires arrival { arrival ≡ arrival_span instance.now delay_box.now message from }
     requires fits { (arrival.0 ≤ GREATEST_UNTIL + u16.MAX) × (arrival.1 ≤ GREATEST_UNTIL + u16.MAX) }
@@ -132,12 +130,7 @@ pub fn proposal_delays(
 /// The least and the greatest tick at which a message is committed at a group, over the members of
 /// a box: those of the box's least and greatest delays (docs/PROTOCOL.md).
 #[tactic(auto, unfolding(convoy_sim::specs::Times::settle))]
-pub fn settlings(
-    instance: &Instance,
-    delay_box: &DelayBox,
-    message: usize,
-    group: usize,
-) -> (u32, u32)
+pub fn settlings(instance: &Instance, delay_box: &DelayBox, message: usize, group: usize) -> Window
     requires known { message < length instance.now.multicasts }
     requires inside { IsBox instance.now delay_box.now }
     ensures least { result.0 ≡ settle instance.now (least_of delay_box.now) message group }

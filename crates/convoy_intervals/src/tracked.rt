@@ -8,12 +8,12 @@ ghost use Rattle.convoy_intervals.specs.Spans.{span_of, AreSpans};
 ghost use Rattle.convoy_intervals.specs.Tracked.{tracked_of};
 
 use super::bounds::bound_over;
+use super::box_laws::{plain_bound_holds, spans_are_carried};
 use super::delay_box::DelayBox;
 use super::greatest_ticks::GreatestTicks;
-use super::laws::{plain_bound_holds, spans_are_carried};
 use super::spans::{Span, follow_packet, list_spans, place};
 use convoy_packets::Instance;
-use convoy_packets::laws::{packets_are_those_sent, packets_stand_once};
+use convoy_packets::schedule_laws::{packets_are_those_sent, packets_stand_once};
 use convoy_scenario::Scenario;
 use convoy_sim::{Tag, latency_by};
 use std::alloc::{AllocError, Global};

@@ -9,9 +9,9 @@ use Rattle.convoy_sim.proofs.Membership.{IsIn, in_greatest}
 use Rattle.convoy_sim.proofs.Addressed.{goes_from_in}
 use Rattle.convoy_intervals.specs.Boxes.{Box, AreRanges}
 use Rattle.convoy_intervals.specs.Bounds.{Tables, rivals, tables_of, plain_bound}
-use Rattle.convoy_intervals.specs.Laws.{MembersAreEnclosed}
+use Rattle.convoy_intervals.specs.BoxLaws.{MembersAreEnclosed}
 use Rattle.convoy_sure.specs.Windows.{LeadTables, Windows, tables_by, windows_of, with_arrival}
-use Rattle.convoy_sure.specs.Laws.{WindowsAreTables}
+use Rattle.convoy_sure.specs.SureLaws.{WindowsAreTables}
 use Rattle.convoy_leads.specs.Leads.{is_led}
 use Rattle.convoy_leads.specs.Closing.{is_behind, is_behind_by, is_behind_target, is_behind_after, is_behind_late, closes_over, closes_by_leads}
 use Rattle.convoy_leads.proofs.LedLaw.{list_all_in}

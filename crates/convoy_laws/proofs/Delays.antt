@@ -9,7 +9,7 @@ use Rattle.convoy_packets.specs.declared.packet.Packet.TheVariants.{Wait, Multic
 use Rattle.convoy_packets.specs.Packets.{packets_of, place_of, is_wait}
 use Rattle.convoy_packets.specs.Order.{Order}
 use Rattle.convoy_packets.specs.Assignment.{Schedule, AreWithin, IsAssignment, IsWithin, delay_of, range_of, ranges_of}
-use Rattle.convoy_packets.specs.Laws.{is_sent}
+use Rattle.convoy_packets.specs.ScheduleLaws.{is_sent}
 use Rattle.convoy_sim.specs.Times.{issue, arrive, settle, propose_arrive}
 use Rattle.convoy_laws.specs.FinerTicks.{IsFiner}
 use Rattle.convoy_laws.proofs.Ceiling.{up, up_rises, up_least, up_times, up_span, up_greatest}

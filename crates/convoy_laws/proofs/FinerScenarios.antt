@@ -14,7 +14,7 @@ use Rattle.convoy_draft.specs.Checks.{checks, has_range, is_within, judge, ticks
 use Rattle.convoy_draft.specs.Draft.{Draft, DraftLink, DraftMessage}
 use Rattle.convoy_scenario.specs.declared.sender.Sender.{Sender}
 use Rattle.convoy_scenario.specs.declared.sender.Sender.TheVariants.{Client, Group}
-use Rattle.convoy_scenario.specs.Laws.{OrderKeepsRanges}
+use Rattle.convoy_scenario.specs.ScenarioLaws.{OrderKeepsRanges}
 use Rattle.convoy_scenario.specs.Numbering.{link_of, message_place, place, scenario_of, scenario_of_draft, sender_of}
 use Rattle.convoy_scenario.specs.Scenario.{Link, Message, Scenario, is_same_sender, message_at, no_message, range_between}
 use Rattle.convoy_scenario.proofs.KeptRanges.{leads, range_found}

@@ -3,7 +3,7 @@ use Rattle.std.proofs.Common.{[], ◌∷◌, arith}
 use Rattle.convoy_packets.specs.Assignment.{AreWithin}
 use Rattle.convoy_packets.specs.Table.{least_of, least_delays, greatest_delays}
 use Rattle.convoy_intervals.specs.Boxes.{Box, greatest_of}
-use Rattle.convoy_intervals.specs.Laws.{MembersAreEnclosed}
+use Rattle.convoy_intervals.specs.BoxLaws.{MembersAreEnclosed}
 use Rattle.convoy_laws.specs.Narrower.{IsInsideBox}
 use Rattle.convoy_laws.specs.Monotone.{InnerTablesAreNarrower}
 

@@ -17,7 +17,7 @@ use Rattle.convoy_stamps.specs.declared.pair.Pair.{Pair}
 use Rattle.convoy_stamps.specs.Closures.{is_follower, reached_after}
 use Rattle.convoy_stamps.specs.Reach.{pair_of, IsPair, pairs_of, may_precede, may_raise, leads_to, follows, reach_of}
 use Rattle.convoy_stamps.specs.StampBounds.{sure_before, lowest_stamp, highest_stamp, highest_final, is_surely_behind}
-use Rattle.convoy_stamps.specs.Laws.{ReachIsClosed, ReachIsLeast}
+use Rattle.convoy_stamps.specs.StampBoundLaws.{ReachIsClosed, ReachIsLeast}
 use Rattle.convoy_stamps.proofs.Arrivals.{next_rises}
 use Rattle.convoy_stamps.proofs.GreatestStamps.{fold_later_first, less_by_greatest}
 use Rattle.convoy_stamps.proofs.Pairs.{goes_of_pair}

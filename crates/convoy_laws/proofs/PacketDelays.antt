@@ -9,7 +9,7 @@ use Rattle.convoy_packets.specs.declared.packet.Packet.{Packet}
 use Rattle.convoy_packets.specs.declared.packet.Packet.TheVariants.{Wait, Multicast, Propose}
 use Rattle.convoy_packets.specs.Packets.{packets_of, place_of, is_packet}
 use Rattle.convoy_packets.specs.Assignment.{Schedule, delay_of}
-use Rattle.convoy_packets.specs.Laws.{PacketsAreThoseSent, is_sent}
+use Rattle.convoy_packets.specs.ScheduleLaws.{PacketsAreThoseSent, is_sent}
 use Rattle.convoy_packets.proofs.Places.{stands_where_found}
 use Rattle.convoy_packets.proofs.Sent.{found_if_sent}
 use Rattle.convoy_sim.proofs.Membership.{IsIn}

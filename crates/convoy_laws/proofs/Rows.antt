@@ -9,7 +9,7 @@ use Rattle.convoy_packets.specs.declared.packet.Packet.{Packet}
 use Rattle.convoy_packets.specs.Packets.{packets_of}
 use Rattle.convoy_packets.specs.Order.{no_order}
 use Rattle.convoy_packets.specs.Assignment.{delay_of, in_fixed_order, range_of}
-use Rattle.convoy_packets.specs.Laws.{is_sent}
+use Rattle.convoy_packets.specs.ScheduleLaws.{is_sent}
 use Rattle.convoy_sim.specs.Times.{arrive, settle}
 use Rattle.convoy_sim.specs.Moments.{arrival_rank, commit_rank, moments_of}
 use Rattle.convoy_sim.specs.Stamps.{clocks_of, local_stamp, final_stamp}

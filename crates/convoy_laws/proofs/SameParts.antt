@@ -4,7 +4,7 @@ use Rattle.std.specs.List.{AllZip, list_any, range_with_len}
 use Rattle.convoy_scenario.specs.declared.sender.Sender.{Sender}
 use Rattle.convoy_scenario.specs.Scenario.{Message, Scenario, GoesTo, no_message, message_at, message_numbers, is_addressed, is_sent_by}
 use Rattle.convoy_packets.specs.declared.packet.Packet.TheVariants.{Multicast, Propose}
-use Rattle.convoy_packets.specs.Laws.{is_sent}
+use Rattle.convoy_packets.specs.ScheduleLaws.{is_sent}
 use Rattle.convoy_sim.specs.Delivery.{addressed_to}
 use Rattle.convoy_laws.specs.FinerTicks.{IsFinerMessage, IsFiner}
 use Rattle.convoy_laws.proofs.Lists.{filter_same}

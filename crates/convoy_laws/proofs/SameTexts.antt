@@ -11,7 +11,7 @@ use Rattle.convoy_draft.specs.Checks.{checks, judge}
 use Rattle.convoy_draft.specs.Draft.{Draft}
 use Rattle.convoy_draft.specs.Durations.{count_of}
 use Rattle.convoy_draft.specs.Limits.{is_tick}
-use Rattle.convoy_scenario.specs.Laws.{DraftsGiveScenarios, OrderKeepsRanges}
+use Rattle.convoy_scenario.specs.ScenarioLaws.{DraftsGiveScenarios, OrderKeepsRanges}
 use Rattle.convoy_scenario.specs.Numbering.{scenario_of, scenario_of_draft}
 use Rattle.convoy_scenario.specs.Scenario.{Scenario}
 use Rattle.convoy_scenario.proofs.GivenScenarios.{passed}

@@ -10,13 +10,13 @@ use Rattle.convoy_packets.specs.declared.packet.Packet.TheVariants.{Wait, Multic
 use Rattle.convoy_packets.specs.Packets.{message_packets, multicast_packets, propose_packets, packets_of, place_of}
 use Rattle.convoy_packets.specs.Order.{AreRanks, rank_at}
 use Rattle.convoy_packets.specs.Assignment.{Schedule, AreWithin, IsAssignment, delay_of, range_of, ranges_of}
-use Rattle.convoy_packets.specs.Laws.{PacketsAreThoseSent}
+use Rattle.convoy_packets.specs.ScheduleLaws.{PacketsAreThoseSent}
 use Rattle.convoy_sim.specs.declared.moment.Moment.{Moment}
 use Rattle.convoy_sim.specs.declared.moment.MomentKind.TheVariants.{Arrival, Commit}
 use Rattle.convoy_sim.specs.Times.{issue, arrive, settle, propose_arrive}
 use Rattle.convoy_sim.specs.Moments.{is_before, is_kind_before, is_same_kind, rank_in, arrival_rank, rank_then, commit_rank}
 use Rattle.convoy_sim.specs.Delivery.{deliver, latency_at, latency_of}
-use Rattle.convoy_sim.specs.Laws.{DeliveryIsLeast, LatencyIsNeverNegative}
+use Rattle.convoy_sim.specs.ProtocolLaws.{DeliveryIsLeast, LatencyIsNeverNegative}
 use Rattle.convoy_laws.specs.FinerTicks.{AreSameRanges, IsFiner, IsFinerMessage, finer_range, FinerRunsAreMatched, GreatestInFinerTicks, GreatestIsWhole, WholeTicksAreEnough}
 use Rattle.convoy_laws.proofs.PacketDelays.{delay_at_place, no_delay, sent_of_in}
 use Rattle.convoy_laws.proofs.Ceiling.{times_rise, times_fall, times_plus}

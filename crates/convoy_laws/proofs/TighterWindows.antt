@@ -13,9 +13,9 @@ use Rattle.convoy_sim.proofs.Membership.{IsIn, in_greatest}
 use Rattle.convoy_sim.proofs.Addressed.{goes_from_in, in_of_goes}
 use Rattle.convoy_intervals.specs.Boxes.{Box, greatest_of}
 use Rattle.convoy_intervals.specs.Bounds.{Tables, tables_of}
-use Rattle.convoy_intervals.specs.Laws.{MembersAreEnclosed}
+use Rattle.convoy_intervals.specs.BoxLaws.{MembersAreEnclosed}
 use Rattle.convoy_sure.specs.Windows.{LeadTables, Windows, entry_at, entry_of, entries_of, proposal_delay, proposal_entry, proposals_of, tables_by, windows_of, issued_since, with_issue, with_settling, with_arrival}
-use Rattle.convoy_sure.specs.Laws.{WindowsAreTables}
+use Rattle.convoy_sure.specs.SureLaws.{WindowsAreTables}
 use Rattle.convoy_sure.proofs.MemberDelays.{least_delay, greatest_delay}
 use Rattle.convoy_sure.proofs.WindowLaws.{entry_is}
 use Rattle.convoy_laws.specs.Narrower.{IsInsideBox}

@@ -17,7 +17,7 @@ use Rattle.convoy_scenario.proofs.NumberedLemmas.{Passes, groups_distinct}
 use Rattle.convoy_packets.specs.declared.packet.Packet.{Packet}
 use Rattle.convoy_packets.specs.declared.packet.Packet.TheVariants.{Wait, Multicast, Propose}
 use Rattle.convoy_packets.specs.Assignment.{sender_of as packet_sender, receiver_of}
-use Rattle.convoy_packets.specs.Laws.{is_sent}
+use Rattle.convoy_packets.specs.ScheduleLaws.{is_sent}
 use Rattle.convoy_packets.specs.Packets.{is_wait}
 use Rattle.convoy_sim.proofs.Membership.{IsIn, in-append_left, in-append_right, in-flat_map, in-map, in_of_contains, in_of_filter, in_of_list_any, in_of_range, list_any_in}
 use Rattle.convoy_toml.specs.Ways.{Way, carries, ways_between, ways_from}

@@ -1,6 +1,6 @@
 -- The laws of packets and of the protocol on which the proofs of this crate stand.
-use Rattle.convoy_packets.specs.Laws.{PacketsAreThoseSent, PlacesLeadBack, DelaysAreWithin, UnsentTakesNoTime}
-use Rattle.convoy_sim.specs.Laws.{ArrivesBeforeCommit, DeliveryIsLeast, IssuedAtItsTick, IssuedWithinItsWait, LatencyIsNeverNegative}
+use Rattle.convoy_packets.specs.ScheduleLaws.{PacketsAreThoseSent, PlacesLeadBack, DelaysAreWithin, UnsentTakesNoTime}
+use Rattle.convoy_sim.specs.ProtocolLaws.{ArrivesBeforeCommit, DeliveryIsLeast, IssuedAtItsTick, IssuedWithinItsWait, LatencyIsNeverNegative}
 
 pub record Used : Type 0 where
   pub sent : PacketsAreThoseSent

@@ -3,18 +3,14 @@
 //! the function.
 
 ghost use Rattle.convoy_laws.specs.FinerTexts.{GreatestOfFinerTexts};
-ghost use Rattle.convoy_laws.specs.FinerTicks.{
-  FinerRunsAreMatched,
-  GreatestInFinerTicks,
-  GreatestIsWhole,
-  WholeTicksAreEnough,
-};
+ghost use Rattle.convoy_laws.specs.FinerTicks.{FinerRunsAreMatched, GreatestInFinerTicks};
+ghost use Rattle.convoy_laws.specs.FinerTicks.{GreatestIsWhole, WholeTicksAreEnough};
 
-use convoy_packets::laws::{
+use convoy_packets::schedule_laws::{
     delays_are_within, packets_are_those_sent, places_lead_back, unsent_takes_no_time,
 };
-use convoy_scenario::laws::{drafts_give_scenarios, order_keeps_ranges};
-use convoy_sim::laws::{
+use convoy_scenario::scenario_laws::{drafts_give_scenarios, order_keeps_ranges};
+use convoy_sim::protocol_laws::{
     arrives_before_commit, delivery_is_least, issued_at_its_tick, issued_within_its_wait,
     latency_is_never_negative,
 };

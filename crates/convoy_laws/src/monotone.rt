@@ -6,9 +6,9 @@ ghost use Rattle.convoy_laws.specs.Monotone.{LeadsCloseForMore, LeadsCloseFromPl
 ghost use Rattle.convoy_laws.specs.Monotone.{PlainBoundFalls, PlainBoundFallsOverTables};
 ghost use Rattle.convoy_laws.specs.Monotone.{StampBoundFalls, StampBoundFallsOverTables};
 
-use convoy_intervals::laws::members_are_enclosed;
-use convoy_stamps::laws::{reach_is_closed, reach_is_least};
-use convoy_sure::laws::windows_are_tables;
+use convoy_intervals::box_laws::members_are_enclosed;
+use convoy_stamps::stamp_bound_laws::{reach_is_closed, reach_is_least};
+use convoy_sure::sure_laws::windows_are_tables;
 
 /// The tables of a box inside another one are narrower than those of the other one.
 pub fn inner_tables_are_narrower()

@@ -9,16 +9,16 @@ use Rattle.convoy_packets.specs.Assignment.{Schedule, IsAssignment, delay_of}
 use Rattle.convoy_sim.specs.Times.{greatest, arrive, settle, propose_arrive}
 use Rattle.convoy_sim.specs.Stamps.{is_less, local_stamp, final_stamp}
 use Rattle.convoy_sim.specs.Delivery.{addressed_to, latency_at, latency_of}
-use Rattle.convoy_sim.specs.Laws.{ahead_of}
+use Rattle.convoy_sim.specs.ProtocolLaws.{ahead_of}
 use Rattle.convoy_sim.proofs.Membership.{IsIn, in-filter, in_of_filter, in_greatest, greatest_most}
 use Rattle.convoy_sim.proofs.Addressed.{in_of_goes, goes_from_in, in-addressed, goes_of_addressed, in_of_ahead}
 use Rattle.convoy_intervals.specs.Bounds.{Tables, rivals, tables_of, plain_bound}
 use Rattle.convoy_starts.specs.Below.{LawsBelow}
 use Rattle.convoy_sure.specs.Windows.{LeadTables, EnclosesAll, Windows, tables_by, windows_of, with_arrival}
-use Rattle.convoy_sure.specs.Laws.{WindowsAreTables, WindowsEncloseMembers}
+use Rattle.convoy_sure.specs.SureLaws.{WindowsAreTables, WindowsEncloseMembers}
 use Rattle.convoy_leads.specs.Leads.{is_led}
 use Rattle.convoy_leads.specs.Closing.{is_behind, is_behind_by, is_behind_target, is_behind_after, is_behind_late, closes_by_leads}
-use Rattle.convoy_leads.specs.Laws.{ClosedHoldsOverWindows, LeadsHold, ClosesAtPlain}
+use Rattle.convoy_leads.specs.LeadLaws.{ClosedHoldsOverWindows, LeadsHold, ClosesAtPlain}
 use Rattle.convoy_leads.proofs.LedLaw.{list_all_in, led_is_behind}
 
 -- one of some numbers reaches what the greatest of them does

@@ -17,7 +17,7 @@ use Rattle.convoy_stamps.proofs.Arrivals.{arrives_first}
 use Rattle.convoy_starts.specs.Below.{LawsBelow}
 use Rattle.convoy_sure.specs.Windows.{LeadTables, EnclosesAll}
 use Rattle.convoy_sure.specs.SureLeads.{Sure, sure_of, is_earlier}
-use Rattle.convoy_sure.specs.Laws.{IsSure}
+use Rattle.convoy_sure.specs.SureLaws.{IsSure}
 use Rattle.convoy_starts.specs.Starts.{Start, first_past, stamp_high, starts_before, last_arrival, is_surely_less}
 use Rattle.convoy_leads.specs.Leads.{is_led}
 use Rattle.convoy_starts.proofs.StartLaws.{stamp_within, have_starts}

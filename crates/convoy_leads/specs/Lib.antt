@@ -19,6 +19,6 @@ pub use Rattle.convoy_starts.specs.Links
 -- What a caller of leads reads: leads, what it is to be closed by leads, and the laws of these.
 pub mod Leads
 pub mod Closing
-pub mod Laws
+pub mod LeadLaws
 -- What is told of a box that leads leave open.
 pub mod Openings

@@ -8,19 +8,14 @@ ghost use Rattle.convoy_leads.specs.Leads.{is_led};
 ghost use Rattle.convoy_leads.specs.Closing.{is_behind};
 
 use super::facts::Facts;
-use convoy_scenario::MOST_MULTICASTS;
+use convoy_scenario::{AllocResult, MOST_MULTICASTS};
 use convoy_starts::Scratch;
 use convoy_sure::{Messages, Sure, Windows, is_earlier, sure_of, target_group};
-use std::alloc::{AllocError, Global};
+use std::alloc::Global;
 
 impl<'a> Facts<'a> {
     /// What is sure of a message at the target's group.
-    pub(crate) fn sure_of(
-        &self,
-        alloc: Global,
-        windows: &Windows,
-        n: usize,
-    ) -> Result<Sure, AllocError>
+    pub(crate) fn sure_of(&self, alloc: Global, windows: &Windows, n: usize) -> AllocResult<Sure>
         requires { n < length self.now.scenario.now.multicasts }
         ensures { IfOk result (λ sure. sure ≡ sure_of self.now.scenario.now
             (tables_by windows.now).times n) }
@@ -62,7 +57,7 @@ impl<'a> Facts<'a> {
         sure: &Sure,
         barring: bool,
         scratch: &mut Scratch,
-    ) -> Result<bool, AllocError>
+    ) -> AllocResult<bool>
         ensures { IfOk result (λ less. less
             ≡ is_less_elsewhere self.now.scenario.now (tables_by windows.now) sure.now barring) }
     {
@@ -76,7 +71,7 @@ impl<'a> Facts<'a> {
         windows: &Windows,
         sure: &Sure,
         scratch: &mut Scratch,
-    ) -> Result<bool, AllocError>
+    ) -> AllocResult<bool>
         ensures { IfOk result (λ less. less
             ≡ (is_less_elsewhere self.now.scenario.now (tables_by windows.now) sure.now false
             || is_less_elsewhere self.now.scenario.now (tables_by windows.now) sure.now true)) }
@@ -89,12 +84,7 @@ impl<'a> Facts<'a> {
 
     /// Whether a message that surely arrives at the target's group after the target has a stamp there
     /// that is surely greater than each stamp of the target elsewhere.
-    fn is_led_behind(
-        &self,
-        windows: &Windows,
-        n: usize,
-        scratch: &mut Scratch,
-    ) -> Result<bool, AllocError>
+    fn is_led_behind(&self, windows: &Windows, n: usize, scratch: &mut Scratch) -> AllocResult<bool>
         requires { n < length self.now.scenario.now.multicasts }
         ensures { let tables = tables_by windows.now in
             let sure = sure_of self.now.scenario.now tables.times n in
@@ -107,7 +97,7 @@ impl<'a> Facts<'a> {
     }
 
     /// The same of any message.
-    fn is_led(&self, windows: &Windows, n: usize, scratch: &mut Scratch) -> Result<bool, AllocError>
+    fn is_led(&self, windows: &Windows, n: usize, scratch: &mut Scratch) -> AllocResult<bool>
         requires { n < length self.now.scenario.now.multicasts }
         ensures { IfOk result (λ led. led
             ≡ (is_led self.now.scenario.now (tables_by windows.now) false n
@@ -139,7 +129,7 @@ impl<'a> Facts<'a> {
         windows: &Windows,
         n: usize,
         scratch: &mut Scratch,
-    ) -> Result<bool, AllocError>
+    ) -> AllocResult<bool>
         requires { n < length self.now.scenario.now.multicasts }
         ensures { IfOk result
             (λ behind. behind ≡ is_behind self.now.scenario.now (tables_by windows.now) n) }

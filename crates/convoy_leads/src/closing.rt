@@ -5,10 +5,10 @@ ghost use Rattle.convoy_sim.specs.Delivery.{latency_of};
 ghost use Rattle.convoy_intervals.specs.Boxes.{IsBox, IsIn};
 ghost use Rattle.convoy_leads.specs.Closing.{closes_by_leads};
 
-use super::laws::leads_hold;
+use super::lead_laws::leads_hold;
 use super::lead_test::LeadTest;
 use convoy_intervals::DelayBox;
-use convoy_intervals::laws::members_are_assignments;
+use convoy_intervals::box_laws::members_are_assignments;
 use convoy_packets::Instance;
 use std::alloc::{AllocError, Global};
 

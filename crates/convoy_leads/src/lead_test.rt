@@ -1,8 +1,8 @@
-ghost use Rattle.std.specs.Prelude.{◌≡◌, ◌+◌, ◌≤◌, IfOk, IfSome, IsFalse, IsTrue};
+ghost use Rattle.std.specs.Prelude.{◌≡◌, ◌+◌, All, IfOk, IfSome};
 ghost use Rattle.convoy_scenario.specs.Scenario.{message_at};
 ghost use Rattle.convoy_intervals.specs.Boxes.{IsBox};
 ghost use Rattle.convoy_intervals.specs.Tracked.{tracked_of};
-ghost use Rattle.convoy_sure.specs.Windows.{tables_by};
+ghost use Rattle.convoy_starts.specs.Links.{IsLink};
 ghost use Rattle.convoy_leads.specs.Closing.{closes_by_leads, closes_over};
 ghost use Rattle.convoy_leads.specs.Openings.{IsOpenCase, IsOpening, IsShown, is_closed};
 
@@ -13,7 +13,7 @@ use super::shown::Shown;
 use convoy_intervals::DelayBox;
 use convoy_packets::Instance;
 use convoy_sim::Tag;
-use convoy_starts::Scratch;
+use convoy_starts::{Link, Scratch};
 use convoy_sure::{Windows, target_group};
 use std::alloc::{AllocError, Global};
 use std::marker::Model;
@@ -80,8 +80,23 @@ impl<'a> LeadTest<'a> {
         let Some(case) = self.first_case(shown, latency, &mut scratch)? else {
             return Ok(None);
         };
-        let links = self.facts.links(&case.windows, case.rival, &mut scratch)?;
+        let links = self
+            .facts
+            .links(&case.windows, case.rival, false, &mut scratch)?;
         Ok(Some(Opening { case, links }))
+    }
+
+    /// The chain of links of an open case of the box, where each message in turn is told to be committed
+    /// nowhere before: no two links of it go to and fro between the same two stamps, and so there are more
+    /// often runs that do all that it wants than of the chain of the case's [`opening`](LeadTest::opening).
+    /// The error is that memory ran out.
+    pub fn barred_links(&self, case: &OpenCase) -> Result<Vec<Link>, AllocError>
+        requires { IsOpenCase self.now.scenario case.now }
+        ensures { IfOk result (λ links. All (IsLink self.now.scenario) links.items) }
+    {
+        let mut scratch = Scratch::new(self.alloc);
+        self.facts
+            .links(&case.windows, case.rival, true, &mut scratch)
     }
 
     /// The first case that leads leave open, which is looked for where the target may be late.

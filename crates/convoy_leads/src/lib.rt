@@ -12,7 +12,7 @@ pub use shown::Shown;
 mod behind;
 mod closing;
 mod facts;
-pub mod laws;
+pub mod lead_laws;
 mod lead_test;
 mod open_case;
 mod opening;

@@ -19,11 +19,13 @@ pub struct Opening {
 }
 
 impl<'a> Facts<'a> {
-    /// The chain by which a stamp of the target may exceed that of message `n` in windows.
+    /// The chain by which a stamp of the target may exceed that of message `n` in windows, with no message
+    /// barred but the target, or with each.
     pub(crate) fn links(
         &self,
         windows: &Windows,
         n: usize,
+        barring: bool,
         scratch: &mut Scratch,
     ) -> Result<Vec<Link>, AllocError>
         requires { n < length self.now.scenario.now.multicasts }
@@ -33,7 +35,7 @@ impl<'a> Facts<'a> {
             return Ok(Vec::new(scratch.alloc));
         }
         let sure = self.sure_of(scratch.alloc, windows, n)?;
-        let setting = self.setting(windows, &sure, false);
+        let setting = self.setting(windows, &sure, barring);
         setting.links(&self.pairs, scratch)
     }
 }

@@ -11,7 +11,7 @@ pub use Rattle.convoy_toml_writer.specs.Text as ScenarioText
 pub use Rattle.convoy_draft.specs.declared.fault.ScenarioFault
 pub use Rattle.convoy_draft.specs.declared.time.Time
 -- the lines of a scenario in a certificate
-pub use Rattle.convoy_scenario_lines.specs.Lines as ScenarioLines
+pub use Rattle.convoy_scenario_lines.specs.ScenarioLines
 pub use Rattle.convoy_scenario_lines.specs.LineReading
 pub use Rattle.convoy_scenario_lines.specs.declared.line_fault.LineFault
 -- packets, schedules and orders of ties

@@ -6,7 +6,7 @@ use Rattle.convoy_scenario.specs.Scenario.{Scenario}
 use Rattle.convoy_packets.specs.declared.fault.ListFault.TheVariants.{Memory}
 use Rattle.convoy_packets.specs.Assignment.{AreWithin, IsAssignment, Schedule}
 use Rattle.convoy_packets.specs.Given.{schedule_of}
-use Rattle.convoy_packets.specs.Laws.{FixedOrderIsOrder, ListsOfDelaysAreSchedules}
+use Rattle.convoy_packets.specs.ScheduleLaws.{FixedOrderIsOrder, ListsOfDelaysAreSchedules}
 use Rattle.convoy_packets.specs.Order.{IsOrder, Order, no_order}
 use Rattle.convoy_packets.specs.Table.{PacketTable, table_of}
 

@@ -1,3 +1,7 @@
+ghost use Rattle.std.specs.Prelude.{◌≡◌};
+ghost use Rattle.convoy_library_tests.specs.declared.fault.Fault.TheVariants.{Memory};
+ghost use Rattle.convoy_library_tests.specs.Faults.{of_scenario, of_list, of_text, of_check};
+
 use convoy_library::certificate::TextFault;
 use convoy_library::checker::Refused;
 use convoy_library::packets::ListFault;
@@ -25,21 +29,7 @@ pub enum Fault {
     Memory,
 }
 
-impl From<AllocError> for Fault {
-    ghost use Rattle.std.specs.Prelude.{◌≡◌};
-    ghost use Rattle.convoy_library_tests.specs.declared.fault.Fault.TheVariants.{Memory};
-
-    ghost from_gives = { λ _ fault. fault ≡ Memory };
-
-    fn from(_error: AllocError) -> Fault {
-        Fault::Memory
-    }
-}
-
 impl From<ScenarioFault> for Fault {
-    ghost use Rattle.std.specs.Prelude.{◌≡◌};
-    ghost use Rattle.convoy_library_tests.specs.Faults.{of_scenario};
-
     ghost from_gives = { λ cause fault. fault ≡ of_scenario cause };
 
     fn from(cause: ScenarioFault) -> Fault {
@@ -51,9 +41,6 @@ impl From<ScenarioFault> for Fault {
 }
 
 impl From<ListFault> for Fault {
-    ghost use Rattle.std.specs.Prelude.{◌≡◌};
-    ghost use Rattle.convoy_library_tests.specs.Faults.{of_list};
-
     ghost from_gives = { λ cause fault. fault ≡ of_list cause };
 
     fn from(cause: ListFault) -> Fault {
@@ -65,9 +52,6 @@ impl From<ListFault> for Fault {
 }
 
 impl From<TextFault> for Fault {
-    ghost use Rattle.std.specs.Prelude.{◌≡◌};
-    ghost use Rattle.convoy_library_tests.specs.Faults.{of_text};
-
     ghost from_gives = { λ cause fault. fault ≡ of_text cause };
 
     fn from(cause: TextFault) -> Fault {
@@ -79,9 +63,6 @@ impl From<TextFault> for Fault {
 }
 
 impl From<Refused> for Fault {
-    ghost use Rattle.std.specs.Prelude.{◌≡◌};
-    ghost use Rattle.convoy_library_tests.specs.Faults.{of_check};
-
     ghost from_gives = { λ cause fault. fault ≡ of_check cause };
 
     fn from(cause: Refused) -> Fault {
@@ -89,5 +70,13 @@ impl From<Refused> for Fault {
             Refused::Memory => Fault::Memory,
             cause => Fault::Invalid(cause),
         }
+    }
+}
+
+impl From<AllocError> for Fault {
+    ghost from_gives = { λ _ fault. fault ≡ Memory };
+
+    fn from(_error: AllocError) -> Fault {
+        Fault::Memory
     }
 }

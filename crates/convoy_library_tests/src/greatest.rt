@@ -6,7 +6,7 @@ ghost use Rattle.convoy_library_tests.specs.Answers.{IsAnswer};
 
 use super::fault::Fault;
 use convoy_library::branch::{Limit, NoGate, Outcome, search_both_ways};
-use convoy_library::packets::laws::fixed_order_is_order;
+use convoy_library::packets::schedule_laws::fixed_order_is_order;
 use convoy_library::packets::{Instance, Schedule};
 use convoy_library::share;
 use convoy_library::sim::Record;

@@ -3,7 +3,7 @@ ghost use Rattle.convoy_library_tests.specs.declared.fault.Fault.TheVariants.{Me
 ghost use Rattle.convoy_library_tests.specs.Answers.{latency_given};
 
 use super::fault::Fault;
-use convoy_library::packets::laws::{fixed_order_is_order, lists_of_delays_are_schedules};
+use convoy_library::packets::schedule_laws::{fixed_order_is_order, lists_of_delays_are_schedules};
 use convoy_library::packets::{Instance, Schedule};
 use convoy_library::scenario_toml::read_toml;
 use convoy_library::sim::latency;

@@ -3,7 +3,7 @@
 ghost use Rattle.std.specs.Prelude.{IfOk};
 ghost use Rattle.convoy_packets.specs.Assignment.{IsAssignment};
 
-use convoy_packets::laws::{fixed_order_is_order, lists_of_delays_are_schedules};
+use convoy_packets::schedule_laws::{fixed_order_is_order, lists_of_delays_are_schedules};
 use convoy_packets::{Instance, ListFault, Schedule};
 use std::alloc::Global;
 

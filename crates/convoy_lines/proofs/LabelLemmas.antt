@@ -6,7 +6,7 @@ use Rattle.std.proofs.lemmas.List.{nil_from_length}
 use Rattle.std.proofs.lemmas.Option.{cond_some, same_Some}
 use Rattle.std.proofs.lemmas.Slice.Eq.{bytes_eq-Decides}
 use Rattle.convoy_lines.specs.Labels.{greatest_number, is_spaced, words_after, number_in}
-use Rattle.convoy_lines.specs.Laws.{IsWord}
+use Rattle.convoy_lines.specs.LineLaws.{IsWord}
 use Rattle.convoy_lines.specs.Chains.{◌>>=◌}
 use Rattle.convoy_lines.specs.Texts.{line_of}
 use Rattle.convoy_lines.specs.Words.{words_of, next_word, number_of}

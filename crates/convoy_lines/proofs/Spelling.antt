@@ -12,7 +12,7 @@ use Rattle.std.proofs.lemmas.Str.Parse.{IsNumeralModel, numerals_by_value, tells
 use Rattle.convoy_lines.specs.Words.{Lacks, words_of, has_no_leading_zero, is_number, number_of}
 use Rattle.convoy_lines.specs.Texts.{line_of, text_of}
 use Rattle.convoy_lines.specs.Places.{Lines, in_front, lines_in}
-use Rattle.convoy_lines.specs.Laws.{IsWord, IsLine}
+use Rattle.convoy_lines.specs.LineLaws.{IsWord, IsLine}
 use Rattle.convoy_lines.proofs.Cutting.{lone_word, next_word}
 use Rattle.convoy_lines.proofs.Splitting.{lines_after}
 

@@ -1,5 +1,5 @@
 pub mod Labels
-pub mod Laws
+pub mod LineLaws
 pub mod Chains
 pub mod Places
 pub mod Results

@@ -8,7 +8,7 @@ pub use words::{Words, number_of};
 pub use writing::{push_further_word, push_number, push_number_line};
 
 mod labels;
-pub mod laws;
+pub mod line_laws;
 mod line_reader;
 mod reserved;
 mod words;

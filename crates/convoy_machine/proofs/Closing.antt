@@ -18,12 +18,12 @@ use Rattle.convoy_certificate.specs.declared.node.Node.TheVariants.{Split, Bound
 use Rattle.convoy_checker.specs.declared.refused.Refused.{Refused}
 use Rattle.convoy_checker.specs.declared.refused.Refused.TheVariants as refused
 use Rattle.convoy_checker.specs.Checks.{fault_unless, in_ticks, node_fault}
-use Rattle.convoy_checker.specs.Laws.{BoundLeavesCover, LeadLeavesCover, PointLeavesCover, StampLeavesCover}
+use Rattle.convoy_checker.specs.TreeLaws.{BoundLeavesCover, LeadLeavesCover, PointLeavesCover, StampLeavesCover}
 use Rattle.convoy_checker.specs.Leaves.{ClosesByLeads, IsRight}
 use Rattle.convoy_checker.specs.Trees.{boxes_below}
 use Rattle.convoy_checker.proofs.Faults.{node_none}
 use Rattle.convoy_laws.specs.Monotone.{LeadsCloseForMore}
-use Rattle.convoy_machine.specs.Laws.{RightLeavesClose}
+use Rattle.convoy_machine.specs.MachineLaws.{RightLeavesClose}
 use Rattle.convoy_machine.specs.Machine.{closes}
 
 -- the tests of four faults, of which the second and the third are asked for in whole ticks alone

@@ -15,7 +15,7 @@ use Rattle.convoy_packets.specs.Order.{IsOrder}
 use Rattle.convoy_sim.specs.Delivery.{latency_of}
 use Rattle.convoy_sim.specs.Record.{Record, IsAttained, attained_by}
 use Rattle.convoy_intervals.specs.Boxes.{Box, CanSplit, IsBox, IsIn, root_of, lower_half, upper_half}
-use Rattle.convoy_intervals.specs.Laws.{HalvesAreBoxes, HalvesPartition, RootHoldsAll, RootIsBox}
+use Rattle.convoy_intervals.specs.BoxLaws.{HalvesAreBoxes, HalvesPartition, RootHoldsAll, RootIsBox}
 use Rattle.convoy_machine.specs.declared.parts.TheConstants.{WORKERS}
 use Rattle.convoy_machine.specs.declared.parts.Worker.{Worker}
 use Rattle.convoy_machine.specs.declared.parts.Branch.{Branch}

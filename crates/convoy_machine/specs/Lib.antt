@@ -12,4 +12,4 @@ pub use Rattle.convoy_checker.specs.Trees
 -- The search of many workers as a machine, what holds in each state that it comes to, and which boxes may be closed.
 pub mod Machine
 pub mod Replays
-pub mod Laws
+pub mod MachineLaws

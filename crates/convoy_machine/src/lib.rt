@@ -8,7 +8,7 @@ pub use parts::WORKERS;
 pub use replaying::{ReplayFault, replay};
 
 mod event;
-pub mod laws;
 mod machine;
+pub mod machine_laws;
 mod parts;
 mod replaying;

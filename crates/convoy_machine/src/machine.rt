@@ -22,12 +22,12 @@ use super::event::Event;
 use super::parts::{Branch, BranchState, WORKERS, Worker};
 use convoy_intervals::{DelayBox, bound};
 use convoy_leads::closes_by_leads;
-use convoy_packets::laws::least_is_assignment;
+use convoy_packets::schedule_laws::least_is_assignment;
 use convoy_packets::{Instance, Schedule};
-use convoy_scenario::{Scenario, Time};
+use convoy_scenario::{AllocResult, Scenario, Time};
 use convoy_sim::Record;
 use convoy_stamps::stamp_bound;
-use std::alloc::{AllocError, Global};
+use std::alloc::Global;
 use std::marker::Model;
 
 /// The state of a search of many workers between two events: the best record, what each worker has
@@ -90,7 +90,7 @@ impl Core {
     }
 
     /// The state at the start of a search.
-    pub(crate) fn start(alloc: Global, instance: &Instance) -> Result<Core, AllocError>
+    pub(crate) fn start(alloc: Global, instance: &Instance) -> AllocResult<Core>
         ensures value { IfOk result (λ core. core ≡ start instance.now) }
         ensures attained { IfOk result (λ core. IsAttained core.best) }
     {
@@ -120,7 +120,7 @@ impl Core {
         alloc: Global,
         instance: &Instance,
         event: &Event,
-    ) -> Result<bool, AllocError>
+    ) -> AllocResult<bool>
         requires boxes { All (λ branch. IsBox instance.now branch.delay_box) self.now.branches }
         ensures { IfOk result (λ lawful. lawful ≡ is_lawful instance.now self.now event.now) }
     {
@@ -138,7 +138,7 @@ impl Core {
         instance: &Instance,
         doer: &Worker,
         event: &Event,
-    ) -> Result<bool, AllocError>
+    ) -> AllocResult<bool>
         requires boxes { All (λ branch. IsBox instance.now branch.delay_box) self.now.branches }
         requires doer { doer.now ≡ worker_at self.now.workers (worker_of event.now) }
         ensures { IfOk result (λ allowed. allowed ≡ allows instance.now self.now event.now) }
@@ -164,7 +164,7 @@ impl Core {
                 match self.held_by(*worker, *branch) {
                     None => false,
                     Some(delay_box) => {
-                        doer.has_ticket() && closes(alloc, instance, doer.seen, delay_box)?
+                        doer.has_ticket() && closes(alloc, instance, delay_box, doer.seen)?
                     }
                 }
             }
@@ -199,7 +199,7 @@ impl Core {
     }
 
     /// Does what a lawful event says.
-    pub(crate) fn follow(&mut self, event: &Event) -> Result<(), AllocError>
+    pub(crate) fn follow(&mut self, event: &Event) -> AllocResult<()>
         requires lawful { (scenario : Scenario) × IsTrue (is_lawful scenario self.old event.now) }
         requires counts { All (λ worker. (worker.drawn < u64.MAX) × (worker.spent < u64.MAX))
             self.old.workers }
@@ -215,7 +215,7 @@ impl Core {
 }
 
 /// Takes over the record of an event as the best one, where its latency is greater.
-fn raise(best: &mut Record, event: &Event) -> Result<(), AllocError>
+fn raise(best: &mut Record, event: &Event) -> AllocResult<()>
     ensures best { OnOk result (best.new ≡ best_after best.old event.now) }
     ensures found { OnOk result (IsFound event.now) }
 {
@@ -228,7 +228,7 @@ fn raise(best: &mut Record, event: &Event) -> Result<(), AllocError>
 }
 
 /// Does to the branches what an event says.
-fn turn(branches: &mut Vec<Branch>, event: &Event) -> Result<(), AllocError>
+fn turn(branches: &mut Vec<Branch>, event: &Event) -> AllocResult<()>
     requires { HasBranch branches.old.items event.now }
     ensures { OnOk result (branches.new.items ≡ branches_after branches.old.items event.now) }
 {
@@ -263,7 +263,7 @@ fn taken(worker: usize, delay_box: DelayBox) -> Branch
 }
 
 /// The halves of a box that stays.
-fn halves_of(delay_box: &DelayBox, packet: u16, at: u16) -> Result<(DelayBox, DelayBox), AllocError>
+fn halves_of(delay_box: &DelayBox, packet: u16, at: u16) -> AllocResult<(DelayBox, DelayBox)>
     requires { CanSplit delay_box.now packet at }
     ensures { IfOk result (λ halves. halves
         ≡ (lower_half delay_box.now packet at, upper_half delay_box.now packet at)) }
@@ -280,16 +280,16 @@ fn halves_of(delay_box: &DelayBox, packet: u16, at: u16) -> Result<(DelayBox, De
 fn closes(
     alloc: Global,
     instance: &Instance,
-    latency: u32,
     delay_box: &DelayBox,
-) -> Result<bool, AllocError>
+    latency: u32,
+) -> AllocResult<bool>
     requires inside { IsBox instance.now delay_box.now }
     ensures { IfOk result (λ closed. closed ≡ closes instance.now latency delay_box.now) }
 {
     if bound(instance, delay_box) <= latency {
         return Ok(true);
     }
-    if in_ticks(instance) && closes_in_ticks(alloc, instance, latency, delay_box)? {
+    if in_ticks(instance) && closes_in_ticks(alloc, instance, delay_box, latency)? {
         return Ok(true);
     }
     closes_by_leads(alloc, instance, delay_box, latency)
@@ -300,9 +300,9 @@ fn closes(
 fn closes_in_ticks(
     alloc: Global,
     instance: &Instance,
-    latency: u32,
     delay_box: &DelayBox,
-) -> Result<bool, AllocError>
+    latency: u32,
+) -> AllocResult<bool>
     requires inside { IsBox instance.now delay_box.now }
     ensures { IfOk result (λ closed. closed
         ≡ (is_point delay_box.now && nat_le (latency_of instance.now (greatest_of delay_box.now)) latency

@@ -3,13 +3,12 @@ ghost use Rattle.std.specs.List.{All};
 ghost use Rattle.convoy_scenario.specs.Memory.{IsUnlessMemory};
 ghost use Rattle.convoy_machine.specs.Machine.{replayed};
 ghost use Rattle.convoy_machine.specs.Replays.{IsEventOf, IsReplayed};
+ghost use Rattle.convoy_machine.specs.declared.replaying.ReplayFault.TheVariants.{Memory};
 
 use super::event::Event;
 use super::machine::Core;
-use convoy_checker::laws::{
-    bound_leaves_cover, lead_leaves_cover, point_leaves_cover, stamp_leaves_cover,
-};
-use convoy_intervals::laws::{halves_are_boxes, halves_partition, root_holds_all, root_is_box};
+use convoy_checker::tree_laws::leaves_cover;
+use convoy_intervals::box_laws::{halves_are_boxes, halves_partition, root_holds_all, root_is_box};
 use convoy_packets::Instance;
 use std::alloc::{AllocError, Global};
 use thiserror::Error;
@@ -24,17 +23,6 @@ pub enum ReplayFault {
     /// Memory ran out, which says nothing of the events.
     #[error("out of memory")]
     Memory,
-}
-
-impl From<AllocError> for ReplayFault {
-    ghost use Rattle.std.specs.Prelude.{◌≡◌};
-    ghost use Rattle.convoy_machine.specs.declared.replaying.ReplayFault.TheVariants.{Memory};
-
-    ghost from_gives = { λ _ fault. fault ≡ Memory };
-
-    fn from(_error: AllocError) -> ReplayFault {
-        ReplayFault::Memory
-    }
 }
 
 /// Replays a search of up to 16 workers as a list of events, from its start: the record of all least
@@ -52,10 +40,7 @@ pub fn replay(alloc: Global, instance: &Instance, events: &[Event]) -> Result<Co
     root_holds_all();
     halves_are_boxes();
     halves_partition();
-    bound_leaves_cover();
-    point_leaves_cover();
-    stamp_leaves_cover();
-    lead_leaves_cover();
+    leaves_cover();
     let mut core = Core::start(alloc, instance)?;
     for (place, event) in events.iter().enumerate() {
         if !core.is_lawful(alloc, instance, event)? {
@@ -64,4 +49,12 @@ pub fn replay(alloc: Global, instance: &Instance, events: &[Event]) -> Result<Co
         core.follow(event)?;
     }
     Ok(core)
+}
+
+impl From<AllocError> for ReplayFault {
+    ghost from_gives = { λ _ fault. fault ≡ Memory };
+
+    fn from(_error: AllocError) -> ReplayFault {
+        ReplayFault::Memory
+    }
 }

@@ -17,7 +17,7 @@ use Rattle.convoy_packets.specs.declared.packet.Packet.{Packet}
 use Rattle.convoy_packets.specs.declared.packet.Packet.TheVariants.{Wait, Multicast, Propose}
 use Rattle.convoy_packets.specs.Packets.{is_wait, packets_of, place_of}
 use Rattle.convoy_packets.specs.Assignment.{AreWithin, IsAssignment, IsWithin, Schedule, delay_of, sender_of, range_of, ranges_of}
-use Rattle.convoy_packets.specs.Laws.{is_sent}
+use Rattle.convoy_packets.specs.ScheduleLaws.{is_sent}
 use Rattle.convoy_packets.specs.Table.{AreWholeDelays, IsRange, least_of, least_delays, greatest_delays}
 use Rattle.convoy_packets.proofs.Listed.{all_travel, length-packets_of-unwaiting}
 use Rattle.convoy_packets.proofs.Places.{stands_where_found}

@@ -8,6 +8,6 @@ pub mod Assignment
 pub mod Table
 pub mod Given
 pub mod OrderLists
-pub mod Laws
+pub mod ScheduleLaws
 -- How the program looks up packets: no promise above this crate rests on it.
 pub mod Slots

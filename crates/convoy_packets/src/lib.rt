@@ -11,12 +11,12 @@ pub use table_places::{PLACES, place};
 
 mod fault;
 mod instance;
-pub mod laws;
 mod listing;
 mod order;
 mod order_list;
 mod packet;
 mod schedule;
+pub mod schedule_laws;
 mod slots;
 mod table;
 mod table_places;

@@ -5,12 +5,12 @@ ghost use Rattle.convoy_packets.specs.Packets.{wait_packets, multicast_packets, 
 ghost use Rattle.convoy_packets.specs.Slots.{HaveSlots};
 
 use super::packet::{MOST_PACKETS, Packet};
-use convoy_scenario::{Scenario, Sender};
-use std::alloc::{AllocError, Global};
+use convoy_scenario::{AllocResult, Scenario, Sender};
+use std::alloc::Global;
 
 /// Lists the packets of a scenario: message by message its wait, if it may wait, the message itself to
 /// each of its destinations, and then the local stamps by (from, to).
-pub(crate) fn list_packets(alloc: Global, scenario: &Scenario) -> Result<Vec<Packet>, AllocError>
+pub(crate) fn list_packets(alloc: Global, scenario: &Scenario) -> AllocResult<Vec<Packet>>
     ensures value { IfOk result (λ packets. packets.items ≡ packets_of scenario.now) }
     ensures few { IfOk result (λ packets. length packets.items ≤ MOST_PACKETS) }
     ensures known { IfOk result (λ packets. HaveSlots packets.items) }
@@ -25,11 +25,7 @@ pub(crate) fn list_packets(alloc: Global, scenario: &Scenario) -> Result<Vec<Pac
 }
 
 /// Adds the wait of a message, if it may wait.
-fn list_wait(
-    packets: &mut Vec<Packet>,
-    scenario: &Scenario,
-    message: usize,
-) -> Result<(), AllocError>
+fn list_wait(packets: &mut Vec<Packet>, scenario: &Scenario, message: usize) -> AllocResult<()>
     requires { message < length scenario.now.multicasts }
     ensures { OnOk result
         (packets.new.items ≡ packets.old.items
@@ -46,7 +42,7 @@ fn list_multicasts(
     packets: &mut Vec<Packet>,
     scenario: &Scenario,
     message: usize,
-) -> Result<(), AllocError>
+) -> AllocResult<()>
     requires { message < length scenario.now.multicasts }
     ensures { OnOk result
         (packets.new.items ≡ packets.old.items
@@ -69,11 +65,7 @@ fn is_sender(scenario: &Scenario, message: usize, group: usize) -> bool
 }
 
 /// Adds the local stamps for a message, from each of its destinations to each other one.
-fn list_proposals(
-    packets: &mut Vec<Packet>,
-    scenario: &Scenario,
-    message: usize,
-) -> Result<(), AllocError>
+fn list_proposals(packets: &mut Vec<Packet>, scenario: &Scenario, message: usize) -> AllocResult<()>
     requires { message < length scenario.now.multicasts }
     ensures { OnOk result
         (packets.new.items ≡ packets.old.items
@@ -92,7 +84,7 @@ fn list_proposals_from(
     scenario: &Scenario,
     message: usize,
     from: usize,
-) -> Result<(), AllocError>
+) -> AllocResult<()>
     requires { message < length scenario.now.multicasts }
     ensures { OnOk result
         (packets.new.items ≡ packets.old.items

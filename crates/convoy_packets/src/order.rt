@@ -67,8 +67,7 @@ impl Order {
         requires group { group < MOST_GROUPS }
         ensures { result ≡ rank_at self.now.arrivals message group }
     {
-        let ranks = &self.arrivals;
-        ranks[place(message, group)]
+        self.arrivals()[place(message, group)]
     }
 
     /// The rank of the commit of a message at a group.
@@ -77,7 +76,6 @@ impl Order {
         requires group { group < MOST_GROUPS }
         ensures { result ≡ rank_at self.now.commits message group }
     {
-        let ranks = &self.commits;
-        ranks[place(message, group)]
+        self.commits()[place(message, group)]
     }
 }

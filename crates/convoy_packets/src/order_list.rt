@@ -115,7 +115,7 @@ fn ranks_given(alloc: Global, list: &[i64]) -> Result<Vec<u16>, ListFault>
     let mut ranks = Vec::with_capacity(alloc, list.len())?;
     for (i, number) in list.iter().enumerate() {
         let rank = delay_given((0, u16::from(GREATEST_RANK)), *number).ok_or(ListFault::Range(i))?;
-        ranks.push(rank)?;
+        ranks.push(rank).map_err(AllocError::from)?;
     }
     Ok(ranks)
 }

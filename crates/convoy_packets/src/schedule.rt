@@ -198,7 +198,7 @@ fn delays_given(alloc: Global, ranges: &[(u16, u16)], list: &[i64]) -> Result<Ve
     let mut delays = Vec::with_capacity(alloc, list.len())?;
     for (i, number) in list.iter().enumerate() {
         let delay = delay_given(ranges[i], *number).ok_or(ListFault::Range(i))?;
-        delays.push(delay)?;
+        delays.push(delay).map_err(AllocError::from)?;
     }
     Ok(delays)
 }

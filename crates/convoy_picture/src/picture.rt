@@ -6,9 +6,10 @@ ghost use Rattle.convoy_sim.specs.Run.{IsRunOf};
 
 use super::flight::{Flight, flight_of};
 use convoy_packets::{Instance, Packet, Schedule};
+use convoy_scenario::AllocResult;
 use convoy_sim::Run;
 use convoy_timeline::{Entry, Explanation, entries_of, explain, issue_of};
-use std::alloc::{AllocError, Global};
+use std::alloc::Global;
 use std::marker::Model;
 
 /// What is drawn of a run of a scenario, as plain numbers: messages and groups go by their numbers in
@@ -42,7 +43,7 @@ impl Picture {
         instance: &Instance,
         schedule: &Schedule,
         run: &Run,
-    ) -> Result<Picture, AllocError>
+    ) -> AllocResult<Picture>
         requires assignment { IsAssignment instance.now schedule.now }
         requires run { IsRunOf instance.now schedule.now run.now }
         ensures { IfOk result (λ picture. picture ≡ picture_of instance.now schedule.now) }
@@ -86,11 +87,7 @@ impl Picture {
 }
 
 /// The flights of all packets that travel.
-fn list_flights(
-    alloc: Global,
-    instance: &Instance,
-    schedule: &Schedule,
-) -> Result<Vec<Flight>, AllocError>
+fn list_flights(alloc: Global, instance: &Instance, schedule: &Schedule) -> AllocResult<Vec<Flight>>
     ensures { IfOk result (λ flights. flights.items ≡ flights_of instance.now schedule.now) }
 {
     let table = instance.table();
@@ -115,11 +112,7 @@ fn is_wait(packet: Packet) -> bool
 }
 
 /// The tick at which each message is issued.
-fn list_issues(
-    alloc: Global,
-    instance: &Instance,
-    schedule: &Schedule,
-) -> Result<Vec<u32>, AllocError>
+fn list_issues(alloc: Global, instance: &Instance, schedule: &Schedule) -> AllocResult<Vec<u32>>
     ensures { IfOk result (λ issues. issues.items ≡ issues_of instance.now schedule.now) }
 {
     let mut issues = Vec::new(alloc);

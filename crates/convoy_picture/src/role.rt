@@ -1,3 +1,6 @@
+ghost use Rattle.std.specs.Prelude.{◌≡◌};
+ghost use Rattle.convoy_picture.specs.Roles.{is_in_focus, role_of};
+
 use super::picture::Picture;
 use convoy_scenario::Scenario;
 
@@ -13,9 +16,6 @@ pub enum Role {
 }
 
 impl Role {
-    ghost use Rattle.std.specs.Prelude.{◌≡◌};
-    ghost use Rattle.convoy_picture.specs.Roles.{is_in_focus, role_of};
-
     /// What the message of that number is in a picture of a run of the scenario: the target, what the
     /// picture names as holding the target back, or else another message.
     pub fn of(scenario: &Scenario, picture: &Picture, message: usize) -> Role

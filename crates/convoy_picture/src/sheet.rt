@@ -5,8 +5,8 @@ use super::rows::Rows;
 use super::scale::Scale;
 use super::widths::width_of;
 use crate::{Picture, Role};
-use convoy_scenario::{Scenario, Sender};
-use std::alloc::{AllocError, Global};
+use convoy_scenario::{AllocResult, Scenario, Sender};
+use std::alloc::Global;
 
 // All lengths on the sheet are in tenths of a pixel.
 
@@ -60,7 +60,7 @@ pub struct Sheet {
 
 impl Sheet {
     /// The sheet of a picture of a run of the scenario.
-    pub fn of(alloc: Global, scenario: &Scenario, picture: &Picture) -> Result<Sheet, AllocError> {
+    pub fn of(alloc: Global, scenario: &Scenario, picture: &Picture) -> AllocResult<Sheet> {
         let mut sheet = Sheet {
             scale: Scale::of(alloc, scenario, picture)?,
             lanes: list_lanes(alloc, scenario)?,
@@ -85,7 +85,7 @@ impl Sheet {
         scenario: &Scenario,
         picture: &Picture,
         is_focus: bool,
-    ) -> Result<(), AllocError> {
+    ) -> AllocResult<()> {
         for message in 0..scenario.message_count() {
             if Role::of(scenario, picture, message).is_in_focus() == is_focus {
                 let label = issue_label(alloc, scenario, message)?;
@@ -104,7 +104,7 @@ impl Sheet {
         scenario: &Scenario,
         picture: &Picture,
         is_focus: bool,
-    ) -> Result<(), AllocError> {
+    ) -> AllocResult<()> {
         let wait = wait_mark(scenario, picture);
         for (i, entry) in picture.entries().iter().enumerate() {
             if Role::of(scenario, picture, entry.message).is_in_focus() == is_focus {
@@ -124,7 +124,7 @@ impl Sheet {
     }
 
     /// Puts the words of a mark into a row beside its lane; none where there is no room.
-    fn put(&mut self, mark: &Mark, label: &str) -> Result<Option<usize>, AllocError> {
+    fn put(&mut self, mark: &Mark, label: &str) -> AllocResult<Option<usize>> {
         let extent = extent(self.x_of(mark), label);
         match self.lanes.get_mut(mark.lane) {
             Some(lane) if mark.kind.is_above() => lane.above.put(extent),
@@ -244,7 +244,7 @@ fn extent(across: u32, words: &str) -> (u32, u32) {
 }
 
 /// The lanes of a scenario, without a place yet.
-fn list_lanes(alloc: Global, scenario: &Scenario) -> Result<Vec<Lane>, AllocError> {
+fn list_lanes(alloc: Global, scenario: &Scenario) -> AllocResult<Vec<Lane>> {
     let mut lanes = Vec::new(alloc);
     for _ in 0..lane_of(Sender::Group(scenario.group_count())) {
         lanes.push(Lane {
@@ -257,7 +257,7 @@ fn list_lanes(alloc: Global, scenario: &Scenario) -> Result<Vec<Lane>, AllocErro
 }
 
 /// No row for each of so many words.
-fn no_rows(alloc: Global, count: usize) -> Result<Vec<Option<usize>>, AllocError> {
+fn no_rows(alloc: Global, count: usize) -> AllocResult<Vec<Option<usize>>> {
     let mut rows = Vec::with_capacity(alloc, count)?;
     for _ in 0..count {
         rows.push(None)?;

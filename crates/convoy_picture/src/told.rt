@@ -4,20 +4,16 @@ ghost use Rattle.convoy_packets.specs.Assignment.{receiver_of};
 
 use super::flight::Flight;
 use convoy_packets::Packet;
-use convoy_scenario::Scenario;
 use convoy_scenario::lookup::{first_tick, sender_of};
 use convoy_scenario::naming::{group_name, message_name};
+use convoy_scenario::{AllocResult, Scenario};
 use convoy_timeline::{Entry, EntryKind, Explanation, sender_name, stamp_text, ticks_text};
-use std::alloc::{AllocError, Global};
+use std::alloc::Global;
 
 /// The answer: how late the target of the scenario is at worst, in ticks, and in their unit where the
 /// length of a tick is known, by the explanation of a run (docs/FORMATS.md, "What `draw` writes"). Fails where memory runs out, and else never.
 #[tactic(auto, unfolding(crate::specs::Words::answer_text))]
-pub fn answer_words(
-    alloc: Global,
-    scenario: &Scenario,
-    why: &Explanation,
-) -> Result<String, AllocError>
+pub fn answer_words(alloc: Global, scenario: &Scenario, why: &Explanation) -> AllocResult<String>
     ensures { IfOk result (λ words. string_bytes words ≡ answer_text scenario.now why.now) }
 {
     let message = message_name(scenario, scenario.target_message());
@@ -30,11 +26,7 @@ pub fn answer_words(
 /// explanation of a run, and the tick at which it is delivered (docs/FORMATS.md, "What `draw` writes").
 /// Fails where memory runs out, and else never.
 #[tactic(auto, unfolding(crate::specs::Words::reason_text))]
-pub fn reason_words(
-    alloc: Global,
-    scenario: &Scenario,
-    why: &Explanation,
-) -> Result<String, AllocError>
+pub fn reason_words(alloc: Global, scenario: &Scenario, why: &Explanation) -> AllocResult<String>
     ensures { IfOk result (λ words. string_bytes words ≡ reason_text scenario.now why.now) }
 {
     let target = scenario.target_message();
@@ -46,11 +38,7 @@ pub fn reason_words(
 }
 
 /// When the target is committed and delivered, and what it waits for between the two.
-fn outcome_words(
-    alloc: Global,
-    scenario: &Scenario,
-    why: &Explanation,
-) -> Result<String, AllocError>
+fn outcome_words(alloc: Global, scenario: &Scenario, why: &Explanation) -> AllocResult<String>
     ensures { IfOk result (λ words. string_bytes words ≡ outcome_text scenario.now why.now why.now.holder) }
 {
     match &why.holder {
@@ -75,11 +63,7 @@ fn outcome_words(
 /// scenario has no such message or group, it is told without a name. Fails where memory runs out, and
 /// else never.
 #[tactic(auto, unfolding(crate::specs::Words::flight_text))]
-pub fn flight_words(
-    alloc: Global,
-    scenario: &Scenario,
-    flight: &Flight,
-) -> Result<String, AllocError>
+pub fn flight_words(alloc: Global, scenario: &Scenario, flight: &Flight) -> AllocResult<String>
     ensures { IfOk result (λ words. string_bytes words ≡ flight_text scenario.now flight.now) }
 {
     let load = load_words(alloc, scenario, flight.packet)?;
@@ -92,14 +76,14 @@ pub fn flight_words(
 }
 
 /// What a packet brings.
-fn load_words(alloc: Global, scenario: &Scenario, packet: Packet) -> Result<String, AllocError>
+fn load_words(alloc: Global, scenario: &Scenario, packet: Packet) -> AllocResult<String>
     ensures { IfOk result (λ words. string_bytes words ≡ load_text scenario.now packet) }
 {
     match packet {
-        Packet::Wait { message } => {
-            let name = message_name(scenario, message);
-            format!(in alloc; "wait of {name}")
-        }
+        Packet::Wait { message } => format!(in alloc;
+            "wait of {}",
+            message_name(scenario, message)
+        ),
         Packet::Multicast { message, .. } => {
             String::from_str(alloc, message_name(scenario, message))
         }
@@ -114,7 +98,7 @@ fn load_words(alloc: Global, scenario: &Scenario, packet: Packet) -> Result<Stri
 /// (docs/FORMATS.md, "What `draw` writes"). Where the scenario has no such message or group, it is told
 /// without a name. Fails where memory runs out, and else never.
 #[tactic(auto, unfolding(crate::specs::Words::entry_text))]
-pub fn entry_words(alloc: Global, scenario: &Scenario, entry: &Entry) -> Result<String, AllocError>
+pub fn entry_words(alloc: Global, scenario: &Scenario, entry: &Entry) -> AllocResult<String>
     ensures { IfOk result (λ words. string_bytes words ≡ entry_text scenario.now entry.now) }
 {
     let name = message_name(scenario, entry.message);

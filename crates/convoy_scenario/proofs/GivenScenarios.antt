@@ -5,7 +5,7 @@ use Rattle.std.specs.Str.{bytes_eq}
 use Rattle.std.proofs.lemmas.List.{get_or-map}
 use Rattle.convoy_draft.specs.declared.fault.ScenarioFault.{ScenarioFault}
 use Rattle.convoy_draft.specs.Draft.{Draft, DraftMessage}
-use Rattle.convoy_scenario.specs.Laws.{IsNamedTarget}
+use Rattle.convoy_scenario.specs.ScenarioLaws.{IsNamedTarget}
 use Rattle.convoy_scenario.specs.Scenario.{Message, Scenario, message_at, no_message}
 use Rattle.convoy_scenario.specs.WellFormed.{IsScenario}
 use Rattle.convoy_draft.specs.Checks.{checks, is_message, judge}

@@ -5,7 +5,7 @@ pub use Rattle.convoy_draft.specs.Limits
 pub use Rattle.convoy_draft.specs.Names
 -- scenarios
 pub mod Differences
-pub mod Laws
+pub mod ScenarioLaws
 pub mod Memory
 pub mod Naming
 pub mod Numbering

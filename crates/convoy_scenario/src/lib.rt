@@ -4,7 +4,7 @@
 
 pub use comparing::{agree_in, difference};
 pub use convoy_draft::{
-    DraftLink, DraftMulticast, DraftScenario, Duration, GREATEST_AT, GREATEST_DELAY,
+    AllocResult, DraftLink, DraftMulticast, DraftScenario, Duration, GREATEST_AT, GREATEST_DELAY,
     GREATEST_UNTIL, GREATEST_WHOLE_DELAY, Key, LONGEST_DURATION, LONGEST_NAME, LONGEST_WAIT, Limit,
     MOST_GROUPS, MOST_LINKS, MOST_MULTICASTS, MOST_UNITS, Name, ScenarioFault, Time, TimeUnit,
     is_named_alike, is_within,
@@ -16,7 +16,6 @@ pub use scenario::Scenario;
 pub use sender::Sender;
 
 mod comparing;
-pub mod laws;
 mod link;
 pub mod lookup;
 pub mod naming;
@@ -25,4 +24,5 @@ mod part;
 mod parts;
 mod same_parts;
 mod scenario;
+pub mod scenario_laws;
 mod sender;

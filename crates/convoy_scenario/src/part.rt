@@ -1,6 +1,8 @@
 ghost use Rattle.std.specs.Prelude.{◌≡◌};
 ghost use Rattle.convoy_scenario.specs.Differences.{part_word};
 
+use self::Part::{Delay, Groups, Links, Multicasts, Target, Tick, Time};
+
 /// A part of a scenario, in the order in which scenarios are compared.
 #[derive(Clone, Copy, PartialEq, Eq)]
 pub enum Part {
@@ -26,13 +28,13 @@ impl Part {
         ensures { result.now ≡ part_word self }
     {
         match self {
-            Part::Time => "time",
-            Part::Tick => "tick",
-            Part::Delay => "delay",
-            Part::Groups => "groups",
-            Part::Links => "link",
-            Part::Multicasts => "multicast",
-            Part::Target => "target",
+            Time => "time",
+            Tick => "tick",
+            Delay => "delay",
+            Groups => "groups",
+            Links => "link",
+            Multicasts => "multicast",
+            Target => "target",
         }
     }
 }

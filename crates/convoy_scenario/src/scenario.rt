@@ -1,6 +1,6 @@
 ghost use Rattle.std.specs.Prelude.{◌≡◌, ◌<◌, length, IfOk};
 ghost use Rattle.std.specs.List.{list_any};
-ghost use Rattle.convoy_scenario.specs.Scenario.{GoesTo, message_at, may_wait, is_timed, group_name_at, range_between};
+ghost use Rattle.convoy_scenario.specs.Scenario.{GoesTo, message_at, may_wait, is_timed, group_name_at, range_between, Message, Scenario};
 ghost use Rattle.convoy_scenario.specs.Targets.{with_target};
 ghost use Rattle.convoy_scenario.specs.WellFormed.{IsScenario};
 
@@ -23,8 +23,6 @@ pub struct Multicast {
 }
 
 impl Model for Multicast {
-    ghost use Rattle.convoy_scenario.specs.Scenario.{Message};
-
     ghost Value = { Message };
 
     ghost view = { λ m. record {
@@ -69,9 +67,6 @@ pub struct Scenario {
 }
 
 impl Model for Scenario {
-    ghost use Rattle.convoy_scenario.specs.Scenario.{Scenario};
-    ghost use Rattle.convoy_scenario.specs.WellFormed.{IsScenario};
-
     ghost Value = { Scenario };
 
     ghost view = { λ s. record {
@@ -85,16 +80,7 @@ impl Model for Scenario {
       target_group = s.target_group;
     } };
 
-    ghost invariant = { λ s. IsScenario (record {
-      time = s.time;
-      tick = s.tick;
-      delay = s.delay;
-      groups = s.groups.items;
-      links = s.links.items;
-      multicasts = s.multicasts.items;
-      target_message = s.target_message;
-      target_group = s.target_group;
-    }) };
+    ghost invariant = { λ s. IsScenario (view s) };
 }
 
 impl Scenario {

@@ -11,7 +11,7 @@ use Rattle.convoy_lines.specs.Chains.{◌>>=◌}
 use Rattle.convoy_lines.specs.Labels.{words_after}
 use Rattle.convoy_scenario_lines.specs.declared.version.Version.{Version}
 use Rattle.convoy_scenario_lines.specs.LineForms.{name_of, named_sender, greatest_delay_number, groups_in, link_in, issue_in, multicast_in, target_in}
-use Rattle.convoy_scenario_lines.specs.Lines.{issue_word}
+use Rattle.convoy_scenario_lines.specs.ScenarioLines.{issue_word}
 use Rattle.convoy_scenario_lines.proofs.Issues.{CanWait, issue_takes}
 use Rattle.convoy_lines.specs.Texts.{line_of}
 use Rattle.convoy_lines.proofs.LabelLemmas.{bind_some, label_takes}

@@ -17,10 +17,10 @@ use Rattle.convoy_scenario_lines.specs.declared.version.Version.{Version}
 use Rattle.convoy_scenario_lines.specs.declared.version.Version.TheVariants.{One, Two, Three}
 use Rattle.convoy_lines.specs.Chains.{◌>>=◌}
 use Rattle.convoy_lines.specs.Labels.{greatest_number}
-use Rattle.convoy_lines.specs.Laws.{IsWord}
+use Rattle.convoy_lines.specs.LineLaws.{IsWord}
 use Rattle.convoy_lines.specs.Words.{Lacks, is_number, number_of}
 use Rattle.convoy_scenario_lines.specs.LineForms.{tick_alone, around_dots, tick_range, issue_in}
-use Rattle.convoy_scenario_lines.specs.Lines.{issue_word}
+use Rattle.convoy_scenario_lines.specs.ScenarioLines.{issue_word}
 use Rattle.convoy_lines.proofs.LabelLemmas.{bind_some}
 use Rattle.convoy_lines.proofs.Spelling.{number_takes, number_again, decimal_word}
 

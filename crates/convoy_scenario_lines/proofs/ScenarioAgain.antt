@@ -24,11 +24,11 @@ use Rattle.convoy_scenario.specs.WellFormed.{IsSender, IsLink, IsMulticast, IsSc
 use Rattle.convoy_draft.specs.Names.{is_letter, is_digit, is_name_byte, is_name, is_group_name, client_word}
 use Rattle.convoy_draft.specs.Limits.{is_tick}
 use Rattle.convoy_draft.specs.Checks.{checks, is_among, judge}
-use Rattle.convoy_scenario_lines.specs.Laws.{CanSayTime, CanSayLinks, CanSay}
+use Rattle.convoy_scenario_lines.specs.ScenarioLineLaws.{CanSayTime, CanSayLinks, CanSay}
 use Rattle.convoy_draft.specs.Durations.{count_of, unit_of, unit_word}
 use Rattle.convoy_draft.specs.declared.duration.TheConstants.{LONGEST_DURATION, MOST_UNITS}
 use Rattle.convoy_scenario.specs.Numbering.{delay_of_draft, message_of, numbers_of, scenario_of, scenario_of_draft}
-use Rattle.convoy_scenario_lines.specs.Lines.{time_lines, issue_word, tick_line, tick_lines, lines_from_delay, delay_line, groups_line, link_line, multicast_line, target_line, scenario_lines}
+use Rattle.convoy_scenario_lines.specs.ScenarioLines.{time_lines, issue_word, tick_line, tick_lines, lines_from_delay, delay_line, groups_line, link_line, multicast_line, target_line, scenario_lines}
 use Rattle.convoy_lines.specs.Labels.{begins_with, number_in}
 use Rattle.convoy_scenario_lines.specs.LineForms.{name_of, named_sender, greatest_delay_number, groups_in, link_in, multicast_in, target_in}
 use Rattle.convoy_lines.specs.Words.{Lacks, words_of}
@@ -43,7 +43,7 @@ use Rattle.convoy_scenario_lines.proofs.LinkOrder.{none_misplaced}
 use Rattle.convoy_scenario_lines.proofs.Links.{no_more}
 use Rattle.convoy_scenario_lines.proofs.TickLines.{tick_words, tick_again}
 use Rattle.convoy_scenario_lines.proofs.ScenarioTakes.{SaysTime, of_draft, named, count_lines, count_all, lines_before, after_time, after_tick, after_delay, after_groups, after_links, after_messages, after_target}
-use Rattle.convoy_lines.specs.Laws.{IsWord}
+use Rattle.convoy_lines.specs.LineLaws.{IsWord}
 use Rattle.convoy_lines.proofs.LabelLemmas.{label_again, number_line_again}
 use Rattle.convoy_lines.proofs.Spelling.{AreWords, AreLines, lines_append, number_again, decimal_word, words_again, line_lacks, known_word}
 

@@ -26,12 +26,12 @@ use Rattle.convoy_scenario.specs.Scenario.{Scenario, message_at, may_wait}
 use Rattle.convoy_scenario.specs.WellFormed.{IsScenario}
 use Rattle.convoy_draft.specs.Names.{is_name, is_group_name, client_word}
 use Rattle.convoy_draft.specs.Limits.{greatest_delay}
-use Rattle.convoy_scenario_lines.specs.Laws.{CanSayTime, CanSayLinks, CanSay, IsBetween}
+use Rattle.convoy_scenario_lines.specs.ScenarioLineLaws.{CanSayTime, CanSayLinks, CanSay, IsBetween}
 use Rattle.convoy_draft.specs.Checks.{checks, judge, ticks, has_wait, is_within, is_among, is_known_sender, knows, has_range, knows_link, is_message}
 use Rattle.convoy_scenario.specs.Numbering as numbering
 use Rattle.convoy_scenario.specs.Numbering.{place, numbers_of, link_of, message_of, in_order, delay_of_draft, links_of_draft, scenario_of, scenario_of_draft}
 use Rattle.convoy_lines.specs.Texts.{line_of}
-use Rattle.convoy_scenario_lines.specs.Lines.{time_line, time_lines, tick_lines, lines_from_delay, delay_line, groups_line, link_line, issue_word, multicast_line, target_line, scenario_lines}
+use Rattle.convoy_scenario_lines.specs.ScenarioLines.{time_line, time_lines, tick_lines, lines_from_delay, delay_line, groups_line, link_line, issue_word, multicast_line, target_line, scenario_lines}
 use Rattle.convoy_lines.specs.Labels.{number_in}
 use Rattle.convoy_scenario_lines.specs.LineForms.{name_of, named_sender, time_in, tick_in, groups_in, link_in, multicast_in, target_in}
 use Rattle.convoy_lines.specs.Results.{◌>>=◌}

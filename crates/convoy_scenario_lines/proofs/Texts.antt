@@ -8,7 +8,7 @@ use Rattle.convoy_scenario.specs.Scenario.{Scenario, Link, group_name_at}
 use Rattle.convoy_scenario.specs.declared.sender.Sender.{Sender}
 use Rattle.convoy_scenario_lines.specs.declared.version.Version.{Version}
 use Rattle.convoy_lines.specs.Texts.{ended, line_of, spaced, text_of}
-use Rattle.convoy_scenario_lines.specs.Lines.{time_lines, tick_lines, lines_from_delay, delay_line, groups_line, link_line, multicast_line, target_line, scenario_text}
+use Rattle.convoy_scenario_lines.specs.ScenarioLines.{time_lines, tick_lines, lines_from_delay, delay_line, groups_line, link_line, multicast_line, target_line, scenario_text}
 
 pub flat_map_map : {A B C : Type 0} (f : B → List C) (g : A → B) (xs : List A) → flat_map f (map g xs) ≡ flat_map (λ x. f (g x)) xs
 flat_map_map f g [] = refl

@@ -12,11 +12,11 @@ use Rattle.convoy_draft.specs.declared.duration.TheConstants.{LONGEST_DURATION, 
 use Rattle.convoy_draft.specs.Durations.{count_of, unit_length, unit_named, unit_of, unit_word, within_longest}
 use Rattle.convoy_lines.specs.Chains.{◌>>=◌}
 use Rattle.convoy_lines.specs.Labels.{greatest_number, words_after}
-use Rattle.convoy_lines.specs.Laws.{IsWord}
+use Rattle.convoy_lines.specs.LineLaws.{IsWord}
 use Rattle.convoy_lines.specs.Texts.{line_of}
 use Rattle.convoy_lines.specs.Words.{next_word, number_of}
 use Rattle.convoy_scenario_lines.specs.LineForms.{tick_in}
-use Rattle.convoy_scenario_lines.specs.Lines.{tick_line}
+use Rattle.convoy_scenario_lines.specs.ScenarioLines.{tick_line}
 use Rattle.convoy_lines.proofs.LabelLemmas.{bind_some, label_takes, label_again}
 use Rattle.convoy_lines.proofs.Spelling.{AreWords, number_takes, number_again, decimal_word, known_word}
 

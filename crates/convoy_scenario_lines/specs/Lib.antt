@@ -13,8 +13,8 @@ pub use Rattle.convoy_scenario.specs.Numbering
 pub use Rattle.convoy_scenario.specs.Scenario
 pub use Rattle.convoy_scenario.specs.WellFormed
 -- what a reader has to believe: the lines of a scenario, and what is proved of them
-pub mod Lines
-pub mod Laws
+pub mod ScenarioLines
+pub mod ScenarioLineLaws
 -- which lines are read as what, and which fault they have
 pub mod LineForms
 pub mod LineReading

@@ -12,7 +12,7 @@ use Rattle.convoy_draft.specs.Durations.{unit_length, unit_named, unit_of, unit_
 use Rattle.convoy_draft.specs.Names.{client_word}
 use Rattle.convoy_scenario_lines.specs.declared.version.Version.{Version}
 use Rattle.convoy_scenario_lines.specs.declared.version.Version.TheVariants.{One, Two, Three}
-use Rattle.convoy_scenario_lines.specs.Lines.{time_line}
+use Rattle.convoy_scenario_lines.specs.ScenarioLines.{time_line}
 
 -- A word as a name. One that is not UTF-8 is no name; it stands as the name of no bytes, which is none, either.
 abbrev pub name_of : List ℕ → List ℕ

@@ -2,13 +2,13 @@
 #![tactic(auto)]
 
 pub use line_fault::{Expected, LineFault};
-pub use lines::write_lines;
+pub use line_writing::write_lines;
 pub use scenario_lines::read_lines;
 pub use version::Version;
 
-pub mod laws;
 mod line_fault;
 mod line_forms;
-mod lines;
+mod line_writing;
+pub mod scenario_line_laws;
 mod scenario_lines;
 mod version;

@@ -1,5 +1,8 @@
+ghost use Rattle.std.specs.Prelude.{◌≡◌};
+ghost use Rattle.convoy_scenario_lines.specs.declared.line_fault.LineFault.TheVariants.{Memory};
+
 use convoy_scenario::ScenarioFault;
-use std::alloc::{AllocError, AllocFailed};
+use std::alloc::AllocError;
 use std::fmt;
 use thiserror::Error;
 
@@ -56,23 +59,9 @@ impl fmt::Display for Expected {
 }
 
 impl From<AllocError> for LineFault {
-    ghost use Rattle.std.specs.Prelude.{◌≡◌};
-    ghost use Rattle.convoy_scenario_lines.specs.declared.line_fault.LineFault.TheVariants.{Memory};
-
     ghost from_gives = { λ _ fault. fault ≡ Memory };
 
     fn from(_error: AllocError) -> LineFault {
-        LineFault::Memory
-    }
-}
-
-impl<T: Drop> From<AllocFailed<T>> for LineFault {
-    ghost use Rattle.std.specs.Prelude.{◌≡◌};
-    ghost use Rattle.convoy_scenario_lines.specs.declared.line_fault.LineFault.TheVariants.{Memory};
-
-    ghost from_gives = { λ _ fault. fault ≡ Memory };
-
-    fn from(_error: AllocFailed<T>) -> LineFault {
         LineFault::Memory
     }
 }

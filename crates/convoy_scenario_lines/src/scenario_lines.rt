@@ -17,7 +17,10 @@ use convoy_scenario::{
     DraftLink, DraftMulticast, DraftScenario, Duration, Limit, Link, MOST_LINKS, MOST_MULTICASTS,
     Name, Scenario, ScenarioFault, Time,
 };
-use std::alloc::Global;
+use std::alloc::{AllocError, Global};
+
+/// What is read of lines, or the first fault there.
+type Read<T> = Result<T, LineFault>;
 
 /// Reads the lines of a scenario, up to the line `target`, as a version has them (docs/FORMATS.md,
 /// "Certificate text").
@@ -43,11 +46,7 @@ pub fn read_lines(
 }
 
 /// Reads the lines of a scenario. After a fault the reader stands somewhere among them.
-fn read_scenario(
-    alloc: Global,
-    version: Version,
-    reader: &mut LineReader,
-) -> Result<Scenario, LineFault>
+fn read_scenario(alloc: Global, version: Version, reader: &mut LineReader) -> Read<Scenario>
     ensures { IsUnlessMemory LineFault.Memory (scenario_at version reader.old)
         (result_map_both (λ scenario. (scenario, reader.new)) (λ fault. fault) result) }
 {
@@ -57,11 +56,7 @@ fn read_scenario(
 /// Reads the lines of a scenario, and keeps of a line no more names than show its fault: a line may
 /// have millions of them.
 #[tactic(auto, unfolding(crate::specs::Keeping::kept_scenario_at))]
-fn read_kept(
-    alloc: Global,
-    version: Version,
-    reader: &mut LineReader,
-) -> Result<Scenario, LineFault>
+fn read_kept(alloc: Global, version: Version, reader: &mut LineReader) -> Read<Scenario>
     ensures { IsUnlessMemory LineFault.Memory (kept_scenario_at version reader.old)
         (result_map_both (λ scenario. (scenario, reader.new)) (λ fault. fault) result) }
 {
@@ -96,7 +91,7 @@ fn read_kept(
     }
 }
 
-fn scenario_of(alloc: Global, draft: DraftScenario) -> Result<Scenario, LineFault>
+fn scenario_of(alloc: Global, draft: DraftScenario) -> Read<Scenario>
     ensures { IsUnlessMemory LineFault.Memory (told (scenario_of_draft draft)) result }
 {
     match Scenario::from_draft(alloc, draft) {
@@ -107,7 +102,7 @@ fn scenario_of(alloc: Global, draft: DraftScenario) -> Result<Scenario, LineFaul
 }
 
 /// How time goes: by the next line in version 3, and in whole ticks in the others.
-fn read_time(version: Version, reader: &mut LineReader) -> Result<Time, LineFault>
+fn read_time(version: Version, reader: &mut LineReader) -> Read<Time>
     ensures { result_map_both (λ time. (time, reader.new)) (λ fault. fault) result
         ≡ time_at version reader.old }
 {
@@ -117,9 +112,8 @@ fn read_time(version: Version, reader: &mut LineReader) -> Result<Time, LineFaul
     }
 }
 
-fn read_time_line(reader: &mut LineReader) -> Result<Time, LineFault>
-    ensures { result_map_both (λ time. (time, reader.new)) (λ fault. fault) result
-        ≡ form_at Expected.Time time_in reader.old }
+fn read_time_line(reader: &mut LineReader) -> Read<Time>
+    ensures { result_map_both (λ time. (time, reader.new)) (λ fault. fault) result ≡ form_at Expected.Time time_in reader.old }
 {
     let wrong = LineFault::Line(reader.number(), Expected::Time);
     let line = reader.line().ok_or(wrong)?;
@@ -127,7 +121,7 @@ fn read_time_line(reader: &mut LineReader) -> Result<Time, LineFault>
 }
 
 /// How long a tick lasts, by the next line, where it begins with `tick`.
-fn read_tick(version: Version, reader: &mut LineReader) -> Result<Option<Duration>, LineFault>
+fn read_tick(version: Version, reader: &mut LineReader) -> Read<Option<Duration>>
     ensures { result_map_both (λ tick. (tick, reader.new)) (λ fault. fault) result
         ≡ tick_at version reader.old }
 {
@@ -138,9 +132,8 @@ fn read_tick(version: Version, reader: &mut LineReader) -> Result<Option<Duratio
     Ok(Some(tick))
 }
 
-fn read_tick_line(reader: &mut LineReader) -> Result<Duration, LineFault>
-    ensures { result_map_both (λ tick. (tick, reader.new)) (λ fault. fault) result
-        ≡ form_at Expected.Tick tick_in reader.old }
+fn read_tick_line(reader: &mut LineReader) -> Read<Duration>
+    ensures { result_map_both (λ tick. (tick, reader.new)) (λ fault. fault) result ≡ form_at Expected.Tick tick_in reader.old }
 {
     let wrong = LineFault::Line(reader.number(), Expected::Tick);
     let line = reader.line().ok_or(wrong)?;
@@ -157,7 +150,7 @@ fn is_tick_due(version: Version, reader: &LineReader) -> bool
     }
 }
 
-fn read_delay(reader: &mut LineReader) -> Result<u32, LineFault>
+fn read_delay(reader: &mut LineReader) -> Read<u32>
     ensures { result_map_both (λ delay. (delay, reader.new)) (λ fault. fault) result
         ≡ form_at Expected.Delay (number_in (codes "delay")) reader.old }
 {
@@ -166,7 +159,7 @@ fn read_delay(reader: &mut LineReader) -> Result<u32, LineFault>
     number_in(line, b"delay").ok_or(wrong)
 }
 
-fn read_groups(alloc: Global, reader: &mut LineReader) -> Result<Vec<Name>, LineFault>
+fn read_groups(alloc: Global, reader: &mut LineReader) -> Read<Vec<Name>>
     ensures { IsUnlessMemory LineFault.Memory (form_at Expected.Groups kept_groups_in reader.old)
         (result_map_both (λ groups. (groups.items, reader.new)) (λ fault. fault) result) }
 {
@@ -175,7 +168,7 @@ fn read_groups(alloc: Global, reader: &mut LineReader) -> Result<Vec<Name>, Line
     groups_in(alloc, line, wrong)
 }
 
-fn read_link(alloc: Global, reader: &mut LineReader) -> Result<DraftLink, LineFault>
+fn read_link(alloc: Global, reader: &mut LineReader) -> Read<DraftLink>
     ensures { IsUnlessMemory LineFault.Memory (form_at Expected.Link link_in reader.old)
         (result_map_both (λ link. (link, reader.new)) (λ fault. fault) result) }
 {
@@ -184,11 +177,7 @@ fn read_link(alloc: Global, reader: &mut LineReader) -> Result<DraftLink, LineFa
     link_in(alloc, line, wrong)
 }
 
-fn read_links(
-    alloc: Global,
-    version: Version,
-    reader: &mut LineReader,
-) -> Result<Vec<DraftLink>, LineFault>
+fn read_links(alloc: Global, version: Version, reader: &mut LineReader) -> Read<Vec<DraftLink>>
     ensures { IsUnlessMemory LineFault.Memory (links_at version 0 reader.old)
         (result_map_both (λ links. (links.items, reader.new)) (λ fault. fault) result) }
 {
@@ -198,7 +187,7 @@ fn read_links(
         if links.len() == MOST_LINKS {
             return Err(LineFault::Scenario(ScenarioFault::OverLimit(Limit::Link)));
         }
-        links.push(link)?;
+        links.push(link).map_err(AllocError::from)?;
     }
     Ok(links)
 }
@@ -218,7 +207,7 @@ fn read_multicast(
     version: Version,
     groups: &[Name],
     reader: &mut LineReader,
-) -> Result<DraftMulticast, LineFault>
+) -> Read<DraftMulticast>
     ensures { IsUnlessMemory LineFault.Memory
         (form_at Expected.Multicast (kept_multicast_in version groups.now) reader.old)
         (result_map_both (λ message. (message, reader.new)) (λ fault. fault) result) }
@@ -233,7 +222,7 @@ fn read_multicasts(
     version: Version,
     groups: &[Name],
     reader: &mut LineReader,
-) -> Result<Vec<DraftMulticast>, LineFault>
+) -> Read<Vec<DraftMulticast>>
     ensures { IsUnlessMemory LineFault.Memory (kept_messages_at version groups.now 0 reader.old)
         (result_map_both (λ messages. (messages.items, reader.new)) (λ fault. fault) result) }
 {
@@ -243,7 +232,7 @@ fn read_multicasts(
         if multicasts.len() == MOST_MULTICASTS {
             return Err(LineFault::Scenario(ScenarioFault::OverLimit(Limit::Multicasts)));
         }
-        multicasts.push(multicast)?;
+        multicasts.push(multicast).map_err(AllocError::from)?;
     }
     Ok(multicasts)
 }
@@ -256,7 +245,7 @@ fn is_multicast_due(reader: &LineReader, count: usize) -> bool
     count == 0 || reader.begins_with(b"multicast")
 }
 
-fn read_target(alloc: Global, reader: &mut LineReader) -> Result<(Name, Name), LineFault>
+fn read_target(alloc: Global, reader: &mut LineReader) -> Read<(Name, Name)>
     ensures { IsUnlessMemory LineFault.Memory (form_at Expected.Target target_in reader.old)
         (result_map_both (λ target. (target, reader.new)) (λ fault. fault) result) }
 {

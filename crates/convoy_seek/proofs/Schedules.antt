@@ -2,7 +2,7 @@
 use Rattle.std.proofs.Common.{◌≡◌, ℕ, suc, List, [], ◌∷◌, length, refl, ap, subst, sym, ◌∙◌}
 use Rattle.convoy_scenario.specs.Scenario.{Scenario}
 use Rattle.convoy_packets.specs.Assignment.{AreWithin, IsAssignment, Schedule, ranges_of}
-use Rattle.convoy_packets.specs.Laws.{FixedOrderIsOrder}
+use Rattle.convoy_packets.specs.ScheduleLaws.{FixedOrderIsOrder}
 use Rattle.convoy_packets.specs.Order.{IsOrder, Order, no_order}
 use Rattle.convoy_packets.specs.Table.{PacketTable, greatest_of, table_of}
 use Rattle.convoy_sim.specs.Record.{IsAttained}

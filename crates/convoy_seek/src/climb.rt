@@ -9,7 +9,7 @@ use crate::seeker::Seeker;
 use crate::sweep::Sweep;
 use crate::ties::{flip_ranks, is_real};
 use crate::waits::{some_may_wait, wait_by_chance};
-use convoy_packets::laws::fixed_order_is_order;
+use convoy_packets::schedule_laws::fixed_order_is_order;
 use convoy_packets::{Instance, Order, Packet, PacketTable, Schedule};
 use std::alloc::{AllocError, Global};
 

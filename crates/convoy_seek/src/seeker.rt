@@ -2,8 +2,9 @@ use crate::chance::Chance;
 use crate::rival::Rival;
 use crate::score::Score;
 use convoy_packets::{Instance, Schedule};
+use convoy_scenario::AllocResult;
 use convoy_sim::{Record, Run, simulate};
-use std::alloc::{AllocError, Global};
+use std::alloc::Global;
 
 /// Where seeking stands.
 #[derive(Drop)]
@@ -41,7 +42,7 @@ impl Seeker {
 
     /// Simulates the schedule that is tried, and keeps a record of it where its latency is greater
     /// than that of the best one.
-    pub fn simulate_tried(&mut self, alloc: Global, instance: &Instance) -> Result<Run, AllocError>
+    pub fn simulate_tried(&mut self, alloc: Global, instance: &Instance) -> AllocResult<Run>
         requires seeking { IsSeeking instance.now self.old }
         requires left { 0 < self.old.left }
         ensures goes_on { GoesOn instance.now self.old self.new }
@@ -57,12 +58,7 @@ impl Seeker {
 
     /// Simulates the schedule that is tried, keeps a record of it likewise, and answers its score by a
     /// rival.
-    pub fn weigh(
-        &mut self,
-        alloc: Global,
-        instance: &Instance,
-        rival: usize,
-    ) -> Result<Score, AllocError>
+    pub fn weigh(&mut self, alloc: Global, instance: &Instance, rival: usize) -> AllocResult<Score>
         requires seeking { IsSeeking instance.now self.old }
         requires left { 0 < self.old.left }
         ensures goes_on { GoesOn instance.now self.old self.new }
@@ -73,7 +69,7 @@ impl Seeker {
     }
 
     /// Makes the schedule that is tried the best record, than which it is no faster.
-    pub fn note(&mut self, alloc: Global, instance: &Instance) -> Result<(), AllocError>
+    pub fn note(&mut self, alloc: Global, instance: &Instance) -> AllocResult<()>
         requires seeking { IsSeeking instance.now self.old }
         requires no_less { self.old.best.latency ≤ latency_of instance.now self.old.tried }
         ensures goes_on { GoesOn instance.now self.old self.new }

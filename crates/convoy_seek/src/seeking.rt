@@ -6,7 +6,7 @@ ghost use Rattle.convoy_seek.specs.Seeking.{IsSeeking};
 use crate::chance::Chance;
 use crate::seeker::Seeker;
 use crate::ties::is_real;
-use convoy_packets::laws::fixed_order_is_order;
+use convoy_packets::schedule_laws::fixed_order_is_order;
 use convoy_packets::{Instance, Schedule};
 use convoy_sim::Record;
 use std::alloc::{AllocError, Global};

@@ -7,7 +7,8 @@ use crate::rival::{Rival, list_rivals};
 use crate::score::Score;
 use crate::seeker::Seeker;
 use convoy_packets::Instance;
-use std::alloc::{AllocError, Global};
+use convoy_scenario::AllocResult;
+use std::alloc::Global;
 
 /// A rival, with the pattern from which its first climb goes.
 #[derive(Clone, Copy)]
@@ -23,7 +24,7 @@ impl Seeker {
     /// Tries the schedule as it stands, that of the greatest delays, and then patterns. Then it climbs
     /// for as long as it may: in turn for each rival by which it may gain, from its best pattern, and in
     /// real time or where some message may wait after that from others of the rival.
-    pub fn run(&mut self, alloc: Global, instance: &Instance) -> Result<(), AllocError>
+    pub fn run(&mut self, alloc: Global, instance: &Instance) -> AllocResult<()>
         requires seeking { IsSeeking instance.now self.old }
         requires left { 0 < self.old.left }
         ensures goes_on { GoesOn instance.now self.old self.new }
@@ -54,7 +55,7 @@ impl Seeker {
         alloc: Global,
         instance: &Instance,
         rivals: &[Rival],
-    ) -> Result<Vec<Start>, AllocError>
+    ) -> AllocResult<Vec<Start>>
         requires seeking { IsSeeking instance.now self.old }
         ensures goes_on { GoesOn instance.now self.old self.new }
     {
@@ -75,7 +76,7 @@ impl Seeker {
         alloc: Global,
         instance: &Instance,
         rival: Rival,
-    ) -> Result<Pattern, AllocError>
+    ) -> AllocResult<Pattern>
         requires seeking { IsSeeking instance.now self.old }
         ensures goes_on { GoesOn instance.now self.old self.new }
     {

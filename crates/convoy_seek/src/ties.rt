@@ -6,7 +6,7 @@ ghost use Rattle.convoy_packets.specs.Assignment.{IsAssignment};
 ghost use Rattle.convoy_packets.specs.OrderLists.{AreSmall};
 
 use crate::chance::Chance;
-use convoy_packets::laws::ranks_are_one_each;
+use convoy_packets::schedule_laws::ranks_are_one_each;
 use convoy_packets::{Instance, Order, Schedule};
 use convoy_scenario::Time;
 use std::alloc::{AllocError, Global};

@@ -10,15 +10,15 @@ use Rattle.convoy_shares.specs.Shares.{whole}
 use Rattle.convoy_ledger.specs.Tickets.{LedgerId, Account, HasAll}
 use Rattle.convoy_branch.specs.declared.limit.Limit.{Limit}
 use Rattle.convoy_branch.specs.Fronts.{left_in}
-use Rattle.convoy_branch.specs.Laws.{FrontsBetter}
+use Rattle.convoy_branch.specs.FrontLaws.{FrontsBetter}
 use Rattle.convoy_branch.specs.Steps.{IsOpenPoint}
 use Rattle.convoy_share_deque.specs.Tasks.{AreAllTaken}
 use Rattle.convoy_share.specs.declared.ending.Ended.{Ended}
 use Rattle.convoy_share.specs.declared.means.Means.{Means}
-use Rattle.convoy_share.specs.declared.owner.OwnerWorker.{OwnerWorker}
+use Rattle.convoy_share.specs.declared.workers.OwnerWorker.{OwnerWorker}
 use Rattle.convoy_share.specs.declared.piece.Piece.{Piece}
 use Rattle.convoy_share.specs.declared.searching.Closed.{Closed}
-use Rattle.convoy_share.specs.declared.thief.ThiefWorker.{ThiefWorker}
+use Rattle.convoy_share.specs.declared.workers.ThiefWorker.{ThiefWorker}
 use Rattle.convoy_share.specs.Common.{Common}
 use Rattle.convoy_share.specs.Ended.{IsClosed, IsEnded, IsTreeAtEnd}
 use Rattle.convoy_share.specs.Filling.{CanBeFilled, IsFilling}

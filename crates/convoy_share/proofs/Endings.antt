@@ -13,7 +13,7 @@ use Rattle.convoy_branch.specs.Uppers.{IsUpperOf}
 use Rattle.convoy_intervals.specs.Boxes.{Box, root_of}
 use Rattle.convoy_checker.specs.Validity.{IsTree}
 use Rattle.convoy_branch.specs.Fronts.{IsFront, spent_in, left_in}
-use Rattle.convoy_branch.specs.Laws.{WholeFrontsAreTrees}
+use Rattle.convoy_branch.specs.FrontLaws.{WholeFrontsAreTrees}
 use Rattle.convoy_share.specs.declared.piece.Piece.{Piece}
 use Rattle.convoy_share.specs.declared.piece.Piece.TheVariants.{Done, Todo, Pushed}
 use Rattle.convoy_share.specs.Pieces.{front, nodes_in, AreTreesOf, spent}

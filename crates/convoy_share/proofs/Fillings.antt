@@ -13,7 +13,7 @@ use Rattle.convoy_intervals.specs.Tracked.{Tracked}
 use Rattle.convoy_branch.specs.declared.bounds.Bounds.{Bounds}
 use Rattle.convoy_certificate.specs.declared.node.Node.{Node}
 use Rattle.convoy_branch.specs.Fronts.{FrontNode, Spent, left_box, left_in}
-use Rattle.convoy_branch.specs.Laws.{FrontsBetter}
+use Rattle.convoy_branch.specs.FrontLaws.{FrontsBetter}
 use Rattle.convoy_share.specs.declared.piece.Piece.{Piece}
 use Rattle.convoy_share.specs.declared.piece.Piece.TheVariants.{Done, Todo, Pushed}
 use Rattle.convoy_share.specs.Pieces.{front, front_of, pushed_number, AreTreesOf, places_in, spent, IsPiece}

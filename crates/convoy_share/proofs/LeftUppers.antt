@@ -4,7 +4,7 @@ use Rattle.std.proofs.Common.{drop, ap, sym, subst, ◌∙◌}
 use Rattle.std.proofs.lemmas.List.{drop_more}
 use Rattle.convoy_scenario.specs.Scenario.{Scenario}
 use Rattle.convoy_branch.specs.declared.bounds.Bounds.{Bounds}
-use Rattle.convoy_branch.specs.Laws.{UppersRaised}
+use Rattle.convoy_branch.specs.FrontLaws.{UppersRaised}
 use Rattle.convoy_branch.specs.Uppers.{IsUpperOf}
 use Rattle.convoy_share.specs.declared.piece.Piece.{Piece}
 use Rattle.convoy_share.specs.declared.piece.Piece.TheVariants.{Done, Todo, Pushed}

@@ -7,14 +7,14 @@ use Rattle.std.proofs.lemmas.List.Elements.{All-nil, All-head, All-tail, All-pus
 use Rattle.convoy_scenario.specs.Scenario.{Scenario}
 use Rattle.convoy_certificate.specs.declared.node.Node.{Node}
 use Rattle.convoy_intervals.specs.Boxes.{Box}
-use Rattle.convoy_intervals.specs.Laws.{UpperKeepsGreatest}
+use Rattle.convoy_intervals.specs.BoxLaws.{UpperKeepsGreatest}
 use Rattle.convoy_intervals.specs.Tracked.{Tracked}
 use Rattle.convoy_packets.specs.Table.{IsTable, table_of}
 use Rattle.convoy_ledger.specs.Tickets.{times}
 use Rattle.convoy_branch.specs.declared.bounds.Bounds.{Bounds}
 use Rattle.convoy_branch.specs.declared.limit.Limit.{Limit}
 use Rattle.convoy_branch.specs.declared.step.Turn.TheVariants.{Closed}
-use Rattle.convoy_branch.specs.Laws.{FrontsBetter, TurnsAreFronts, TurnsAreNodes}
+use Rattle.convoy_branch.specs.FrontLaws.{FrontsBetter, TurnsAreFronts, TurnsAreNodes}
 use Rattle.convoy_branch.specs.SearchBounds.{closes_for}
 use Rattle.convoy_branch.specs.Steps.{IsOpenPoint}
 use Rattle.convoy_share.specs.declared.piece.Piece.{Piece}
@@ -153,11 +153,6 @@ pub IsTreeAtEnd-done : (bounds : Bounds) (scenario : Scenario) (best tickets : �
 IsTreeAtEnd-done bounds scenario best tickets limit pieces none tree =
     let P = IsOpenPoint bounds scenario best in
     record { whole = tree.whole; few = tree.few; left = inl (subst (λ (bs : List Box). All P bs) (sym (none_left pieces none)) (All-nil P)) }
-
--- all is looked at
-pub IsTreeAtEnd-looked : (bounds : Bounds) (scenario : Scenario) (best : ℕ) (limit : Limit) (put : List Box) (slots : List (List Piece)) (tickets : ℕ) (done : List Piece) → IsLooking bounds scenario best limit put slots tickets done [] → IsTreeAtEnd (IsOpenPoint bounds scenario best) bounds scenario best tickets limit done
-IsTreeAtEnd-looked bounds scenario best limit put slots tickets done is =
-    record { whole = record { put = put; slots = slots; filling = is.filling }; few = is.few; left = is.left }
 
 -- one piece more is looked at, for which so many tickets are spent
 pub IsLooking-next : (better : FrontsBetter) (fronts : TurnsAreFronts) (nodes : TurnsAreNodes) (keeps : UpperKeepsGreatest) (bounds : Bounds) (scenario : Scenario) (best : ℕ) (limit : Limit) (put : List Box) (slots : List (List Piece)) (tickets : ℕ) (done rest : List Piece) (piece looked : Piece) (more : ℕ)

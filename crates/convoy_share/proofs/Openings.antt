@@ -6,8 +6,8 @@ use Rattle.std.proofs.lemmas.List.Elements.{All-nil, All-push}
 use Rattle.std.proofs.lemmas.List.Sums.{sum_by_push}
 use Rattle.convoy_shares.specs.Shares.{whole}
 use Rattle.convoy_share_deque.specs.Tasks.{DequeId, whole_share}
-use Rattle.convoy_share.specs.declared.owner.OwnerWorker.{OwnerWorker}
-use Rattle.convoy_share.specs.declared.thief.ThiefWorker.{ThiefWorker}
+use Rattle.convoy_share.specs.declared.workers.OwnerWorker.{OwnerWorker}
+use Rattle.convoy_share.specs.declared.workers.ThiefWorker.{ThiefWorker}
 use Rattle.convoy_share.specs.Common.{Common}
 use Rattle.convoy_share.specs.Opening.{AreOpened, room}
 use Rattle.convoy_share.specs.Workers.{IsOwner, IsThief, IsThiefOf}

@@ -15,14 +15,14 @@ use Rattle.convoy_certificate.specs.Reading.{AreReadable}
 use Rattle.convoy_certificate.specs.Text.{is_lead, is_stamp}
 use Rattle.convoy_certificate.specs.declared.node.Node.{Node}
 use Rattle.convoy_intervals.specs.Boxes.{Box, root_of}
-use Rattle.convoy_checker.specs.Laws.{TreesCover}
+use Rattle.convoy_checker.specs.TreeLaws.{TreesCover}
 use Rattle.convoy_branch.specs.declared.bounds.Bounds.{Bounds}
 use Rattle.convoy_branch.specs.declared.limit.Limit.{Limit}
 use Rattle.convoy_branch.specs.Limits.{IsWithin}
 use Rattle.convoy_branch.specs.SearchBounds.{most_nodes}
 use Rattle.convoy_branch.specs.Uppers.{IsUpperOf}
 use Rattle.convoy_branch.specs.Fronts.{left_in}
-use Rattle.convoy_branch.specs.Laws.{FrontsBound, OnlyLeadsHaveLeadLeaves, PlainFrontsHaveNoStamps, WholeFrontsAreReadable, WholeFrontsAreTrees}
+use Rattle.convoy_branch.specs.FrontLaws.{FrontsBound, OnlyLeadsHaveLeadLeaves, PlainFrontsHaveNoStamps, WholeFrontsAreReadable, WholeFrontsAreTrees}
 use Rattle.convoy_branch.specs.Outcomes.{IsProved, IsOpen}
 use Rattle.convoy_branch.specs.Steps.{IsOpenPoint}
 use Rattle.convoy_branch.proofs.Withins.{IsWithin-all, IsWithin-spent}

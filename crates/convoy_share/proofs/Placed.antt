@@ -6,7 +6,7 @@ use Rattle.convoy_intervals.specs.Boxes.{Box}
 use Rattle.convoy_intervals.specs.Tracked.{Tracked}
 use Rattle.convoy_branch.specs.declared.bounds.Bounds.{Bounds}
 use Rattle.convoy_branch.specs.declared.step.Turn.TheVariants.{Halves}
-use Rattle.convoy_branch.specs.Laws.{FrontsBetter}
+use Rattle.convoy_branch.specs.FrontLaws.{FrontsBetter}
 use Rattle.convoy_share.specs.declared.means.Means.{Means}
 use Rattle.convoy_share.specs.declared.means.TakenUp.TheVariants.{Turned}
 use Rattle.convoy_share.specs.declared.piece.Piece.{Piece}

@@ -11,7 +11,7 @@ use Rattle.convoy_intervals.specs.Boxes.{greatest_of}
 use Rattle.convoy_checker.proofs.TreeLaws.{AreTrees-filled}
 use Rattle.convoy_branch.specs.declared.bounds.Bounds.{Bounds}
 use Rattle.convoy_branch.specs.Fronts.{AreFronts, FrontNode, Left, front_below, IsOfFront}
-use Rattle.convoy_branch.specs.Laws.{FrontsBetter}
+use Rattle.convoy_branch.specs.FrontLaws.{FrontsBetter}
 use Rattle.convoy_share.specs.declared.piece.Piece.{Piece}
 use Rattle.convoy_share.specs.declared.piece.Piece.TheVariants.{Done, Todo, Pushed}
 use Rattle.convoy_share.specs.Pieces.{front_of, AreTreesOf, IsPiece, places_in}

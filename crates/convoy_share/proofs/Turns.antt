@@ -13,12 +13,12 @@ use Rattle.convoy_certificate.specs.Certificate.{IsNode}
 use Rattle.convoy_certificate.specs.declared.node.Node.TheVariants.{Split}
 use Rattle.convoy_intervals.specs.Boxes.{Box, IsBox, greatest_of}
 use Rattle.convoy_intervals.specs.Tracked.{Tracked}
-use Rattle.convoy_intervals.specs.Laws.{UpperKeepsGreatest}
+use Rattle.convoy_intervals.specs.BoxLaws.{UpperKeepsGreatest}
 use Rattle.convoy_branch.specs.declared.bounds.Bounds.{Bounds}
 use Rattle.convoy_branch.specs.declared.step.Turn.{Turn}
 use Rattle.convoy_branch.specs.declared.step.Turn.TheVariants.{Closed, Halves}
 use Rattle.convoy_branch.specs.Steps.{IsTurn, known_after}
-use Rattle.convoy_branch.specs.Laws.{FrontsBetter, TurnsAreFronts, TurnsAreNodes}
+use Rattle.convoy_branch.specs.FrontLaws.{FrontsBetter, TurnsAreFronts, TurnsAreNodes}
 use Rattle.convoy_share.specs.declared.piece.Piece.TheVariants.{Done, Todo}
 use Rattle.convoy_share.specs.Pieces.{AreTreesOf, places_in, spent, IsPiece}
 use Rattle.convoy_share.specs.Turns.{pieces_of, IsTurned}

@@ -15,7 +15,7 @@ use Rattle.convoy_branch.specs.declared.bounds.Bounds.{Bounds}
 use Rattle.convoy_branch.specs.declared.step.Turn.{Turn}
 use Rattle.convoy_branch.specs.declared.step.Turn.TheVariants.{Halves}
 use Rattle.convoy_branch.specs.Fronts.{AreFronts, Spent, Left}
-use Rattle.convoy_branch.specs.Laws.{FrontsBetter}
+use Rattle.convoy_branch.specs.FrontLaws.{FrontsBetter}
 use Rattle.convoy_share_deque.specs.declared.task.Task.{Task}
 use Rattle.convoy_share.specs.declared.piece.Piece.{Piece}
 use Rattle.convoy_share.specs.declared.piece.Piece.TheVariants.{Done, Todo, Pushed}

@@ -8,13 +8,13 @@ use Rattle.std.proofs.lemmas.Option.{slice_get_within}
 use Rattle.convoy_scenario.specs.Scenario.{Scenario}
 use Rattle.convoy_intervals.specs.Boxes.{Box}
 use Rattle.convoy_branch.specs.declared.bounds.Bounds.{Bounds}
-use Rattle.convoy_branch.specs.Laws.{FrontsBetter}
+use Rattle.convoy_branch.specs.FrontLaws.{FrontsBetter}
 use Rattle.convoy_incumbent.specs.Boards.{Holding}
 use Rattle.convoy_share_deque.specs.declared.task.Task.{Task}
 use Rattle.convoy_share_deque.specs.Tasks.{DequeId, OwnerEnd, ThiefEnd, IsPut}
 use Rattle.convoy_share.specs.declared.piece.Piece.{Piece}
-use Rattle.convoy_share.specs.declared.owner.OwnerWorker.{OwnerWorker}
-use Rattle.convoy_share.specs.declared.thief.ThiefWorker.{ThiefWorker}
+use Rattle.convoy_share.specs.declared.workers.OwnerWorker.{OwnerWorker}
+use Rattle.convoy_share.specs.declared.workers.ThiefWorker.{ThiefWorker}
 use Rattle.convoy_share.specs.Common.{Common}
 use Rattle.convoy_share.specs.Subtrees.{Subtree, IsResult}
 use Rattle.convoy_share.specs.Means.{IsGrown, drawn}

@@ -9,7 +9,7 @@ pub mod Pieces
 pub mod Subtrees
 pub mod Filling
 pub mod Turns
-pub mod Laws
+pub mod SharedTreeLaws
 -- What the program's own parts say: a tree under way, and what a worker has in hand.
 pub mod Kept
 pub mod Growing

@@ -3,8 +3,8 @@ use Rattle.std.specs.Prelude.{◌≡◌, ℕ, zero, suc, ◌+◌, ◌-◌, ◌�
 use Rattle.std.specs.List.{All}
 use Rattle.convoy_share_deque.specs.Tasks.{whole_share}
 use Rattle.convoy_shares.specs.Shares.{whole}
-use Rattle.convoy_share.specs.declared.owner.OwnerWorker.{OwnerWorker}
-use Rattle.convoy_share.specs.declared.thief.ThiefWorker.{ThiefWorker}
+use Rattle.convoy_share.specs.declared.workers.OwnerWorker.{OwnerWorker}
+use Rattle.convoy_share.specs.declared.workers.ThiefWorker.{ThiefWorker}
 use Rattle.convoy_share.specs.Common.{Common}
 use Rattle.convoy_share.specs.Workers.{IsThiefOf, StaysOwner, hand_shares, clerk_shares}
 

@@ -3,8 +3,8 @@ use Rattle.std.specs.Prelude.{◌≡◌, ℕ, ◌+◌, ◌≤◌, ◌<◌, List,
 use Rattle.std.specs.List.{sum, sum_by}
 use Rattle.convoy_intervals.specs.Boxes.{root_of}
 use Rattle.convoy_share_deque.specs.Tasks.{DequeId}
-use Rattle.convoy_share.specs.declared.owner.OwnerWorker.{OwnerWorker}
-use Rattle.convoy_share.specs.declared.thief.ThiefWorker.{ThiefWorker}
+use Rattle.convoy_share.specs.declared.workers.OwnerWorker.{OwnerWorker}
+use Rattle.convoy_share.specs.declared.workers.ThiefWorker.{ThiefWorker}
 use Rattle.convoy_share.specs.Common.{Common}
 use Rattle.convoy_share.specs.Subtrees.{IsResult}
 use Rattle.convoy_share.specs.Means.{drawn}

@@ -5,8 +5,8 @@ ghost use Rattle.std.specs.Prelude.{IfNone, IfOk, IfSome, OnOk};
 ghost use Rattle.std.specs.List.{sum_by};
 ghost use Rattle.convoy_scenario.specs.Scenario.{Scenario};
 ghost use Rattle.convoy_intervals.specs.Boxes.{Box};
-ghost use Rattle.convoy_branch.specs.declared.bounds.Bounds.{Bounds};
 ghost use Rattle.convoy_branch.specs.Fronts.{left_in};
+ghost use Rattle.convoy_branch.specs.declared.bounds.Bounds.{Bounds};
 ghost use Rattle.convoy_share.specs.Filling.{IsFilling, slot_at};
 ghost use Rattle.convoy_share.specs.Pieces.{front};
 
@@ -134,6 +134,7 @@ impl Filling {
         }
         Ok(None)
     }
+
     /// Settles a tree that stood next, of which the pieces stand from the last one back.
     pub fn settle(&mut self, mut pieces: Vec<Settled>) -> Result<(), AllocError>
         ensures done { OnOk result (self.new.done.items ≡ self.old.done.items ++ reverse pieces.items) }

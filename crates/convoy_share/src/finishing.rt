@@ -12,7 +12,7 @@ use super::means::Means;
 use super::shared::Shared;
 use super::worker::search_branch;
 use convoy_branch::Gate;
-use convoy_branch::laws::fronts_better;
+use convoy_branch::front_laws::fronts_better;
 use std::alloc::AllocError;
 use std::sync::Wait;
 

@@ -6,10 +6,9 @@ ghost use Rattle.convoy_share.specs.Common.{common_of};
 ghost use Rattle.convoy_share.specs.Workers.{IsOwner, IsThief};
 
 use super::means::Means;
-use super::owner::OwnerWorker;
 use super::shared::Shared;
-use super::thief::ThiefWorker;
-use convoy_branch::laws::fronts_better;
+use super::workers::{OwnerWorker, ThiefWorker};
+use convoy_branch::front_laws::fronts_better;
 use std::alloc::AllocError;
 
 /// Takes in what a thief of the owner's deque brings: what it published and drew, its share of the

@@ -2,9 +2,9 @@
 
 ghost use Rattle.std.specs.Prelude.{◌≡◌, ◌⊎◌, ◌≤◌, ◌<◌, ℕ, List, false, IfNone, IfOk, IfSome};
 ghost use Rattle.convoy_intervals.specs.Boxes.{Box};
-ghost use Rattle.convoy_branch.specs.declared.step.Turn.TheVariants.{Closed};
 ghost use Rattle.convoy_branch.specs.SearchBounds.{closes_for};
 ghost use Rattle.convoy_branch.specs.Steps.{IsOpenPoint, IsTurn};
+ghost use Rattle.convoy_branch.specs.declared.step.Turn.TheVariants.{Closed};
 ghost use Rattle.convoy_share.specs.Ended.{IsTreeAtEnd};
 ghost use Rattle.convoy_share.specs.Looks.{IsLookedAt};
 ghost use Rattle.convoy_share.specs.Means.{IsTriedPoint};
@@ -12,11 +12,11 @@ ghost use Rattle.convoy_share.specs.Pieces.{IsPiece};
 
 use super::piece::{Piece, Settled};
 use super::settled::has_left;
-use convoy_branch::laws::{fronts_better, turns_are_fronts, turns_are_nodes};
+use convoy_branch::front_laws::{fronts_better, turns_are_fronts, turns_are_nodes};
 use convoy_branch::{Bounds, Gate, Limit};
 use convoy_certificate::Node;
 use convoy_intervals::Tracked;
-use convoy_intervals::laws::upper_keeps_greatest;
+use convoy_intervals::box_laws::upper_keeps_greatest;
 use convoy_packets::Instance;
 use std::alloc::{AllocError, Global};
 
@@ -25,10 +25,10 @@ use std::alloc::{AllocError, Global};
 /// the bounds close it for that latency: it was left for one that may have been less.
 pub(crate) fn settle_points<G: Gate>(
     alloc: Global,
-    gate: &G,
     instance: &Instance,
     bounds: Bounds,
     pieces: Vec<Settled>,
+    gate: &G,
     best: u32,
     tickets: u64,
     limit: Limit,

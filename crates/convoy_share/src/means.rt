@@ -2,15 +2,15 @@
 
 ghost use Rattle.std.specs.Prelude.{◌≡◌, ◌≤◌, ◌+◌, false, true, length, IfNone, IfOk, IfSome, OnOk};
 ghost use Rattle.std.specs.Bool.{OnFalse, OnTrue};
-ghost use Rattle.convoy_branch.specs.Steps.{CanTurn, IsTriedIf, IsTurn, found_in, known_after};
+ghost use Rattle.convoy_branch.specs.Steps.{CanTurn, IsBetter, IsTriedIf, IsTurn, known_after};
 ghost use Rattle.convoy_share.specs.Means.{IsTakenUp, IsTriedPoint};
 
 use super::shared::Shared;
-use convoy_branch::laws::{fronts_better, turns_are_fronts, turns_are_nodes};
+use convoy_branch::front_laws::{fronts_better, turns_are_fronts, turns_are_nodes};
 use convoy_branch::{Fate, Gate, Step, Turn, prospect_of, step_branch};
 use convoy_incumbent::{Board, Hand};
 use convoy_intervals::Tracked;
-use convoy_intervals::laws::upper_keeps_greatest;
+use convoy_intervals::box_laws::upper_keeps_greatest;
 use convoy_ledger::{Clerk, Ledger};
 use convoy_sim::Record;
 use std::alloc::AllocError;
@@ -135,8 +135,7 @@ fn step_of(
     requires of_scenario { branch.scenario ≡ shared.now.instance.now }
     requires known { IsTriedIf shared.now.instance.now branch.delay_box tried known }
     requires turns { CanTurn shared.now.bounds shared.now.instance.now branch.delay_box known }
-    ensures found { IfOk result (λ made. made.0
-        ≡ found_in shared.now.bounds shared.now.instance.now branch.delay_box known) }
+    ensures found { IfOk result (λ made. IfSome made.0 (IsBetter shared.now.instance.now known)) }
     ensures turn { IfOk result (λ made. IsTurn shared.now.bounds shared.now.instance.now
         branch.delay_box (known_after known made.0) made.1) }
 {

@@ -9,9 +9,8 @@ ghost use Rattle.convoy_share.specs.Opening.{AreOpened};
 ghost use Rattle.convoy_share.specs.Workers.{IsOwner, IsThief, StaysOwner};
 
 use super::means::Means;
-use super::owner::OwnerWorker;
 use super::shared::Shared;
-use super::thief::ThiefWorker;
+use super::workers::{OwnerWorker, ThiefWorker};
 use convoy_incumbent::Hand;
 use convoy_intervals::Tracked;
 use convoy_ledger::Clerk;

@@ -4,27 +4,15 @@ ghost use Rattle.std.specs.Prelude.{◌≡◌, IfOk, OnOk};
 ghost use Rattle.convoy_share.specs.Common.{common_of};
 ghost use Rattle.convoy_share.specs.Workers.{StaysOwner};
 
-use super::means::Means;
 use super::shared::Shared;
 use super::tree::{Tree, keep};
 use super::worker::search_branch;
+use super::workers::OwnerWorker;
 use convoy_branch::Gate;
-use convoy_branch::laws::fronts_better;
-use convoy_share_deque::Owner;
+use convoy_branch::front_laws::fronts_better;
 use std::alloc::AllocError;
 use std::sync::Wait;
 use std::sync::atomic::Ordering;
-
-/// The worker that owns the deque: what it looks and draws with, its end of the deque, and a tree for
-/// each branch that it took.
-#[derive(Drop)]
-pub(crate) struct OwnerWorker {
-    pub means: Means,
-    pub end: Owner,
-    pub trees: Vec<Tree>,
-    /// How many tickets each thief that was joined drew, in the order in which they were.
-    pub drawn_by_thieves: Vec<u64>,
-}
 
 /// Takes a branch back, if there is one, and searches it as far as there are tickets; the lower half of
 /// each split is offered to thieves. Answers whether there was a branch.

@@ -7,9 +7,10 @@ ghost use Rattle.convoy_share.specs.Common.{common_by, common_of};
 ghost use Rattle.convoy_share.specs.Workers.{HasJoined, IsThiefOf, StaysOwner, StaysThief};
 
 use super::gathering::gather;
-use super::owner::{OwnerWorker, work};
+use super::owner::work;
 use super::shared::Shared;
-use super::thief::{ThiefWorker, rob};
+use super::thief::rob;
+use super::workers::{OwnerWorker, ThiefWorker};
 use convoy_branch::Gate;
 use std::alloc::AllocError;
 use std::sync::Wait;

@@ -7,7 +7,7 @@ ghost use Rattle.convoy_packets.specs.Assignment.{ranges_of};
 ghost use Rattle.convoy_packets.specs.Table.{least_of};
 ghost use Rattle.convoy_sim.specs.Delivery.{latency_of};
 ghost use Rattle.convoy_branch.specs.declared.limit.Limit.{Limit};
-ghost use Rattle.convoy_branch.specs.Limits.{IsWithin};
+ghost use Rattle.convoy_branch.specs.Limits.{IsOutcomeWithin, IsWithin};
 ghost use Rattle.convoy_branch.specs.Outcomes.{IsOutcome, best_of};
 ghost use Rattle.convoy_shares.specs.Shares.{whole};
 ghost use Rattle.convoy_ledger.specs.Tickets.{most_tickets};
@@ -22,16 +22,16 @@ use super::piece::Settled;
 use super::running::run;
 use super::settled::{has_left, nodes_of, upper_over};
 use super::shared::Shared;
-use convoy_branch::laws::{
+use convoy_branch::front_laws::{
     fronts_better, fronts_bound, only_leads_have_lead_leaves, plain_fronts_have_no_stamps,
     whole_fronts_are_readable, whole_fronts_are_trees,
 };
 use convoy_branch::{Bounds, Gate, Limit, Outcome};
 use convoy_certificate::Certificate;
-use convoy_checker::laws::trees_cover;
+use convoy_checker::tree_laws::trees_cover;
 use convoy_incumbent::{Board, CloseFault, Hand};
 use convoy_ledger::{Clerk, Ledger};
-use convoy_packets::laws::least_is_assignment;
+use convoy_packets::schedule_laws::least_is_assignment;
 use convoy_packets::{Instance, Schedule};
 use convoy_sim::Record;
 use std::alloc::{AllocError, Global};
@@ -113,8 +113,8 @@ pub fn search_from<'a, R: Threads + Wait + Sync, G: Gate + Sync>(
         workers,
     };
     let brought = search_together(rt, gate, &shared, hand, clerk)?;
-    let closed = close(alloc, gate, instance, bounds, limit, board, ledger, brought)?;
-    closed.into_outcome(alloc, instance, bounds)
+    let closed = close(alloc, instance, bounds, limit, board, ledger, gate, brought)?;
+    closed.into_outcome(instance, bounds)
 }
 
 /// Runs all workers, and puts together what they bring.
@@ -154,12 +154,12 @@ pub(crate) struct Closed {
 /// unless the search is stopped.
 fn close<G: Gate>(
     alloc: Global,
-    gate: &G,
     instance: &Instance,
     bounds: Bounds,
     limit: Limit,
     board: Board,
     ledger: Ledger,
+    gate: &G,
     ended: Ended,
 ) -> Result<Closed, AllocError>
     requires of_scenario { board.scenario ≡ instance.now }
@@ -191,10 +191,10 @@ fn close<G: Gate>(
     };
     let (pieces, tickets) = settle_points(
         alloc,
-        gate,
         instance,
         bounds,
         pieces,
+        gate,
         best.latency(),
         tickets,
         limit,
@@ -225,41 +225,29 @@ fn tickets_by_worker(alloc: Global, tickets: u64, thieves: &[u64]) -> Result<Vec
 
 impl Closed {
     /// The outcome: a certificate where no branch is left.
-    fn into_outcome(
-        self,
-        alloc: Global,
-        instance: &Instance,
-        bounds: Bounds,
-    ) -> Result<Outcome, AllocError>
+    fn into_outcome(self, instance: &Instance, bounds: Bounds) -> Result<Outcome, AllocError>
         requires closed { (workers : ℕ) × (limit : Limit)
             × IsClosed bounds instance.now workers limit self }
         requires least { latency_of instance.now (least_of (ranges_of instance.now))
             ≤ self.best.latency }
         ensures value { (workers : ℕ) (limit : Limit) → IsClosed bounds instance.now workers limit self
-            → IfOk result (λ outcome.
-            IsWithin limit (λ tickets. IsOutcome bounds instance.now workers tickets outcome)) }
+            → IfOk result (IsOutcomeWithin bounds instance.now workers limit) }
         ensures best { IfOk result (λ outcome. best_of outcome ≡ self.best.latency) }
     {
         if has_left(&self.pieces) {
-            self.into_open(alloc, instance, bounds)
+            self.into_open(instance, bounds)
         } else {
-            self.into_proved(alloc, instance, bounds)
+            self.into_proved(instance, bounds)
         }
     }
 
     /// The outcome where no branch is left.
-    fn into_proved(
-        self,
-        alloc: Global,
-        instance: &Instance,
-        bounds: Bounds,
-    ) -> Result<Outcome, AllocError>
+    fn into_proved(self, instance: &Instance, bounds: Bounds) -> Result<Outcome, AllocError>
         requires closed { (workers : ℕ) × (limit : Limit)
             × IsClosed bounds instance.now workers limit self }
         requires none { list_any is_left self.pieces.items ≡ false }
         ensures value { (workers : ℕ) (limit : Limit) → IsClosed bounds instance.now workers limit self
-            → IfOk result (λ outcome.
-            IsWithin limit (λ tickets. IsOutcome bounds instance.now workers tickets outcome)) }
+            → IfOk result (IsOutcomeWithin bounds instance.now workers limit) }
         ensures best { IfOk result (λ outcome. best_of outcome ≡ self.best.latency) }
     {
         plain_fronts_have_no_stamps();
@@ -267,6 +255,7 @@ impl Closed {
         whole_fronts_are_readable();
         trees_cover();
         whole_fronts_are_trees();
+        let alloc = *self.by_worker.allocator();
         let nodes = nodes_of(alloc, &self.pieces)?;
         let latency = self.best.latency();
         let schedule = self.best.schedule().copy()?;
@@ -278,24 +267,19 @@ impl Closed {
     }
 
     /// The outcome where a branch is left.
-    fn into_open(
-        self,
-        alloc: Global,
-        instance: &Instance,
-        bounds: Bounds,
-    ) -> Result<Outcome, AllocError>
+    fn into_open(self, instance: &Instance, bounds: Bounds) -> Result<Outcome, AllocError>
         requires closed { (workers : ℕ) × (limit : Limit)
             × IsClosed bounds instance.now workers limit self }
+        requires some { list_any is_left self.pieces.items ≡ true }
         requires least { latency_of instance.now (least_of (ranges_of instance.now))
             ≤ self.best.latency }
-        requires some { list_any is_left self.pieces.items ≡ true }
         ensures value { (workers : ℕ) (limit : Limit) → IsClosed bounds instance.now workers limit self
-            → IfOk result (λ outcome.
-            IsWithin limit (λ tickets. IsOutcome bounds instance.now workers tickets outcome)) }
+            → IfOk result (IsOutcomeWithin bounds instance.now workers limit) }
         ensures best { IfOk result (λ outcome. best_of outcome ≡ self.best.latency) }
     {
         fronts_bound();
         let seen = self.best.latency();
+        let alloc = *self.by_worker.allocator();
         let upper = upper_over(alloc, instance, bounds, &self.pieces, seen)?;
         Ok(Outcome::Open {
             best: self.best,

@@ -8,7 +8,7 @@ ghost use Rattle.convoy_share.specs.Pieces.{IsPiece, IsRaisedOver, is_left, left
 
 use super::piece::{Kept, Settled};
 use convoy_branch::Bounds;
-use convoy_branch::laws::{uppers_begin, uppers_raised};
+use convoy_branch::front_laws::{uppers_begin, uppers_raised};
 use convoy_certificate::Node;
 use convoy_packets::Instance;
 use std::alloc::{AllocError, Global};

@@ -5,27 +5,17 @@ ghost use Rattle.convoy_share.specs.Common.{common_of};
 ghost use Rattle.convoy_share.specs.Workers.{StaysThief};
 
 use super::halves::Keeps;
-use super::means::Means;
 use super::shared::Shared;
 use super::tree::{Tree, keep};
 use super::worker::search_branch;
+use super::workers::ThiefWorker;
 use convoy_branch::Gate;
-use convoy_branch::laws::fronts_better;
-use convoy_share_deque::Thief;
+use convoy_branch::front_laws::fronts_better;
 use crossbeam_deque::Steal;
 use std::alloc::AllocError;
 use std::sync::Wait;
 use std::sync::atomic::Ordering;
 use std::thread;
-
-/// A worker that steals: what it looks and draws with, its end of the deque, and a tree for each
-/// branch that it took.
-#[derive(Drop)]
-pub(crate) struct ThiefWorker {
-    pub means: Means,
-    pub end: Thief,
-    pub trees: Vec<Tree>,
-}
 
 /// Takes a branch, if there is one, and searches it as far as there are tickets, and until the search
 /// is stopped. Answers whether there may be more.

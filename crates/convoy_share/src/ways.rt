@@ -10,7 +10,7 @@ ghost use Rattle.convoy_branch.specs.Outcomes.{best_of};
 ghost use Rattle.convoy_ledger.specs.Tickets.{most_tickets};
 
 use super::searching::search_from;
-use convoy_branch::{Bounds, Gate, Limit, Outcome, lead_share, plain_share};
+use convoy_branch::{AfterPlain, Bounds, Gate, Limit, Outcome, after_plain};
 use convoy_packets::Instance;
 use convoy_sim::Record;
 use std::alloc::{AllocError, Global};
@@ -41,8 +41,7 @@ pub fn search_both_ways<R: Threads + Wait + Sync, G: Gate + Sync>(
         (λ plain leads. IsOutcomeBothWays instance.now workers plain leads outcome)) }
     ensures opened { IfOk result (λ outcome. opening.latency ≤ best_of outcome) }
 {
-    let (by_plain, by_leads) = (plain_share(limit.tickets), lead_share(limit.tickets));
-    let (plain, lead) = (limit.with_tickets(by_plain), limit.with_tickets(by_leads));
+    let plain = limit.by_plain();
     let first = search_from(
         rt,
         alloc,
@@ -53,13 +52,12 @@ pub fn search_both_ways<R: Threads + Wait + Sync, G: Gate + Sync>(
         Bounds::Plain,
         gate,
     )?;
-    match first {
-        Outcome::Proved { .. } => Ok(first),
-        Outcome::Open { best, upper, .. } if by_leads > 0 && !limit.is_over(gate) => {
-            gate.begins_anew(Bounds::Lead, by_leads, best.latency(), upper);
+    match after_plain(first, limit, gate) {
+        AfterPlain::Ended(outcome) => Ok(outcome),
+        AfterPlain::ByLeads { best, upper } => {
+            let lead = limit.by_leads();
             let second = search_from(rt, alloc, instance, best, workers, lead, Bounds::Lead, gate)?;
             Ok(second.with_upper(upper))
         }
-        Outcome::Open { .. } => Ok(first),
     }
 }

@@ -12,7 +12,7 @@ use super::halves::Halves;
 use super::means::{Means, TakenUp, take_up};
 use super::piece::{Piece, Settled};
 use super::shared::Shared;
-use convoy_branch::laws::fronts_better;
+use convoy_branch::front_laws::fronts_better;
 use convoy_branch::{Gate, Turn};
 use convoy_intervals::Tracked;
 use std::alloc::AllocError;

@@ -6,7 +6,7 @@ use Rattle.convoy_scenario.specs.Scenario.{Scenario, no_message, message_at, mes
 use Rattle.convoy_packets.specs.Assignment.{Schedule}
 use Rattle.convoy_sim.specs.Stamps.{is_less, local_stamp, final_stamp}
 use Rattle.convoy_sim.specs.Delivery.{addressed_to}
-use Rattle.convoy_sim.specs.Laws.{ahead_of}
+use Rattle.convoy_sim.specs.ProtocolLaws.{ahead_of}
 use Rattle.convoy_sim.proofs.Membership.{IsIn, in-range, in-filter, in_of_filter, list_any_in, in_of_list_any}
 
 pub in_of_goes : (plan : Scenario) (m g : ℕ) → GoesTo plan m g → IsIn g (message_at plan m).destinations

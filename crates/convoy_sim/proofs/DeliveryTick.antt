@@ -7,7 +7,7 @@ use Rattle.convoy_sim.specs.Times.{arrive, settle}
 use Rattle.convoy_sim.specs.Stamps.{is_less, local_stamp, final_stamp}
 use Rattle.convoy_sim.specs.Delivery.{last_commit, addressed_to, holds_back, is_free, first_tick, deliver}
 use Rattle.convoy_sim.specs.Traffic.{IsTraffic, TrafficDeliveryBound}
-use Rattle.convoy_sim.specs.Laws.{ahead_of, arrive_by, DeliveryIsLeast, DeliveryLaw, DeliveryBound, DeliveredByLastCommit, ArrivesAfterIssue, DeliveredAfterCommit, LatencyIsNeverNegative}
+use Rattle.convoy_sim.specs.ProtocolLaws.{ahead_of, arrive_by, DeliveryIsLeast, DeliveryLaw, DeliveryBound, DeliveredByLastCommit, ArrivesAfterIssue, DeliveredAfterCommit, LatencyIsNeverNegative}
 use Rattle.convoy_scenario.specs.Scenario.{GoesTo}
 use Rattle.convoy_sim.proofs.Membership.{IsIn, in-filter, list_any_in, in_of_list_any, in_greatest, greatest_most, greatest_of_fewer}
 use Rattle.convoy_sim.proofs.Addressed.{in-addressed, goes_of_addressed, in_of_ahead}

@@ -9,7 +9,7 @@ use Rattle.convoy_packets.specs.Assignment.{in_fixed_order}
 use Rattle.convoy_packets.specs.Order.{no_order, rank_at}
 use Rattle.convoy_sim.specs.Times.{arrive, settle}
 use Rattle.convoy_sim.specs.Moments.{arrival_rank, commit_rank, rank_in, rank_then}
-use Rattle.convoy_sim.specs.Laws.{FixedRanksAreNone}
+use Rattle.convoy_sim.specs.ProtocolLaws.{FixedRanksAreNone}
 
 none_at : (m g : ℕ) → rank_at (replicate 128 0) m g ≡ 0
 none_at m g = elim (cases_lt (m * 8 + g) 128) [

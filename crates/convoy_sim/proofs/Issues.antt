@@ -4,7 +4,7 @@ use Rattle.convoy_scenario.specs.Scenario.{Scenario, message_at, may_wait}
 use Rattle.convoy_packets.specs.declared.packet.Packet.TheVariants.{Wait}
 use Rattle.convoy_packets.specs.Assignment.{Schedule, delay_of}
 use Rattle.convoy_packets.proofs.Ranges.{no_time_if_unsent, wait_at_most}
-use Rattle.convoy_sim.specs.Laws.{IssuedAtItsTick, IssuedFromItsTick, IssuedWithinItsWait, TargetIsIssuedAtItsTick}
+use Rattle.convoy_sim.specs.ProtocolLaws.{IssuedAtItsTick, IssuedFromItsTick, IssuedWithinItsWait, TargetIsIssuedAtItsTick}
 
 pub from_its_tick : IssuedFromItsTick
 from_its_tick plan schedule m = omega arith

@@ -5,7 +5,7 @@ use Rattle.convoy_packets.specs.Assignment.{Schedule, IsAssignment}
 use Rattle.convoy_sim.specs.Times.{issue, arrive, settle}
 use Rattle.convoy_sim.specs.Stamps.{final_stamp}
 use Rattle.convoy_sim.specs.Delivery.{last_commit, latency_at, latency_of}
-use Rattle.convoy_sim.specs.Laws.{ahead_of, OrderLaw, LatencyWithinFourDelays, LoneLatencyWithinTwoDelays, TargetLatencyWithinFourDelays}
+use Rattle.convoy_sim.specs.ProtocolLaws.{ahead_of, OrderLaw, LatencyWithinFourDelays, LoneLatencyWithinTwoDelays, TargetLatencyWithinFourDelays}
 use Rattle.convoy_sim.proofs.Membership.{IsIn, greatest_most, greatest_of_fewer}
 use Rattle.convoy_sim.proofs.Addressed.{in_of_ahead}
 use Rattle.convoy_sim.proofs.MomentsOrder.{less_after, less_trans}

@@ -4,7 +4,7 @@ use Rattle.convoy_scenario.specs.Scenario.{message_at}
 use Rattle.convoy_packets.specs.declared.packet.Packet.TheVariants.{Multicast, Propose}
 use Rattle.convoy_packets.proofs.Ranges.{at_most}
 use Rattle.convoy_sim.specs.Times.{issue, arrive, settle, propose_arrive}
-use Rattle.convoy_sim.specs.Laws.{ArrivesWithinOneDelay, CommittedWithinTwoDelays}
+use Rattle.convoy_sim.specs.ProtocolLaws.{ArrivesWithinOneDelay, CommittedWithinTwoDelays}
 use Rattle.convoy_sim.proofs.Membership.{greatest_most}
 
 pub arrives_within : ArrivesWithinOneDelay

@@ -10,7 +10,7 @@ use Rattle.convoy_sim.specs.declared.timestamp.Timestamp.{Timestamp}
 use Rattle.convoy_sim.specs.Times.{Tick, issue, arrive, settle}
 use Rattle.convoy_sim.specs.Stamps.{is_less, local_stamp, final_stamp}
 use Rattle.convoy_sim.specs.Delivery.{last_commit, deliver, latency_at, latency_of}
-use Rattle.convoy_sim.specs.Laws.{ahead_of}
+use Rattle.convoy_sim.specs.ProtocolLaws.{ahead_of}
 use Rattle.convoy_sim.specs.Run.{Run, IsRunOf, proposed_of, committed_of, delivered_of, final_stamp_of}
 use Rattle.convoy_sim.specs.RunLaws.{IsStampedBefore, IsAhead, IsAwaited, IsLastAwaited, IsAloneAt, RunsKeepTheLaws}
 use Rattle.convoy_sim.proofs.Membership.{IsIn, in_greatest, greatest_is_one}

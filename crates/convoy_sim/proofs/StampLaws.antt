@@ -9,7 +9,7 @@ use Rattle.convoy_sim.specs.Times.{arrive, settle}
 use Rattle.convoy_sim.specs.Moments.{arrival_of, commit_of, commit_rank, is_before, moments_of}
 use Rattle.convoy_sim.specs.Stamps.{is_less, first_clocks, clocks_of, local_stamp, final_stamp}
 use Rattle.convoy_sim.specs.Traffic.{IsTraffic}
-use Rattle.convoy_sim.specs.Laws.{EarlierArrivesBeforeCommit, StampsRise, StampsRisePastCommit, LocalStampNamesGroup, NoLocalStampIsGreater, FinalStampIsLocal, FinalStampsDiffer, FinalStampsAreOrdered}
+use Rattle.convoy_sim.specs.ProtocolLaws.{EarlierArrivesBeforeCommit, StampsRise, StampsRisePastCommit, LocalStampNamesGroup, NoLocalStampIsGreater, FinalStampIsLocal, FinalStampsDiffer, FinalStampsAreOrdered}
 use Rattle.convoy_scenario.specs.Scenario.{GoesTo}
 use Rattle.convoy_sim.proofs.Membership.{IsIn}
 use Rattle.convoy_sim.proofs.MomentsOrder.{before_by_tick, before_one_way, coming_before_commit, not_less_by_time, before_total, same_from_not_less}

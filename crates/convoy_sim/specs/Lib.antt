@@ -12,7 +12,7 @@ pub mod Delivery
 pub mod Run
 pub mod Record
 pub mod Greatest
-pub mod Laws
+pub mod ProtocolLaws
 pub mod RaiseLaws
 pub mod RunLaws
 pub mod Traffic

@@ -4,7 +4,7 @@ use Rattle.std.specs.List.Sorted.{IsStrictlyIncreasing}
 use Rattle.convoy_scenario.specs.Scenario.{Message, Scenario, GoesTo}
 use Rattle.convoy_packets.specs.Assignment.{Schedule}
 use Rattle.convoy_sim.specs.Delivery.{last_commit, deliver}
-use Rattle.convoy_sim.specs.Laws.{arrive_by}
+use Rattle.convoy_sim.specs.ProtocolLaws.{arrive_by}
 
 -- a message that goes to one or more of so many groups, each named once, in the order of their numbers
 pub record GoesToGroups (groups : ℕ) (message : Message) : Type 0 where

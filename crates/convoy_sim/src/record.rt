@@ -25,11 +25,7 @@ impl Model for Record {
 
     ghost view = { λ r. record { scenario = r.scenario.value; schedule = r.schedule; latency = r.latency } };
 
-    ghost invariant = { λ r. IsAttained (record {
-      scenario = r.scenario.value;
-      schedule = r.schedule;
-      latency = r.latency;
-    }) };
+    ghost invariant = { λ r. IsAttained (view r) };
 }
 
 impl Record {

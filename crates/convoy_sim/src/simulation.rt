@@ -7,9 +7,9 @@ ghost use Rattle.convoy_sim.specs.RunLaws.{KeepsLaws};
 
 use super::agenda::Agenda;
 use super::delivery::delivery_tick;
-use super::laws::runs_keep_the_laws;
 use super::moment::{Moment, MomentKind};
 use super::progress::list_progress;
+use super::protocol_laws::runs_keep_the_laws;
 use super::run::Run;
 use super::stamps::Stamps;
 use super::times::Times;

@@ -13,7 +13,7 @@ use Rattle.convoy_sim.specs.Times.{arrive}
 use Rattle.convoy_sim.specs.Moments.{is_before, arrival_of, arrival_rank, commit_of, next_arrival}
 use Rattle.convoy_sim.specs.Stamps.{local_stamp}
 use Rattle.convoy_sim.specs.Delivery.{addressed_to}
-use Rattle.convoy_sim.specs.Laws.{StampsRise}
+use Rattle.convoy_sim.specs.ProtocolLaws.{StampsRise}
 use Rattle.convoy_sim.specs.RaiseLaws.{LastRaise}
 use Rattle.convoy_sim.proofs.Membership.{IsOnce, once-range}
 use Rattle.convoy_sim.proofs.MomentsOrder.{before_itself, before_total, before_trans}

@@ -7,12 +7,12 @@ use Rattle.convoy_scenario.specs.WellFormed.{IsScenario}
 use Rattle.convoy_packets.specs.Assignment.{Schedule}
 use Rattle.convoy_sim.specs.Times.{greatest, arrive, settle}
 use Rattle.convoy_sim.specs.Delivery.{addressed_to, latency_at, latency_of}
-use Rattle.convoy_sim.specs.Laws.{ahead_of, DeliveryLaw, EarlierArrivesBeforeCommit}
+use Rattle.convoy_sim.specs.ProtocolLaws.{ahead_of, DeliveryLaw, EarlierArrivesBeforeCommit}
 use Rattle.convoy_sim.proofs.Membership.{IsIn, in-filter, in_of_filter, in_greatest, greatest_most, greatest_of_fewer}
 use Rattle.convoy_sim.proofs.Addressed.{in-addressed, in_of_ahead}
 use Rattle.convoy_intervals.specs.Bounds.{Tables, Encloses, tables_of, rivals, plain_bound_over, plain_bound}
 use Rattle.convoy_stamps.specs.StampBounds.{bound_by, is_surely_behind, stamp_bound}
-use Rattle.convoy_stamps.specs.Laws.{KeepsThoseAhead, StampBoundAtMostPlain}
+use Rattle.convoy_stamps.specs.StampBoundLaws.{KeepsThoseAhead, StampBoundAtMostPlain}
 
 module _ (delivery : DeliveryLaw) (earlier : EarlierArrivesBeforeCommit) (scenario : Scenario) (schedule : Schedule) (tables : Tables) (leaves_out : ℕ → Bool) (well : IsScenario scenario) (enclosed : Encloses scenario schedule tables) (keeps : KeepsThoseAhead scenario schedule leaves_out) where
   -- the target and the rivals that are not left out

@@ -7,14 +7,14 @@ use Rattle.convoy_scenario.specs.WellFormed.{IsScenario}
 use Rattle.convoy_packets.specs.Assignment.{Schedule}
 use Rattle.convoy_sim.specs.declared.timestamp.Timestamp.{Timestamp}
 use Rattle.convoy_sim.specs.Stamps.{is_less, no_stamp, local_stamp}
-use Rattle.convoy_sim.specs.Laws.{FinalStampIsLocal, LocalStampNamesGroup}
+use Rattle.convoy_sim.specs.ProtocolLaws.{FinalStampIsLocal, LocalStampNamesGroup}
 use Rattle.convoy_sim.proofs.Membership.{in-map}
 use Rattle.convoy_sim.proofs.Addressed.{in_of_goes}
 use Rattle.convoy_intervals.specs.Bounds.{Tables, Encloses}
 use Rattle.convoy_stamps.specs.Reach.{reach_of}
 use Rattle.convoy_stamps.specs.StampBounds.{sure_before, lowest_stamp, highest_stamp, is_surely_behind}
 use Rattle.convoy_stamps.proofs.GreatestStamps.{less_by_greatest}
-use Rattle.convoy_stamps.specs.Laws.{KeepsThoseAhead, StampsWithinReach, StampsPastSureBefore}
+use Rattle.convoy_stamps.specs.StampBoundLaws.{KeepsThoseAhead, StampsWithinReach, StampsPastSureBefore}
 
 -- a stamp that is no less than a lower limit is not below one that is at most an upper limit, where the upper is below the lower
 not_ahead : (n t : Timestamp) (low high g h : ℕ) → is_less n t ≡ true → n.group ≡ g → t.group ≡ h → t.time ≤ high → low ≤ n.time

@@ -8,7 +8,7 @@ use Rattle.convoy_sim.specs.Times.{arrive, settle}
 use Rattle.convoy_sim.specs.Moments.{is_before, arrival_of, commit_of, next_arrival}
 use Rattle.convoy_sim.specs.Stamps.{local_stamp}
 use Rattle.convoy_sim.specs.Delivery.{addressed_to}
-use Rattle.convoy_sim.specs.Laws.{StampsRise}
+use Rattle.convoy_sim.specs.ProtocolLaws.{StampsRise}
 use Rattle.convoy_sim.specs.RaiseLaws.{LastRaise, IsLastRaise, IsRaise, IsCounted}
 use Rattle.convoy_sim.proofs.Membership.{IsIn, in_of_contains, contains-in, in_of_filter}
 use Rattle.convoy_sim.proofs.Addressed.{goes_of_addressed}
@@ -18,7 +18,7 @@ use Rattle.convoy_intervals.specs.Bounds.{Tables, Encloses}
 use Rattle.convoy_stamps.specs.declared.pair.Pair.{Pair}
 use Rattle.convoy_stamps.specs.Reach.{pair_of, IsPair, pairs_of, is_same, leads_to, may_precede, may_raise, follows, reach_of}
 use Rattle.convoy_stamps.specs.StampBounds.{sure_before}
-use Rattle.convoy_stamps.specs.Laws.{ReachIsClosed, ReachIsLeast}
+use Rattle.convoy_stamps.specs.StampBoundLaws.{ReachIsClosed, ReachIsLeast}
 use Rattle.convoy_stamps.proofs.Arrivals.{arrives_before_other, arrives_first, committed_is_other, next_rises, once-addressed, one_time, stamp_positive}
 use Rattle.convoy_stamps.proofs.Closed.{start_in, closed, least}
 use Rattle.convoy_stamps.proofs.Counting.{at_least, at_most, once-filter}

@@ -14,6 +14,6 @@ pub use Rattle.convoy_intervals.specs.Bounds
 pub mod Closures
 pub mod Reach
 pub mod StampBounds
-pub mod Laws
+pub mod StampBoundLaws
 -- Words of the crate's own parts: no promise rests on them.
 pub mod Spans

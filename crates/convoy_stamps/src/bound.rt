@@ -5,9 +5,9 @@ ghost use Rattle.convoy_intervals.specs.Boxes.{IsBox, IsIn};
 ghost use Rattle.convoy_stamps.specs.StampBounds.{lowest_stamp, highest_final, stamp_bound};
 ghost use Rattle.convoy_stamps.specs.Spans.{tables_in, is_sure_before, may_hold_back, last_commit_by};
 
-use super::laws::stamp_bound_holds;
 use super::reach::{pairs_of, reach_size};
 use super::spans::Spans;
+use super::stamp_bound_laws::stamp_bound_holds;
 use convoy_intervals::{DelayBox, Tracked};
 use convoy_packets::Instance;
 use convoy_sim::Timestamp;

@@ -6,7 +6,7 @@ pub use pair::Pair;
 pub use reach::pairs_of;
 
 mod bound;
-pub mod laws;
 mod pair;
 mod reach;
 mod spans;
+pub mod stamp_bound_laws;

@@ -23,7 +23,7 @@ use Rattle.convoy_stamps.proofs.Pairs.{in-pairs}
 use Rattle.convoy_starts.specs.Below.{LawsBelow}
 use Rattle.convoy_sure.specs.Windows.{LeadTables, EnclosesAll}
 use Rattle.convoy_sure.specs.SureLeads.{Sure, may_be_earlier, sure_after, sure_later, lead_at, top_of}
-use Rattle.convoy_sure.specs.Laws.{IsSure}
+use Rattle.convoy_sure.specs.SureLaws.{IsSure}
 use Rattle.convoy_starts.specs.Starts.{first_past, window, may_arrive, arrivals_since, Start, barred_at, value_for, clock_since, clock_from, may_start, may_have_come, stamp_high, stamp_for, raise_high, may_commit, covers_all, covers, start_of, add_start, starts_before}
 use Rattle.convoy_starts.proofs.Times.{before_first_past, first_past_next, may_precede_by, no_later_than_commit, proposal_takes_time, within_all}
 use Rattle.convoy_starts.proofs.Caps.{within_cap, within_window}

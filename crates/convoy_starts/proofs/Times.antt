@@ -7,7 +7,7 @@ use Rattle.convoy_scenario.specs.Scenario.{Scenario, message_at, is_addressed, G
 use Rattle.convoy_scenario.specs.WellFormed.{IsScenario}
 use Rattle.convoy_packets.specs.declared.packet.Packet.TheVariants.{Propose}
 use Rattle.convoy_packets.specs.Assignment.{Schedule, IsAssignment, delay_of}
-use Rattle.convoy_packets.specs.Laws.{is_sent}
+use Rattle.convoy_packets.specs.ScheduleLaws.{is_sent}
 use Rattle.convoy_packets.proofs.Ranges.{range_within, within_if_sent}
 use Rattle.convoy_sim.specs.Times.{arrive, settle}
 use Rattle.convoy_sim.specs.Moments.{is_before, arrival_of, commit_of, next_arrival}

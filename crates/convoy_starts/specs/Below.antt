@@ -1,8 +1,8 @@
 -- The laws of the crates below on which those of leads stand.
-use Rattle.convoy_sim.specs.Laws.{DeliveryLaw, EarlierArrivesBeforeCommit, LocalStampNamesGroup, FinalStampIsLocal, NoLocalStampIsGreater}
+use Rattle.convoy_sim.specs.ProtocolLaws.{DeliveryLaw, EarlierArrivesBeforeCommit, LocalStampNamesGroup, FinalStampIsLocal, NoLocalStampIsGreater}
 use Rattle.convoy_sim.specs.RaiseLaws.{LastRaise}
-use Rattle.convoy_stamps.specs.Laws.{StampsWithinReach}
-use Rattle.convoy_sure.specs.Laws.{CutsEnclose, SureArrivalsRise, WhatIsSureHolds}
+use Rattle.convoy_stamps.specs.StampBoundLaws.{StampsWithinReach}
+use Rattle.convoy_sure.specs.SureLaws.{CutsEnclose, SureArrivalsRise, WhatIsSureHolds}
 
 pub record LawsBelow : Type 0 where
   pub delivery : DeliveryLaw

@@ -3,7 +3,6 @@ ghost use Rattle.convoy_draft.specs.declared.limits.TheConstants.{MOST_GROUPS, M
 ghost use Rattle.convoy_stamps.specs.Reach.{pairs_of};
 ghost use Rattle.convoy_starts.specs.Links.{IsLink};
 
-use super::led::first_past;
 use super::scratch::Scratch;
 use super::setting::Setting;
 use super::stamps::{may_have_come, may_precede};
@@ -45,29 +44,45 @@ pub struct Commit {
     pub at: u32,
 }
 
+/// A link with the message that is barred in it: that is committed nowhere before.
+#[derive(Drop)]
+struct BarredLink {
+    link: Link,
+    bar: usize,
+}
+
 impl<'a> Setting<'a> {
-    /// The clock of a group as message `q` arrives there by that tick, by a start; 0 by one that cannot
-    /// come before.
-    fn clock_from(&self, q: usize, group: usize, tick: u32, start: &Start) -> u32
+    /// The clock of a group as message `q` arrives there by that tick, by a start, where message `bar` is
+    /// committed nowhere before; 0 by a start that cannot come before.
+    fn clock_from(&self, bar: usize, q: usize, group: usize, tick: u32, start: &Start) -> u32
         requires group { group < MOST_GROUPS }
     {
-        if may_precede(self.time, q, group, tick, start) {
-            self.rise(q, group, tick, start).clock
+        if start.message() != bar && may_precede(self.time, q, group, tick, start) {
+            let rise = self.rise(q, group, tick, start);
+            self.clock_by(bar, q, group, start, &rise)
         } else {
             0
         }
     }
 
     /// The place of the first start by which the clock of a group is greatest as message `q` arrives
-    /// there by that tick; none where it is as great by no start.
-    fn highest_start(&self, starts: &[Start], q: usize, group: usize, tick: u32) -> Option<usize>
+    /// there by that tick, where message `bar` is committed nowhere before; none where it is as great by
+    /// no start.
+    fn highest_start(
+        &self,
+        starts: &[Start],
+        bar: usize,
+        q: usize,
+        group: usize,
+        tick: u32,
+    ) -> Option<usize>
         requires group { group < MOST_GROUPS }
         ensures { IfSome result (λ place. place < length starts.now) }
     {
         let mut highest = self.clock_alone(q, group, tick);
         let mut found = None;
         for place in 0..starts.len() {
-            let clock = self.clock_from(q, group, tick, &starts[place]);
+            let clock = self.clock_from(bar, q, group, tick, &starts[place]);
             if clock > highest {
                 highest = clock;
                 found = Some(place);
@@ -76,42 +91,64 @@ impl<'a> Setting<'a> {
         found
     }
 
-    /// The link of the stamp of a message at a group, if it arrives there by that tick.
-    fn link(&self, starts: &[Start], message: usize, group: usize, by: u32) -> Link
+    /// The link of the stamp of a message at a group, if it arrives there by that tick and message `bar` is
+    /// committed nowhere before. The link after it bars the one of the two messages for which its start
+    /// gives less.
+    fn link(
+        &self,
+        starts: &[Start],
+        bar: usize,
+        message: usize,
+        group: usize,
+        by: u32,
+    ) -> BarredLink
         requires message { message < length self.now.scenario.now.multicasts }
         requires group { group < MOST_GROUPS }
         requires starts { All (λ s. s.message < length self.now.scenario.now.multicasts) starts.now }
-        ensures { IsLink self.now.scenario.now result }
+        ensures { IsLink self.now.scenario.now result.link }
     {
-        match self.highest_start(starts, message, group, by) {
-            None => Link {
-                message,
-                group,
-                by,
-                commit: None,
-                since: 0,
-                others: self.arrivals_since(by, message, group, 0),
-            },
-            Some(place) => {
-                let start = &starts[place];
-                Link {
+        match self.highest_start(starts, bar, message, group, by) {
+            None => BarredLink {
+                link: Link {
                     message,
                     group,
                     by,
-                    commit: Some(Commit {
-                        message: start.message(),
-                        at: start.at(),
-                    }),
-                    since: next_arrival(self.time, start.at()),
-                    others: self.arrivals_after(message, group, by, start),
+                    commit: None,
+                    since: 0,
+                    others: self.arrivals_since(by, message, group, 0),
+                },
+                bar,
+            },
+            Some(place) => {
+                let start = &starts[place];
+                BarredLink {
+                    link: Link {
+                        message,
+                        group,
+                        by,
+                        commit: Some(Commit {
+                            message: start.message(),
+                            at: start.at(),
+                        }),
+                        since: next_arrival(self.time, start.at()),
+                        others: self.arrivals_after(message, group, by, start),
+                    },
+                    bar: start.lesser_bar(bar, message),
                 }
             }
         }
     }
 
     /// The most that the stamp of a commit's message at group `from` can be as it comes to the group of
-    /// the commit; 0 where none can have come.
-    fn stamp_from(&self, starts: &[Start], commit: Commit, group: usize, from: usize) -> u32
+    /// the commit, where message `bar` is committed nowhere before; 0 where none can have come.
+    fn stamp_from(
+        &self,
+        starts: &[Start],
+        bar: usize,
+        commit: Commit,
+        group: usize,
+        from: usize,
+    ) -> u32
         requires message { commit.message < length self.now.scenario.now.multicasts }
         requires known { commit.message < MOST_MULTICASTS }
         requires group { group < MOST_GROUPS }
@@ -122,12 +159,19 @@ impl<'a> Setting<'a> {
         }
         let by = self.arrives_by(commit.at, commit.message, group, from);
         let stamps = self.stamps_high(starts, commit.message, from, by);
-        stamps[self.bar_of_target()]
+        let place = if self.barring { bar } else { 0 };
+        stamps.get(place).copied().unwrap_or(0)
     }
 
-    /// The first group whose stamp a commit at a group may have raised the clock to most; none where no
-    /// stamp can have come.
-    fn highest_stamp(&self, starts: &[Start], commit: Commit, group: usize) -> Option<usize>
+    /// The first group whose stamp a commit at a group may have raised the clock to most, where message
+    /// `bar` is committed nowhere before; none where no stamp can have come.
+    fn highest_stamp(
+        &self,
+        starts: &[Start],
+        bar: usize,
+        commit: Commit,
+        group: usize,
+    ) -> Option<usize>
         requires message { commit.message < length self.now.scenario.now.multicasts }
         requires group { group < MOST_GROUPS }
         ensures known { commit.message < MOST_MULTICASTS }
@@ -136,7 +180,7 @@ impl<'a> Setting<'a> {
         let mut highest = 0;
         let mut found = None;
         for from in destinations(self.scenario, commit.message) {
-            let stamp = self.stamp_from(starts, commit, group, *from);
+            let stamp = self.stamp_from(starts, bar, commit, group, *from);
             if stamp > highest {
                 highest = stamp;
                 found = Some(*from);
@@ -146,15 +190,16 @@ impl<'a> Setting<'a> {
     }
 
     /// The link of the stamp to which the commit of a link raised the clock.
-    fn next_link(&self, starts: &[Start], link: &Link) -> Option<Link>
-        requires link { IsLink self.now.scenario.now link.now }
+    fn next_link(&self, starts: &[Start], before: &BarredLink) -> Option<BarredLink>
+        requires link { IsLink self.now.scenario.now before.now.link }
         requires starts { All (λ s. s.message < length self.now.scenario.now.multicasts) starts.now }
-        ensures { IfSome result (IsLink self.now.scenario.now) }
+        ensures { IfSome result (λ next. IsLink self.now.scenario.now next.link) }
     {
-        let commit = link.commit?;
-        let from = self.highest_stamp(starts, commit, link.group)?;
-        let by = self.arrives_by(commit.at, commit.message, link.group, from);
-        Some(self.link(starts, commit.message, from, by))
+        let commit = before.link.commit?;
+        let group = before.link.group;
+        let from = self.highest_stamp(starts, before.bar, commit, group)?;
+        let by = self.arrives_by(commit.at, commit.message, group, from);
+        Some(self.link(starts, before.bar, commit.message, from, by))
     }
 
     /// The chain of links by which the stamp of the target at a group may be as great as leads say.
@@ -165,14 +210,14 @@ impl<'a> Setting<'a> {
     {
         let target = self.scenario.target_message();
         let by = self.windows.greatest_arrival(target, group);
-        let mut next = Some(self.link(starts, target, group, by));
+        let mut next = Some(self.link(starts, target, target, group, by));
         let mut links = Vec::new(alloc);
         for _place in 0..MOST_LINKS {
-            let Some(link) = next else {
+            let Some(barred) = next else {
                 return Ok(links);
             };
-            next = self.next_link(starts, &link);
-            links.push(link)?;
+            next = self.next_link(starts, &barred);
+            links.push(barred.link)?;
         }
         Ok(links)
     }
@@ -197,14 +242,7 @@ impl<'a> Setting<'a> {
         requires groups { All (λ p. p.group < MOST_GROUPS) pairs.now }
         ensures { IfOk result (λ links. All (IsLink self.now.scenario.now) links.items) }
     {
-        let end = first_past(self.time, self.last_arrival());
-        self.write_starts(
-            pairs,
-            end,
-            &mut scratch.starts,
-            &mut scratch.memos,
-            &mut scratch.nexts,
-        )?;
+        self.write_all_starts(pairs, scratch)?;
         match self.open_group(&scratch.starts) {
             None => Ok(Vec::new(scratch.alloc)),
             Some(group) => self.chain(scratch.alloc, &scratch.starts, group),

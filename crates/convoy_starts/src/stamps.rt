@@ -114,7 +114,14 @@ impl<'a> Setting<'a> {
 
     /// The clock of a group as message `q` arrives there, after such a rise by a start, where message
     /// `x` is barred.
-    fn clock_by(&self, x: usize, q: usize, group: usize, start: &Start, rise: &Rise) -> u32
+    pub(crate) fn clock_by(
+        &self,
+        x: usize,
+        q: usize,
+        group: usize,
+        start: &Start,
+        rise: &Rise,
+    ) -> u32
         requires group { group < MOST_GROUPS }
         requires clock { rise.now.clock ≡ window self.now.sure.now.time
             (λ z. lead_at self.now.sure.now.leads z group) rise.now.others rise.now.value }

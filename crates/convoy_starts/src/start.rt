@@ -1,6 +1,6 @@
 ghost use Rattle.std.specs.Prelude.{◌≡◌, ◌<◌, ◌≤◌, nat_le};
 ghost use Rattle.std.specs.List.{list_any};
-ghost use Rattle.convoy_starts.specs.Starts.{barred_at, value_for, covers, covers_all};
+ghost use Rattle.convoy_starts.specs.Starts.{barred_at, value_for, covers, covers_all, Start};
 
 use super::mosts::Mosts;
 use std::marker::Model;
@@ -17,18 +17,10 @@ pub(crate) struct Start {
 }
 
 impl Model for Start {
-    ghost use Rattle.std.specs.Prelude.{◌<◌, ◌≤◌};
-    ghost use Rattle.convoy_starts.specs.Starts.{Start};
-
     ghost Value = { Start };
 
-    ghost view = { λ s. record {
-      at = s.at;
-      message = s.message;
-      group = s.group;
-      base = s.base;
-      barred = s.barred.items;
-    } };
+    ghost view = { λ s.
+        record { at = s.at; message = s.message; group = s.group; base = s.base; barred = s.barred.items } };
 
     ghost invariant = { λ s. (s.at < 4294967295) × (s.base ≤ 65535) };
 }
@@ -90,6 +82,16 @@ impl Start {
         ensures small { result ≤ u16.MAX }
     {
         self.base.min(self.barred_at(x).min(self.barred_at(q)))
+    }
+
+    /// That of two messages for which it gives less where the message is committed nowhere before: the
+    /// first where it gives as much for both.
+    pub(crate) fn lesser_bar(&self, x: usize, q: usize) -> usize {
+        if self.barred_at(q) < self.barred_at(x) {
+            q
+        } else {
+            x
+        }
     }
 
     /// Whether it gives all that a later one of the same message and group gives.

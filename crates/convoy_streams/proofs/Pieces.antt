@@ -6,7 +6,7 @@ use Rattle.std.proofs.lemmas.List.{append-nil, take_rest}
 use Rattle.std.proofs.lemmas.List.Elements.{All-push, All-nil}
 use Rattle.std.proofs.lemmas.Fn.{FoldsTo-push}
 use Rattle.convoy_streams.specs.Devices.{Answer, Moved, Failed, IsPiece, joined, moved_or_failed, HasRun}
-use Rattle.convoy_streams.specs.Laws.{PiecesGoOn}
+use Rattle.convoy_streams.specs.StreamLaws.{PiecesGoOn}
 use Rattle.convoy_streams.specs.Reads.{ArePieces, ReadsText, FailsReading, ReadsTooMuch}
 use Rattle.convoy_streams.specs.Writes.{FailsWithin, WritesPiece}
 

@@ -3,7 +3,7 @@ pub mod Devices
 pub mod Reads
 pub mod Writes
 pub mod Jobs
-pub mod Laws
+pub mod StreamLaws
 -- words of single devices: those in memory, and the standard library's streams
 pub mod Streams
 -- how far a splitter has come, and what a byte does to the line that is being read

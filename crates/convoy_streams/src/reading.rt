@@ -1,6 +1,7 @@
-ghost use Rattle.std.specs.Prelude.{◌<◌, ◌≤◌, length, MatchResult};
+ghost use Rattle.std.specs.Prelude.{◌<◌, ◌≤◌, length, MatchResult, ◌≡◌};
 ghost use Rattle.convoy_streams.specs.Devices.{Moved, Failed, HasRun};
 ghost use Rattle.convoy_streams.specs.Reads.{ReadsText, StopsReading};
+ghost use Rattle.convoy_streams.specs.declared.reading.ReadFault.TheVariants.{Memory};
 
 use super::device::{DeviceFailed, Source};
 use std::alloc::{AllocError, Global};
@@ -24,17 +25,6 @@ pub enum ReadFault {
     /// Memory ran out, which says nothing of the input.
     #[error("out of memory")]
     Memory,
-}
-
-impl From<AllocError> for ReadFault {
-    ghost use Rattle.std.specs.Prelude.{◌≡◌};
-    ghost use Rattle.convoy_streams.specs.declared.reading.ReadFault.TheVariants.{Memory};
-
-    ghost from_gives = { λ _ fault. fault ≡ Memory };
-
-    fn from(_error: AllocError) -> Self {
-        ReadFault::Memory
-    }
 }
 
 /// Reads a source to its end, in at most `most_reads` reads of at most [`BUFFER_LENGTH`] bytes each,
@@ -81,4 +71,12 @@ pub fn read_piece<'a, S: Source>(
 {
     let count = source.read(buffer)?;
     Ok(&buffer[..count])
+}
+
+impl From<AllocError> for ReadFault {
+    ghost from_gives = { λ _ fault. fault ≡ Memory };
+
+    fn from(_error: AllocError) -> Self {
+        ReadFault::Memory
+    }
 }

@@ -21,7 +21,7 @@ use Rattle.convoy_stamps.proofs.Arrivals.{once-addressed, one_time, stamp_positi
 use Rattle.convoy_stamps.proofs.Counting.{once-filter}
 use Rattle.convoy_stamps.proofs.Pairs.{goes_of_pair}
 use Rattle.convoy_sure.specs.SureLeads.{is_earlier, sure_after, sure_later, sure_behind, lead_at, top_of, top_behind, next_lead, with_lead, is_later, insert_pair, last_first, first_leads, leads_of, sure_time}
-use Rattle.convoy_sure.specs.Laws.{SureArrivalsRise, SureLeadsHold, WhatIsSureHolds}
+use Rattle.convoy_sure.specs.SureLaws.{SureArrivalsRise, SureLeadsHold, WhatIsSureHolds}
 use Rattle.convoy_sure.specs.Below.{LawsBelow}
 use Rattle.convoy_sure.proofs.Times.{surely_before}
 use Rattle.convoy_sure.proofs.Tops.{top_within}

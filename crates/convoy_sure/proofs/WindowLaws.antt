@@ -15,9 +15,9 @@ use Rattle.convoy_sim.proofs.Membership.{IsIn, in_greatest}
 use Rattle.convoy_sim.proofs.Addressed.{in_of_goes, goes_from_in, number_of_goes}
 use Rattle.convoy_intervals.specs.Boxes.{Box, greatest_of}
 use Rattle.convoy_intervals.specs.Bounds.{Encloses, tables_of}
-use Rattle.convoy_intervals.specs.Laws.{MembersAreEnclosed}
+use Rattle.convoy_intervals.specs.BoxLaws.{MembersAreEnclosed}
 use Rattle.convoy_sure.specs.Windows.{EnclosesAll, Windows, entry_at, tables_by, entries_of, issued_since, proposal_delay, proposals_of, windows_of, raised, with_issue, with_arrival}
-use Rattle.convoy_sure.specs.Laws.{WindowsAreTables, WindowsEncloseMembers, CutsEnclose}
+use Rattle.convoy_sure.specs.SureLaws.{WindowsAreTables, WindowsEncloseMembers, CutsEnclose}
 use Rattle.convoy_sure.proofs.SureLaws.{set_cases, same_place, group_is_low}
 use Rattle.convoy_sure.proofs.MemberDelays.{least_delay, greatest_delay}
 

@@ -14,7 +14,7 @@ pub use Rattle.convoy_stamps.specs.Reach
 -- What a caller reads: the windows of a box, sure leads, and the laws of these.
 pub mod Windows
 pub mod SureLeads
-pub mod Laws
+pub mod SureLaws
 -- Words of the crate's own parts: no promise rests on them.
 pub mod Below
 pub mod Filling

@@ -2,11 +2,10 @@ ghost use Rattle.std.specs.Prelude.{◌≡◌, ℕ, ◌*◌, ◌+◌, ◌<◌, �
 ghost use Rattle.std.specs.List.{fold};
 ghost use Rattle.convoy_scenario.specs.Scenario.{message_at};
 ghost use Rattle.convoy_packets.specs.Order.{place};
-ghost use Rattle.convoy_sure.specs.Windows.{entry_at, issued_since, raised, with_arrival, with_issue, with_settling};
+ghost use Rattle.convoy_sure.specs.Windows.{entry_at, issued_since, raised, with_arrival, with_issue};
 
-use super::ends::Ends;
 use super::messages::destinations;
-use super::windows::{LAST_ARRIVAL, LAST_SETTLING, Windows, entry_at};
+use super::windows::{LAST_ARRIVAL, Windows, entry_at};
 use convoy_scenario::{GREATEST_UNTIL, MOST_GROUPS, MOST_MULTICASTS, Scenario};
 use std::alloc::{AllocError, Global};
 
@@ -97,62 +96,6 @@ impl Windows {
         raise_entry(arrivals, message, group, tick);
     }
 
-    /// The arrivals where a message arrives at a group at that tick or later.
-    fn arrivals_after(
-        &self,
-        alloc: Global,
-        scenario: &Scenario,
-        message: usize,
-        group: usize,
-        tick: u32,
-    ) -> Result<Ends, AllocError>
-        requires message { message < length scenario.now.multicasts }
-        requires known { message < MOST_MULTICASTS }
-        requires group { group < MOST_GROUPS }
-        requires tick { tick ≤ LAST_ARRIVAL }
-        ensures least { IfOk result (λ arrivals. arrivals.least.items
-            ≡ raised (fold (with_issue self.now message group tick) self.now.least_arrivals
-            (message_at scenario.now message).destinations) message group tick) }
-        ensures greatest { IfOk result
-            (λ arrivals. arrivals.greatest.items ≡ self.now.greatest_arrivals) }
-        ensures limit { IfOk result
-            (λ arrivals. All (λ entry. entry ≤ LAST_ARRIVAL) arrivals.least.items) }
-    {
-        let mut arrivals = self.arrivals.copy(alloc)?;
-        let least = arrivals.least.as_mut_slice();
-        self.raise_arrivals(least, scenario, message, group, tick);
-        Ok(arrivals)
-    }
-
-    /// The settlings where a message arrives at a group at that tick or later: it is committed at each
-    /// group no earlier than its stamp of that group may come from there.
-    fn settlings_after(
-        &self,
-        alloc: Global,
-        scenario: &Scenario,
-        message: usize,
-        group: usize,
-        tick: u32,
-    ) -> Result<Ends, AllocError>
-        requires message { message < length scenario.now.multicasts }
-        requires known { message < MOST_MULTICASTS }
-        requires group { group < MOST_GROUPS }
-        requires tick { tick ≤ LAST_ARRIVAL }
-        ensures least { IfOk result (λ settlings. settlings.least.items
-            ≡ fold (with_settling self.now message group tick) self.now.least_settlings
-            (message_at scenario.now message).destinations) }
-        ensures greatest { IfOk result
-            (λ settlings. settlings.greatest.items ≡ self.now.greatest_settlings) }
-        ensures limit { IfOk result
-            (λ settlings. All (λ entry. entry ≤ LAST_SETTLING) settlings.least.items) }
-    {
-        let row = message * MOST_GROUPS + group;
-        let mut settlings = self.settlings.copy(alloc)?;
-        let least = settlings.least.as_mut_slice();
-        raise_row(least, scenario, message, tick, &self.proposals.least, row);
-        Ok(settlings)
-    }
-
     /// The windows cut: a message arrives at a group, one of its destinations, at that tick or later
     /// (docs/LEADS.md, "Cuts"). The error is that memory ran out.
     pub fn with_arrival(
@@ -170,8 +113,14 @@ impl Windows {
         ensures { IfOk result
             (λ windows. windows ≡ with_arrival scenario.now self.now message group tick) }
     {
-        let arrivals = self.arrivals_after(alloc, scenario, message, group, tick)?;
-        let settlings = self.settlings_after(alloc, scenario, message, group, tick)?;
+        let mut arrivals = self.arrivals.copy(alloc)?;
+        let least = arrivals.least.as_mut_slice();
+        self.raise_arrivals(least, scenario, message, group, tick);
+        // It is committed at each group no earlier than its stamp of that group may come from there.
+        let mut settlings = self.settlings.copy(alloc)?;
+        let least = settlings.least.as_mut_slice();
+        let row = message * MOST_GROUPS + group;
+        raise_row(least, scenario, message, tick, &self.proposals.least, row);
         let multicasts = self.multicasts.copy(alloc)?;
         let proposals = self.proposals.copy(alloc)?;
         Ok(Windows {

@@ -13,21 +13,17 @@ ghost use Rattle.convoy_sure.specs.Windows.{windows_of};
 use super::ends::Ends;
 use super::messages::is_addressed;
 use super::windows::{LAST_ARRIVAL, LAST_SETTLING, Windows};
-use convoy_intervals::laws::{greatest_is_member, least_is_member, members_are_assignments};
-use convoy_intervals::{DelayBox, arrivals, multicast_delays, proposal_delays, settlings};
+use convoy_intervals::box_laws::{greatest_is_member, least_is_member, members_are_assignments};
+use convoy_intervals::{DelayBox, Window, arrivals, multicast_delays, proposal_delays, settlings};
 use convoy_packets::Instance;
-use convoy_packets::laws::fixed_order_is_order;
-use convoy_scenario::MOST_GROUPS;
-use convoy_sim::laws::{committed_within_two_delays, issued_within_its_wait};
-use std::alloc::{AllocError, Global};
+use convoy_packets::schedule_laws::fixed_order_is_order;
+use convoy_scenario::{AllocResult, MOST_GROUPS};
+use convoy_sim::protocol_laws::{committed_within_two_delays, issued_within_its_wait};
+use std::alloc::Global;
 
 impl Windows {
     /// The windows of a box of the instance. The error is that memory ran out.
-    pub fn of(
-        alloc: Global,
-        instance: &Instance,
-        delay_box: &DelayBox,
-    ) -> Result<Windows, AllocError>
+    pub fn of(alloc: Global, instance: &Instance, delay_box: &DelayBox) -> AllocResult<Windows>
         requires inside { IsBox instance.now delay_box.now }
         ensures { IfOk result (λ windows. windows ≡ windows_of instance.now delay_box.now) }
     {
@@ -72,7 +68,7 @@ fn ends_of(
     delay_box: &DelayBox,
     kind: Kind,
     places: usize,
-) -> Result<Ends, AllocError>
+) -> AllocResult<Ends>
     requires places { places ≡ place_count instance.now kind }
     requires inside { IsBox instance.now delay_box.now }
     ensures least { IfOk result
@@ -113,7 +109,7 @@ fn ends_at(instance: &Instance, delay_box: &DelayBox, kind: Kind, place: usize) 
 }
 
 /// The least and the greatest arrival at a place of their tables.
-fn arrivals_at(instance: &Instance, delay_box: &DelayBox, place: usize) -> (u32, u32)
+fn arrivals_at(instance: &Instance, delay_box: &DelayBox, place: usize) -> Window
     requires known { place < length instance.now.multicasts * MOST_GROUPS }
     requires inside { IsBox instance.now delay_box.now }
     ensures least { result.0
@@ -131,7 +127,7 @@ fn arrivals_at(instance: &Instance, delay_box: &DelayBox, place: usize) -> (u32,
 }
 
 /// The least and the greatest settling at a place of their tables.
-fn settlings_at(instance: &Instance, delay_box: &DelayBox, place: usize) -> (u32, u32)
+fn settlings_at(instance: &Instance, delay_box: &DelayBox, place: usize) -> Window
     requires known { place < length instance.now.multicasts * MOST_GROUPS }
     requires inside { IsBox instance.now delay_box.now }
     ensures least { result.0
@@ -142,7 +138,7 @@ fn settlings_at(instance: &Instance, delay_box: &DelayBox, place: usize) -> (u32
 {
     let (message, group) = (place / MOST_GROUPS, place % MOST_GROUPS);
     if is_addressed(instance.scenario(), message, group) {
-        settlings_within(instance, delay_box, message, group)
+        settlings_in(instance, delay_box, message, group)
     } else {
         (0, 0)
     }
@@ -150,12 +146,7 @@ fn settlings_at(instance: &Instance, delay_box: &DelayBox, place: usize) -> (u32
 
 /// The least and the greatest settling of a message at a group, which are none after the last one of
 /// a scenario.
-fn settlings_within(
-    instance: &Instance,
-    delay_box: &DelayBox,
-    message: usize,
-    group: usize,
-) -> (u32, u32)
+fn settlings_in(instance: &Instance, delay_box: &DelayBox, message: usize, group: usize) -> Window
     requires known { message < length instance.now.multicasts }
     requires inside { IsBox instance.now delay_box.now }
     ensures least { result.0 ≡ settle instance.now (least_of delay_box.now) message group }

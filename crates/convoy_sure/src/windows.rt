@@ -37,16 +37,7 @@ impl Model for Windows {
       greatest_proposals = w.proposals.greatest.items;
     } };
 
-    ghost invariant = { λ w. AreWithinLimits (record {
-      least_arrivals = w.arrivals.least.items;
-      greatest_arrivals = w.arrivals.greatest.items;
-      least_settlings = w.settlings.least.items;
-      greatest_settlings = w.settlings.greatest.items;
-      least_multicasts = w.multicasts.least.items;
-      greatest_multicasts = w.multicasts.greatest.items;
-      least_proposals = w.proposals.least.items;
-      greatest_proposals = w.proposals.greatest.items;
-    }) };
+    ghost invariant = { λ w. AreWithinLimits (view w) };
 }
 
 /// The entry of a row at a group, 0 where there is none. The row is a message, or a message at a group.

@@ -4,7 +4,7 @@ use Rattle.std.specs.declared.alloc.AllocError.{AllocError}
 use Rattle.convoy_scenario.specs.Scenario.{Scenario}
 use Rattle.convoy_ceiling.specs.Ceiling.{IsUpperInTraffic, ceiling_at}
 use Rattle.convoy_survey.specs.Ceilings.{MaySeek, told_latency}
-use Rattle.convoy_survey.specs.Laws.{CeilingRowsEnclose, EnclosesInTraffic}
+use Rattle.convoy_survey.specs.SurveyLaws.{CeilingRowsEnclose, EnclosesInTraffic}
 
 -- what is told of an answer encloses it with the ceiling
 told_encloses : (scenario : Scenario) (m g : ℕ) (answer : Result ℕ AllocError) → MaySeek scenario m g answer →

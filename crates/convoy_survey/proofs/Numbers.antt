@@ -8,12 +8,12 @@ use Rattle.convoy_sim.specs.Greatest.{IsGreatest}
 use Rattle.convoy_toml.specs.Reading.{scenario_of_text}
 use Rattle.convoy_branch.specs.Options.{Settings}
 use Rattle.convoy_commands.specs.declared.done.Done.TheVariants.{Fine}
-use Rattle.convoy_commands.specs.Lines.{greatest_line}
+use Rattle.convoy_commands.specs.ReplyLines.{greatest_line}
 use Rattle.convoy_commands.specs.Searches.{LatencySays}
 use Rattle.convoy_survey.specs.declared.finding.Finding.{Finding}
 use Rattle.convoy_survey.specs.declared.finding.Finding.TheVariants.{Greatest, Open, OutOfMemory}
 use Rattle.convoy_survey.specs.Findings.{Encloses, IsFinding, least_of, most_of, told_finding}
-use Rattle.convoy_survey.specs.Laws.{RowsAreLatencies, RowsEnclose}
+use Rattle.convoy_survey.specs.SurveyLaws.{RowsAreLatencies, RowsEnclose}
 
 -- what is reached is no more than what is an upper bound
 no_more : (scenario : Scenario) (a b : ℕ) → IsGreatest scenario a → IsGreatest scenario b → a ≤ b

@@ -17,4 +17,4 @@ pub mod Surveys
 -- the same of the ceilings of all targets
 pub mod Ceilings
 pub mod CeilingTables
-pub mod Laws
+pub mod SurveyLaws

@@ -19,10 +19,16 @@ use Rattle.convoy_survey.specs.declared.finding.Surveyed.{Surveyed}
 use Rattle.convoy_survey.specs.Cells.{table_of}
 use Rattle.convoy_survey.specs.Findings.{IsRowBy, MayAnswer, is_fault, is_open, target_of}
 
--- a call on these terms may be made for each target of the scenario: each message that does not wait, at each group that it goes to
+-- the message may be the target of the scenario at the group: it goes there, and does not wait
+pub record IsTarget (scenario : Scenario) (message group : ℕ) : Type 0 where
+  pub known : message < length scenario.multicasts
+  pub addressed : GoesTo scenario message group
+  pub fixed : (message_at scenario message).longest_wait ≡ 0
+
+-- a call on these terms may be made for each target of the scenario
 abbrev pub TakesTargets : Scenario → (ℕ → ℕ → Type 0) → Type 0
 TakesTargets scenario may_call =
-    (m g : ℕ) → m < length scenario.multicasts → GoesTo scenario m g → (message_at scenario m).longest_wait ≡ 0 → may_call m g
+    (message group : ℕ) → IsTarget scenario message group → may_call message group
 
 -- There is a row for each message that does not wait, at each group that it goes to, in their order, and each tells what the search for that target answered, where such answers may be given.
 pub record AreRowsBy (scenario : Scenario) (may_answer : ℕ → ℕ → Result Finding AllocError → Type 0) (rows : List Surveyed) : Type 0 where

@@ -1,18 +1,16 @@
-ghost use Rattle.std.specs.Prelude.{◌≡◌, IfOk, Ok};
-ghost use Rattle.convoy_scenario.specs.Memory.{IsUnlessMemory};
-ghost use Rattle.convoy_toml.specs.declared.target.TargetKey.TheVariants.{Optional};
-ghost use Rattle.convoy_toml.specs.Reading.{scenario_of_text_by};
+ghost use Rattle.std.specs.Prelude.{◌≡◌};
+ghost use Rattle.std.specs.List.{list_any};
 ghost use Rattle.convoy_commands.specs.Replies.{SaysUnlessMemory, reply_of};
+ghost use Rattle.convoy_survey.specs.Findings.{is_fault, is_open};
 ghost use Rattle.convoy_survey.specs.Surveys.{SurveySays, end_of};
 
 use super::finding::Surveyed;
 use super::rows::survey;
 use super::table::survey_text;
 use convoy_branch::Options;
-use convoy_commands::{Answer, Done, Fault, Known, Watch};
-use convoy_scenario::{Scenario, ScenarioFault};
+use convoy_commands::{Answer, Done, Fault, Watch};
 use convoy_tables::Format;
-use convoy_toml::read_toml_any_target;
+use convoy_toml::{Input, read_toml_any_target};
 use std::alloc::Global;
 use std::sync::Wait;
 use std::thread::Threads;
@@ -38,37 +36,35 @@ pub fn survey_answer<R: Threads + Wait + Sync, W: Watch + Sync>(
     ensures { SaysUnlessMemory (SurveySays format with_ceilings options.now) text.now
         (reply_of result) }
 {
-    let scenario = read_scenario(alloc, text)?;
+    let Input {
+        scenario,
+        plain,
+        ..
+    } = read_toml_any_target(alloc, text)?;
     // A scenario is well formed.
     let _count = scenario.message_count();
     let rows = survey(rt, alloc, &scenario, options, watch)?;
     let text = survey_text(alloc, format, with_ceilings, &scenario, &rows)?;
-    Ok(Answer {
-        done: end_of(&rows),
-        text,
-        known: Some(Known {
-            scenario,
-            greatest: None,
-        }),
-    })
-}
-
-/// The scenario of a text in which the target may be left out.
-pub(crate) fn read_scenario(alloc: Global, text: &[u8]) -> Result<Scenario, ScenarioFault>
-    ensures unless_memory { IsUnlessMemory ScenarioFault.Memory (scenario_of_text_by Optional text.now) result }
-    ensures read { IfOk result (λ scenario. scenario_of_text_by Optional text.now ≡ Ok scenario) }
-{
-    Ok(read_toml_any_target(alloc, text)?.scenario)
+    Ok(Answer::about(end_of(&rows), text, scenario, plain))
 }
 
 /// How a survey with these rows ends.
 fn end_of(rows: &[Surveyed]) -> Done
     ensures { result ≡ end_of rows.now }
 {
-    let (mut any_fault, mut any_open) = (false, false);
-    for row in rows {
-        any_fault |= row.finding.is_fault();
-        any_open |= row.finding.is_open();
-    }
-    Done::by(any_fault, any_open)
+    Done::by(has_fault(rows), has_open(rows))
+}
+
+/// Whether memory ran out for a row.
+fn has_fault(rows: &[Surveyed]) -> bool
+    ensures { result ≡ list_any (λ row. is_fault row.finding) rows.now }
+{
+    rows.iter().any(|row| row.finding.is_fault())
+}
+
+/// Whether the search of a row did not end.
+fn has_open(rows: &[Surveyed]) -> bool
+    ensures { result ≡ list_any (λ row. is_open row.finding) rows.now }
+{
+    rows.iter().any(|row| row.finding.is_open())
 }

@@ -4,13 +4,13 @@ ghost use Rattle.convoy_commands.specs.Replies.{SaysUnlessMemory, reply_of};
 ghost use Rattle.convoy_survey.specs.Ceilings.{has_group};
 ghost use Rattle.convoy_survey.specs.CeilingTables.{CeilingsSay, end_of_ceilings};
 
-use super::answering::read_scenario;
 use super::ceiled::Ceiled;
 use super::ceiling_table::ceilings_text;
 use super::ceilings::ceilings_of;
-use convoy_commands::{Answer, Done, Fault, Known};
+use convoy_commands::{Answer, Done, Fault};
 use convoy_scenario::{Scenario, ScenarioFault};
 use convoy_tables::Format;
+use convoy_toml::{Input, read_toml_any_target};
 use std::alloc::Global;
 
 /// The ceilings of the scenario of a text: a table with a row for each message at each group that it goes to, or at
@@ -35,7 +35,11 @@ pub fn ceilings_answer(
     ensures { SaysUnlessMemory (CeilingsSay format (option_map (λ name. name.now) group.entry))
         text.now (reply_of result) }
 {
-    let scenario = read_scenario(alloc, text)?;
+    let Input {
+        scenario,
+        plain,
+        ..
+    } = read_toml_any_target(alloc, text)?;
     // A scenario is well formed.
     let _count = scenario.message_count();
     if !has_group(&scenario, group) {
@@ -43,14 +47,7 @@ pub fn ceilings_answer(
     }
     let rows = ceilings_of(alloc, &scenario, group, simulations)?;
     let text = ceilings_text(alloc, format, &scenario, &rows)?;
-    Ok(Answer {
-        done: end_of(&rows),
-        text,
-        known: Some(Known {
-            scenario,
-            greatest: None,
-        }),
-    })
+    Ok(Answer::about(end_of(&rows), text, scenario, plain))
 }
 
 /// Whether a scenario has the group that is named, if one is.

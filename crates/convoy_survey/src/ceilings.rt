@@ -1,10 +1,9 @@
 ghost use Rattle.std.specs.Prelude.{◌≡◌, ◌<◌, ◌≤◌, ◌++◌, filter, length, map, option_map, IfOk, OnOk};
 ghost use Rattle.std.specs.List.{All};
-ghost use Rattle.convoy_scenario.specs.Scenario.{GoesTo, message_at};
 ghost use Rattle.convoy_scenario.specs.Targets.{targets_at, with_target};
 ghost use Rattle.convoy_ceiling.specs.Ceiling.{ceiling_at};
 ghost use Rattle.convoy_survey.specs.Ceilings.{AreCeiled, AreCeiledBy, IsAttainedInTraffic, IsCeiledBy, ceiled_target, is_asked, told_latency};
-ghost use Rattle.convoy_survey.specs.Surveys.{TakesTargets};
+ghost use Rattle.convoy_survey.specs.Surveys.{IsTarget, TakesTargets};
 
 use super::ceiled::Ceiled;
 use convoy_ceiling::{ceiling, seek_traffic};
@@ -13,10 +12,10 @@ use convoy_scenario::naming::group_name;
 use std::alloc::{AllocError, Global};
 
 /// The ceiling of each message of a scenario that does not wait, at each group that it goes to, in the
-/// order of their numbers; where a group is named, at that group alone. For each of them traffic that attains the ceiling is sought
-/// by at most so many simulations. Where memory runs out for one of them, nothing is told of its traffic,
-/// and the others are sought all the same. Where no group has the name there are no rows. Fails where there
-/// is no memory for the rows, and else never.
+/// order of their numbers; where a group is named, at that group alone. For each of them traffic that
+/// attains the ceiling is sought by at most so many simulations. Where memory runs out for one of them,
+/// nothing is told of its traffic, and the others are sought all the same. Where no group has the name
+/// there are no rows. Fails where there is no memory for the rows, and else never.
 pub fn ceilings_of(
     alloc: Global,
     scenario: &Scenario,
@@ -31,9 +30,7 @@ pub fn ceilings_of(
         scenario,
         group,
         |message: usize, group: usize| -> Result<u32, AllocError>
-            requires known { message < length scenario.now.multicasts }
-            requires addressed { GoesTo scenario.now message group }
-            requires fixed { (message_at scenario.now message).longest_wait ≡ 0 }
+            requires { IsTarget scenario.now message group }
             ensures attained { IfOk result
                 (IsAttainedInTraffic (with_target scenario.entry.now message group)) }
             ensures within { IfOk result
@@ -137,9 +134,7 @@ fn seek_at(
     group: usize,
     simulations: u64,
 ) -> Result<u32, AllocError>
-    requires known { message < length scenario.now.multicasts }
-    requires addressed { GoesTo scenario.now message group }
-    requires fixed { (message_at scenario.now message).longest_wait ≡ 0 }
+    requires { IsTarget scenario.now message group }
     ensures attained { IfOk result
         (IsAttainedInTraffic (with_target scenario.now message group)) }
     ensures within { IfOk result (λ latency. latency ≤ ceiling_at scenario.now message group) }

@@ -62,8 +62,9 @@ pub(crate) fn push_target(
     cells.push_word(group_name(scenario, group))
 }
 
-/// Puts what was found at the end of a row: the cells of the columns that [`push_finding_columns`](crate::push_finding_columns) names. The
-/// messages of its cause are those of the scenario. Fails where memory runs out, and else never.
+/// Puts what was found at the end of a row: the cells of the columns that
+/// [`push_finding_columns`](crate::push_finding_columns) names. The messages of its cause are those of the
+/// scenario. Fails where memory runs out, and else never.
 pub fn push_finding(
     scenario: &Scenario,
     finding: Finding,

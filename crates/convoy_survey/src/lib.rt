@@ -21,7 +21,7 @@ mod ceiling_table;
 mod ceilings;
 mod cells;
 mod finding;
-pub mod laws;
 mod rows;
 mod searching;
+pub mod survey_laws;
 mod table;

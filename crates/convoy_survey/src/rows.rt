@@ -1,9 +1,8 @@
 ghost use Rattle.std.specs.Prelude.{◌≡◌, ◌<◌, ◌++◌, length, map, IfOk, OnOk};
 ghost use Rattle.std.specs.List.{All};
-ghost use Rattle.convoy_scenario.specs.Scenario.{GoesTo, message_at};
 ghost use Rattle.convoy_scenario.specs.Targets.{targets_at};
 ghost use Rattle.convoy_survey.specs.Findings.{IsRowBy, MayAnswer, target_of};
-ghost use Rattle.convoy_survey.specs.Surveys.{AreRowsBy, AreSurveyed, TakesTargets};
+ghost use Rattle.convoy_survey.specs.Surveys.{AreRowsBy, AreSurveyed, IsTarget, TakesTargets};
 
 use super::finding::{Finding, Surveyed};
 use super::searching::find_target;
@@ -33,9 +32,7 @@ pub fn survey<R: Threads + Wait + Sync, W: Watch + Sync>(
         alloc,
         scenario,
         |message: usize, group: usize| -> Result<Finding, AllocError>
-            requires known { message < length scenario.now.multicasts }
-            requires addressed { GoesTo scenario.now message group }
-            requires fixed { (message_at scenario.now message).longest_wait ≡ 0 }
+            requires { IsTarget scenario.now message group }
             ensures { MayAnswer options.entry.now scenario.entry.now message group result }
         { find_target(rt, alloc, scenario, message, group, options, watch) },
     )

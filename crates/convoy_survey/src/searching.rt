@@ -1,8 +1,8 @@
-ghost use Rattle.std.specs.Prelude.{◌≡◌, ◌<◌, length, IfOk};
-ghost use Rattle.convoy_scenario.specs.Scenario.{GoesTo, message_at};
+ghost use Rattle.std.specs.Prelude.{◌≡◌, IfOk};
 ghost use Rattle.convoy_scenario.specs.Targets.{with_target};
 ghost use Rattle.convoy_commands.specs.Searches.{IsEnd};
 ghost use Rattle.convoy_survey.specs.Findings.{IsFinding, MayAnswer};
+ghost use Rattle.convoy_survey.specs.Surveys.{IsTarget};
 
 use super::cause::cause_of;
 use super::finding::Finding;
@@ -41,9 +41,7 @@ pub(crate) fn find_target<R: Threads + Wait + Sync, W: Watch + Sync>(
     options: &Options,
     watch: &W,
 ) -> Result<Finding, AllocError>
-    requires known { message < length scenario.now.multicasts }
-    requires addressed { GoesTo scenario.now message group }
-    requires fixed { (message_at scenario.now message).longest_wait ≡ 0 }
+    requires { IsTarget scenario.now message group }
     ensures { MayAnswer options.now scenario.now message group result }
 {
     let instance = target_instance(alloc, scenario, message, group)?;
@@ -57,9 +55,7 @@ fn target_instance(
     message: usize,
     group: usize,
 ) -> Result<Instance, AllocError>
-    requires known { message < length scenario.now.multicasts }
-    requires addressed { GoesTo scenario.now message group }
-    requires fixed { (message_at scenario.now message).longest_wait ≡ 0 }
+    requires { IsTarget scenario.now message group }
     ensures { IfOk result (λ instance. instance ≡ with_target scenario.now message group) }
 {
     Instance::of(alloc, scenario.with_target(message, group)?)

@@ -1,7 +1,7 @@
 ghost use Rattle.std.specs.Prelude.{◌≡◌, ◌<◌, ◌∷◌, [], ◌++◌, codes, length, OnOk, IfOk};
 ghost use Rattle.std.specs.List.{All};
 ghost use Rattle.convoy_draft.specs.Durations.{unit_word};
-ghost use Rattle.convoy_survey.specs.Cells.{ceiling_columns_if, columns_of, duration_columns, finding_columns, table_of, time_columns, unit_columns};
+ghost use Rattle.convoy_survey.specs.Cells.{ceiling_columns_if, columns_of, duration_columns, finding_columns, table_of, time_columns};
 ghost use Rattle.convoy_tables.specs.Formats.{table_text};
 ghost use Rattle.convoy_tables.specs.Tables.{word};
 
@@ -112,23 +112,10 @@ pub(crate) fn push_duration_columns(
         (columns.new ≡ columns.old ++ duration_columns name.now scenario.now.tick) }
 {
     columns.push_word(name)?;
-    push_unit_column(alloc, scenario, name, columns)
-}
-
-/// Puts the name of a column in the unit of a tick at the end of a row, where its length is known.
-fn push_unit_column(
-    alloc: Global,
-    scenario: &Scenario,
-    name: &str,
-    columns: &mut Row,
-) -> Result<(), AllocError>
-    ensures { OnOk result
-        (columns.new ≡ columns.old ++ unit_columns name.now scenario.now.tick) }
-{
-    let Some(tick) = scenario.tick() else {
-        return Ok(());
-    };
-    push_column_in(alloc, tick.unit(), name, columns)
+    match scenario.tick() {
+        Some(tick) => push_column_in(alloc, tick.unit(), name, columns),
+        None => Ok(()),
+    }
 }
 
 /// Puts the name of a column in this unit at the end of a row.

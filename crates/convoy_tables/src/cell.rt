@@ -1,5 +1,5 @@
-ghost use Rattle.std.specs.Prelude.{◌≡◌, IfOk};
-ghost use Rattle.convoy_tables.specs.Tables.{nothing, number, shown, word};
+ghost use Rattle.std.specs.Prelude.{◌≡◌, IfOk, string_bytes};
+ghost use Rattle.convoy_tables.specs.Tables.{nothing, number, shown, word, Cell};
 
 use std::alloc::{AllocError, Global};
 use std::marker::Model;
@@ -20,9 +20,6 @@ pub struct Cell {
 }
 
 impl Model for Cell {
-    ghost use Rattle.std.specs.Prelude.{string_bytes};
-    ghost use Rattle.convoy_tables.specs.Tables.{Cell};
-
     ghost Value = { Cell };
 
     ghost view = { λ c. record { kind = c.kind; text = string_bytes c.text } };

@@ -40,16 +40,6 @@ fn push_json_string(text: &[u8], out: &mut Vec<u8>) -> Result<(), AllocError>
     Ok(out.push(b'"')?)
 }
 
-/// Appends bytes of a string.
-fn push_json_bytes(text: &[u8], out: &mut Vec<u8>) -> Result<(), AllocError>
-    ensures { OnOk result (out.new.items ≡ out.old.items ++ flat_map json_byte text.now) }
-{
-    for byte in text {
-        push_json_byte(*byte, out)?;
-    }
-    Ok(())
-}
-
 /// Appends a byte of a string.
 fn push_json_byte(byte: u8, out: &mut Vec<u8>) -> Result<(), AllocError>
     ensures { OnOk result (out.new.items ≡ out.old.items ++ json_byte byte) }
@@ -64,6 +54,16 @@ fn push_json_byte(byte: u8, out: &mut Vec<u8>) -> Result<(), AllocError>
         return Ok(out.push(hex_digit(byte % 16))?);
     }
     Ok(out.push(byte)?)
+}
+
+/// Appends bytes of a string.
+fn push_json_bytes(text: &[u8], out: &mut Vec<u8>) -> Result<(), AllocError>
+    ensures { OnOk result (out.new.items ≡ out.old.items ++ flat_map json_byte text.now) }
+{
+    for byte in text {
+        push_json_byte(*byte, out)?;
+    }
+    Ok(())
 }
 
 fn hex_digit(number: u8) -> u8

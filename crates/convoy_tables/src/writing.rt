@@ -1,5 +1,5 @@
 ghost use Rattle.std.specs.Prelude.{◌≡◌, ◌<◌, ◌++◌, codes, length, OnOk, IfOk};
-ghost use Rattle.convoy_tables.specs.Formats.{array_text, before, between_cells, cell_text, line_text, lines_text, joined, object_text, row_text, table_text};
+ghost use Rattle.convoy_tables.specs.Formats.{array_text, before, between_cells, cell_text, lines_text, joined, object_text, row_text, table_text};
 ghost use Rattle.convoy_tables.specs.Tables.{cell_at};
 
 use super::aligning::{push_aligned, width_in, widths_of};
@@ -32,9 +32,11 @@ fn lines_of(
 {
     let names = table.columns();
     let mut text = Vec::new(alloc);
-    push_line(format, names, widths, names, &mut text)?;
+    push_row(format, names, widths, names, &mut text)?;
+    text.push(b'\n')?;
     for row in table.rows() {
-        push_line(format, names, widths, row.cells(), &mut text)?;
+        push_row(format, names, widths, row.cells(), &mut text)?;
+        text.push(b'\n')?;
     }
     Ok(text)
 }
@@ -68,20 +70,6 @@ fn push_object(names: &[Cell], cells: &[Cell], out: &mut Vec<u8>) -> Result<(), 
     out.extend_from_slice(b"\n  {")?;
     push_row(Format::Json, names, &[], cells, out)?;
     Ok(out.push(b'}')?)
-}
-
-/// Appends a row as a line.
-fn push_line(
-    format: Format,
-    names: &[Cell],
-    widths: &[usize],
-    cells: &[Cell],
-    out: &mut Vec<u8>,
-) -> Result<(), AllocError>
-    ensures { OnOk result (out.new.items ≡ out.old.items ++ line_text format names.now widths.now cells.now) }
-{
-    push_row(format, names, widths, cells, out)?;
-    Ok(out.push(b'\n')?)
 }
 
 /// Appends the cells of a row.

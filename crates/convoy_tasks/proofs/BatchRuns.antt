@@ -6,7 +6,7 @@ use Rattle.std.proofs.lemmas.List.Elements.{All-nil}
 use Rattle.std.proofs.lemmas.Fn.{FoldsTo-push}
 use Rattle.convoy_streams.specs.declared.reading.ReadFault.TheVariants.{Read, TooManyReads}
 use Rattle.convoy_streams.specs.Jobs.{ended_jobs}
-use Rattle.convoy_streams.specs.Laws.{EndedJobsStay, PiecesGoOn}
+use Rattle.convoy_streams.specs.StreamLaws.{EndedJobsStay, PiecesGoOn}
 use Rattle.convoy_streams.specs.Devices.{Answer, Moved, Failed, HasRun, IsPiece}
 use Rattle.convoy_branch.specs.Options.{Settings}
 use Rattle.convoy_tasks.specs.declared.batch.Batch.{Batch}

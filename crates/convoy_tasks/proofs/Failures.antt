@@ -13,8 +13,8 @@ use Rattle.convoy_tasks.specs.declared.task.Task.{Task}
 use Rattle.convoy_tasks.specs.Tasks.{longest_for, task_says}
 use Rattle.convoy_tasks.proofs.TaskFaults.{says_no_device}
 use Rattle.convoy_commands.proofs.NoDevice.{IsNoDevice}
-use Rattle.convoy_commands.specs.Laws.{told_reads}
-use Rattle.convoy_tasks.specs.Laws.{FailuresAreTold}
+use Rattle.convoy_commands.specs.CommandLaws.{told_reads}
+use Rattle.convoy_tasks.specs.TaskLaws.{FailuresAreTold}
 use Rattle.convoy_tasks.specs.Runs.{IsUnread, Replied}
 
 -- where a text was read

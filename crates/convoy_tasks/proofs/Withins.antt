@@ -3,7 +3,7 @@ use Rattle.std.proofs.Common.{◌≡◌, ap, inl, inr, refl, sym, ◌∙◌, ℕ
 use Rattle.convoy_scenario.specs.Scenario.{Scenario}
 use Rattle.convoy_scenario.specs.declared.part.Part.{Part}
 use Rattle.convoy_certificate.specs.Certificate.{Certificate, IsCertificate}
-use Rattle.convoy_certificate.specs.Laws.{TextsDiffer}
+use Rattle.convoy_certificate.specs.CertificateLaws.{TextsDiffer}
 use Rattle.convoy_certificate.specs.Reading.{IsTextOf, certificate_of}
 use Rattle.convoy_certificate.specs.declared.text_fault.TextFault.{TextFault}
 use Rattle.convoy_certificate.specs.declared.text_fault.TextFault.TheVariants as texts
@@ -18,7 +18,7 @@ use Rattle.convoy_commands.specs.Asks.{AskSays}
 use Rattle.convoy_commands.specs.Checks.{IsAccepted, check_reply, reply_of_check, reply_of_text}
 use Rattle.convoy_commands.specs.Replies.{IsReply, Reply, SaysUnlessMemory}
 use Rattle.convoy_commands.specs.Withins.{SaysWithin}
-use Rattle.convoy_commands.proofs.WithinTexts.{asked_so, kept_so, says_within}
+use Rattle.convoy_commands.proofs.WithinTexts.{AllowsOthers, asked_so, refused_as_asked, others_as_asked, says_within}
 use Rattle.convoy_tasks.specs.Abouts.{CheckAboutSays, IsAcceptedAs}
 
 -- a yes of `check` is one of a valid certificate
@@ -66,20 +66,8 @@ answered_within differ limit wanted tells text line certificate reply is spelled
     about_within limit wanted tells text line reply said
     (about (accepted, differ accepted.certificate certificate accepted.lawful is (sym accepted.written.0 ∙ spelled.0)))
 
--- a text of no certificate is refused as by `check`
-pub refused_about : (limit : Option ℕ) (wanted : Option Scenario) (tells : Bool) (text : List ℕ) (fault : TextFault) (reply : Reply) →
-    IsReply (reply_of_text (Err fault)) reply →
-    SaysUnlessMemory (SaysWithin limit NotChecked (AskSays Check)) text reply →
-    SaysUnlessMemory (SaysWithin limit NotChecked (CheckAboutSays wanted tells)) text reply
-refused_about limit wanted tells text fault reply told (inr none) = inr none
-refused_about limit wanted tells text fault reply (inr none) said = inr none
-refused_about limit wanted tells text texts.Memory reply (inl told) (inl said) = inr told
-refused_about limit wanted tells text fault reply (inl told) (inl said) =
-    inl (rw told (kept_so limit NotChecked text (AskSays Check) (CheckAboutSays wanted tells) (reply_of_text (Err fault)) (rw told at said) (λ says. says)))
-
 -- what is neither a yes nor another scenario's is answered as by `check`
-as_check : (wanted : Option Scenario) (tells : Bool) (text out : List ℕ) (done : Done) → (done ≡ Fine → ⊥) →
-    AskSays Check text (Ok (done, out)) → CheckAboutSays wanted tells text (Ok (done, out))
+as_check : (wanted : Option Scenario) (tells : Bool) → AllowsOthers Check (CheckAboutSays wanted tells)
 as_check wanted tells text out Fine not says = absurd (not refl)
 as_check wanted tells text out Open not says = says
 as_check wanted tells text out Faulty not says = says
@@ -90,6 +78,13 @@ as_check wanted tells text out NotChecked not says = says
 pub others_within : (limit : Option ℕ) (wanted : Option Scenario) (tells : Bool) (text out : List ℕ) (done : Done) → (done ≡ Fine → ⊥) →
     SaysUnlessMemory (SaysWithin limit NotChecked (AskSays Check)) text (Ok (done, out)) →
     SaysUnlessMemory (SaysWithin limit NotChecked (CheckAboutSays wanted tells)) text (Ok (done, out))
-others_within limit wanted tells text out done not (inr none) = absurd cc
-others_within limit wanted tells text out done not (inl said) =
-    inl (kept_so limit NotChecked text (AskSays Check) (CheckAboutSays wanted tells) (Ok (done, out)) said (λ says. as_check wanted tells text out done not says))
+others_within limit wanted tells text out done not said =
+    others_as_asked limit Check (CheckAboutSays wanted tells) text out done (as_check wanted tells) not said
+
+-- and so is a text of no certificate
+pub refused_about : (limit : Option ℕ) (wanted : Option Scenario) (tells : Bool) (text : List ℕ) (fault : TextFault) (reply : Reply) →
+    IsReply (reply_of_text (Err fault)) reply →
+    SaysUnlessMemory (SaysWithin limit NotChecked (AskSays Check)) text reply →
+    SaysUnlessMemory (SaysWithin limit NotChecked (CheckAboutSays wanted tells)) text reply
+refused_about limit wanted tells text fault reply told said =
+    refused_as_asked limit Check (CheckAboutSays wanted tells) text fault reply (as_check wanted tells) told said

@@ -1,7 +1,7 @@
 -- What a yes for a scenario means, and what gets one.
 use Rattle.std.proofs.Common.{◌≡◌, ◌∙◌, ap, refl, sym, ℕ, ◌<◌, ◌^◌, Bool, List, [], ◌∷◌, ◌++◌, append_assoc, get_or, arith, codes, decimal, Option, Some, Result, Ok}
 use Rattle.convoy_lines.specs.Labels.{number_in}
-use Rattle.convoy_lines.specs.Laws.{IsWord}
+use Rattle.convoy_lines.specs.LineLaws.{IsWord}
 use Rattle.convoy_lines.specs.Places.{Lines, lines_in}
 use Rattle.convoy_lines.specs.Texts.{number_line}
 use Rattle.convoy_lines.proofs.LabelLemmas.{number_line_again}
@@ -9,7 +9,7 @@ use Rattle.convoy_lines.proofs.Spelling.{decimal_word, line_lacks}
 use Rattle.convoy_lines.proofs.Splitting.{lines_after}
 use Rattle.convoy_scenario.specs.Scenario.{Scenario}
 use Rattle.convoy_certificate.specs.Certificate.{Certificate, IsCertificate}
-use Rattle.convoy_certificate.specs.Laws.{TextsDiffer}
+use Rattle.convoy_certificate.specs.CertificateLaws.{TextsDiffer}
 use Rattle.convoy_certificate.specs.Reading.{IsTextOf}
 use Rattle.convoy_checker.specs.Validity.{IsValid}
 use Rattle.convoy_commands.specs.declared.done.Done.{Done}
@@ -18,11 +18,11 @@ use Rattle.convoy_commands.specs.declared.fault.Fault.{Fault}
 use Rattle.convoy_commands.specs.declared.asking.Asking.TheVariants.{Check}
 use Rattle.convoy_commands.specs.Asks.{AskSays}
 use Rattle.convoy_commands.specs.Checks.{IsAccepted}
-use Rattle.convoy_commands.specs.Lines.{accepted_line}
+use Rattle.convoy_commands.specs.ReplyLines.{accepted_line}
 use Rattle.convoy_scenario.specs.declared.part.Part.{Part}
 use Rattle.convoy_scenario.specs.declared.part.Part.TheVariants.{Time, Tick, Delay, Groups, Links, Multicasts, Target}
 use Rattle.convoy_tasks.specs.Abouts.{IsAcceptedAbout, IsAcceptedAs, IsOfAnother, IsUnwanted, IsWanted}
-use Rattle.convoy_tasks.specs.Laws.{YesIsGiven, YesIsGreatest}
+use Rattle.convoy_tasks.specs.TaskLaws.{YesIsGiven, YesIsGreatest}
 use Rattle.convoy_tasks.specs.AcceptedLines.{differs_line, told_if}
 use Rattle.convoy_tasks.proofs.Withins.{end_is}
 use Rattle.convoy_scenario.specs.Differences.{AgreeIn}

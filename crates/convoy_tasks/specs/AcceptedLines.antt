@@ -3,7 +3,7 @@ use Rattle.std.specs.Prelude.{ℕ, Bool, if◌then◌else◌, List, [], ◌∷�
 use Rattle.convoy_lines.specs.Texts.{ended, line_of, number_line}
 use Rattle.convoy_scenario.specs.Scenario.{Scenario, group_name_at, message_at}
 use Rattle.convoy_certificate.specs.Certificate.{Certificate}
-use Rattle.convoy_commands.specs.Lines.{in_unit}
+use Rattle.convoy_commands.specs.ReplyLines.{in_unit}
 use Rattle.convoy_commands.specs.Refusals.{refused_line}
 use Rattle.convoy_scenario.specs.declared.part.Part.{Part}
 use Rattle.convoy_scenario.specs.Differences.{part_word}

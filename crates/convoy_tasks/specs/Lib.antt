@@ -17,13 +17,13 @@ pub use Rattle.convoy_certificate.specs.Certificate
 pub use Rattle.convoy_certificate.specs.Reading as CertificateReading
 pub use Rattle.convoy_checker.specs.Validity
 pub use Rattle.convoy_commands.specs.Checks
-pub use Rattle.convoy_commands.specs.Lines as CommandLines
+pub use Rattle.convoy_commands.specs.ReplyLines
 pub use Rattle.convoy_commands.specs.Refusals
 pub use Rattle.convoy_commands.specs.Replies
 pub use Rattle.convoy_commands.specs.Withins
 pub use Rattle.convoy_commands.specs.WithCeilings
 pub use Rattle.convoy_commands.specs.Searches
-pub use Rattle.convoy_commands.specs.Laws as CommandLaws
+pub use Rattle.convoy_commands.specs.CommandLaws
 pub use Rattle.convoy_survey.specs.Surveys
 pub use Rattle.convoy_survey.specs.CeilingTables
 pub use Rattle.convoy_what_if.specs.WhatIf
@@ -33,7 +33,7 @@ pub mod AcceptedLines
 pub mod Abouts
 pub mod Tasks
 pub mod Runs
-pub mod Laws
+pub mod TaskLaws
 pub mod Batches
 pub mod JobRows
 pub mod JobTables

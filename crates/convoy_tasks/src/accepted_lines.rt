@@ -1,17 +1,14 @@
 //! The lines that tell what was accepted, and the refusal of the certificate of another scenario.
 
-ghost use Rattle.std.specs.Prelude.{◌≡◌, ◌*◌, ◌∷◌, [], ◌++◌, decimal, IfOk, OnOk};
-ghost use Rattle.std.specs.List.{flat_map};
-ghost use Rattle.convoy_lines.specs.Texts.{spaced};
-ghost use Rattle.convoy_draft.specs.Durations.{count_of};
+ghost use Rattle.std.specs.Prelude.{◌≡◌, ◌++◌, IfOk, OnOk};
 ghost use Rattle.convoy_scenario.specs.Scenario.{group_name_at, message_at};
-ghost use Rattle.convoy_commands.specs.Lines.{in_unit};
 ghost use Rattle.convoy_tasks.specs.AcceptedLines.{certificate_told, count_line, counts_told, delay_line, differs_line, scenario_told, target_line};
 
 use convoy_certificate::Certificate;
+use convoy_commands::push_in_unit;
 use convoy_lines::{push_further_word, push_number};
-use convoy_scenario::laws::targets_are_groups;
-use convoy_scenario::{Duration, Part, Scenario};
+use convoy_scenario::scenario_laws::targets_are_groups;
+use convoy_scenario::{Part, Scenario};
 use itoa::Buffer;
 use std::alloc::{AllocError, Global};
 
@@ -92,28 +89,6 @@ fn push_delay_line(scenario: &Scenario, out: &mut Vec<u8>) -> Result<(), AllocEr
     push_in_unit(scenario.tick(), delay, out)?;
     out.push(b'\n')?;
     Ok(())
-}
-
-/// Appends a number of ticks in the unit of a tick, and the unit, where its length is known.
-fn push_in_unit(tick: Option<Duration>, ticks: u32, out: &mut Vec<u8>) -> Result<(), AllocError>
-    ensures { OnOk result (out.new.items
-        ≡ out.old.items ++ flat_map spaced (in_unit tick (ticks ∷ []))) }
-{
-    let Some(tick) = tick else {
-        return Ok(());
-    };
-    push_time(tick, ticks, out)?;
-    push_further_word(out, tick.unit().word())
-}
-
-/// Appends a space and how many of a tick's unit so many ticks are.
-fn push_time(tick: Duration, ticks: u32, out: &mut Vec<u8>) -> Result<(), AllocError>
-    ensures { OnOk result (out.new.items
-        ≡ out.old.items ++ spaced (decimal (ticks * count_of tick))) }
-{
-    let mut buffer = Buffer::new();
-    let time = u128::from(ticks) * u128::from(tick.count());
-    push_further_word(out, buffer.format(time))
 }
 
 /// Appends the line of how many there are of what a word names.

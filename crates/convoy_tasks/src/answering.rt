@@ -1,7 +1,7 @@
 ghost use Rattle.std.specs.Prelude.{◌≡◌, string_bytes};
 ghost use Rattle.std.specs.Option.{option_map};
 ghost use Rattle.convoy_commands.specs.Replies.{SaysUnlessMemory, reply_of};
-ghost use Rattle.convoy_commands.specs.WithCeilings.{explain_says, latency_says};
+ghost use Rattle.convoy_commands.specs.WithCeilings.{explain_says};
 ghost use Rattle.convoy_commands.specs.Withins.{SaysWithin};
 ghost use Rattle.convoy_commands.specs.declared.done.Done.TheVariants.{NotChecked};
 ghost use Rattle.convoy_survey.specs.CeilingTables.{CeilingsSay};
@@ -11,8 +11,8 @@ use super::batch_table::{LONGEST_BATCH, batch_table_answer};
 use super::checking::check_answer;
 use super::task::Task;
 use convoy_commands::{
-    Answer, Asking, Fault, LONGEST_CERTIFICATE, LONGEST_JOB, Options, Watch, analyse_answer, ask,
-    ceiling_answer, explain_with_ceiling, first_answer, latency_answer, latency_with_ceiling, tell,
+    Answer, Asking, Fault, LONGEST_CERTIFICATE, LONGEST_JOB, Watch, analyse_answer, ask,
+    ceiling_answer, explain_with_ceiling, first_answer, latency_answer, tell,
 };
 use convoy_scenario::Scenario;
 use convoy_survey::{ceilings_answer, survey_answer};
@@ -46,7 +46,7 @@ pub fn answer<R: Threads + Wait + Sync, W: Watch + Sync>(
         Task::Latency {
             with_ceiling,
             options,
-        } => answer_latency(rt, alloc, *with_ceiling, text, options, watch),
+        } => latency_answer(rt, alloc, *with_ceiling, text, options, watch),
         Task::Survey {
             format,
             with_ceilings,
@@ -59,7 +59,7 @@ pub fn answer<R: Threads + Wait + Sync, W: Watch + Sync>(
             format,
             options,
             ..
-        } => batch_table_answer(rt, alloc, *format, options, text, watch),
+        } => batch_table_answer(rt, alloc, options, *format, text, watch),
         Task::First
         | Task::Tell(_)
         | Task::Check { .. }
@@ -101,24 +101,6 @@ pub(crate) fn answer_at_once(
         | Task::Survey { .. }
         | Task::WhatIf { .. }
         | Task::BatchTable { .. } => unreachable!(),
-    }
-}
-
-/// The greatest latency, and below it the ceiling where that is asked for.
-fn answer_latency<R: Threads + Wait + Sync, W: Watch + Sync>(
-    rt: &R,
-    alloc: Global,
-    with_ceiling: bool,
-    text: &[u8],
-    options: &Options,
-    watch: &W,
-) -> Result<Answer, Fault>
-    ensures { SaysUnlessMemory (latency_says with_ceiling options.now) text.now (reply_of result) }
-{
-    if with_ceiling {
-        latency_with_ceiling(rt, alloc, text, options, watch)
-    } else {
-        latency_answer(rt, alloc, text, options, watch)
     }
 }
 

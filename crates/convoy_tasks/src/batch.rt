@@ -11,7 +11,7 @@ use super::block::fill;
 use convoy_branch::Options;
 use convoy_commands::{Answer, Done, Fault, LONGEST_JOB, Watch, latency_answer};
 use convoy_lines::ReservedText;
-use convoy_streams::laws::{ended_jobs_stay, pieces_go_on};
+use convoy_streams::stream_laws::{ended_jobs_stay, pieces_go_on};
 use convoy_streams::{
     BUFFER_LENGTH, JobFault, ReadFault, Sink, Source, Splitter, read_piece, write_all,
 };
@@ -219,7 +219,7 @@ fn job_answer<R: Threads + Wait + Sync, W: Watch + Sync>(
         JobSays options.now job (reply_of result) }
 {
     match splitter.job() {
-        Ok(text) => latency_answer(rt, alloc, text, options, watch),
+        Ok(text) => latency_answer(rt, alloc, false, text, options, watch),
         Err(JobFault::TooLong) => Err(Fault::Reading(ReadFault::TooLong(LONGEST_JOB))),
         Err(JobFault::Memory) => Err(Fault::Memory),
     }

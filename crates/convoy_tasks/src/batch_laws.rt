@@ -3,7 +3,7 @@
 ghost use Rattle.convoy_branch.specs.Options.{Settings};
 ghost use Rattle.convoy_tasks.specs.BatchLaws.{BatchFailuresAreTold, JobRowsAreLatencies, JobRowsEnclose};
 
-use convoy_survey::laws::rows_are_latencies;
+use convoy_survey::survey_laws::rows_are_latencies;
 
 /// In every run of a batch, with whatever options, each failure of the source is told as
 /// `ReadFault::Read` and each failure of the sink as `Fault::Write`, and neither is told where the device

@@ -30,8 +30,8 @@ pub const LONGEST_BATCH: usize = LONGEST_CERTIFICATE;
 pub fn batch_table_answer<R: Threads + Wait + Sync, W: Watch + Sync>(
     rt: &R,
     alloc: Global,
-    format: Format,
     options: &Options,
+    format: Format,
     text: &[u8],
     watch: &W,
 ) -> Result<Answer, Fault>

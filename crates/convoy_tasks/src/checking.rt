@@ -1,17 +1,15 @@
 ghost use Rattle.std.specs.Prelude.{◌≡◌, ◌++◌, ℕ, List, IfOk, MatchOption, Ok};
 ghost use Rattle.std.specs.Option.{option_map};
-ghost use Rattle.convoy_certificate.specs.Certificate.{IsCertificate};
-ghost use Rattle.convoy_certificate.specs.Reading.{IsTextOf, certificate_of};
 ghost use Rattle.convoy_commands.specs.Replies.{SaysUnlessMemory, reply_of, told_of_answer};
-ghost use Rattle.convoy_commands.specs.Withins.{SaysWithin};
+ghost use Rattle.convoy_commands.specs.Withins.{AnswersCertificate, SaysWithin};
 ghost use Rattle.convoy_commands.specs.declared.done.Done.TheVariants.{NotChecked};
 ghost use Rattle.convoy_tasks.specs.Abouts.{CheckAboutSays, IsAcceptedAs, IsUnwanted, IsWanted, check_says};
 ghost use Rattle.convoy_tasks.specs.AcceptedLines.{told_if};
 
 use super::accepted_lines::{differs_line, push_certificate};
-use convoy_certificate::laws::{texts_are_read, texts_differ};
+use convoy_certificate::certificate_laws::{texts_are_read, texts_differ};
 use convoy_certificate::{Certificate, read};
-use convoy_checker::laws::checked_is_valid;
+use convoy_checker::tree_laws::checked_is_valid;
 use convoy_commands::{Answer, Asking, Done, Fault, answer_to_fault, ask, ask_certificate};
 use convoy_scenario::{Part, Scenario, difference};
 use std::alloc::{AllocError, Global};
@@ -36,17 +34,17 @@ pub fn check_answer(
 {
     match (wanted, tells) {
         (None, false) => ask(alloc, Asking::Check, limit, text),
-        (None, true) => answer_about(alloc, None, true, limit, text),
-        (Some(wanted), tells) => answer_about(alloc, Some(wanted), tells, limit, text),
+        (None, true) => answer_about(alloc, limit, None, true, text),
+        (Some(wanted), tells) => answer_about(alloc, limit, Some(wanted), tells, text),
     }
 }
 
 /// The same where a scenario is wanted, or what is accepted is told.
 fn answer_about(
     alloc: Global,
+    limit: Option<u64>,
     wanted: Option<&Scenario>,
     tells: bool,
-    limit: Option<u64>,
     text: &[u8],
 ) -> Result<Answer, Fault>
     ensures { SaysUnlessMemory (SaysWithin limit NotChecked (CheckAboutSays (option_map (λ s. s.now) wanted.entry) tells))
@@ -71,10 +69,8 @@ fn about_certificate(
     limit: Option<u64>,
     certificate: &Certificate,
 ) -> Result<Answer, Fault>
-    ensures { (text : List ℕ) → IsCertificate certificate.now
-        → certificate_of text ≡ Ok certificate.now → IsTextOf certificate.now text
-        → SaysUnlessMemory (SaysWithin limit NotChecked (CheckAboutSays (option_map (λ s. s.now) wanted.entry) tells))
-        text (reply_of result) }
+    ensures { AnswersCertificate (SaysWithin limit NotChecked (CheckAboutSays (option_map (λ s. s.now) wanted.entry) tells))
+        certificate.now (reply_of result) }
 {
     texts_differ();
     let answer = ask_certificate(alloc, Asking::Check, limit, certificate)?;

@@ -24,7 +24,7 @@ mod checking;
 mod ended;
 mod job_row;
 mod job_table;
-pub mod laws;
 mod running;
 mod task;
+pub mod task_laws;
 mod wanted;

@@ -1,4 +1,3 @@
-ghost use Rattle.std.specs.Prelude.{◌≡◌, IfOk, Ok};
 ghost use Rattle.convoy_scenario.specs.Memory.{IsUnlessMemory};
 ghost use Rattle.convoy_toml.specs.Reading.{scenario_of_text};
 ghost use Rattle.convoy_tasks.specs.Abouts.{IsScenarioRead};

@@ -14,7 +14,7 @@ use Rattle.convoy_sim.specs.Stamps.{clocks_of, local_stamp, final_stamp}
 use Rattle.convoy_sim.specs.Delivery.{holds_back, deliver, latency_at, latency_of}
 use Rattle.convoy_scenario.proofs.RowScenarios.{message, of_two, base_with, base, swapped, tied}
 use Rattle.convoy_timeline.specs.Causes.{holder_of, tied_before, last_proposer, explanation_of}
-use Rattle.convoy_timeline.specs.Explanations.{answered_text, awaited_text, commit_text, flight_text, holder_text, in_unit_text, issue_text, latency_text, sent_text, stamp_text, text_of, ticks_text, window_text, worst_text}
+use Rattle.convoy_timeline.specs.Explanations.{answered_text, awaited_text, commit_text, flight_text, holder_text, in_unit_text, issue_text, latency_text, sent_text, stamp_text, text_of, ticks_text, window_text, way_text, worst_text}
 use Rattle.convoy_timeline.specs.PacketLists.{packet_line, packet_text, packets_text, scheduled_packets_text, taken_text}
 
 -- the base with every packet's delay three ticks, where y holds t back
@@ -26,7 +26,7 @@ base_threes : text_of base (explanation_of base (in_fixed_order (replicate 8 3))
     codes "  tick 6   a sends y to b, packet 5, 3 ticks" ++ 10 ∷ (
     codes "  tick 9   b proposes 3.b to a, packet 7, 3 ticks" ++ 10 ∷ (
     codes "no schedule is worse: 1 node, checked" ++ 10 ∷ ([])))))))
-unfolding base_with message packets_of delay_of arrive settle arrival_rank commit_rank no_order moments_of clocks_of local_stamp final_stamp holds_back deliver latency_at latency_of digits holder_of tied_before last_proposer explanation_of stamp_text flight_text in_unit_text ticks_text latency_text commit_text holder_text awaited_text sent_text answered_text worst_text text_of
+unfolding base_with message packets_of delay_of arrive settle arrival_rank commit_rank no_order moments_of clocks_of local_stamp final_stamp holds_back deliver latency_at latency_of digits holder_of tied_before last_proposer explanation_of stamp_text flight_text in_unit_text ticks_text latency_text commit_text holder_text awaited_text sent_text answered_text way_text worst_text text_of
 base_threes = refl
 
 swapped_threes : text_of swapped (explanation_of swapped (in_fixed_order (replicate 8 3))) 1_469 ≡
@@ -37,7 +37,7 @@ swapped_threes : text_of swapped (explanation_of swapped (in_fixed_order (replic
     codes "  tick 0   a client sends t to b, packet 1, 3 ticks" ++ 10 ∷ (
     codes "  tick 3   b proposes 2.b to a, packet 3, 3 ticks" ++ 10 ∷ (
     codes "no schedule is worse: 1469 nodes, checked" ++ 10 ∷ ([])))))))
-unfolding swapped message packets_of delay_of arrive settle arrival_rank commit_rank no_order moments_of clocks_of local_stamp final_stamp holds_back deliver latency_at latency_of digits holder_of tied_before last_proposer explanation_of stamp_text flight_text in_unit_text ticks_text latency_text commit_text holder_text awaited_text sent_text answered_text worst_text text_of
+unfolding swapped message packets_of delay_of arrive settle arrival_rank commit_rank no_order moments_of clocks_of local_stamp final_stamp holds_back deliver latency_at latency_of digits holder_of tied_before last_proposer explanation_of stamp_text flight_text in_unit_text ticks_text latency_text commit_text holder_text awaited_text sent_text answered_text way_text worst_text text_of
 swapped_threes = refl
 
 -- a message that goes to its sender alone, late in the run
@@ -52,7 +52,7 @@ lone_none : text_of lone (explanation_of lone (in_fixed_order [])) 1 ≡
     codes "  tick 120 a issues m" ++ 10 ∷ (
     codes "  tick 120 a proposes 1.a itself" ++ 10 ∷ (
     codes "no schedule is worse: 1 node, checked" ++ 10 ∷ ([])))))))
-unfolding lone message packets_of delay_of arrive settle arrival_rank commit_rank no_order moments_of clocks_of local_stamp final_stamp holds_back deliver latency_at latency_of digits holder_of tied_before last_proposer explanation_of stamp_text flight_text in_unit_text ticks_text latency_text commit_text holder_text awaited_text sent_text answered_text worst_text text_of
+unfolding lone message packets_of delay_of arrive settle arrival_rank commit_rank no_order moments_of clocks_of local_stamp final_stamp holds_back deliver latency_at latency_of digits holder_of tied_before last_proposer explanation_of stamp_text flight_text in_unit_text ticks_text latency_text commit_text holder_text awaited_text sent_text answered_text way_text worst_text text_of
 lone_none = refl
 
 -- a message that comes to a last, so that the last proposal is that of a itself
@@ -67,7 +67,7 @@ late_own : text_of late (explanation_of late (in_fixed_order (3 ∷ 1 ∷ 1 ∷ 
     codes "  tick 9   a client sends t to a, packet 0, 3 ticks" ++ 10 ∷ (
     codes "  tick 12  a proposes 1.a itself" ++ 10 ∷ (
     codes "no schedule is worse: 2 nodes, checked" ++ 10 ∷ ([])))))))
-unfolding late message packets_of delay_of arrive settle arrival_rank commit_rank no_order moments_of clocks_of local_stamp final_stamp holds_back deliver latency_at latency_of digits holder_of tied_before last_proposer explanation_of stamp_text flight_text in_unit_text ticks_text latency_text commit_text holder_text awaited_text sent_text answered_text worst_text text_of
+unfolding late message packets_of delay_of arrive settle arrival_rank commit_rank no_order moments_of clocks_of local_stamp final_stamp holds_back deliver latency_at latency_of digits holder_of tied_before last_proposer explanation_of stamp_text flight_text in_unit_text ticks_text latency_text commit_text holder_text awaited_text sent_text answered_text way_text worst_text text_of
 late_own = refl
 
 -- in real time, in ticks of 50 microseconds: t comes to b after x, and y to a before t is committed there, both by the order of a tie
@@ -82,7 +82,7 @@ timed_ones : text_of timed (explanation_of timed (record { delays = replicate 8 
     codes "  tick 2   a sends y to b, packet 5, 1 tick" ++ 10 ∷ (
     codes "  tick 3   b proposes 3.b to a, packet 7, 1 tick" ++ 10 ∷ (
     codes "no schedule is worse: 1 node, checked" ++ 10 ∷ ([])))))))
-unfolding timed tied message packets_of delay_of arrive settle arrival_rank commit_rank no_order moments_of clocks_of local_stamp final_stamp holds_back deliver latency_at latency_of digits holder_of tied_before last_proposer explanation_of stamp_text flight_text in_unit_text ticks_text latency_text commit_text holder_text awaited_text sent_text answered_text worst_text text_of
+unfolding timed tied message packets_of delay_of arrive settle arrival_rank commit_rank no_order moments_of clocks_of local_stamp final_stamp holds_back deliver latency_at latency_of digits holder_of tied_before last_proposer explanation_of stamp_text flight_text in_unit_text ticks_text latency_text commit_text holder_text awaited_text sent_text answered_text way_text worst_text text_of
 timed_ones = refl
 
 -- y may wait up to eight ticks, and holds t back where it is issued at tick 6
@@ -100,7 +100,7 @@ waits_four : text_of waiting (explanation_of waiting (in_fixed_order (3 ∷ 3 �
     codes "  tick 6   a sends y to b, packet 6, 3 ticks" ++ 10 ∷ (
     codes "  tick 9   b proposes 3.b to a, packet 8, 3 ticks" ++ 10 ∷ (
     codes "no schedule is worse: 1 node, checked" ++ 10 ∷ ([]))))))))
-unfolding waiting message packets_of delay_of arrive settle arrival_rank commit_rank no_order moments_of clocks_of local_stamp final_stamp holds_back deliver latency_at latency_of digits holder_of tied_before last_proposer explanation_of stamp_text flight_text in_unit_text ticks_text latency_text commit_text holder_text window_text issue_text awaited_text sent_text answered_text worst_text text_of
+unfolding waiting message packets_of delay_of arrive settle arrival_rank commit_rank no_order moments_of clocks_of local_stamp final_stamp holds_back deliver latency_at latency_of digits holder_of tied_before last_proposer explanation_of stamp_text flight_text in_unit_text ticks_text latency_text commit_text holder_text window_text issue_text awaited_text sent_text answered_text way_text worst_text text_of
 waits_four = refl
 
 -- ---- packets

@@ -9,11 +9,11 @@ use Rattle.convoy_sim.specs.Run.{Run, IsRunOf}
 use Rattle.convoy_sim.specs.Stamps.{is_less, final_stamp, local_stamp}
 use Rattle.convoy_sim.specs.Times.{arrive, settle, propose_arrive}
 use Rattle.convoy_sim.specs.Delivery.{deliver}
-use Rattle.convoy_sim.specs.Laws.{FinalStampIsLocal, LocalStampNamesGroup}
+use Rattle.convoy_sim.specs.ProtocolLaws.{FinalStampIsLocal, LocalStampNamesGroup}
 use Rattle.convoy_sim.proofs.Membership.{IsIn}
 use Rattle.convoy_sim.proofs.Addressed.{goes_from_in, number_of_goes}
 use Rattle.convoy_timeline.specs.Causes.{awaited, explanation_of, holder_of, holder_with, is_last_ahead, is_tied_before, last_proposer, proposal_of, stamped_of, tied_before}
-use Rattle.convoy_timeline.specs.Laws.{HoldersHold, IsRightHolder, LastProposalsCommit}
+use Rattle.convoy_timeline.specs.ExplanationLaws.{HoldersHold, IsRightHolder, LastProposalsCommit}
 use Rattle.convoy_timeline.specs.ExplanationWords.{committed_told, delivered_told, explanation_told, final_told, holder_told, is_last_ahead_told, is_tied_before_told, last_proposer_told, proposal_told, propose_told, stamped_told, tied_before_told}
 
 -- two tests that agree on a list's elements find the same there

@@ -8,11 +8,11 @@ use Rattle.convoy_packets.specs.Assignment.{Schedule}
 use Rattle.convoy_sim.specs.Times.{settle, propose_arrive}
 use Rattle.convoy_sim.specs.Stamps.{is_less, local_stamp, final_stamp}
 use Rattle.convoy_sim.specs.Delivery.{addressed_to, deliver}
-use Rattle.convoy_sim.specs.Laws.{ahead_of, DeliveredAfterCommit, DeliveryLaw}
+use Rattle.convoy_sim.specs.ProtocolLaws.{ahead_of, DeliveredAfterCommit, DeliveryLaw}
 use Rattle.convoy_sim.proofs.Membership.{IsIn, in_of_filter, in_of_find, find-in, greatest_is_one}
 use Rattle.convoy_sim.proofs.Addressed.{in_of_goes, goes_from_in, in-numbers, goes_of_addressed}
 use Rattle.convoy_timeline.specs.Causes.{holder_of, is_last_ahead, last_proposer}
-use Rattle.convoy_timeline.specs.Laws.{HoldsLast, IsRightHolder, HoldersHold, LastProposalsCommit}
+use Rattle.convoy_timeline.specs.ExplanationLaws.{HoldsLast, IsRightHolder, HoldersHold, LastProposalsCommit}
 
 -- ---- the last proposal
 found_proposer : (plan : Scenario) (schedule : Schedule) (n g : ℕ) (found : Option ℕ)

@@ -126,17 +126,17 @@ sent_text scenario last (Some flight) =
     ++ (sender_text scenario message.sender ++ (codes " sends " ++ (message.name
     ++ (codes " to " ++ (group_name_at scenario last.from ++ (flight_text flight ++ 10 ∷ []))))))))
 
+-- the way of a proposal: to the target's group, or none where it is that group's own
+unfoldable pub way_text : Scenario → Option Flight → List ℕ
+way_text scenario None = codes " itself"
+way_text scenario (Some flight) = codes " to " ++ (group_name_at scenario scenario.target_group ++ flight_text flight)
+
 -- that group proposes its stamp to the target's group, or is that group
 unfoldable pub answered_text : Scenario → LastProposal → Option Flight → List ℕ
-answered_text scenario last None =
+answered_text scenario last answered =
     codes "  tick " ++ (decimal last.proposal.tick ++ (gap_after last.proposal.tick
     ++ (group_name_at scenario last.from
-    ++ (codes " proposes " ++ (stamp_text scenario last.proposal.stamp ++ (codes " itself" ++ 10 ∷ []))))))
-answered_text scenario last (Some flight) =
-    codes "  tick " ++ (decimal last.proposal.tick ++ (gap_after last.proposal.tick
-    ++ (group_name_at scenario last.from
-    ++ (codes " proposes " ++ (stamp_text scenario last.proposal.stamp
-    ++ (codes " to " ++ (group_name_at scenario scenario.target_group ++ (flight_text flight ++ 10 ∷ []))))))))
+    ++ (codes " proposes " ++ (stamp_text scenario last.proposal.stamp ++ (way_text scenario answered ++ 10 ∷ []))))))
 
 -- that so many nodes show the latency to be the greatest
 unfoldable pub worst_text : ℕ → List ℕ

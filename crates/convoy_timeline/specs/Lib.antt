@@ -12,5 +12,5 @@ pub mod Told
 pub mod Causes
 pub mod Explanations
 pub mod PacketLists
-pub mod Laws
+pub mod ExplanationLaws
 pub mod ExplanationWords

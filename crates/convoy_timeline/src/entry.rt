@@ -1,3 +1,7 @@
+ghost use Rattle.std.specs.Prelude.{◌≡◌};
+ghost use Rattle.convoy_timeline.specs.Timeline.{rank, kind_word, is_before, is_before_in_tick, is_before_in_kind};
+
+use self::EntryKind::{Commit, Deliver, Propose};
 use convoy_sim::Timestamp;
 
 /// What an entry tells: inside a tick, proposals come first, and deliveries last.
@@ -12,17 +16,14 @@ pub enum EntryKind {
 }
 
 impl EntryKind {
-    ghost use Rattle.std.specs.Prelude.{◌≡◌};
-    ghost use Rattle.convoy_timeline.specs.Timeline.{rank, kind_word};
-
     /// The place of the kind inside a tick.
     fn rank(self) -> u8
         ensures { result ≡ rank self }
     {
         match self {
-            EntryKind::Propose => 0,
-            EntryKind::Commit => 1,
-            EntryKind::Deliver => 2,
+            Propose => 0,
+            Commit => 1,
+            Deliver => 2,
         }
     }
 
@@ -31,9 +32,9 @@ impl EntryKind {
         ensures { result.now ≡ kind_word self }
     {
         match self {
-            EntryKind::Propose => "propose",
-            EntryKind::Commit => "commit",
-            EntryKind::Deliver => "deliver",
+            Propose => "propose",
+            Commit => "commit",
+            Deliver => "deliver",
         }
     }
 }
@@ -54,9 +55,6 @@ pub struct Entry {
 }
 
 impl Entry {
-    ghost use Rattle.std.specs.Prelude.{◌≡◌};
-    ghost use Rattle.convoy_timeline.specs.Timeline.{is_before, is_before_in_tick, is_before_in_kind};
-
     /// This entry is before the other: by tick, and then as in one tick.
     pub fn is_before(&self, other: &Entry) -> bool
         ensures { result ≡ is_before self.now other.now }
@@ -78,11 +76,11 @@ impl Entry {
         ensures { result ≡ is_before_in_kind self.now.kind self.now other.now }
     {
         match self.kind {
-            EntryKind::Propose | EntryKind::Commit => {
+            Propose | Commit => {
                 self.message < other.message
                     || (self.message == other.message && self.group < other.group)
             }
-            EntryKind::Deliver => {
+            Deliver => {
                 self.group < other.group
                     || (self.group == other.group && self.stamp.is_less(other.stamp))
             }

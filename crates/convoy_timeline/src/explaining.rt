@@ -11,10 +11,10 @@ ghost use Rattle.convoy_timeline.specs.ExplanationWords.{last_proposal_told, las
 ghost use Rattle.convoy_timeline.specs.ExplanationWords.{proposal_told, stamped_told, is_tied_before_told, tied_before_told};
 
 use super::explanation::{Explanation, Flight, Holder, LastProposal};
-use super::laws::{holders_hold, last_proposals_commit};
+use super::explanation_laws::{holders_hold, last_proposals_commit};
 use convoy_packets::{Instance, PacketTable, Schedule};
 use convoy_scenario::Scenario;
-use convoy_sim::laws::{final_stamp_is_local, local_stamp_names_group};
+use convoy_sim::protocol_laws::{final_stamp_is_local, local_stamp_names_group};
 use convoy_sim::{Proposal, Run, Timestamp};
 
 /// What stands for a proposal where none is told.

@@ -4,12 +4,12 @@ ghost use Rattle.convoy_packets.specs.Assignment.{IsAssignment, range_of};
 ghost use Rattle.convoy_timeline.specs.PacketLists.{packet_line, packet_text, packets_text, scheduled_packets_text};
 ghost use Rattle.convoy_timeline.specs.PacketLists.{taken_text};
 
-use convoy_packets::laws::delays_are_one_each;
+use convoy_packets::schedule_laws::delays_are_one_each;
 use convoy_packets::{Instance, Packet, Schedule};
-use convoy_scenario::Scenario;
 use convoy_scenario::lookup::sender_of;
 use convoy_scenario::naming::{group_name, message_name, sender_word};
-use std::alloc::{AllocError, Global};
+use convoy_scenario::{AllocResult, Scenario};
+use std::alloc::Global;
 
 /// Appends the list of an instance's packets and of the waits of its messages: for each, in packet order,
 /// one of the lines
@@ -22,7 +22,7 @@ use std::alloc::{AllocError, Global};
 ///
 /// where N is its number, from 0, SENDER a group or `client`, and the ticks are its range
 /// (docs/FORMATS.md, "What `packets` writes"). Where memory runs out the vector is as it was.
-pub fn write_packets(instance: &Instance, out: &mut Vec<u8>) -> Result<(), AllocError>
+pub fn write_packets(instance: &Instance, out: &mut Vec<u8>) -> AllocResult<()>
     ensures ok { OnOk result (out.new.items ≡ out.old.items ++ packets_text instance.now) }
     ensures err { OnErr result (out.new.items ≡ out.old.items) }
 {
@@ -37,7 +37,7 @@ pub fn write_scheduled_packets(
     instance: &Instance,
     schedule: &Schedule,
     out: &mut Vec<u8>,
-) -> Result<(), AllocError>
+) -> AllocResult<()>
     requires assignment { IsAssignment instance.now schedule.now }
     ensures ok { OnOk result (out.new.items ≡ out.old.items ++ scheduled_packets_text instance.now schedule.now) }
     ensures err { OnErr result (out.new.items ≡ out.old.items) }
@@ -47,7 +47,7 @@ pub fn write_scheduled_packets(
 }
 
 /// The lines of all packets and waits.
-fn packets_text(alloc: Global, instance: &Instance) -> Result<Vec<u8>, AllocError>
+fn packets_text(alloc: Global, instance: &Instance) -> AllocResult<Vec<u8>>
     ensures { IfOk result (λ text. text.items ≡ packets_text instance.now) }
 {
     let (scenario, table) = (instance.scenario(), instance.table());
@@ -60,11 +60,7 @@ fn packets_text(alloc: Global, instance: &Instance) -> Result<Vec<u8>, AllocErro
 }
 
 /// The lines of all packets and waits with their ticks.
-fn scheduled_text(
-    alloc: Global,
-    instance: &Instance,
-    schedule: &Schedule,
-) -> Result<Vec<u8>, AllocError>
+fn scheduled_text(alloc: Global, instance: &Instance, schedule: &Schedule) -> AllocResult<Vec<u8>>
     requires assignment { IsAssignment instance.now schedule.now }
     ensures { IfOk result (λ text. text.items ≡ scheduled_packets_text instance.now schedule.now) }
 {
@@ -87,7 +83,7 @@ fn packet_line(
     packet: Packet,
     range: (u16, u16),
     delay: Option<u16>,
-) -> Result<String, AllocError>
+) -> AllocResult<String>
     ensures { range ≡ range_of scenario.now packet
         → IfOk result (λ line. string_bytes line ≡ packet_line scenario.now i packet delay) }
 {
@@ -99,7 +95,7 @@ fn packet_line(
 
 /// What a packet is, or which message waits.
 #[tactic(auto, unfolding(crate::specs::PacketLists::packet_text))]
-fn packet_text(alloc: Global, scenario: &Scenario, packet: Packet) -> Result<String, AllocError>
+fn packet_text(alloc: Global, scenario: &Scenario, packet: Packet) -> AllocResult<String>
     ensures { IfOk result (λ text. string_bytes text ≡ packet_text scenario.now packet) }
 {
     match packet {
@@ -124,7 +120,7 @@ fn packet_text(alloc: Global, scenario: &Scenario, packet: Packet) -> Result<Str
 
 /// The ticks that a schedule gives a packet, if there is one.
 #[tactic(auto, unfolding(crate::specs::PacketLists::taken_text))]
-fn taken_text(alloc: Global, delay: Option<u16>) -> Result<String, AllocError>
+fn taken_text(alloc: Global, delay: Option<u16>) -> AllocResult<String>
     ensures { IfOk result (λ text. string_bytes text ≡ taken_text delay) }
 {
     match delay {

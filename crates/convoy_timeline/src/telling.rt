@@ -3,14 +3,14 @@ ghost use Rattle.convoy_timeline.specs.Explanations.{answered_text, awaited_text
 ghost use Rattle.convoy_timeline.specs.Explanations.{gap_after, holder_text, latency_text};
 ghost use Rattle.convoy_timeline.specs.Explanations.{node_word, sent_text, text_of};
 ghost use Rattle.convoy_timeline.specs.Explanations.{in_unit_text, issue_text, ticks_text, tie_won_text};
-ghost use Rattle.convoy_timeline.specs.Explanations.{tied_text, wait_text, window_text, worst_text};
+ghost use Rattle.convoy_timeline.specs.Explanations.{tied_text, wait_text, way_text, window_text, worst_text};
 
 use super::explanation::{Explanation, Flight, Holder, LastProposal};
 use super::words::{sender_name, stamp_text, tick_word};
 use convoy_scenario::lookup::{may_wait, sender_of, window};
 use convoy_scenario::naming::{group_name, message_name};
-use convoy_scenario::{Scenario, Time};
-use std::alloc::{AllocError, Global};
+use convoy_scenario::{AllocResult, Scenario, Time};
+use std::alloc::Global;
 
 /// Appends the text of an explanation of the schedule of a valid certificate, which has so many nodes,
 /// for a reader who asks why the greatest latency is what it is (docs/FORMATS.md, "What `explain`
@@ -40,7 +40,7 @@ pub fn write_explanation(
     why: &Explanation,
     nodes: usize,
     out: &mut Vec<u8>,
-) -> Result<(), AllocError>
+) -> AllocResult<()>
     ensures ok { OnOk result (out.new.items ≡ out.old.items ++ text_of scenario.now why.now nodes) }
     ensures err { OnErr result (out.new.items ≡ out.old.items) }
 {
@@ -50,12 +50,7 @@ pub fn write_explanation(
 
 /// The lines of an explanation.
 #[tactic(auto, unfolding(crate::specs::Explanations::text_of))]
-fn text(
-    alloc: Global,
-    scenario: &Scenario,
-    why: &Explanation,
-    nodes: usize,
-) -> Result<Vec<u8>, AllocError>
+fn text(alloc: Global, scenario: &Scenario, why: &Explanation, nodes: usize) -> AllocResult<Vec<u8>>
     ensures { IfOk result (λ text. text.items ≡ text_of scenario.now why.now nodes) }
 {
     let mut text = Vec::new(alloc);
@@ -71,7 +66,7 @@ fn text(
 }
 
 /// How late the target is, and when.
-fn latency_line(alloc: Global, scenario: &Scenario, why: &Explanation) -> Result<String, AllocError>
+fn latency_line(alloc: Global, scenario: &Scenario, why: &Explanation) -> AllocResult<String>
     ensures { IfOk result (λ line. string_bytes line ≡ latency_text scenario.now why.now) }
 {
     let message = message_name(scenario, scenario.target_message());
@@ -85,7 +80,7 @@ fn latency_line(alloc: Global, scenario: &Scenario, why: &Explanation) -> Result
 }
 
 /// When the target is committed at its group, and with which stamp.
-fn commit_line(alloc: Global, scenario: &Scenario, why: &Explanation) -> Result<String, AllocError>
+fn commit_line(alloc: Global, scenario: &Scenario, why: &Explanation) -> AllocResult<String>
     ensures { IfOk result (λ line. string_bytes line ≡ commit_text scenario.now why.now) }
 {
     let group = group_name(scenario, scenario.target_group());
@@ -99,7 +94,7 @@ fn commit_line(alloc: Global, scenario: &Scenario, why: &Explanation) -> Result<
 }
 
 /// What holds the target back.
-fn holder_line(alloc: Global, scenario: &Scenario, why: &Explanation) -> Result<String, AllocError>
+fn holder_line(alloc: Global, scenario: &Scenario, why: &Explanation) -> AllocResult<String>
     ensures { IfOk result (λ line. string_bytes line ≡ holder_text scenario.now why.now why.now.holder) }
 {
     match &why.holder {
@@ -117,7 +112,7 @@ fn held_line(
     scenario: &Scenario,
     why: &Explanation,
     holder: &Holder,
-) -> Result<String, AllocError>
+) -> AllocResult<String>
     ensures { IfOk result (λ line. string_bytes line ≡ holder_text scenario.now why.now (Some holder.now)) }
 {
     let message = message_name(scenario, holder.message);
@@ -132,7 +127,7 @@ fn held_line(
 }
 
 /// When the awaited message is issued, where it may wait before.
-fn wait_line(alloc: Global, scenario: &Scenario, last: &LastProposal) -> Result<String, AllocError>
+fn wait_line(alloc: Global, scenario: &Scenario, last: &LastProposal) -> AllocResult<String>
     ensures { IfOk result (λ line. string_bytes line ≡ wait_text scenario.now last.now) }
 {
     if may_wait(scenario, last.message) {
@@ -143,7 +138,7 @@ fn wait_line(alloc: Global, scenario: &Scenario, last: &LastProposal) -> Result<
 }
 
 /// Who issues the awaited message, and when, of the ticks at which it may be.
-fn issue_line(alloc: Global, scenario: &Scenario, last: &LastProposal) -> Result<String, AllocError>
+fn issue_line(alloc: Global, scenario: &Scenario, last: &LastProposal) -> AllocResult<String>
     ensures { IfOk result (λ line. string_bytes line ≡ issue_text scenario.now last.now) }
 {
     let window = window_text(alloc, scenario, last.message)?;
@@ -155,11 +150,7 @@ fn issue_line(alloc: Global, scenario: &Scenario, last: &LastProposal) -> Result
 }
 
 /// When the awaited message is committed.
-fn awaited_line(
-    alloc: Global,
-    scenario: &Scenario,
-    last: &LastProposal,
-) -> Result<String, AllocError>
+fn awaited_line(alloc: Global, scenario: &Scenario, last: &LastProposal) -> AllocResult<String>
     ensures { IfOk result (λ line. string_bytes line ≡ awaited_text scenario.now last.now) }
 {
     let message = message_name(scenario, last.message);
@@ -171,7 +162,7 @@ fn awaited_line(
 }
 
 /// How the awaited message comes to the group of the last proposal.
-fn sent_line(alloc: Global, scenario: &Scenario, last: &LastProposal) -> Result<String, AllocError>
+fn sent_line(alloc: Global, scenario: &Scenario, last: &LastProposal) -> AllocResult<String>
     ensures { IfOk result (λ line. string_bytes line ≡ sent_text scenario.now last.now last.now.sent) }
 {
     match &last.sent {
@@ -186,7 +177,7 @@ fn flown_line(
     scenario: &Scenario,
     last: &LastProposal,
     flight: &Flight,
-) -> Result<String, AllocError>
+) -> AllocResult<String>
     ensures { IfOk result (λ line. string_bytes line ≡ sent_text scenario.now last.now (Some flight.now)) }
 {
     let tick = last.issued;
@@ -199,11 +190,7 @@ fn flown_line(
 }
 
 /// That the group of the last proposal issues the awaited message itself.
-fn issued_line(
-    alloc: Global,
-    scenario: &Scenario,
-    last: &LastProposal,
-) -> Result<String, AllocError>
+fn issued_line(alloc: Global, scenario: &Scenario, last: &LastProposal) -> AllocResult<String>
     ensures { IfOk result (λ line. string_bytes line ≡ sent_text scenario.now last.now None) }
 {
     let tick = last.issued;
@@ -214,50 +201,34 @@ fn issued_line(
 }
 
 /// How the last proposal comes to the target's group.
-fn answered_line(
-    alloc: Global,
-    scenario: &Scenario,
-    last: &LastProposal,
-) -> Result<String, AllocError>
+fn answered_line(alloc: Global, scenario: &Scenario, last: &LastProposal) -> AllocResult<String>
     ensures { IfOk result (λ line. string_bytes line ≡ answered_text scenario.now last.now last.now.answered) }
 {
-    match &last.answered {
-        Some(flight) => proposed_line(alloc, scenario, last, flight),
-        None => own_line(alloc, scenario, last),
+    let tick = last.proposal.tick;
+    let gap = gap_after(tick);
+    let from = group_name(scenario, last.from);
+    let stamp = stamp_text(alloc, scenario, last.proposal.stamp)?;
+    let way = way_text(alloc, scenario, &last.answered)?;
+    format!(in alloc; "  tick {tick}{gap}{from} proposes {stamp}{way}\n")
+}
+
+/// The way of a proposal to the target's group, if it is not that group's own.
+#[tactic(auto, unfolding(crate::specs::Explanations::way_text))]
+fn way_text(alloc: Global, scenario: &Scenario, way: &Option<Flight>) -> AllocResult<String>
+    ensures { IfOk result (λ text. string_bytes text ≡ way_text scenario.now way.now) }
+{
+    match way {
+        Some(flight) => {
+            let to = group_name(scenario, scenario.target_group());
+            let flight = flight_text(alloc, flight)?;
+            format!(in alloc; " to {to}{flight}")
+        }
+        None => String::from_str(alloc, " itself"),
     }
 }
 
-/// That the last proposal goes to the target's group.
-fn proposed_line(
-    alloc: Global,
-    scenario: &Scenario,
-    last: &LastProposal,
-    flight: &Flight,
-) -> Result<String, AllocError>
-    ensures { IfOk result (λ line. string_bytes line ≡ answered_text scenario.now last.now (Some flight.now)) }
-{
-    let tick = last.proposal.tick;
-    let gap = gap_after(tick);
-    let from = group_name(scenario, last.from);
-    let stamp = stamp_text(alloc, scenario, last.proposal.stamp)?;
-    let to = group_name(scenario, scenario.target_group());
-    let flight = flight_text(alloc, flight)?;
-    format!(in alloc; "  tick {tick}{gap}{from} proposes {stamp} to {to}{flight}\n")
-}
-
-/// That the last proposal is that of the target's group itself.
-fn own_line(alloc: Global, scenario: &Scenario, last: &LastProposal) -> Result<String, AllocError>
-    ensures { IfOk result (λ line. string_bytes line ≡ answered_text scenario.now last.now None) }
-{
-    let tick = last.proposal.tick;
-    let gap = gap_after(tick);
-    let from = group_name(scenario, last.from);
-    let stamp = stamp_text(alloc, scenario, last.proposal.stamp)?;
-    format!(in alloc; "  tick {tick}{gap}{from} proposes {stamp} itself\n")
-}
-
 /// That no schedule is worse.
-fn worst_line(alloc: Global, nodes: usize) -> Result<String, AllocError>
+fn worst_line(alloc: Global, nodes: usize) -> AllocResult<String>
     ensures { IfOk result (λ line. string_bytes line ≡ worst_text nodes) }
 {
     let word = node_word(nodes);
@@ -267,7 +238,7 @@ fn worst_line(alloc: Global, nodes: usize) -> Result<String, AllocError>
 /// A number of ticks, and where the length of a tick is known the same in the unit in which that is told, as
 /// `12 ticks (600 us)`. Fails where memory runs out, and else never.
 #[tactic(auto, unfolding(crate::specs::Explanations::ticks_text))]
-pub fn ticks_text(alloc: Global, scenario: &Scenario, ticks: u32) -> Result<String, AllocError>
+pub fn ticks_text(alloc: Global, scenario: &Scenario, ticks: u32) -> AllocResult<String>
     ensures { IfOk result (λ text. string_bytes text ≡ ticks_text scenario.now.tick ticks) }
 {
     let word = tick_word(ticks);
@@ -277,7 +248,7 @@ pub fn ticks_text(alloc: Global, scenario: &Scenario, ticks: u32) -> Result<Stri
 
 /// What follows a number of ticks, where the length of a tick is known.
 #[tactic(auto, unfolding(crate::specs::Explanations::in_unit_text))]
-fn in_unit_text(alloc: Global, scenario: &Scenario, ticks: u32) -> Result<String, AllocError>
+fn in_unit_text(alloc: Global, scenario: &Scenario, ticks: u32) -> AllocResult<String>
     ensures { IfOk result (λ text. string_bytes text ≡ in_unit_text scenario.now.tick ticks) }
 {
     match scenario.tick() {
@@ -291,7 +262,7 @@ fn in_unit_text(alloc: Global, scenario: &Scenario, ticks: u32) -> Result<String
 }
 
 /// That another message came to the group of the target's stamp in the same tick, and before it.
-fn tied_text(alloc: Global, scenario: &Scenario, tied: Option<usize>) -> Result<String, AllocError>
+fn tied_text(alloc: Global, scenario: &Scenario, tied: Option<usize>) -> AllocResult<String>
     ensures { IfOk result (λ text. string_bytes text ≡ tied_text scenario.now tied) }
 {
     match tied {
@@ -318,7 +289,7 @@ fn tie_won_text(scenario: &Scenario, why: &Explanation, holder: &Holder) -> &'st
 /// From when to when a message may be issued, as `y may be issued from tick 2 to 10`; 0 to 0 and without a
 /// name where the scenario has no such message. Fails where memory runs out, and else never.
 #[tactic(auto, unfolding(crate::specs::Explanations::window_text))]
-pub fn window_text(alloc: Global, scenario: &Scenario, message: usize) -> Result<String, AllocError>
+pub fn window_text(alloc: Global, scenario: &Scenario, message: usize) -> AllocResult<String>
     ensures { IfOk result (λ text. string_bytes text ≡ window_text scenario.now message) }
 {
     let name = message_name(scenario, message);
@@ -328,7 +299,7 @@ pub fn window_text(alloc: Global, scenario: &Scenario, message: usize) -> Result
 
 /// A packet on its way.
 #[tactic(auto, unfolding(crate::specs::Explanations::flight_text))]
-fn flight_text(alloc: Global, flight: &Flight) -> Result<String, AllocError>
+fn flight_text(alloc: Global, flight: &Flight) -> AllocResult<String>
     ensures { IfOk result (λ text. string_bytes text ≡ flight_text flight.now) }
 {
     let ticks = tick_word(u32::from(flight.delay));

@@ -2,24 +2,22 @@ ghost use Rattle.std.specs.Prelude.{◌≡◌, ◌++◌, string_bytes, OnOk, OnE
 ghost use Rattle.std.specs.List.{flat_map};
 ghost use Rattle.convoy_packets.specs.Assignment.{Schedule};
 ghost use Rattle.convoy_sim.specs.Run.{IsRunOf};
-ghost use Rattle.convoy_timeline.specs.Timeline.{issue_line, line_of, line_text, tick_line};
-ghost use Rattle.convoy_timeline.specs.Timeline.{timeline_of, timeline_text};
-ghost use Rattle.convoy_timeline.specs.Told.{text_told};
+ghost use Rattle.convoy_timeline.specs.Timeline.{issue_line, line_of, line_text, tick_line, timeline_of, timeline_text};
 
 use super::entry::Entry;
 use super::line::Line;
-use super::lines::list_lines;
 use super::listing::list_entries;
+use super::timeline_lines::list_lines;
 use convoy_packets::{Instance, Schedule};
-use convoy_scenario::Scenario;
 use convoy_scenario::lookup::sender_of;
 use convoy_scenario::naming::{group_name, message_name, sender_word};
+use convoy_scenario::{AllocResult, Scenario};
 use convoy_sim::Run;
-use std::alloc::{AllocError, Global};
+use std::alloc::Global;
 
 /// What happens at each group in a run of the scenario, in the order of the timeline
 /// ([`write_timeline`]). Fails where memory runs out, and else never.
-pub fn entries_of(alloc: Global, scenario: &Scenario, run: &Run) -> Result<Vec<Entry>, AllocError>
+pub fn entries_of(alloc: Global, scenario: &Scenario, run: &Run) -> AllocResult<Vec<Entry>>
     ensures { (schedule : Schedule) → IsRunOf scenario.now schedule run.now
         → IfOk result (λ entries. entries.items ≡ timeline_of scenario.now schedule) }
 {
@@ -57,34 +55,30 @@ pub fn write_timeline(
     schedule: &Schedule,
     run: &Run,
     out: &mut Vec<u8>,
-) -> Result<(), AllocError>
+) -> AllocResult<()>
     ensures ok { IsRunOf instance.now schedule.now run.now
         → OnOk result (out.new.items ≡ out.old.items ++ timeline_text instance.now schedule.now) }
     ensures err { OnErr result (out.new.items ≡ out.old.items) }
 {
-    let text = text_of(*out.allocator(), instance, schedule, run)?;
+    let alloc = *out.allocator();
+    let lines = list_lines(alloc, instance, schedule, run)?;
+    let text = text_of(alloc, instance.scenario(), &lines)?;
     out.extend_from_slice(&text)
 }
 
-/// The length of a tick, where it is known, and all lines.
-#[tactic(auto, unfolding(crate::specs::Told::text_told))]
-fn text_of(
-    alloc: Global,
-    instance: &Instance,
-    schedule: &Schedule,
-    run: &Run,
-) -> Result<Vec<u8>, AllocError>
-    ensures { IfOk result (λ text. text.items ≡ text_told instance.now schedule.now run.now) }
+/// The length of a tick, where it is known, and the texts of lines.
+fn text_of(alloc: Global, scenario: &Scenario, lines: &[Line]) -> AllocResult<Vec<u8>>
+    ensures { IfOk result (λ text. text.items
+        ≡ tick_line scenario.now.tick ++ flat_map (line_text scenario.now) lines.now) }
 {
-    let lines = list_lines(alloc, instance, schedule, run)?;
     let mut text = Vec::new(alloc);
-    text.extend_from_slice(tick_line(alloc, instance.scenario())?.as_bytes())?;
-    text.extend_from_slice(&lines_text(alloc, instance.scenario(), &lines)?)?;
+    text.extend_from_slice(tick_line(alloc, scenario)?.as_bytes())?;
+    text.extend_from_slice(&lines_text(alloc, scenario, lines)?)?;
     Ok(text)
 }
 
 /// The texts of some lines.
-fn lines_text(alloc: Global, scenario: &Scenario, lines: &[Line]) -> Result<Vec<u8>, AllocError>
+fn lines_text(alloc: Global, scenario: &Scenario, lines: &[Line]) -> AllocResult<Vec<u8>>
     ensures { IfOk result (λ text. text.items ≡ flat_map (line_text scenario.now) lines.now) }
 {
     let mut text = Vec::new(alloc);
@@ -95,7 +89,7 @@ fn lines_text(alloc: Global, scenario: &Scenario, lines: &[Line]) -> Result<Vec<
 }
 
 /// The line that tells the length of a tick, where it is known.
-fn tick_line(alloc: Global, scenario: &Scenario) -> Result<String, AllocError>
+fn tick_line(alloc: Global, scenario: &Scenario) -> AllocResult<String>
     ensures { IfOk result (λ line. string_bytes line ≡ tick_line scenario.now.tick) }
 {
     match scenario.tick() {
@@ -108,7 +102,7 @@ fn tick_line(alloc: Global, scenario: &Scenario) -> Result<String, AllocError>
 }
 
 /// Appends the text of a line.
-fn push_line(scenario: &Scenario, line: Line, text: &mut Vec<u8>) -> Result<(), AllocError>
+fn push_line(scenario: &Scenario, line: Line, text: &mut Vec<u8>) -> AllocResult<()>
     ensures { OnOk result (text.new.items ≡ text.old.items ++ line_text scenario.now line) }
 {
     let line = line_text(*text.allocator(), scenario, line)?;
@@ -116,7 +110,7 @@ fn push_line(scenario: &Scenario, line: Line, text: &mut Vec<u8>) -> Result<(), 
 }
 
 /// The text of a line.
-fn line_text(alloc: Global, scenario: &Scenario, line: Line) -> Result<String, AllocError>
+fn line_text(alloc: Global, scenario: &Scenario, line: Line) -> AllocResult<String>
     ensures { IfOk result (λ text. string_bytes text ≡ line_text scenario.now line) }
 {
     match line {
@@ -126,12 +120,7 @@ fn line_text(alloc: Global, scenario: &Scenario, line: Line) -> Result<String, A
 }
 
 /// The line of an issue: tick, sender and message, and byte 10.
-fn issue_line(
-    alloc: Global,
-    scenario: &Scenario,
-    tick: u32,
-    message: usize,
-) -> Result<String, AllocError>
+fn issue_line(alloc: Global, scenario: &Scenario, tick: u32, message: usize) -> AllocResult<String>
     ensures { IfOk result (λ line. string_bytes line ≡ issue_line scenario.now tick message) }
 {
     let sender = sender_word(scenario, sender_of(scenario, message));
@@ -140,7 +129,7 @@ fn issue_line(
 }
 
 /// The line of an entry: tick, group, kind, message and stamp, and byte 10.
-fn line_of(alloc: Global, scenario: &Scenario, entry: &Entry) -> Result<String, AllocError>
+fn line_of(alloc: Global, scenario: &Scenario, entry: &Entry) -> AllocResult<String>
     ensures { IfOk result (λ line. string_bytes line ≡ line_of scenario.now entry.now) }
 {
     let group = group_name(scenario, entry.group);

@@ -13,4 +13,4 @@ pub mod Links
 pub mod Ways
 pub mod Times
 pub mod Reading
-pub mod Laws
+pub mod TextLaws

@@ -1,5 +1,5 @@
 ghost use Rattle.std.specs.Prelude.{◌≡◌, ◌^◌, ◌-◌, min};
-ghost use Rattle.convoy_toml.specs.Links.{count_of};
+ghost use Rattle.convoy_toml.specs.Links.{count_of, Bundle};
 
 use super::written::LinkEnds;
 use std::marker::Model;
@@ -16,8 +16,6 @@ pub struct Bundle {
 }
 
 impl Model for Bundle {
-    ghost use Rattle.convoy_toml.specs.Links.{Bundle};
-
     ghost Value = { Bundle };
 
     ghost view = { λ b. record { ends = b.ends; least = b.least; most = b.most } };

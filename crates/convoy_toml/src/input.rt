@@ -1,3 +1,4 @@
+use super::plain::PlainNumber;
 use convoy_scenario::Scenario;
 
 /// What a scenario text holds.
@@ -8,4 +9,7 @@ pub struct Input {
     pub schedule: Option<Vec<i64>>,
     /// The ranks of the moments of that run, where the text gives them.
     pub order: Option<Vec<i64>>,
+    /// The first of its times that is a plain number beside durations, for who wants to say what that counts: no
+    /// contract speaks of it.
+    pub plain: Option<PlainNumber>,
 }

@@ -1,4 +1,6 @@
 ghost use Rattle.std.specs.Prelude.{◌≡◌};
+ghost use Rattle.convoy_draft.specs.declared.fault.ScenarioFault.{ScenarioFault};
+ghost use Rattle.convoy_draft.specs.declared.fault.ScenarioFault.TheVariants.{Memory};
 
 use convoy_scenario::ScenarioFault;
 use std::alloc::{AllocError, AllocFailed};
@@ -28,16 +30,12 @@ pub struct Placed {
 }
 
 impl Model for Placed {
-    ghost use Rattle.convoy_draft.specs.declared.fault.ScenarioFault.{ScenarioFault};
-
     ghost Value = { ScenarioFault };
 
     ghost view = { λ p. p.fault };
 }
 
 impl From<ScenarioFault> for Placed {
-    ghost use Rattle.std.specs.Prelude.{◌≡◌};
-
     ghost from_gives = { λ fault placed. placed ≡ fault };
 
     fn from(fault: ScenarioFault) -> Placed {
@@ -49,8 +47,6 @@ impl From<ScenarioFault> for Placed {
 }
 
 impl From<Placed> for ScenarioFault {
-    ghost use Rattle.std.specs.Prelude.{◌≡◌};
-
     ghost from_gives = { λ placed fault. fault ≡ placed };
 
     fn from(placed: Placed) -> ScenarioFault {
@@ -59,9 +55,6 @@ impl From<Placed> for ScenarioFault {
 }
 
 impl From<AllocError> for Placed {
-    ghost use Rattle.std.specs.Prelude.{◌≡◌};
-    ghost use Rattle.convoy_draft.specs.declared.fault.ScenarioFault.TheVariants.{Memory};
-
     ghost from_gives = { λ _ placed. placed ≡ Memory };
 
     fn from(error: AllocError) -> Placed {
@@ -70,9 +63,6 @@ impl From<AllocError> for Placed {
 }
 
 impl<T: Drop> From<AllocFailed<T>> for Placed {
-    ghost use Rattle.std.specs.Prelude.{◌≡◌};
-    ghost use Rattle.convoy_draft.specs.declared.fault.ScenarioFault.TheVariants.{Memory};
-
     ghost from_gives = { λ _ placed. placed ≡ Memory };
 
     fn from(_error: AllocFailed<T>) -> Placed {

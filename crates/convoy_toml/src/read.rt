@@ -1,12 +1,14 @@
 ghost use Rattle.std.specs.Prelude.{◌≡◌, Ok, IfOk, option_map};
 ghost use Rattle.std.specs.Result.{result_map_both};
 ghost use Rattle.toml.specs.View.{table_view};
+ghost use Rattle.convoy_draft.specs.declared.fault.ScenarioFault.TheVariants.{Memory};
 ghost use Rattle.convoy_scenario.specs.Memory.{IsUnlessMemory};
 ghost use Rattle.convoy_toml.specs.declared.target.TargetKey.TheVariants.{Optional};
 ghost use Rattle.convoy_toml.specs.Reading.{table_of_text, input_of_text, input_of_text_by, input_read, scenario_of_text, scenario_of_text_by, scenario_read};
 
 use super::input::Input;
 use super::placed::Placed;
+use super::plain::plain_number;
 use super::shape::written_of_table;
 use super::target::TargetKey;
 use super::times::draft_of_written;
@@ -24,10 +26,8 @@ use toml::Table;
 /// `schedule` and of `order` are given as they are written: whether they are delays of the scenario's
 /// packets, and ranks of its moments, is not asked here.
 pub fn read_toml(alloc: Global, text: &[u8]) -> Result<Input, ScenarioFault>
-    ensures scenario { IsUnlessMemory ScenarioFault.Memory
-        (scenario_of_text text.now) (scenario_read result) }
-    ensures input { IsUnlessMemory ScenarioFault.Memory
-        (input_of_text text.now) (input_read result) }
+    ensures scenario { IsUnlessMemory Memory (scenario_of_text text.now) (scenario_read result) }
+    ensures input { IsUnlessMemory Memory (input_of_text text.now) (input_read result) }
     ensures read { IfOk result (λ input. scenario_of_text text.now ≡ Ok input.scenario) }
     ensures given { IfOk result (λ input. input_of_text text.now
         ≡ Ok (record { scenario = input.scenario; schedule = option_map (λ delays. delays.items) input.schedule; order = option_map (λ ranks. ranks.items) input.order })) }
@@ -39,14 +39,11 @@ pub fn read_toml(alloc: Global, text: &[u8]) -> Result<Input, ScenarioFault>
 /// Reads a scenario text as [`read_toml`] does, but takes one without a target too.
 ///
 /// Where the table `target` is absent, the scenario asks of its first message at the first group that
-/// this goes to. A text that has it is read as by [`read_toml`] (`laws::targets_may_be_said`).
+/// this goes to. A text that has it is read as by [`read_toml`] (`text_laws::targets_may_be_said`).
 pub fn read_toml_any_target(alloc: Global, text: &[u8]) -> Result<Input, ScenarioFault>
-    ensures scenario { IsUnlessMemory ScenarioFault.Memory
-        (scenario_of_text_by Optional text.now) (scenario_read result) }
-    ensures input { IsUnlessMemory ScenarioFault.Memory
-        (input_of_text_by Optional text.now) (input_read result) }
-    ensures read { IfOk result (λ input. scenario_of_text_by Optional text.now
-        ≡ Ok input.scenario) }
+    ensures scenario { IsUnlessMemory Memory (scenario_of_text_by Optional text.now) (scenario_read result) }
+    ensures input { IsUnlessMemory Memory (input_of_text_by Optional text.now) (input_read result) }
+    ensures read { IfOk result (λ input. scenario_of_text_by Optional text.now ≡ Ok input.scenario) }
     ensures given { IfOk result (λ input. input_of_text_by Optional text.now
         ≡ Ok (record { scenario = input.scenario; schedule = option_map (λ delays. delays.items) input.schedule; order = option_map (λ ranks. ranks.items) input.order })) }
 {
@@ -57,12 +54,9 @@ pub fn read_toml_any_target(alloc: Global, text: &[u8]) -> Result<Input, Scenari
 /// Reads a scenario text, in which the target has to be written or not, as [`read_toml`] and
 /// [`read_toml_any_target`] do, and tells of a fault also which table it is of.
 pub fn read_toml_placed(alloc: Global, text: &[u8], target: TargetKey) -> Result<Input, Placed>
-    ensures scenario { IsUnlessMemory ScenarioFault.Memory
-        (scenario_of_text_by target text.now) (scenario_read result) }
-    ensures input { IsUnlessMemory ScenarioFault.Memory
-        (input_of_text_by target text.now) (input_read result) }
-    ensures read { IfOk result (λ input. scenario_of_text_by target text.now
-        ≡ Ok input.scenario) }
+    ensures scenario { IsUnlessMemory Memory (scenario_of_text_by target text.now) (scenario_read result) }
+    ensures input { IsUnlessMemory Memory (input_of_text_by target text.now) (input_read result) }
+    ensures read { IfOk result (λ input. scenario_of_text_by target text.now ≡ Ok input.scenario) }
     ensures given { IfOk result (λ input. input_of_text_by target text.now
         ≡ Ok (record { scenario = input.scenario; schedule = option_map (λ delays. delays.items) input.schedule; order = option_map (λ ranks. ranks.items) input.order })) }
 {
@@ -74,6 +68,7 @@ pub fn read_toml_placed(alloc: Global, text: &[u8], target: TargetKey) -> Result
         order,
     } = written;
     let has_least = scenario.least.is_some();
+    let plain = plain_number(&scenario);
     let draft = draft_of_written(alloc, &scenario)?;
     let has_ranges = has_ranges(alloc, has_least, &draft)?;
     let scenario = Scenario::from_draft(alloc, draft)?;
@@ -84,12 +79,13 @@ pub fn read_toml_placed(alloc: Global, text: &[u8], target: TargetKey) -> Result
         scenario,
         schedule,
         order,
+        plain,
     })
 }
 
 /// The table of a scenario text, or `ScenarioFault::NotToml` where it is none.
 pub fn read_table(alloc: Global, text: &[u8]) -> Result<Table, ScenarioFault>
-    ensures { IsUnlessMemory ScenarioFault.Memory (table_of_text text.now)
+    ensures { IsUnlessMemory Memory (table_of_text text.now)
         (result_map_both table_view (λ fault. fault) result) }
 {
     match toml::table_from_slice(alloc, text) {

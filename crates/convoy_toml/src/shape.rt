@@ -312,8 +312,7 @@ fn multicasts_of(
     let mut multicasts = Vec::new(alloc);
     for table in tables {
         let place = ScenarioTable::Multicast(multicasts.len());
-        let multicast = in_table(place, multicast_of_table(alloc, table, time))?;
-        multicasts.push(multicast)?;
+        multicasts.push(in_table(place, multicast_of_table(alloc, table, time))?)?;
     }
     Ok(multicasts)
 }
@@ -418,8 +417,7 @@ fn links_of(alloc: Global, tables: &[&Table], time: Time) -> Result<Vec<WrittenL
     let mut links = Vec::new(alloc);
     for table in tables {
         let place = ScenarioTable::Link(links.len());
-        let link = in_table(place, link_of_table(alloc, table, time))?;
-        links.push(link)?;
+        links.push(in_table(place, link_of_table(alloc, table, time))?)?;
     }
     Ok(links)
 }

@@ -242,8 +242,7 @@ fn draft_multicasts_of(
     let mut drafts = Vec::new(alloc);
     for multicast in multicasts {
         let place = ScenarioTable::Multicast(drafts.len());
-        let draft = in_table(place, draft_multicast_of(alloc, tick, multicast))?;
-        drafts.push(draft)?;
+        drafts.push(in_table(place, draft_multicast_of(alloc, tick, multicast))?)?;
     }
     Ok(drafts)
 }
@@ -273,8 +272,7 @@ pub fn bundles_of(
     let mut bundles = Vec::new(alloc);
     for link in links {
         let place = ScenarioTable::Link(bundles.len());
-        let bundle = in_table(place, bundle_of(alloc, tick, link))?;
-        bundles.push(bundle)?;
+        bundles.push(in_table(place, bundle_of(alloc, tick, link))?)?;
     }
     Ok(bundles)
 }

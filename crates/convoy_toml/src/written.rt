@@ -1,3 +1,6 @@
+ghost use Rattle.std.specs.Prelude.{option_map};
+ghost use Rattle.convoy_toml.specs.Shape.{WrittenMessage, LinkEnds, WrittenLink, WrittenTarget, WrittenScenario, Written};
+
 use convoy_scenario::{Duration, Name, Time};
 use std::marker::Model;
 
@@ -23,8 +26,6 @@ pub struct WrittenMulticast {
 }
 
 impl Model for WrittenMulticast {
-    ghost use Rattle.convoy_toml.specs.Shape.{WrittenMessage};
-
     ghost Value = { WrittenMessage };
 
     ghost view = { λ m. record { name = m.name; sender = m.sender; to = m.to.items; at = m.at; until = m.until } };
@@ -42,16 +43,10 @@ pub struct LinkEnds {
 }
 
 impl Model for LinkEnds {
-    ghost use Rattle.std.specs.Prelude.{option_map};
-    ghost use Rattle.convoy_toml.specs.Shape.{LinkEnds};
-
     ghost Value = { LinkEnds };
 
-    ghost view = { λ e. record {
-      senders = option_map (λ names. names.items) e.senders;
-      to = e.to.items;
-      both = e.both;
-    } };
+    ghost view = { λ e.
+        record { senders = option_map (λ names. names.items) e.senders; to = e.to.items; both = e.both } };
 }
 
 /// A table of links as it is written: what goes by one of them takes `least` to `most`, be these a range
@@ -67,8 +62,6 @@ pub struct WrittenLink {
 }
 
 impl Model for WrittenLink {
-    ghost use Rattle.convoy_toml.specs.Shape.{WrittenLink};
-
     ghost Value = { WrittenLink };
 
     ghost view = { λ l. record { ends = l.ends; least = l.least; most = l.most } };
@@ -84,8 +77,6 @@ pub struct WrittenTarget {
 }
 
 impl Model for WrittenTarget {
-    ghost use Rattle.convoy_toml.specs.Shape.{WrittenTarget};
-
     ghost Value = { WrittenTarget };
 
     ghost view = { λ t. record { message = t.message; group = t.group } };
@@ -115,8 +106,6 @@ pub struct WrittenScenario {
 }
 
 impl Model for WrittenScenario {
-    ghost use Rattle.convoy_toml.specs.Shape.{WrittenScenario};
-
     ghost Value = { WrittenScenario };
 
     ghost view = { λ s. record {
@@ -144,9 +133,6 @@ pub struct WrittenInput {
 }
 
 impl Model for WrittenInput {
-    ghost use Rattle.std.specs.Prelude.{option_map};
-    ghost use Rattle.convoy_toml.specs.Shape.{Written};
-
     ghost Value = { Written };
 
     ghost view = { λ i. record {

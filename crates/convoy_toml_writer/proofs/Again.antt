@@ -5,16 +5,16 @@ use Rattle.convoy_draft.specs.declared.fault.ScenarioFault.{ScenarioFault}
 use Rattle.convoy_draft.specs.declared.time.Time.{Time}
 use Rattle.convoy_draft.specs.declared.time.Time.TheVariants.{Ticks, Real}
 use Rattle.convoy_draft.specs.Draft.{Draft}
-use Rattle.convoy_scenario.specs.Laws.{LinksAreFew, ScenariosHaveDrafts}
+use Rattle.convoy_scenario.specs.ScenarioLaws.{LinksAreFew, ScenariosHaveDrafts}
 use Rattle.convoy_scenario.specs.Numbering.{scenario_of_draft}
 use Rattle.convoy_scenario.specs.Naming.{draft_for}
 use Rattle.convoy_scenario.specs.Scenario.{Message, Scenario}
-use Rattle.convoy_packets.specs.Laws.{RanksAreOneEach}
+use Rattle.convoy_packets.specs.ScheduleLaws.{RanksAreOneEach}
 use Rattle.convoy_toml.specs.declared.target.TargetKey.TheVariants.{Required}
 use Rattle.convoy_toml.specs.Reading.{InputView, need_ranges, input_of_text, input_of_table, input_of_written}
 use Rattle.convoy_toml.specs.Shape.{Written}
 use Rattle.convoy_toml_writer.specs.Text.{toml_text}
-use Rattle.convoy_toml_writer.specs.Laws.{TextsAreRead, input_for, ranks_for}
+use Rattle.convoy_toml_writer.specs.WrittenTextLaws.{TextsAreRead, input_for, ranks_for}
 use Rattle.convoy_toml_writer.proofs.Drafted.{draft_same}
 use Rattle.convoy_toml_writer.proofs.Parsed.{text_read}
 use Rattle.convoy_toml_writer.proofs.Shaped.{document_shaped, written_least, written_scenario}

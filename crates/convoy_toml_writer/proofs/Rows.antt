@@ -14,7 +14,7 @@ use Rattle.convoy_packets.specs.OrderLists.{marks_of}
 use Rattle.convoy_toml.specs.Reading.{input_of_text}
 use Rattle.convoy_toml.specs.Shape.{link_of_table}
 use Rattle.convoy_toml_writer.specs.Text.{head_text, link_text, message_text, order_text, sender_text, target_text, tick_text, toml_text, until_text}
-use Rattle.convoy_toml_writer.specs.Laws.{input_for}
+use Rattle.convoy_toml_writer.specs.WrittenTextLaws.{input_for}
 
 -- two groups with a link each way and one of the clients, a message of a client, and one of a group
 abbrev scenario : Scenario

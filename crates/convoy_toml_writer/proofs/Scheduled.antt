@@ -11,10 +11,10 @@ use Rattle.convoy_scenario.specs.Scenario.{Scenario}
 use Rattle.convoy_packets.specs.declared.order.TheConstants.{GREATEST_RANK}
 use Rattle.convoy_packets.specs.Assignment.{in_fixed_order, ranges_of}
 use Rattle.convoy_packets.specs.Given.{delay_given}
-use Rattle.convoy_packets.specs.Laws.{FixedOrderIsDecided, ListsOfDelaysAreSchedules, OrdersAreTheirLists, RanksAreOneEach}
+use Rattle.convoy_packets.specs.ScheduleLaws.{FixedOrderIsDecided, ListsOfDelaysAreSchedules, OrdersAreTheirLists, RanksAreOneEach}
 use Rattle.convoy_packets.specs.Order.{IsOrder, Order, no_order}
 use Rattle.convoy_packets.specs.OrderLists.{is_no_order, order_given, rank_count, ranks_given, ranks_of}
-use Rattle.convoy_toml_writer.specs.Laws.{SchedulesAreGiven, ranks_for}
+use Rattle.convoy_toml_writer.specs.WrittenTextLaws.{SchedulesAreGiven, ranks_for}
 
 -- the laws of the crate below that it takes
 pub record Grounds : Type 0 where

@@ -23,7 +23,7 @@ use Rattle.convoy_toml.specs.declared.target.TargetKey.TheVariants.{Required}
 use Rattle.convoy_toml.specs.declared.written.WrittenTime.{WrittenTime}
 use Rattle.convoy_toml.specs.declared.written.WrittenTime.TheVariants.{Count}
 use Rattle.convoy_toml.specs.Shape.{all_of, need, need_all, wish, wish_all, has_only, time_of_table, as_time, as_tick, as_when, delay_of_table, needs_delay, as_least, WrittenMessage, WrittenLink, WrittenScenario, WrittenTarget, message_of_table, messages_of, link_of_table, links_of, written_target, written_of_table}
-use Rattle.convoy_toml_writer.specs.Laws.{ranks_for}
+use Rattle.convoy_toml_writer.specs.WrittenTextLaws.{ranks_for}
 use Rattle.convoy_toml_writer.proofs.Document.{number, some_tables, time_data, least_data, tick_data, order_data, head_of, link_table, message_table, target_table, document_table}
 use Rattle.convoy_toml_writer.proofs.Durations.{duration_text}
 use Rattle.convoy_toml_writer.proofs.Looked.{delay_found, least_found, groups_found, time_found, tick_found, order_found, schedule_found, target_found, messages_found, links_found, only_known}

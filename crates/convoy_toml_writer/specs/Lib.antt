@@ -9,4 +9,4 @@ pub use Rattle.convoy_packets.specs.OrderLists
 pub use Rattle.convoy_toml.specs.Reading
 -- what a reader has to believe: the text that is written, and what is read of it
 pub mod Text
-pub mod Laws
+pub mod WrittenTextLaws

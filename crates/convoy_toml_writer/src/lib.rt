@@ -3,6 +3,6 @@
 
 pub use writing::write_toml;
 
-pub mod laws;
 mod lists;
 mod writing;
+pub mod written_text_laws;

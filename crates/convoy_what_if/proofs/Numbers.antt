@@ -12,7 +12,7 @@ use Rattle.convoy_survey.proofs.Numbers.{finding_encloses, latency_told, same_sc
 use Rattle.convoy_what_if.specs.Changes.{changed}
 use Rattle.convoy_what_if.specs.declared.tried.Searched.{Searched}
 use Rattle.convoy_what_if.specs.declared.tried.Tried.{Tried}
-use Rattle.convoy_what_if.specs.Laws.{RowsAreInOrder, RowsAreLatencies, RowsEnclose}
+use Rattle.convoy_what_if.specs.ChangeLaws.{RowsAreInOrder, RowsAreLatencies, RowsEnclose}
 use Rattle.convoy_what_if.specs.Tries.{IsTried, MayAnswer, TellsAnswer}
 use Rattle.convoy_what_if.proofs.Savings.{all_by_savings, changes_by_savings, none_saves_more}
 

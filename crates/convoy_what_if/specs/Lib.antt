@@ -16,4 +16,4 @@ pub mod Cells
 pub mod Tries
 pub mod Orders
 pub mod WhatIf
-pub mod Laws
+pub mod ChangeLaws

@@ -1,6 +1,4 @@
-ghost use Rattle.std.specs.Prelude.{◌≡◌, IfOk, Ok};
-ghost use Rattle.convoy_scenario.specs.Memory.{IsUnlessMemory};
-ghost use Rattle.convoy_toml.specs.Reading.{scenario_of_text};
+ghost use Rattle.std.specs.Prelude.{◌≡◌};
 ghost use Rattle.convoy_commands.specs.Replies.{SaysUnlessMemory, reply_of};
 ghost use Rattle.convoy_what_if.specs.WhatIf.{WhatIfSays, end_of};
 
@@ -8,11 +6,10 @@ use super::rows::what_if;
 use super::table::text_of;
 use super::tried::Tried;
 use convoy_branch::Options;
-use convoy_commands::{Answer, Done, Fault, Known, Watch};
+use convoy_commands::{Answer, Done, Fault, Watch};
 use convoy_packets::Instance;
-use convoy_scenario::{Scenario, ScenarioFault};
 use convoy_tables::Format;
-use convoy_toml::read_toml;
+use convoy_toml::{Input, read_toml};
 use std::alloc::Global;
 use std::sync::Wait;
 use std::thread::Threads;
@@ -35,27 +32,18 @@ pub fn what_if_answer<R: Threads + Wait + Sync, W: Watch + Sync>(
 ) -> Result<Answer, Fault>
     ensures { SaysUnlessMemory (WhatIfSays format options.now) text.now (reply_of result) }
 {
-    let instance = Instance::of(alloc, read_scenario(alloc, text)?)?;
+    let Input {
+        scenario,
+        plain,
+        ..
+    } = read_toml(alloc, text)?;
+    let instance = Instance::of(alloc, scenario)?;
     // A scenario is well formed.
     let _count = instance.message_count();
     let rows = what_if(rt, alloc, &instance, options, watch)?;
     let done = end_of(&rows);
-    Ok(Answer {
-        done,
-        text: text_of(alloc, format, instance.scenario(), rows)?,
-        known: Some(Known {
-            scenario: instance.into_scenario(),
-            greatest: None,
-        }),
-    })
-}
-
-/// The scenario of a text.
-fn read_scenario(alloc: Global, text: &[u8]) -> Result<Scenario, ScenarioFault>
-    ensures unless_memory { IsUnlessMemory ScenarioFault.Memory (scenario_of_text text.now) result }
-    ensures read { IfOk result (λ scenario. scenario_of_text text.now ≡ Ok scenario) }
-{
-    Ok(read_toml(alloc, text)?.scenario)
+    let text = text_of(alloc, format, instance.scenario(), rows)?;
+    Ok(Answer::about(done, text, instance.into_scenario(), plain))
 }
 
 /// How it ends with these rows.

@@ -12,9 +12,9 @@ pub use tried::{Searched, Tried};
 
 mod answering;
 mod cells;
+pub mod change_laws;
 mod drafting;
 mod kinds;
-pub mod laws;
 mod listing;
 mod placing;
 mod rows;

@@ -1,42 +1,38 @@
-use Rattle.std.proofs.Common.{◌≡◌, ◌⊎◌, ℕ, true, ap, subst, sym, ◌∙◌, arith, inl, inr}
-use Rattle.convoy_branch.specs.BothWays.{IsOutcomeBothWays, lead_share}
-use Rattle.convoy_branch.specs.Limits.{IsWithin}
-use Rattle.convoy_branch.specs.Outcomes.{IsOutcome}
-use Rattle.convoy_branch.specs.declared.bounds.Bounds.TheVariants.{Lead, Plain}
+use Rattle.std.proofs.Common.{◌≤◌, arith, subst, sym}
+use Rattle.convoy_branch.specs.Outcomes.{best_of}
 use Rattle.convoy_branch.specs.declared.outcome.Outcome.{Outcome}
-use Rattle.convoy_branch.specs.declared.outcome.Outcome.TheVariants.{Open}
-use Rattle.convoy_branch.proofs.Withins.{IsWithinBothWays-both, IsWithinBothWays-first, IsLast}
+use Rattle.convoy_branch.proofs.Withins.{IsWithinBothWays-ended, IsWithinBothWays-second, left_best, left_of_scenario}
 use Rattle.convoy_branch.proofs.ways.search_both_ways.Goals as goal
-use Rattle.convoy_branch.proofs.ways.search_both_ways.Goals.{then-by_leads-gt0+else-not-is_over, else-by_leads-gt0}
 
-pub returns-in_ok-second-in-Open-clause-value : goal.returns-in_ok-second-in-Open-clause-value
-returns-in_ok-second-in-Open-clause-value g c =
-    let scenario = c.args.instance.now in
-    let limit = c.args.limit in
-    let with_tickets = λ (tickets : ℕ). record limit { tickets = tickets } in
-    let plain_is = c.with_tickets-plain.ensures ∙ ap with_tickets c.plain_share-by_plain.ensures.value in
-    let lead_is = c.with_tickets-lead.ensures ∙ ap with_tickets c.lead_share-by_leads.ensures in
-    let by_plain = c.in_ok-first.ensures.value in
-    let by_leads = c.in_ok-second-in-Open.ensures.value in
-    let left = subst (λ (outcome : Outcome). IsOutcome Plain scenario 1 by_plain.spendable outcome) c.in-Open.is by_plain.answer in
-    let both = c.with_upper.ensures.value scenario 1 by_plain.spendable by_leads.spendable c.in-Open.best c.in-Open.tickets c.in-Open.by_worker.items left by_leads.answer c.in_ok-second-in-Open.ensures.opened in
-    IsWithinBothWays-both limit c.with_tickets-plain.result c.with_tickets-lead.result (λ tickets. IsOutcome Plain scenario 1 tickets c.in_ok-first.first) (λ tickets. IsOutcome Lead scenario 1 tickets c.in_ok-second-in-Open.second) (λ plain leads. IsOutcomeBothWays scenario 1 plain leads c.with_upper.result) plain_is lead_is by_plain by_leads both
-
-pub returns-in-Proved-clause-value : goal.returns-in-Proved-clause-value
-returns-in-Proved-clause-value g c =
-    let limit = c.args.limit in
-    let plain_is = c.with_tickets-plain.ensures ∙ ap (λ (tickets : ℕ). record limit { tickets = tickets }) c.plain_share-by_plain.ensures.value in
+pub search_alone_from-requires-in-ByLeads : goal.search_alone_from-requires-in-ByLeads
+search_alone_from-requires-in-ByLeads g c =
     let first = c.in_ok-first.first in
-    IsWithinBothWays-first limit c.with_tickets-plain.result c.args.instance.now 1 first plain_is c.in_ok-first.ensures.value (subst (IsLast limit) (sym c.in-Proved.is) tt)
+    let best = c.in-ByLeads.best in
+    let upper = c.in-ByLeads.upper in
+    let left = c.in-ByLeads.ensures.0 in
+    record {
+      of_scenario = left_of_scenario c.by_plain-plain.result c.args.instance.now 1 best upper first left c.in_ok-first.ensures.value;
+      least = omega (arith, c.requires.least, c.in_ok-first.ensures.opened, left_best best upper first left);
+    }
 
-pub returns-in-Open-2-clause-value : goal.returns-in-Open-2-clause-value
-returns-in-Open-2-clause-value g c =
-    let limit = c.args.limit in
-    let plain_is = c.with_tickets-plain.ensures ∙ ap (λ (tickets : ℕ). record limit { tickets = tickets }) c.plain_share-by_plain.ensures.value in
-    let Within : Outcome → Type 0 = λ outcome. IsWithin c.with_tickets-plain.result (λ tickets. IsOutcome Plain c.args.instance.now 1 tickets outcome) in
-    let within = subst Within c.in-Open.is c.in_ok-first.ensures.value in
-    let ends = λ (last : (lead_share limit.tickets ≡ 0) ⊎ (limit.may_stop ≡ true)). IsWithinBothWays-first limit c.with_tickets-plain.result c.args.instance.now 1 (Open c.in-Open.best c.in-Open.upper c.in-Open.tickets c.in-Open.by_worker) plain_is within last in
-    elim c.if-by_leads-gt0.branch [
-      | then-by_leads-gt0+else-not-is_over w ↦ ends (inr (w.is_over.ensures w.if-not-is_over.false))
-      | else-by_leads-gt0 w ↦ ends (inl (omega (arith, w.if-by_leads-gt0.false, c.lead_share-by_leads.ensures)))
-    ]
+pub returns-in-Ended : goal.returns-in-Ended
+returns-in-Ended g c =
+    let first = c.in_ok-first.first in
+    let outcome = c.in-Ended.outcome in
+    record {
+      value = IsWithinBothWays-ended c.args.limit c.by_plain-plain.result c.args.instance.now 1 first outcome c.by_plain-plain.ensures c.in_ok-first.ensures.value c.in-Ended.ensures;
+      opened = subst (λ (o : Outcome). c.args.opening.latency ≤ best_of o) (sym c.in-Ended.ensures.0) c.in_ok-first.ensures.opened;
+    }
+
+pub returns-in_ok-second-in-ByLeads : goal.returns-in_ok-second-in-ByLeads
+returns-in_ok-second-in-ByLeads g c =
+    let first = c.in_ok-first.first in
+    let second = c.in_ok-second-in-ByLeads.second in
+    let best = c.in-ByLeads.best in
+    let upper = c.in-ByLeads.upper in
+    let left = c.in-ByLeads.ensures.0 in
+    let by_leads = c.in_ok-second-in-ByLeads.ensures in
+    record {
+      value = IsWithinBothWays-second c.args.limit c.by_plain-plain.result c.by_leads-lead.result c.args.instance.now 1 first second c.with_upper.result best upper c.by_plain-plain.ensures c.by_leads-lead.ensures c.in_ok-first.ensures.value left by_leads.value by_leads.opened c.with_upper.ensures.value;
+      opened = omega (arith, c.in_ok-first.ensures.opened, left_best best upper first left, by_leads.opened, c.with_upper.ensures.best);
+    }

@@ -32,9 +32,9 @@ loop-nodes-preserved c =
     let within = ap₂ are_too_many (sym c.len.ensures) (sym c.leads_with-leads.ensures) ∙ sym c.are_too_many.ensures ∙ c.if-are_too_many.false in
     let next = goes_on c.args.version c.args.time c.loop-nodes.nodes.items _ c.loop-nodes.leads c.loop-nodes.reader _ c.in-Some.node c.read_node.new.reader read within c.loop-nodes.invariant.so_far in
     record {
-      so_far = rw (c.in_ok-push.ensures.items, c.in_ok-push.ensures.len, c.leads_with-leads.ensures) next;
+      so_far = rw (c.push.ensures.items, c.push.ensures.len, ← c.in_ok-map_err.ensures.variant, c.leads_with-leads.ensures) next;
       few = rw c.leads_with-leads.ensures (ltb-false MOST_LEADS (leads_with c.loop-nodes.leads c.in-Some.node) (neither (vec_len c.loop-nodes.nodes == MOST_NODES) _ within).1);
-      lawful = rw c.in_ok-push.ensures.items (All-push (IsNodeWhere (says_time c.args.version) c.args.time) c.loop-nodes.nodes.items c.in-Some.node c.loop-nodes.invariant.lawful (subst (λ (o : Option Node). IfSome o (IsNodeWhere (says_time c.args.version) c.args.time)) c.in-Some.is c.in_ok-node.ensures.lawful));
+      lawful = rw (c.push.ensures.items, ← c.in_ok-map_err.ensures.variant) (All-push (IsNodeWhere (says_time c.args.version) c.args.time) c.loop-nodes.nodes.items c.in-Some.node c.loop-nodes.invariant.lawful (subst (λ (o : Option Node). IfSome o (IsNodeWhere (says_time c.args.version) c.args.time)) c.in-Some.is c.in_ok-node.ensures.lawful));
     }
 
 pub returns-clause-value : goal.returns-clause-value

@@ -2,7 +2,7 @@ use Rattle.std.proofs.Common.{◌++◌, ap, ◌∙◌}
 use Rattle.convoy_lines.specs.Texts.{ended}
 use Rattle.convoy_certificate.specs.declared.version.Version.{Version}
 use Rattle.convoy_scenario_lines.specs.declared.version.Version.{Version as LinesVersion}
-use Rattle.convoy_scenario_lines.specs.Lines.{scenario_text}
+use Rattle.convoy_scenario_lines.specs.ScenarioLines.{scenario_text}
 use Rattle.convoy_certificate.specs.Text.{lines_version, version_line}
 use Rattle.convoy_certificate.proofs.Pieces.{in_pieces}
 use Rattle.convoy_certificate.proofs.writing.text_of.Goals as goal

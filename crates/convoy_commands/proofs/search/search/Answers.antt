@@ -13,7 +13,7 @@ of-opening-requires g c = record {
   };
 }
 
-pub returns : goal.returns
-returns g c =
+pub returns-in_default : goal.returns-in_default
+returns-in_default g c =
     one_ticket _ _ _ c.ways.ensures.lawful (rw (c.first_bounds.ensures, c.ways.ensures.value) at c.in_ok-proved.ensures)
     c.in_default.not-Open

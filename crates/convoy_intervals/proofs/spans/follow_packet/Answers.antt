@@ -1,7 +1,7 @@
 use Rattle.std.proofs.Common.{◌≡◌, true, subst, refl}
 use Rattle.convoy_scenario.specs.Scenario.{GoesTo}
 use Rattle.convoy_packets.specs.declared.packet.Packet.{Packet}
-use Rattle.convoy_packets.specs.Laws.{is_sent}
+use Rattle.convoy_packets.specs.ScheduleLaws.{is_sent}
 use Rattle.convoy_intervals.specs.Spans.{AreSpansBut}
 use Rattle.convoy_intervals.proofs.Destinations.{message_of_goes, group_of_goes}
 use Rattle.convoy_intervals.proofs.Following.{AreSpans-propose, propose_goes}

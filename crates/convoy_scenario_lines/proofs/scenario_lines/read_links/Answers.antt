@@ -23,7 +23,7 @@ loop-alloc-preserved c =
     let due = sym c.is_link_due.ensures ∙ c.loop-alloc-test.true in
     let so_far = ap (λ n. with_front c.loop-alloc.links.items (links_at c.args.version n c.loop-alloc.reader)) c.len.ensures ∙ c.loop-alloc.invariant in
     let next = goes_on c.loop-alloc.links.items c.args.version c.len.result c.loop-alloc.reader _ _ due c.in_ok-link.ensures (ne_eqb c.len.result MOST_LINKS (λ e. c.if-len-eq-MOST_LINKS.false (omega arith))) so_far in
-    rw (c.in_ok-push.ensures.items, c.in_ok-push.ensures.len, ← c.len.ensures) next
+    rw (c.push.ensures.items, c.push.ensures.len, ← c.in_ok-map_err.ensures.variant, ← c.len.ensures) next
 
 pub returns : goal.returns
 returns c =

@@ -23,7 +23,7 @@ loop-alloc-preserved c =
     let due = sym c.is_multicast_due.ensures ∙ c.loop-alloc-test.true in
     let so_far = ap (λ n. with_front c.args.groups.now c.loop-alloc.multicasts.items (messages_at c.args.version n c.loop-alloc.reader)) c.len.ensures ∙ c.loop-alloc.invariant in
     let next = goes_on c.args.version c.args.groups.now c.loop-alloc.multicasts.items c.len.result c.loop-alloc.reader _ _ due c.in_ok-multicast.ensures (ne_eqb c.len.result 16 (λ e. c.if-len-eq-MOST_MULTICASTS.false (omega arith))) so_far in
-    rw (c.in_ok-push.ensures.items, c.in_ok-push.ensures.len, ← c.len.ensures) next
+    rw (c.push.ensures.items, c.push.ensures.len, ← c.in_ok-map_err.ensures.variant, ← c.len.ensures) next
 
 pub returns : goal.returns
 returns c =

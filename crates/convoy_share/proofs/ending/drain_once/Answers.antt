@@ -1,6 +1,6 @@
 use Rattle.std.proofs.Common.{false, List, [], ◌∷◌, ◌++◌, ◌∙◌, ap, refl, reverse}
 use Rattle.convoy_share.specs.Common.{common_of}
-use Rattle.convoy_share.specs.declared.owner.OwnerWorker.{OwnerWorker}
+use Rattle.convoy_share.specs.declared.workers.OwnerWorker.{OwnerWorker}
 use Rattle.convoy_share.specs.declared.piece.Piece.{Piece}
 use Rattle.convoy_share.specs.declared.piece.Piece.TheVariants.{Todo}
 use Rattle.convoy_share.specs.Subtrees.{Subtree}

@@ -1,7 +1,7 @@
 use Rattle.std.proofs.Common.{ℕ, List, subst, sym}
 use Rattle.convoy_share_deque.specs.Tasks.{whole_share}
 use Rattle.convoy_shares.specs.Shares.{whole}
-use Rattle.convoy_share.specs.declared.thief.ThiefWorker.{ThiefWorker}
+use Rattle.convoy_share.specs.declared.workers.ThiefWorker.{ThiefWorker}
 use Rattle.convoy_share.specs.Common.{common_of}
 use Rattle.convoy_share.specs.Opening.{AreOpened}
 use Rattle.convoy_share.specs.Workers.{IsOwner}

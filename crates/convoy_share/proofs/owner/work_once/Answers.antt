@@ -2,7 +2,7 @@ use Rattle.std.proofs.Common.{List, [], ◌∷◌, ◌+◌, ◌≤◌, ◌≡◌
 use Rattle.convoy_intervals.specs.Boxes.{Box}
 use Rattle.convoy_share_deque.specs.Tasks.{OwnerEnd}
 use Rattle.convoy_share.specs.Common.{common_of}
-use Rattle.convoy_share.specs.declared.owner.OwnerWorker.{OwnerWorker}
+use Rattle.convoy_share.specs.declared.workers.OwnerWorker.{OwnerWorker}
 use Rattle.convoy_share.specs.Means.{IsGrown}
 use Rattle.convoy_share.specs.Subtrees.{Subtree}
 use Rattle.convoy_share.proofs.Worked.{number_below, owner_more}

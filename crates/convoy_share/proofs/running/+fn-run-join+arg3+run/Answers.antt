@@ -1,7 +1,7 @@
 use Rattle.std.proofs.Common.{rules, ◌≡◌, ◌<◌, ◌+◌, ◌++◌, length, List, [], ◌∷◌, sym, subst, ◌∙◌, arith, Some, length-append}
 use Rattle.std.specs.List.{All}
 use Rattle.std.proofs.lemmas.List.Elements.{All-pop}
-use Rattle.convoy_share.specs.declared.thief.ThiefWorker.{ThiefWorker}
+use Rattle.convoy_share.specs.declared.workers.ThiefWorker.{ThiefWorker}
 use Rattle.convoy_share.specs.Common.{common_of}
 use Rattle.convoy_share.specs.Workers.{HasJoined, IsThief, IsThiefOf, StaysThief}
 use Rattle.convoy_share.specs.Workers.{hand_shares, clerk_shares}

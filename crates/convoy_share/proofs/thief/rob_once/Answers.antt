@@ -1,6 +1,6 @@
 use Rattle.std.proofs.Common.{[], ◌∷◌, ◌+◌, reverse, ◌∙◌, ap, ◌++◌, arith}
 use Rattle.convoy_share.specs.Common.{common_of}
-use Rattle.convoy_share.specs.declared.thief.ThiefWorker.{ThiefWorker}
+use Rattle.convoy_share.specs.declared.workers.ThiefWorker.{ThiefWorker}
 use Rattle.convoy_share.specs.Subtrees.{Subtree}
 use Rattle.convoy_share.proofs.Grown.{IsGrown-kept}
 use Rattle.convoy_share.proofs.Worked.{thief_more}

@@ -6,6 +6,6 @@ use Rattle.convoy_starts.proofs.setting.Setting.chain.Given as goal
 abbrev pub invariant-loop-place : goal.invariant-loop-place
 invariant-loop-place l =
     record {
-      next : IfSome l.next (IsLink l.self.scenario.now);
+      next : IfSome l.next (λ barred. IsLink l.self.scenario.now barred.link);
       links : All (IsLink l.self.scenario.now) l.links.items;
     }

@@ -1,6 +1,0 @@
-use Rattle.convoy_branch.proofs.FrontTrees.{AreFronts-better}
-use Rattle.convoy_branch.proofs.laws.fronts_better.Goals as goal
-
-pub returns : goal.returns
-returns c bounds scenario best better boxes nodes above fronts =
-    AreFronts-better bounds scenario best better nodes boxes above fronts

@@ -1,5 +1,0 @@
-use Rattle.convoy_branch.proofs.FrontTrees.{AreFronts-turned}
-use Rattle.convoy_branch.proofs.laws.turns_are_fronts.Goals as goal
-
-pub returns : goal.returns
-returns c bounds scenario best branch turn is = AreFronts-turned bounds scenario best branch turn is

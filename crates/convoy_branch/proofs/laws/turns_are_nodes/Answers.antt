@@ -1,5 +1,0 @@
-use Rattle.convoy_branch.proofs.SplitNodes.{All-turn}
-use Rattle.convoy_branch.proofs.laws.turns_are_nodes.Goals as goal
-
-pub returns : goal.returns
-returns c bounds scenario best branch turn table inside is = All-turn bounds scenario best branch turn table inside is

@@ -1,6 +1,0 @@
-use Rattle.convoy_branch.proofs.FrontUppers.{IsUpperOf-cons}
-use Rattle.convoy_branch.proofs.laws.uppers_raised.Goals as goal
-
-pub returns : goal.returns
-returns c bounds scenario best raised box boxes upper is rest =
-    IsUpperOf-cons bounds scenario best raised box boxes upper is rest

@@ -1,5 +1,0 @@
-use Rattle.convoy_branch.proofs.FrontTrees.{IsTree-whole}
-use Rattle.convoy_branch.proofs.laws.whole_fronts_are_trees.Goals as goal
-
-pub returns : goal.returns
-returns c bounds scenario best nodes none fronts = IsTree-whole bounds scenario best nodes none fronts

@@ -1,0 +1,194 @@
+//! From above: runs are sought for latencies near the least for which leads close the root box, where few
+//! cases are open, and each that is open tells what its run has to do.
+
+ghost use Rattle.std.specs.Prelude.{◌≡◌, ◌≤◌, All, IfOk, OnOk};
+ghost use Rattle.convoy_branch.specs.Aims.{HasRisen, IsAbove};
+
+use super::bounds::Bounds;
+use super::gate::Gate;
+use super::limit::Limit;
+use super::step::{place_to_split, wished};
+use convoy_intervals::Tracked;
+use convoy_packets::Instance;
+use convoy_scenario::Time;
+use convoy_sim::Record;
+use std::alloc::{AllocError, Global};
+
+/// How many latencies the root box is asked for at most.
+const MOST_TESTS: u32 = 24;
+
+/// How many boxes are taken up at most below the root.
+const MOST_BOXES: u32 = 200;
+
+/// What seeking from above has come to.
+#[derive(Drop)]
+pub struct FromAbove {
+    /// The record of the greatest latency that was seen.
+    pub best: Record,
+    /// The least latency, in ticks, for which the root box was seen to be closed, by leads or by boxes below it.
+    /// Nothing that a search promises rests on it.
+    pub bound: u32,
+}
+
+/// Seeks a schedule of a greater latency than a record has, from above (docs/LEADS.md, "From above"): answers a
+/// record of one, or the one given. First the root box is asked for latencies between the record's and its
+/// bound, which is halved down; then boxes are split as in a search by leads that closes them for a latency just
+/// below the least one for which the root is closed. Each box that is open has its wish runs simulated.
+///
+/// Where the limit says that the gate may stop the search, and it does, the best record so far is answered. The
+/// error is that memory ran out.
+pub fn from_above<G: Gate>(
+    alloc: Global,
+    instance: &Instance,
+    known: Record,
+    limit: Limit,
+    gate: &G,
+) -> Result<FromAbove, AllocError>
+    requires of_scenario { known.scenario ≡ instance.now }
+    ensures of_scenario { IfOk result (λ found. found.best.scenario ≡ instance.now) }
+    ensures no_lower { IfOk result (λ found. known.latency ≤ found.best.latency) }
+{
+    let mut above = Above {
+        alloc,
+        instance,
+        best: known,
+        boxes: MOST_BOXES,
+    };
+    let root = Tracked::root(alloc, instance)?;
+    let mut bound = above.halve(&root, limit, gate)?;
+    let mut below = 1;
+    for _ in 0..MOST_TESTS {
+        if above.best.latency() >= bound || limit.is_over(gate) {
+            break;
+        }
+        let aim = (bound.saturating_sub(below)).max(above.best.latency());
+        match above.aim_at(aim, limit, gate)? {
+            Aimed::Closed => {
+                bound = aim;
+                below = below.saturating_mul(2);
+            }
+            Aimed::Found => {}
+            Aimed::GivenUp => break,
+        }
+    }
+    Ok(FromAbove {
+        best: above.best,
+        bound,
+    })
+}
+
+/// How a tree from above ended.
+enum Aimed {
+    /// All its boxes are closed for the latency.
+    Closed,
+    /// A run of a greater latency was found.
+    Found,
+    /// No more boxes may be taken up, or one of them can't be split.
+    GivenUp,
+}
+
+/// Where seeking from above stands.
+#[derive(Drop)]
+struct Above<'a> {
+    alloc: Global,
+    instance: &'a Instance,
+    /// The record of the greatest latency that was seen.
+    best: Record,
+    /// How many boxes may still be taken up.
+    boxes: u32,
+}
+
+impl<'a> Above<'a> {
+    /// Asks leads to close the root for latencies between the record's and the plain bound, and simulates the
+    /// wish runs of what they leave open; the least latency in ticks for which it was seen closed. It goes down
+    /// from the bound in steps that double, until the root is open, and halves from there: a test far below the
+    /// greatest latency takes long.
+    fn halve<G: Gate>(&mut self, root: &Tracked, limit: Limit, gate: &G) -> Result<u32, AllocError>
+        requires above { IsAbove self.old }
+        requires root { root.now.scenario ≡ self.old.instance.now }
+        ensures { OnOk result (HasRisen self.old self.new) }
+    {
+        let mut low = self.best.latency();
+        let mut bound = root.bound();
+        let mut below = 1;
+        for _ in 0..MOST_TESTS {
+            if low >= bound || limit.is_over(gate) {
+                break;
+            }
+            let middle = bound.saturating_sub(below).max(low);
+            let asked = Bounds::Lead.ask(self.alloc, self.instance, root, middle)?;
+            if asked.leaf.is_some() {
+                bound = middle;
+                below = below.saturating_mul(2);
+            } else {
+                let known = self.best.latency();
+                if let Some(found) = wished(self.alloc, self.instance, root, &asked, known)? {
+                    self.best = found;
+                }
+                low = self.best.latency().max(middle.saturating_add(1));
+                below = bound.saturating_sub(low) / 2 + 1;
+            }
+        }
+        Ok(bound)
+    }
+
+    /// Splits boxes until all are closed for a latency in ticks, or a greater one is found.
+    fn aim_at<G: Gate>(&mut self, aim: u32, limit: Limit, gate: &G) -> Result<Aimed, AllocError>
+        requires { IsAbove self.old }
+        ensures { OnOk result (HasRisen self.old self.new) }
+    {
+        let mut work = Vec::new(self.alloc);
+        work.push(Tracked::root(self.alloc, self.instance)?)?;
+        for _ in 0..MOST_BOXES {
+            let Some(branch) = work.pop() else {
+                return Ok(Aimed::Closed);
+            };
+            if self.boxes == 0 || limit.is_over(gate) {
+                return Ok(Aimed::GivenUp);
+            }
+            self.boxes -= 1;
+            if !self.take_up(&mut work, branch, aim)? {
+                return Ok(Aimed::GivenUp);
+            }
+            if self.best.latency() > aim {
+                return Ok(Aimed::Found);
+            }
+        }
+        Ok(Aimed::GivenUp)
+    }
+
+    /// Closes a box for a latency in ticks, or simulates its wish runs and leaves its halves; whether it could
+    /// be closed or split.
+    fn take_up(
+        &mut self,
+        work: &mut Vec<Tracked>,
+        branch: Tracked,
+        aim: u32,
+    ) -> Result<bool, AllocError>
+        requires above { IsAbove self.old }
+        requires branch { branch.scenario ≡ self.old.instance.now }
+        requires work { All (λ left. left.scenario ≡ self.old.instance.now) work.old.items }
+        ensures risen { OnOk result (HasRisen self.old self.new) }
+        ensures work { OnOk result (All (λ left. left.scenario ≡ self.old.instance.now) work.new.items) }
+    {
+        let asked = Bounds::Lead.ask(self.alloc, self.instance, &branch, aim)?;
+        if asked.leaf.is_some() {
+            return Ok(true);
+        }
+        let known = self.best.latency();
+        if let Some(found) = wished(self.alloc, self.instance, &branch, &asked, known)? {
+            self.best = found;
+        }
+        let delay_box = branch.delay_box();
+        let place = place_to_split(self.alloc, self.instance, delay_box, aim, asked.left)?;
+        let Some((packet, at)) = place else {
+            return Ok(matches!(self.instance.time(), Time::Ticks));
+        };
+        let Ok((lower, upper)) = branch.halves(self.instance, usize::from(packet), at) else {
+            return Err(AllocError);
+        };
+        work.push(lower)?;
+        work.push(upper)?;
+        Ok(true)
+    }
+}

@@ -1,5 +1,0 @@
-use Rattle.convoy_checker.proofs.SplitTrees.{split_is_two_trees}
-use Rattle.convoy_checker.proofs.laws.split_is_two_trees.Goals as goal
-
-pub returns : goal.returns
-returns c scenario latency box packet at nodes = split_is_two_trees scenario latency box packet at nodes

@@ -1,0 +1,87 @@
+//! The laws of trees and certificates. Each is the one clause of a function that does nothing; a
+//! caller that needs the law calls the function.
+
+ghost use Rattle.convoy_checker.specs.TreeLaws.{BoundLeavesCover, PointLeavesCover, StampLeavesCover};
+ghost use Rattle.convoy_checker.specs.TreeLaws.{LeadLeavesCover, TreesCover};
+ghost use Rattle.convoy_checker.specs.TreeLaws.{SplitIsTwoTrees, ValidIsGreatest, CheckedIsValid};
+
+use convoy_intervals::box_laws::{
+    greatest_is_member, halves_are_boxes, halves_partition, members_are_assignments,
+    plain_bound_holds, point_has_one_member, root_holds_all, root_is_box,
+};
+use convoy_leads::lead_laws::leads_hold;
+use convoy_stamps::stamp_bound_laws::stamp_bound_holds;
+
+/// Where a box is closed by its plain bound, no member of it has a greater latency than the stated
+/// one, in whatever order ties fall.
+pub fn bound_leaves_cover()
+    ensures { BoundLeavesCover }
+{
+    plain_bound_holds();
+}
+
+/// Where a box is closed as a point, in whole ticks, no member of it has a greater latency than the stated one.
+pub fn point_leaves_cover()
+    ensures { PointLeavesCover }
+{
+    greatest_is_member();
+    point_has_one_member();
+}
+
+/// Where a box is closed by its stamp bound, in whole ticks, no member of it has a greater latency than the stated
+/// one.
+pub fn stamp_leaves_cover()
+    ensures { StampLeavesCover }
+{
+    stamp_bound_holds();
+}
+
+/// Where leads close a box for a latency, no member of it has a greater one.
+pub fn lead_leaves_cover()
+    ensures { LeadLeavesCover }
+{
+    leads_hold();
+    members_are_assignments();
+}
+
+/// Where a leaf of some kind closes a box for a latency, no member of it has a greater one.
+pub fn leaves_cover()
+    ensures bound { BoundLeavesCover }
+    ensures point { PointLeavesCover }
+    ensures stamp { StampLeavesCover }
+    ensures lead { LeadLeavesCover }
+{
+    bound_leaves_cover();
+    point_leaves_cover();
+    stamp_leaves_cover();
+    lead_leaves_cover();
+}
+
+/// Nodes over one box that begin with a split are that split, a tree over the lower half and a tree
+/// over the upper half; and the other way round.
+pub fn split_is_two_trees()
+    ensures { SplitIsTwoTrees }
+{}
+
+/// Where a tree over the root is right for a latency, no assignment has a greater one.
+pub fn trees_cover()
+    ensures { TreesCover }
+{
+    root_is_box();
+    root_holds_all();
+    halves_are_boxes();
+    halves_partition();
+    leaves_cover();
+}
+
+/// The latency of a valid certificate is the greatest of its scenario.
+pub fn valid_is_greatest()
+    ensures { ValidIsGreatest }
+{
+    trees_cover();
+}
+
+/// Checking answers the latency of a certificate just where the certificate is valid.
+pub fn checked_is_valid()
+    ensures { CheckedIsValid }
+{}

@@ -1,0 +1,4 @@
+use std::alloc::AllocError;
+
+/// What is made, unless memory runs out.
+pub type AllocResult<T> = Result<T, AllocError>;

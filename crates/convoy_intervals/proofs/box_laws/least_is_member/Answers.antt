@@ -1,0 +1,6 @@
+use Rattle.convoy_packets.specs.Assignment.{ranges_of}
+use Rattle.convoy_intervals.proofs.Members.{AreRanges-box, IsIn-least}
+use Rattle.convoy_intervals.proofs.box_laws.least_is_member.Goals as goal
+
+pub returns : goal.returns
+returns c plan ranges box = IsIn-least ranges (AreRanges-box (ranges_of plan) ranges box)

@@ -1,5 +1,0 @@
-use Rattle.convoy_intervals.proofs.Members.{point_members}
-use Rattle.convoy_intervals.proofs.laws.point_has_one_member.Goals as goal
-
-pub returns : goal.returns
-returns c ranges first second point left right = point_members ranges first.delays second.delays point left right

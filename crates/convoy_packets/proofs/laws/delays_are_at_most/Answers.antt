@@ -1,5 +1,0 @@
-use Rattle.convoy_packets.proofs.Ranges.{at_most}
-use Rattle.convoy_packets.proofs.laws.delays_are_at_most.Goals as goal
-
-pub returns : goal.returns
-returns c = at_most

@@ -1,5 +1,0 @@
-use Rattle.convoy_packets.proofs.Ranges.{length-assignment}
-use Rattle.convoy_packets.proofs.laws.delays_are_one_each.Goals as goal
-
-pub returns : goal.returns
-returns c = length-assignment

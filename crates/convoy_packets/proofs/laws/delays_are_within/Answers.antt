@@ -1,5 +1,0 @@
-use Rattle.convoy_packets.proofs.Ranges.{within_if_sent}
-use Rattle.convoy_packets.proofs.laws.delays_are_within.Goals as goal
-
-pub returns : goal.returns
-returns c = within_if_sent

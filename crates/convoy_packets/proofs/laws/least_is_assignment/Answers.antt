@@ -1,5 +1,0 @@
-use Rattle.convoy_packets.proofs.Ranges.{least_assignment}
-use Rattle.convoy_packets.proofs.laws.least_is_assignment.Goals as goal
-
-pub returns : goal.returns
-returns c = least_assignment

@@ -1,5 +1,0 @@
-use Rattle.convoy_packets.proofs.Listed.{length-packets_of-le}
-use Rattle.convoy_packets.proofs.laws.packets_are_few.Goals as goal
-
-pub returns : goal.returns
-returns c = length-packets_of-le

@@ -1,5 +1,0 @@
-use Rattle.convoy_packets.proofs.Sent.{found_if_sent}
-use Rattle.convoy_packets.proofs.laws.packets_are_those_sent.Goals as goal
-
-pub returns : goal.returns
-returns c = found_if_sent

@@ -1,5 +1,0 @@
-use Rattle.convoy_scenario.proofs.GivenScenarios.{of_draft}
-use Rattle.convoy_scenario.proofs.laws.drafts_give_scenarios.Goals as goal
-
-pub returns : goal.returns
-returns c = of_draft

@@ -1,5 +1,0 @@
-use Rattle.convoy_scenario.proofs.NumberedLemmas.{all_hold}
-use Rattle.convoy_scenario.proofs.laws.judged_rules_hold.Goals as goal
-
-pub returns : goal.returns
-returns c = all_hold

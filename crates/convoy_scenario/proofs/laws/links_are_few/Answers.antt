@@ -1,5 +1,0 @@
-use Rattle.convoy_scenario.proofs.FewLinks.{few_links}
-use Rattle.convoy_scenario.proofs.laws.links_are_few.Goals as goal
-
-pub returns : goal.returns
-returns c = few_links

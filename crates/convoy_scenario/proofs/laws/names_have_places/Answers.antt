@@ -1,5 +1,0 @@
-use Rattle.convoy_scenario.proofs.PlaceLemmas.{name_at_place}
-use Rattle.convoy_scenario.proofs.laws.names_have_places.Goals as goal
-
-pub returns : goal.returns
-returns c = name_at_place

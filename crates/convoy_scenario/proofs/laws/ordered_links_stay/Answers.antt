@@ -1,6 +1,0 @@
-use Rattle.std.proofs.Common.{None}
-use Rattle.convoy_scenario.proofs.LinkLemmas.{stay}
-use Rattle.convoy_scenario.proofs.laws.ordered_links_stay.Goals as goal
-
-pub returns : goal.returns
-returns c delay = stay delay None

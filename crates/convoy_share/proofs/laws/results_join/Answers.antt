@@ -1,5 +1,0 @@
-use Rattle.convoy_share.proofs.Joins.{IsResult-joined}
-use Rattle.convoy_share.proofs.laws.results_join.Goals as goal
-
-pub returns : goal.returns
-returns c = IsResult-joined c.fronts_better.ensures

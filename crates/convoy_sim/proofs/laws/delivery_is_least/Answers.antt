@@ -1,5 +1,0 @@
-use Rattle.convoy_sim.proofs.DeliveryTick as tick
-use Rattle.convoy_sim.proofs.laws.delivery_is_least.Goals as goal
-
-pub returns : goal.returns
-returns c = tick.delivery_is_least

@@ -1,5 +1,0 @@
-use Rattle.convoy_sim.proofs.FixedRanks.{fixed_ranks}
-use Rattle.convoy_sim.proofs.laws.fixed_ranks_are_none.Goals as goal
-
-pub returns : goal.returns
-returns c = fixed_ranks

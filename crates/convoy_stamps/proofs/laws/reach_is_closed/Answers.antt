@@ -1,5 +1,0 @@
-use Rattle.convoy_stamps.proofs.StampReach.{reach_closed}
-use Rattle.convoy_stamps.proofs.laws.reach_is_closed.Goals as goal
-
-pub returns : goal.returns
-returns c scenario tables m g goes = reach_closed scenario tables m g goes

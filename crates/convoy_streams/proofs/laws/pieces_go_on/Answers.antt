@@ -1,5 +1,0 @@
-use Rattle.convoy_streams.proofs.Pieces.{pieces_go_on}
-use Rattle.convoy_streams.proofs.laws.pieces_go_on.Goals as goal
-
-pub returns : goal.returns
-returns c = pieces_go_on

@@ -1,5 +1,0 @@
-use Rattle.convoy_survey.proofs.CeilingRows.{ceiling_rows_enclose}
-use Rattle.convoy_survey.proofs.laws.ceiling_rows_enclose.Goals as goal
-
-pub returns : goal.returns
-returns c = ceiling_rows_enclose

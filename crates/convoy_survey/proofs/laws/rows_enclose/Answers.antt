@@ -1,5 +1,0 @@
-use Rattle.convoy_survey.proofs.Numbers.{rows_enclose}
-use Rattle.convoy_survey.proofs.laws.rows_enclose.Goals as goal
-
-pub returns : goal.returns
-returns c = rows_enclose

@@ -1,5 +1,0 @@
-use Rattle.convoy_tasks.proofs.Failures.{failures_told}
-use Rattle.convoy_tasks.proofs.laws.failures_are_told.Goals as goal
-
-pub returns : goal.returns
-returns c = failures_told

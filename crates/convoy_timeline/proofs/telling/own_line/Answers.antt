@@ -1,9 +1,0 @@
-use Rattle.std.proofs.Common.{sym}
-use Rattle.std.specs.Fmt.{digits}
-use Rattle.convoy_timeline.specs.Explanations.{answered_text}
-use Rattle.convoy_timeline.proofs.telling.own_line.Goals as goal
-
-pub returns : goal.returns
-unfolding answered_text digits
-returns c =
-    simp (sym c.gap_after-gap.ensures, sym c.group_name-from.ensures, sym c.in_ok-stamp.ensures) c.format.ensures.ok

@@ -1,0 +1,24 @@
+-- What is proved of scenario texts. Each is the one clause of the function of its name in the crate's module `text_laws`.
+use Rattle.std.specs.Int.{IsGcd}
+use Rattle.std.specs.Prelude.{◌≡◌, ℕ, List, Ok, IsSome}
+use Rattle.toml.specs.Data.{Members, get_member}
+use Rattle.convoy_draft.specs.declared.fault.Key.TheVariants.{Target}
+use Rattle.convoy_draft.specs.Keys.{key_word}
+use Rattle.convoy_scenario.specs.Scenario.{Scenario}
+use Rattle.convoy_scenario.specs.WellFormed.{IsScenario}
+use Rattle.convoy_toml.specs.declared.target.TargetKey.TheVariants.{Optional}
+use Rattle.convoy_toml.specs.Reading.{table_of_text, input_of_text, input_of_text_by, scenario_of_text}
+use Rattle.convoy_toml.specs.Times.{common_divisor}
+
+-- what a text is read as is a well-formed scenario
+abbrev pub TextsGiveScenarios : Type 0
+TextsGiveScenarios = (text : List ℕ) (scenario : Scenario) → scenario_of_text text ≡ Ok scenario → IsScenario scenario
+
+-- a text in which the target is written gives the same, whether the target may be left out or not
+abbrev pub TargetsMayBeSaid : Type 0
+TargetsMayBeSaid =
+    (text : List ℕ) (table : Members) → table_of_text text ≡ Ok table → IsSome (get_member (key_word Target) table) → input_of_text_by Optional text ≡ input_of_text text
+
+-- the common divisor of two lengths divides both, and each number that divides both divides it
+abbrev pub CommonDivisorsAreGreatest : Type 0
+CommonDivisorsAreGreatest = (a b : ℕ) → IsGcd a b (common_divisor a b)

@@ -1,0 +1,23 @@
+//! The laws of scenario texts. Each is the one clause of a function that does nothing; a caller that needs a
+//! law calls its function.
+
+ghost use Rattle.convoy_toml.specs.TextLaws.{CommonDivisorsAreGreatest, TargetsMayBeSaid, TextsGiveScenarios};
+
+use convoy_scenario::scenario_laws::drafts_give_scenarios;
+
+/// What a text is read as is a well-formed scenario.
+pub fn texts_give_scenarios()
+    ensures { TextsGiveScenarios }
+{
+    drafts_give_scenarios();
+}
+
+/// A text in which the target is written gives the same, whether the target may be left out or not.
+pub fn targets_may_be_said()
+    ensures { TargetsMayBeSaid }
+{}
+
+/// The common divisor of two lengths divides both, and each number that divides both divides it.
+pub fn common_divisors_are_greatest()
+    ensures { CommonDivisorsAreGreatest }
+{}

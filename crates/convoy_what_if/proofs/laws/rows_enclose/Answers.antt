@@ -1,5 +1,0 @@
-use Rattle.convoy_what_if.proofs.Numbers.{rows_enclose}
-use Rattle.convoy_what_if.proofs.laws.rows_enclose.Goals as goal
-
-pub returns : goal.returns
-returns c = rows_enclose

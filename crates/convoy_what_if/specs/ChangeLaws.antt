@@ -1,0 +1,43 @@
+-- What is proved of the rows. Each is the one clause of the function of its name in the crate's module `change_laws`.
+use Rattle.std.specs.Prelude.{◌≡◌, ℕ, false, List, map, Ok}
+use Rattle.std.specs.List.{All, AllPairs}
+use Rattle.std.specs.List.Sorted.{IsPermutation}
+use Rattle.convoy_scenario.specs.Scenario.{Scenario}
+use Rattle.convoy_toml.specs.Reading.{scenario_of_text}
+use Rattle.convoy_branch.specs.Options.{Settings}
+use Rattle.convoy_commands.specs.declared.done.Done.TheVariants.{Fine}
+use Rattle.convoy_commands.specs.ReplyLines.{greatest_line}
+use Rattle.convoy_commands.specs.Searches.{LatencySays}
+use Rattle.convoy_survey.specs.declared.finding.Cause.{Cause}
+use Rattle.convoy_survey.specs.declared.finding.Finding.TheVariants.{Greatest}
+use Rattle.convoy_survey.specs.Findings.{Encloses, least_of, most_of}
+use Rattle.convoy_what_if.specs.declared.kinds.Change.{Change}
+use Rattle.convoy_what_if.specs.Changes.{changed}
+use Rattle.convoy_what_if.specs.declared.tried.Tried.{Tried}
+use Rattle.convoy_what_if.specs.Orders.{AreTried, saves_more}
+use Rattle.convoy_what_if.specs.Tries.{IsTried}
+
+-- These changes, and no others, stand in the rows, in some order; each row tells what was found of its change; and no row saves more than one before it.
+pub record AreInOrder (settings : Settings) (scenario : Scenario) (changes : List Change) (rows : List Tried) : Type 0 where
+  pub same_changes : IsPermutation changes (map (λ row. row.change) rows)
+  pub all_tried : All (IsTried settings scenario) rows
+  pub none_saves_more : AllPairs (λ row later. saves_more later row ≡ false) rows
+
+-- rows that are tried and placed one by one are in order
+abbrev pub RowsAreInOrder : Type 0
+RowsAreInOrder =
+    (settings : Settings) (scenario : Scenario) (changes : List Change) (rows : List Tried) →
+    AreTried settings scenario changes rows → AreInOrder settings scenario changes rows
+
+-- Of a text of the scenario that a row's change makes, `latency` answers the row's number, by whatever settings and whoever asked.
+abbrev pub RowsAreLatencies : Type 0
+RowsAreLatencies =
+    (settings other : Settings) (scenario another : Scenario) (row : Tried) (latency nodes : ℕ) (cause : Cause) (text out : List ℕ) →
+    IsTried settings scenario row → row.finding ≡ Greatest latency cause nodes → changed scenario row.change ≡ Ok another →
+    scenario_of_text text ≡ Ok another → LatencySays other text (Ok (Fine, out)) → out ≡ greatest_line another.tick latency
+
+-- The two numbers of a row, `least` and `most`, enclose the greatest latency of the scenario that its change makes, whether or not the search ended.
+abbrev pub RowsEnclose : Type 0
+RowsEnclose =
+    (settings : Settings) (scenario another : Scenario) (row : Tried) → IsTried settings scenario row → changed scenario row.change ≡ Ok another →
+    Encloses another (least_of row.finding) (most_of row.finding)
