@@ -34,9 +34,9 @@ def compare(scenario, options, told):
     told["in one node"] += len(lines) - start == 3
 
 
-def few_are_open(told, most):
-    """At most so many answers are open."""
-    need(told["open"] <= most, f"{told['open']} answers are open, and not up to {most}")
+def none_is_open(told):
+    """No answer is open."""
+    want(told["open"], 0)
 
 
 def in_turn(further, scenarios, every):
@@ -45,10 +45,9 @@ def in_turn(further, scenarios, every):
         yield from ((check, place, scenario) for place, scenario in enumerate(scenarios) if place % every == turn % every)
 
 
-def main(documentation, real, most, most_open=lambda number, options: 0, further=(), every=1, made=chance_scenario, words=None):
+def main(documentation, real, most, further=(), every=1, made=chance_scenario, words=None):
     """Makes the scenarios of a part, in one way, and compares the answers for them, and makes the further checks of one
-    in so many, which are called with the chance and the scenario. How many of so many answers may be open depends on the
-    options: with a limit of tickets all. The words are those of the command line where no others are told."""
+    in so many, which are called with the chance and the scenario. Only with a limit of tickets may an answer be open. The words are those of the command line where no others are told."""
     words = sys.argv[1:] if words is None else words
     if words[:1] in (["--help"], ["-h"]):
         sys.exit(documentation)
@@ -57,8 +56,7 @@ def main(documentation, real, most, most_open=lambda number, options: 0, further
     told = {"exact": 0, "in one node": 0, "open": 0}
     scenarios = list(itertools.islice(small_scenarios(chance, most, real, made), number))
     checks = [(f"scenario {place}", lambda s=scenario: compare(s, words[2:], told)) for place, scenario in enumerate(scenarios)]
-    allowed = number if "--limit" in words else most_open(number, words[2:])
-    checks += [("few are open", lambda: few_are_open(told, allowed))]
+    checks += [] if "--limit" in words else [("none is open", lambda: none_is_open(told))]
     checks += [(f"{check.__name__} {place}", lambda c=check, s=scenario: c(chance, s)) for check, place, scenario in in_turn(further, scenarios, every)]
     counts = count(checks)
     print(f"{told['exact']} exact, {told['in one node']} of them in one node, {told['open']} open")

@@ -23,10 +23,10 @@ def commits(scenario, box):
 
 
 def ticks_of_pair(scenario, first, last, pair):
-    """How many ticks a test of leads goes through for a message at a group: until the target is committed, and in real time no
-    more than there are such pairs."""
+    """At how many ticks a test of leads looks for starts of a message at a group at most: until the target is committed, and
+    three for each such pair."""
     ticks = max(0, min(last[scenario.target, scenario.at], last[pair]) + 1 - first[pair])
-    return min(len(first), ticks) if scenario.real else ticks
+    return min(3 * len(first), ticks)
 
 
 def steps_of_leads(scenario, named, box):
@@ -38,12 +38,14 @@ def steps_of_leads(scenario, named, box):
     return 1 + len(first) + late * (2 + 2 * len(groups)) * test
 
 
-def steps_of_node(scenario, node, box):
-    """The steps of a node over its box."""
+def steps_of_node(scenario, node, box, orders):
+    """The steps of a node over its box, below so many splits by order."""
     kind, *numbers = node.split(" ")
     pairs = sum(len(to) for _, to, _ in scenario.messages)
+    if kind == "o":
+        return 1 + orders
     if kind == "p":
-        return 1 + len(box)
+        return 1 + len(box) + (pairs * pairs + orders if scenario.real else 0)
     if kind == "t":
         return 1 + len(scenario.messages[scenario.target][1]) * pairs
     if kind == "c":
@@ -61,12 +63,14 @@ def steps_of(text, last=None):
     """The steps of a certificate whose schedule has the stated latency: of its nodes up to the last that is looked at, which
     is the one of that number, or else the last that has a box."""
     scenario, steps = of_certificate(text), 0
-    boxes = [[(delays.start, delays.stop - 1) for delays in scenario.ranges()]]
+    regions = [([(delays.start, delays.stop - 1) for delays in scenario.ranges()], 0)]
     for number, node in enumerate(nodes_of(text)):
-        if not boxes or last is not None and number > last:
+        if not regions or last is not None and number > last:
             break
-        box = boxes.pop()
-        steps += steps_of_node(scenario, node, box)
+        box, orders = regions.pop()
+        steps += steps_of_node(scenario, node, box, orders)
         if node.startswith("s ") and number != last:
-            boxes += halves(box, *map(int, node.split(" ")[1:]))[::-1]
+            regions += [(half, orders) for half in halves(box, *map(int, node.split(" ")[1:]))][::-1]
+        if node.startswith("o ") and number != last:
+            regions += [(box, orders + 1)] * 2
     return steps

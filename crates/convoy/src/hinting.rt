@@ -11,13 +11,12 @@ use convoy_commands::{
 };
 use convoy_hints::{
     CheckedText, Hint, hint_for_batch, hint_for_both, hint_for_ceiling, hint_for_certificate,
-    hint_for_difference, hint_for_first, hint_for_given_order, hint_for_given_schedule,
-    hint_for_greatest, hint_for_jobs, hint_for_leads, hint_for_length, hint_for_limit,
-    hint_for_named_group, hint_for_order_in_ticks, hint_for_plain_number, hint_for_reading,
-    hint_for_real_time, hint_for_scenario, hint_for_seconds, hint_for_tickets, hint_for_unchecked,
-    hint_for_writing, hint_of_text, line_for_file,
+    hint_for_difference, hint_for_file_as_group, hint_for_first, hint_for_given_order,
+    hint_for_given_schedule, hint_for_greatest, hint_for_jobs, hint_for_leads, hint_for_length,
+    hint_for_limit, hint_for_named_group, hint_for_order_in_ticks, hint_for_plain_number,
+    hint_for_reading, hint_for_scenario, hint_for_seconds, hint_for_tickets, hint_for_unchecked,
+    hint_for_writing, hint_of_text, is_name_of_file, line_for_file,
 };
-use convoy_scenario::Time;
 use convoy_streams::KeptReader;
 use convoy_tasks::{MOST_JOBS, Task};
 use std::alloc::{AllocError, Global};
@@ -70,7 +69,13 @@ pub fn greeting(alloc: Global, verdict: &Verdict) -> Result<Option<String>, Allo
     let line = format!(in alloc;
         "hint: reading {wanted} from standard input, up to its end; 'convoy --help' tells more\n"
     )?;
-    Ok(Some(line))
+    match group_of(verdict) {
+        Some(group) if is_name_of_file(group) => {
+            let more = hint_for_file_as_group(alloc, group)?;
+            format!(in alloc; "{line}{more}").map(Some)
+        }
+        _ => Ok(Some(line)),
+    }
 }
 
 /// What a task reads, in words.
@@ -168,7 +173,7 @@ fn hint_for_end<R, W>(alloc: Global, run: &Finished<'_, R, W>, end: &End) -> Hin
             }
             _ => Ok(None),
         },
-        Done::Open if !is_batch(run.verdict) => hint_for_open(alloc, run, &end.known),
+        Done::Open if !is_batch(run.verdict) => hint_for_open(alloc, run),
         Done::Fine | Done::Open | Done::Faulty => hint_for_answer(alloc, run, &end.known),
     }
 }
@@ -212,16 +217,16 @@ fn hint_for_fault<R, W>(alloc: Global, run: &Finished<'_, R, W>, fault: &Fault) 
 }
 
 /// The hint for a fault of a scenario. A group that is unknown is the one that the command line names, where the
-/// text is that of a scenario without it.
+/// text is that of a scenario without it; and where that is the name of a file, no scenario was given.
 fn hint_for_scenario_or_group(
     alloc: Global,
     verdict: &Verdict,
     text: &[u8],
     fault: ScenarioFault,
 ) -> Hint {
-    let hint = match (fault, group_of(verdict)) {
-        (ScenarioFault::UnknownGroup, Some(group)) => hint_for_named_group(alloc, text, group)?,
-        _ => None,
+    let hint = match group_of(verdict) {
+        Some(group) => hint_for_named_group(alloc, text, group, fault)?,
+        None => None,
     };
     match hint {
         Some(hint) => Ok(Some(hint)),
@@ -281,7 +286,7 @@ fn hint_for_long_batch(alloc: Global, most: usize) -> Result<String, AllocError>
 }
 
 /// The hint for a search that did not end, or traffic that does not attain the ceiling.
-fn hint_for_open<R, W>(alloc: Global, run: &Finished<'_, R, W>, known: &Option<Known>) -> Hint {
+fn hint_for_open<R, W>(alloc: Global, run: &Finished<'_, R, W>) -> Hint {
     if let Some(simulations) = traffic_sought(run.verdict) {
         let hint = hint_for_ceiling(alloc, simulations, MOST_SIMULATIONS)?;
         return Ok(Some(hint));
@@ -291,18 +296,9 @@ fn hint_for_open<R, W>(alloc: Global, run: &Finished<'_, R, W>, known: &Option<K
     };
     let hint = match options.seconds() {
         Some(seconds) if run.is_stopped => hint_for_seconds(alloc, seconds, MOST_SECONDS)?,
-        _ if is_in_real_time(known) => hint_in_real_time(alloc, options)?,
-        _ => hint_in_ticks(alloc, options, names_bounds(run.verdict))?,
+        _ => hint_for_search(alloc, options, names_bounds(run.verdict))?,
     };
     Ok(Some(hint))
-}
-
-/// Whether time goes by real numbers in the scenario that was searched.
-fn is_in_real_time(known: &Option<Known>) -> bool {
-    match known {
-        Some(known) => known.scenario.time() == Time::Real,
-        None => false,
-    }
 }
 
 /// How many steps may be taken to check a certificate, where the command line asks for that.
@@ -340,20 +336,8 @@ fn is_batch(verdict: &Verdict) -> bool {
     }
 }
 
-/// The hint for a search in real time that did not end.
-fn hint_in_real_time(alloc: Global, options: &Options) -> Result<String, AllocError> {
-    let tickets = options.limit();
-    let (by_bounds, by_leads) = match options.ways() {
-        Ways::One(Bounds::Lead) => (0, tickets),
-        Ways::One(Bounds::Plain | Bounds::Stamp) => (tickets, 0),
-        Ways::Both => (plain_share(tickets), lead_share(tickets)),
-    };
-    let most = Bounds::Lead.most_nodes() as u64;
-    hint_for_real_time(alloc, by_bounds, by_leads, most)
-}
-
-/// The hint for a search in whole ticks that did not end.
-fn hint_in_ticks(
+/// The hint for a search that did not end with its tickets.
+fn hint_for_search(
     alloc: Global,
     options: &Options,
     names_bounds: bool,

@@ -172,7 +172,7 @@ This is the first fault for which it is refused. Or, where checking takes more s
 than the option `--limit` allows, so that nothing is known of the certificate:
   not checked LIMIT
 
-A certificate is text, and its first line is one of 'convoy 1' to 'convoy 4'.
+A certificate is text, and its first line is one of 'convoy 1' to 'convoy 5'.
 Whoever made it need not be trusted. Of which scenario it is, the certificate says
 itself: with
   convoy check certificate --scenario scenario.toml

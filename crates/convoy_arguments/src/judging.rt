@@ -7,6 +7,7 @@ use super::limits::{HELP, REJECTED};
 use super::manner::Manner;
 use super::options::{format_of, options_of, simulations_of, steps_of};
 use super::parser::parser;
+use super::tips::without_tip;
 use super::verdict::Verdict;
 use clap::error::ErrorKind;
 use clap::{ArgMatches, Error};
@@ -274,8 +275,17 @@ fn rejection(alloc: Global, error: &Error, is_quiet: bool) -> Verdict
     } else {
         REJECTED
     };
-    match error.to_string(alloc) {
+    match text_of(alloc, error) {
         Ok(text) => told(alloc, text.as_str(), status, is_quiet),
-        Err(_) => Verdict::Memory,
+        Err(AllocError) => Verdict::Memory,
     }
+}
+
+/// The text for such an error: help as it is, and a rejection without a tip that misleads.
+fn text_of(alloc: Global, error: &Error) -> Result<String, AllocError> {
+    let text = error.to_string(alloc)?;
+    if error.exit_code() == 0 {
+        return Ok(text);
+    }
+    without_tip(alloc, text.as_str())
 }

@@ -1,3 +1,4 @@
+use super::other_options::hint_for_strange;
 use super::settings::{Value, command_named, setting_named};
 use convoy_hints_sketch::Quoted;
 use std::alloc::{AllocError, Global};
@@ -60,8 +61,8 @@ struct Sorted<'a> {
     asks_for_changes: bool,
     /// Whether an option is itself a format.
     is_format: bool,
-    /// Whether there is an option of which nothing is known.
-    is_strange: bool,
+    /// The first option that the program has not, and no other mistake is known of.
+    strange: Option<&'a str>,
 }
 
 impl<'a> Sorted<'a> {
@@ -76,7 +77,7 @@ impl<'a> Sorted<'a> {
             names_scenario: false,
             asks_for_changes: false,
             is_format: false,
-            is_strange: false,
+            strange: None,
         };
         let mut due = None;
         for word in words {
@@ -113,7 +114,7 @@ impl<'a> Sorted<'a> {
             return Ok(None);
         }
         let Some(has_value) = has_value(name) else {
-            self.is_strange = true;
+            self.strange = self.strange.or(Some(name));
             return Ok(None);
         };
         self.names_format = self.names_format || name == "--format";
@@ -189,7 +190,7 @@ impl<'a> Sorted<'a> {
     /// What is wrong with how a file or a format is named, and the file that is meant, if one is.
     fn mistake(&self) -> Option<(&'static str, Option<&'a str>)> {
         let operands = self.operands.as_slice();
-        if self.is_strange
+        if self.strange.is_some()
             || matches!(operands, [word, ..] if !is_command(word) && !is_file(word))
         {
             return None;
@@ -237,9 +238,13 @@ pub fn hint_for_words<S: AsStr>(alloc: Global, words: &[S]) -> Result<Option<Str
     ).map(Some)
 }
 
-/// Which commands have an option that stands with another. None where there is no such option, or no command.
+/// Which commands have an option that stands with another, or what to write in place of one that none has. None where
+/// there is no such option, or no command.
 fn hint_for_option(alloc: Global, sorted: &Sorted<'_>) -> Result<Option<String>, AllocError> {
-    if sorted.is_strange || !sorted.operands.iter().any(|word| is_command(word)) {
+    if let Some(option) = sorted.strange {
+        return hint_for_strange(alloc, option);
+    }
+    if !sorted.operands.iter().any(|word| is_command(word)) {
         return Ok(None);
     }
     match sorted.misplaced() {

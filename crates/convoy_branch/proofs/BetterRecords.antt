@@ -9,7 +9,7 @@ use Rattle.convoy_branch.specs.SearchBounds.{closes_for}
 use Rattle.convoy_packets.specs.Assignment.{Schedule}
 use Rattle.convoy_sim.specs.Delivery.{latency_of}
 use Rattle.convoy_sim.specs.Record.{Record, attained_by}
-use Rattle.convoy_intervals.specs.Boxes.{Box, greatest_of}
+use Rattle.convoy_regions.specs.Regions.{Region, run_of}
 use Rattle.convoy_branch.specs.Steps.{IsBetter, IsFound, found_in, known_after}
 
 -- what was found keeps the best record as good as it was, or makes it better
@@ -25,10 +25,10 @@ IsNoWorse-better plan best None scenario better =
 IsNoWorse-better plan best (Some found) scenario better =
     record { scenario = better.of_scenario; above = omega (arith, better.above); known = refl }
 
-pub IsNoWorse-found : (bounds : Bounds) (plan : Scenario) (best : Record) (box : Box) (found : Option Record) → best.scenario ≡ plan → IsFound bounds plan box best.latency found → IsNoWorse plan best found
-IsNoWorse-found bounds plan best box found scenario is = IsNoWorse-better plan best found scenario is.better
+pub IsNoWorse-found : (bounds : Bounds) (plan : Scenario) (best : Record) (region : Region) (found : Option Record) → best.scenario ≡ plan → IsFound bounds plan region best.latency found → IsNoWorse plan best found
+IsNoWorse-found bounds plan best region found scenario is = IsNoWorse-better plan best found scenario is.better
 
--- ---- The record of the greatest delays
+-- ---- The record of the run
 
 -- which is above the latency seen where it is found
 above_seen : (closed : Bool) (latency seen : ℕ) → false ≡ (closed || nat_le latency seen) → seen < latency
@@ -45,12 +45,12 @@ none_if_closed plan schedule seen true is = refl
 none_if_closed plan schedule seen false is = absurd (false≢true is)
 
 -- it is what a look finds, if that finds no better one
-pub IsFound-greatest : (bounds : Bounds) (plan : Scenario) (box : Box) (seen : ℕ) (found : Option Record) → found ≡ found_in bounds plan box seen → IsFound bounds plan box seen found
-IsFound-greatest bounds plan box seen found is =
-    let closed = closes_for bounds plan box seen in
-    let better : IfSome (found_in bounds plan box seen) (IsBetter plan seen) = IsBetter-tried plan (greatest_of box) seen closed (closed || nat_le (latency_of plan (greatest_of box)) seen) refl in
+pub IsFound-run : (bounds : Bounds) (plan : Scenario) (region : Region) (seen : ℕ) (found : Option Record) → found ≡ found_in bounds plan region seen → IsFound bounds plan region seen found
+IsFound-run bounds plan region seen found is =
+    let closed = closes_for bounds plan region.ranges seen in
+    let better : IfSome (found_in bounds plan region seen) (IsBetter plan seen) = IsBetter-tried plan (run_of plan region) seen closed (closed || nat_le (latency_of plan (run_of plan region)) seen) refl in
     record {
-      closed = λ closes. is ∙ none_if_closed plan (greatest_of box) seen closed closes;
+      closed = λ closes. is ∙ none_if_closed plan (run_of plan region) seen closed closes;
       better = subst (λ (f : Option Record). IfSome f (IsBetter plan seen)) (sym is) better;
       greatest = λ _. is;
     }

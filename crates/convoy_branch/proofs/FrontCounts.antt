@@ -1,11 +1,11 @@
--- The nodes that were spent and the boxes that are left, over the parts of a front.
+-- The nodes that were spent and the ranges that are left, over the parts of a front.
 use Rattle.std.specs.Prelude.{◌≡◌, ◌+◌, List, [], ◌∷◌, ◌++◌, length, map}
 use Rattle.std.proofs.Common.{arith, refl, ap, ◌∙◌, length-append}
 use Rattle.std.proofs.lemmas.List.{append-nil}
 use Rattle.std.proofs.lemmas.List.Elements.{filter_map-append}
 use Rattle.convoy_certificate.specs.declared.node.Node.{Node}
 use Rattle.convoy_intervals.specs.Boxes.{Box}
-use Rattle.convoy_certificate.specs.declared.node.Node.TheVariants.{Split}
+use Rattle.convoy_regions.specs.Regions.{Region}
 use Rattle.convoy_branch.specs.declared.step.Turn.{Turn}
 use Rattle.convoy_branch.specs.declared.step.Turn.TheVariants.{Closed, Halves}
 use Rattle.convoy_branch.specs.Fronts.{FrontNode, Spent, Left, front_after, spent_node, left_box, spent_in, left_in}
@@ -32,9 +32,9 @@ left_in-append_spent front nodes =
 pub length-spent_in : (front rest : List FrontNode) → length (spent_in (front ++ rest)) ≡ length (spent_in front) + length (spent_in rest)
 length-spent_in front rest = ap length (spent_in-append front rest) ∙ length-append (spent_in front) (spent_in rest)
 
--- what becomes of a box is one node more in its place
-pub spent_in-turned : (front rest : List FrontNode) (branch : Box) (turn : Turn) → length (spent_in (front ++ (front_after turn ++ rest))) ≡ length (spent_in (front ++ Left branch ∷ rest)) + 1
+-- what becomes of a region is one node more in its place
+pub spent_in-turned : (front rest : List FrontNode) (branch : Region) (turn : Turn) → length (spent_in (front ++ (front_after turn ++ rest))) ≡ length (spent_in (front ++ Left branch ∷ rest)) + 1
 spent_in-turned front rest branch (Closed node) =
     omega (arith, length-spent_in front (Spent node ∷ rest), length-spent_in front (Left branch ∷ rest))
-spent_in-turned front rest branch (Halves packet at lower upper) =
-    omega (arith, length-spent_in front (Spent (Split packet at) ∷ Left lower.delay_box ∷ Left upper.delay_box ∷ rest), length-spent_in front (Left branch ∷ rest))
+spent_in-turned front rest branch (Halves split first second tried) =
+    omega (arith, length-spent_in front (Spent split ∷ Left first.region ∷ Left second.region ∷ rest), length-spent_in front (Left branch ∷ rest))

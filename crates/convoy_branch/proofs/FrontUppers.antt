@@ -13,8 +13,9 @@ use Rattle.convoy_scenario.specs.WellFormed.{IsScenario}
 use Rattle.convoy_certificate.specs.declared.node.Node.TheVariants.{Bound, Stamp, Lead}
 use Rattle.convoy_sim.specs.Times.{greatest}
 use Rattle.convoy_intervals.specs.Bounds.{plain_bound}
-use Rattle.convoy_intervals.specs.Boxes.{Box, root_of}
+use Rattle.convoy_intervals.specs.Boxes.{Box}
 use Rattle.convoy_leads.specs.Closing.{closes_by_leads}
+use Rattle.convoy_regions.specs.Regions.{root_region}
 use Rattle.convoy_checker.specs.TreeLaws.{TreesCover}
 use Rattle.convoy_sim.specs.Greatest.{IsUpper}
 use Rattle.convoy_branch.specs.Fronts.{IsFront, left_in}
@@ -39,11 +40,11 @@ each_le bound start (box ∷ boxes) =
     let P : Box → Type 0 = λ b. bound b ≤ fold max next (map bound boxes) in
     All-cons P box boxes (omega (arith, start_le next (map bound boxes))) (each_le bound next boxes)
 
--- ---- Each box that is left has a leaf
+-- ---- Each region that is left has a leaf
 
 leaf_in : (plan : Scenario) (upper : ℕ) (box : Box) (time : Time) → plan.time ≡ time → bound_in time plan box ≤ upper → HasLeaf plan upper box
-leaf_in plan upper box Ticks is within = record { leaf = Stamp; last = refl; right = (is, within) }
-leaf_in plan upper box Real is within = record { leaf = Bound; last = refl; right = within }
+leaf_in plan upper box Ticks is within = record { leaf = Stamp; last = λ before. refl; right = λ before. (is, within) }
+leaf_in plan upper box Real is within = record { leaf = Bound; last = λ before. refl; right = λ before. within }
 
 leaf_within : (plan : Scenario) (upper : ℕ) (box : Box) → least_bound plan box ≤ upper → HasLeaf plan upper box
 leaf_within plan upper box within = leaf_in plan upper box plan.time refl within
@@ -53,7 +54,7 @@ leaf_of_closed plan upper latency box true few is closes =
     let within : least_bound plan box ≤ latency = grind (arith, nat_tests, is) in
     leaf_within plan upper box (omega (arith, within, few))
 leaf_of_closed plan upper latency box false few is closes =
-    record { leaf = Lead latency; last = refl; right = (few, closes) }
+    record { leaf = Lead latency; last = λ before. refl; right = λ before. (few, closes) }
 
 closed_within : (plan : Scenario) (upper : ℕ) (box : Box) → IsClosedWithin plan upper box → HasLeaf plan upper box
 closed_within plan upper box closed =
@@ -61,7 +62,7 @@ closed_within plan upper box closed =
 
 leaves_left : (bounds : Bounds) (plan : Scenario) (best upper : ℕ) (boxes : List Box) → IsUpperOf bounds plan best boxes upper → All (HasLeaf plan upper) boxes
 leaves_left bounds_of.Plain plan best upper boxes is =
-    subst (λ (n : ℕ). All (HasLeaf plan n) boxes) (sym is) (All-weaker (λ box. plain_bound plan box ≤ greatest (best ∷ map (plain_bound plan) boxes)) (HasLeaf plan (greatest (best ∷ map (plain_bound plan) boxes))) (λ box within. record { leaf = Bound; last = refl; right = within }) boxes (each_le (plain_bound plan) (max 0 best) boxes))
+    subst (λ (n : ℕ). All (HasLeaf plan n) boxes) (sym is) (All-weaker (λ box. plain_bound plan box ≤ greatest (best ∷ map (plain_bound plan) boxes)) (HasLeaf plan (greatest (best ∷ map (plain_bound plan) boxes))) (λ box within. record { leaf = Bound; last = λ before. refl; right = λ before. within }) boxes (each_le (plain_bound plan) (max 0 best) boxes))
 leaves_left bounds_of.Stamp plan best upper boxes is =
     subst (λ (n : ℕ). All (HasLeaf plan n) boxes) (sym is) (All-weaker (λ box. least_bound plan box ≤ greatest (best ∷ map (least_bound plan) boxes)) (HasLeaf plan (greatest (best ∷ map (least_bound plan) boxes))) (λ box within. leaf_within plan (greatest (best ∷ map (least_bound plan) boxes)) box within) boxes (each_le (least_bound plan) (max 0 best) boxes))
 leaves_left bounds_of.Lead plan best upper boxes is =
@@ -76,7 +77,7 @@ above_best bounds_of.Lead plan best upper boxes is = is.above
 pub IsUpper-front : (bounds : Bounds) (plan : Scenario) (best upper tickets : ℕ) → TreesCover → IsScenario plan → IsFront bounds plan best upper tickets → IsUpper plan upper
 IsUpper-front bounds plan best upper tickets cover lawful front =
     let boxes = left_in front.nodes in
-    let whole = HasTree-front bounds plan best upper front.nodes (root_of plan ∷ []) (above_best bounds plan best upper boxes front.upper_is) (leaves_left bounds plan best upper boxes front.upper_is) front.tree in
+    let whole = HasTree-front bounds plan best upper front.nodes (root_region plan ∷ []) (above_best bounds plan best upper boxes front.upper_is) (leaves_left bounds plan best upper boxes front.upper_is) front.tree in
     cover plan upper whole.nodes lawful whole.tree
 
 -- ---- The upper bound box by box

@@ -11,13 +11,13 @@ use Rattle.convoy_branch.specs.FrontLaws.{UppersRaised}
 use Rattle.convoy_branch.specs.Searching.{IsRaisedOver, front_of}
 use Rattle.convoy_branch.specs.Uppers.{IsUpperOf}
 
--- the upper bound where that is the best latency and the boxes of the work are left
+-- the upper bound where that is the best latency and the regions of the work are left
 abbrev pub IsUpperOver : Bounds → Scenario → ℕ → List Work → ℕ → Type 0
 IsUpperOver bounds plan best work upper = IsUpperOf bounds plan best (left_in (map front_of work)) upper
 
 IsUpperOver-cons : (bounds : Bounds) (plan : Scenario) (best raised : ℕ) (piece : Work) (rest : List Work) (most : ℕ) → UppersRaised → IsRaisedOver bounds plan piece best raised → IsUpperOver bounds plan raised rest most → IsUpperOver bounds plan best (piece ∷ rest) most
 IsUpperOver-cons bounds plan best raised (Branch branch tried) rest most law is over =
-    law bounds plan best raised branch.delay_box (left_in (map front_of rest)) most is over
+    law bounds plan best raised branch.region.ranges (left_in (map front_of rest)) most is over
 IsUpperOver-cons bounds plan best raised (Write node) rest most law is over =
     subst (λ (n : ℕ). IsUpperOver bounds plan n rest most) is over
 

@@ -11,3 +11,4 @@ pub mod SearchOutcomes
 pub mod LeftBounds
 pub mod FrontUppers
 pub mod Withins
+pub mod OpenTurns

@@ -8,7 +8,7 @@ use Rattle.convoy_scenario.specs.Scenario.{Scenario}
 use Rattle.convoy_certificate.specs.Reading.{AreReadable}
 use Rattle.convoy_certificate.specs.Text.{is_lead}
 use Rattle.convoy_certificate.specs.declared.node.Node.{Node}
-use Rattle.convoy_intervals.specs.Boxes.{Box, root_of}
+use Rattle.convoy_regions.specs.Regions.{Region, root_region}
 use Rattle.convoy_branch.specs.declared.bounds.Bounds.{Bounds}
 use Rattle.convoy_branch.specs.declared.bounds.Bounds.TheVariants.{Plain, Stamp, Lead}
 use Rattle.convoy_branch.specs.Fronts.{AreFronts, FrontNode, Spent, left_in, spent_in}
@@ -37,14 +37,14 @@ none_counted p (x ∷ xs) none =
     let parts = neither (p x) (list_any p xs) none in
     omega (arith, sum_by-cons (λ y. flag (p y)) x xs, ap flag parts.0, none_counted p xs parts.1)
 
-pub AreReadable-spent : (bounds : Bounds) (plan : Scenario) (best : ℕ) (nodes : List Node) (boxes : List Box) → AreFronts bounds plan best boxes (map Spent nodes) → length nodes ≤ most_nodes bounds → AreReadable nodes
-AreReadable-spent Plain plan best nodes boxes tree few =
-    record { few = few; few_leads = omega (arith, none_counted is_lead nodes (no_leads-spent Plain plan best nodes boxes (other_than_lead Plain refl) tree)) }
-AreReadable-spent Stamp plan best nodes boxes tree few =
-    record { few = few; few_leads = omega (arith, none_counted is_lead nodes (no_leads-spent Stamp plan best nodes boxes (other_than_lead Stamp refl) tree)) }
-AreReadable-spent Lead plan best nodes boxes tree few =
+pub AreReadable-spent : (bounds : Bounds) (plan : Scenario) (best : ℕ) (nodes : List Node) (regions : List Region) → AreFronts bounds plan best regions (map Spent nodes) → length nodes ≤ most_nodes bounds → AreReadable nodes
+AreReadable-spent Plain plan best nodes regions tree few =
+    record { few = few; few_leads = omega (arith, none_counted is_lead nodes (no_leads-spent Plain plan best nodes regions (other_than_lead Plain refl) tree)) }
+AreReadable-spent Stamp plan best nodes regions tree few =
+    record { few = few; few_leads = omega (arith, none_counted is_lead nodes (no_leads-spent Stamp plan best nodes regions (other_than_lead Stamp refl) tree)) }
+AreReadable-spent Lead plan best nodes regions tree few =
     record { few = omega (arith, few); few_leads = omega (arith, few, count_by-le-length is_lead nodes) }
 
-pub AreReadable-whole : (bounds : Bounds) (plan : Scenario) (best : ℕ) (nodes : List FrontNode) → left_in nodes ≡ [] → AreFronts bounds plan best (root_of plan ∷ []) nodes → length (spent_in nodes) ≤ most_nodes bounds → AreReadable (spent_in nodes)
+pub AreReadable-whole : (bounds : Bounds) (plan : Scenario) (best : ℕ) (nodes : List FrontNode) → left_in nodes ≡ [] → AreFronts bounds plan best (root_region plan ∷ []) nodes → length (spent_in nodes) ≤ most_nodes bounds → AreReadable (spent_in nodes)
 AreReadable-whole bounds plan best nodes none fronts few =
-    AreReadable-spent bounds plan best (spent_in nodes) (root_of plan ∷ []) (subst (λ (ns : List FrontNode). AreFronts bounds plan best (root_of plan ∷ []) ns) (sym (all_spent nodes (ap length none))) fronts) few
+    AreReadable-spent bounds plan best (spent_in nodes) (root_region plan ∷ []) (subst (λ (ns : List FrontNode). AreFronts bounds plan best (root_region plan ∷ []) ns) (sym (all_spent nodes (ap length none))) fronts) few

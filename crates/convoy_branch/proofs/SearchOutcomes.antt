@@ -1,9 +1,8 @@
 -- What a search answers at its end.
 use Rattle.std.specs.Prelude.{◌≡◌, ◌≢◌, ℕ, ◌≤◌, ◌<◌, Bool, false, List, [], ◌∷◌, ◌++◌, length, map, reverse}
-use Rattle.std.specs.List.{Any, list_any, sum}
-use Rattle.std.proofs.Common.{arith, refl, sym, ap, subst, ◌∙◌, inl, inr, length-append}
+use Rattle.std.specs.List.{list_any, sum}
+use Rattle.std.proofs.Common.{arith, refl, sym, ap, subst, ◌∙◌, length-append}
 use Rattle.std.proofs.lemmas.List.{map_push}
-use Rattle.std.proofs.lemmas.List.Quantifiers.{Any-push}
 use Rattle.convoy_scenario.specs.Scenario.{Scenario}
 use Rattle.convoy_branch.specs.declared.bounds.Bounds.{Bounds}
 use Rattle.convoy_branch.specs.declared.bounds.Bounds.TheVariants.{Plain, Lead}
@@ -15,9 +14,9 @@ use Rattle.convoy_sim.specs.Record.{Record, IsAttained}
 use Rattle.convoy_certificate.specs.Certificate.{Certificate}
 use Rattle.convoy_certificate.specs.Text.{is_lead, is_stamp}
 use Rattle.convoy_certificate.specs.declared.node.Node.{Node}
-use Rattle.convoy_intervals.specs.Boxes.{root_of}
 use Rattle.convoy_intervals.specs.Boxes.{Box}
-use Rattle.convoy_intervals.specs.Tracked.{Tracked}
+use Rattle.convoy_regions.specs.Branches as regions
+use Rattle.convoy_regions.specs.Regions.{root_region}
 use Rattle.convoy_checker.specs.TreeLaws.{TreesCover}
 use Rattle.convoy_checker.specs.Validity.{IsValid}
 use Rattle.convoy_branch.specs.declared.search.Work.{Work}
@@ -25,8 +24,7 @@ use Rattle.convoy_branch.specs.declared.search.Work.TheVariants.{Branch}
 use Rattle.convoy_branch.specs.Fronts.{AreFronts, FrontNode, Left, Spent, IsFront, left_in}
 use Rattle.convoy_branch.specs.FrontLaws.{FrontsBound}
 use Rattle.convoy_branch.specs.Outcomes.{AreTicketsByWorker, IsProved, IsOpen}
-use Rattle.convoy_branch.specs.Searching.{HasEndedAt, IsSearching, front_of, front_nodes}
-use Rattle.convoy_branch.specs.Steps.{IsOpenPoint}
+use Rattle.convoy_branch.specs.Searching.{IsSearching, front_of, front_nodes}
 use Rattle.convoy_branch.proofs.FrontTrees.{AreTrees-spent, no_leads-spent, no_stamps-spent}
 use Rattle.convoy_branch.proofs.Readable.{AreReadable-spent}
 use Rattle.convoy_branch.proofs.FrontCounts.{spent_in-spent, left_in-append, left_in-append_spent}
@@ -48,16 +46,16 @@ certificate_of plan best nodes =
 valid : (bounds : Bounds) (plan : Scenario) (best : Record) (nodes : List Node) (tickets : ℕ) → IsAttained best → IsSearching bounds plan best [] nodes tickets → IsValid (certificate_of plan best nodes)
 valid bounds plan best nodes tickets attained searching = record {
   latency = best_latency plan best searching.of_scenario attained;
-  tree = AreTrees-spent bounds plan best.latency (reverse nodes) (root_of plan ∷ []) searching.tree;
+  tree = AreTrees-spent bounds plan best.latency (reverse nodes) (root_region plan ∷ []) searching.tree;
 }
 
 no_stamps : (bounds : Bounds) (plan : Scenario) (best : Record) (nodes : List Node) (tickets : ℕ) → IsSearching bounds plan best [] nodes tickets → bounds ≡ Plain → list_any is_stamp (reverse nodes) ≡ false
 no_stamps bounds plan best nodes tickets searching plain =
-    no_stamps-spent plan best.latency (reverse nodes) (root_of plan ∷ []) (subst (λ (b : Bounds). AreFronts b plan best.latency (root_of plan ∷ []) (map Spent (reverse nodes))) plain searching.tree)
+    no_stamps-spent plan best.latency (reverse nodes) (root_region plan ∷ []) (subst (λ (b : Bounds). AreFronts b plan best.latency (root_region plan ∷ []) (map Spent (reverse nodes))) plain searching.tree)
 
 no_leads : (bounds : Bounds) (plan : Scenario) (best : Record) (nodes : List Node) (tickets : ℕ) → IsSearching bounds plan best [] nodes tickets → bounds ≢ Lead → list_any is_lead (reverse nodes) ≡ false
 no_leads bounds plan best nodes tickets searching other =
-    no_leads-spent bounds plan best.latency (reverse nodes) (root_of plan ∷ []) other searching.tree
+    no_leads-spent bounds plan best.latency (reverse nodes) (root_region plan ∷ []) other searching.tree
 
 -- the tickets of one worker are all
 one_share : (tickets : ℕ) (by_worker : List ℕ) → by_worker ≡ tickets ∷ [] → AreTicketsByWorker 1 tickets by_worker
@@ -83,7 +81,7 @@ IsProved-certificate bounds plan best nodes tickets limit by_worker cover lawful
       plain = no_stamps bounds plan best nodes tickets searching;
       no_leads = no_leads bounds plan best nodes tickets searching;
       few = few;
-      readable = λ within. AreReadable-spent bounds plan best.latency (reverse nodes) (root_of plan ∷ []) searching.tree (omega (arith, spent, few, within));
+      readable = λ within. AreReadable-spent bounds plan best.latency (reverse nodes) (root_region plan ∷ []) searching.tree (omega (arith, spent, few, within));
       shares = one_share tickets by_worker workers;
     }
 
@@ -92,19 +90,19 @@ IsProved-done bounds plan best nodes tickets limit latency schedule scenario tur
     let whole : certificate ≡ certificate_of plan best nodes = cc in
     subst (λ (c : Certificate). IsProved bounds plan 1 limit c tickets by_worker) (sym whole) (IsProved-certificate bounds plan best nodes tickets limit by_worker cover lawful attained searching workers few)
 
--- with a box left the front is open
-left : (work : List Work) (branch : Tracked) (tried : Bool) (nodes : List Node) → left_in (front_nodes (work ++ Branch branch tried ∷ []) nodes) ≡ left_in (map front_of (work ++ Branch branch tried ∷ []))
+-- with a region left the front is open
+left : (work : List Work) (branch : regions.Branch) (tried : Bool) (nodes : List Node) → left_in (front_nodes (work ++ Branch branch tried ∷ []) nodes) ≡ left_in (map front_of (work ++ Branch branch tried ∷ []))
 left work branch tried nodes = left_in-append_spent (map front_of (work ++ Branch branch tried ∷ [])) (reverse nodes)
 
-last_of : (work : List Work) (branch : Tracked) (tried : Bool) → left_in (map front_of (work ++ Branch branch tried ∷ [])) ≡ left_in (map front_of work) ++ branch.delay_box ∷ []
+last_of : (work : List Work) (branch : regions.Branch) (tried : Bool) → left_in (map front_of (work ++ Branch branch tried ∷ [])) ≡ left_in (map front_of work) ++ branch.region.ranges ∷ []
 last_of work branch tried =
-    ap (λ (front : List FrontNode). left_in front) (map_push front_of work (Branch branch tried)) ∙ left_in-append (map front_of work) (Left branch.delay_box ∷ [])
+    ap (λ (front : List FrontNode). left_in front) (map_push front_of work (Branch branch tried)) ∙ left_in-append (map front_of work) (Left branch.region ∷ [])
 
-some_left : (work : List Work) (branch : Tracked) (tried : Bool) (nodes : List Node) → 0 < length (left_in (front_nodes (work ++ Branch branch tried ∷ []) nodes))
+some_left : (work : List Work) (branch : regions.Branch) (tried : Bool) (nodes : List Node) → 0 < length (left_in (front_nodes (work ++ Branch branch tried ∷ []) nodes))
 some_left work branch tried nodes =
-    omega (arith, ap length (left work branch tried nodes ∙ last_of work branch tried), length-append (left_in (map front_of work)) (branch.delay_box ∷ []))
+    omega (arith, ap length (left work branch tried nodes ∙ last_of work branch tried), length-append (left_in (map front_of work)) (branch.region.ranges ∷ []))
 
-front_left : (bounds : Bounds) (plan : Scenario) (best : Record) (work pushed : List Work) (branch : Tracked) (tried : Bool) (nodes : List Node) (tickets latency upper : ℕ) → IsAttained best → IsSearching bounds plan best (work ++ Branch branch tried ∷ []) nodes tickets → pushed ≡ work ++ Branch branch tried ∷ [] → latency ≡ best.latency → IsUpperOf bounds plan latency (left_in (map front_of pushed)) upper → IsFront bounds plan best.latency upper tickets
+front_left : (bounds : Bounds) (plan : Scenario) (best : Record) (work pushed : List Work) (branch : regions.Branch) (tried : Bool) (nodes : List Node) (tickets latency upper : ℕ) → IsAttained best → IsSearching bounds plan best (work ++ Branch branch tried ∷ []) nodes tickets → pushed ≡ work ++ Branch branch tried ∷ [] → latency ≡ best.latency → IsUpperOf bounds plan latency (left_in (map front_of pushed)) upper → IsFront bounds plan best.latency upper tickets
 front_left bounds plan best work pushed branch tried nodes tickets latency upper attained searching pushed_is latency_is upper_is =
     let same : left_in (map front_of pushed) ≡ left_in (front_nodes (work ++ Branch branch tried ∷ []) nodes) = ap (λ (w : List Work). left_in (map front_of w)) pushed_is ∙ sym (left work branch tried nodes) in
     let over_best : IsUpperOf bounds plan best.latency (left_in (map front_of pushed)) upper = subst (λ (n : ℕ). IsUpperOf bounds plan n (left_in (map front_of pushed)) upper) latency_is upper_is in
@@ -118,26 +116,14 @@ front_left bounds plan best work pushed branch tried nodes tickets latency upper
       upper_is = subst (λ (bs : List Box). IsUpperOf bounds plan best.latency bs upper) same over_best;
     }
 
--- the box before which a search has ended is the last that is left
-last_left : (P : Box → Type 0) (work : List Work) (branch : Tracked) (tried : Bool) (nodes : List Node) → P branch.delay_box → Any P (left_in (front_nodes (work ++ Branch branch tried ∷ []) nodes))
-last_left P work branch tried nodes point =
-    let same : left_in (front_nodes (work ++ Branch branch tried ∷ []) nodes) ≡ left_in (map front_of work) ++ branch.delay_box ∷ [] = left work branch tried nodes ∙ last_of work branch tried in
-    subst (λ (bs : List Box). Any P bs) (sym same) (Any-push P (left_in (map front_of work)) branch.delay_box point)
-
-pub IsOpen-left : (bounds : Bounds) (plan : Scenario) (best : Record) (work pushed : List Work) (branch : Tracked) (tried : Bool) (nodes : List Node) (tickets limit latency upper : ℕ) (by_worker : List ℕ) → FrontsBound → IsScenario plan → IsAttained best → IsSearching bounds plan best (work ++ Branch branch tried ∷ []) nodes tickets → HasEndedAt bounds plan best.latency tickets branch.delay_box limit → pushed ≡ work ++ Branch branch tried ∷ [] → latency ≡ best.latency → IsUpperOf bounds plan latency (left_in (map front_of pushed)) upper → by_worker ≡ tickets ∷ [] → IsOpen bounds plan 1 limit best upper tickets by_worker
-unfolding front_left
-IsOpen-left bounds plan best work pushed branch tried nodes tickets limit latency upper by_worker bound lawful attained searching ended pushed_is latency_is upper_is workers =
+pub IsOpen-left : (bounds : Bounds) (plan : Scenario) (best : Record) (work pushed : List Work) (branch : regions.Branch) (tried : Bool) (nodes : List Node) (tickets latency upper : ℕ) (by_worker : List ℕ) → FrontsBound → IsScenario plan → IsAttained best → IsSearching bounds plan best (work ++ Branch branch tried ∷ []) nodes tickets → pushed ≡ work ++ Branch branch tried ∷ [] → latency ≡ best.latency → IsUpperOf bounds plan latency (left_in (map front_of pushed)) upper → by_worker ≡ tickets ∷ [] → IsOpen bounds plan 1 tickets best upper tickets by_worker
+IsOpen-left bounds plan best work pushed branch tried nodes tickets latency upper by_worker bound lawful attained searching pushed_is latency_is upper_is workers =
     let front = front_left bounds plan best work pushed branch tried nodes tickets latency upper attained searching pushed_is latency_is upper_is in
     record {
       of_scenario = searching.of_scenario;
       reached = front.reached;
       none_greater = bound bounds plan best.latency upper tickets lawful front;
-      front = record {
-        tickets = tickets;
-        front = front;
-        few = ended.few;
-        all = elim ended.all [ inl spent ↦ inl spent | inr point ↦ inr (last_left (IsOpenPoint bounds plan best.latency) work branch tried nodes point) ];
-      };
+      front = front;
       all = refl;
       shares = one_share tickets by_worker workers;
     }

@@ -1,4 +1,4 @@
--- A split of a box may stand in a certificate.
+-- A split of a region may stand in a certificate.
 use Rattle.std.specs.Prelude.{◌≡◌, ℕ, ◌<◌, ◌≤◌, Bool, true, false, [], length}
 use Rattle.std.specs.List.{All}
 use Rattle.std.proofs.Common.{refl, arith, get_or}
@@ -9,15 +9,14 @@ use Rattle.convoy_packets.specs.Assignment.{ranges_of}
 use Rattle.convoy_packets.specs.Table.{IsRange, IsTable, table_of}
 use Rattle.convoy_certificate.specs.Certificate.{IsNode, IsNodeWhere}
 use Rattle.convoy_certificate.specs.declared.node.Node.{Node}
-use Rattle.convoy_certificate.specs.declared.node.Node.TheVariants.{Split, Bound, Point, Stamp, Lead}
-use Rattle.convoy_intervals.specs.Boxes.{IsBox, IsInside}
-use Rattle.convoy_intervals.specs.Boxes.{CanSplit}
-use Rattle.convoy_intervals.specs.Boxes.{Box}
+use Rattle.convoy_certificate.specs.declared.node.Node.TheVariants.{Split, Order, Bound, Point, Stamp, Lead}
+use Rattle.convoy_intervals.specs.Boxes.{Box, CanSplit, IsBox, IsInside}
+use Rattle.convoy_regions.specs.Regions.{Region, IsRegion}
 use Rattle.convoy_branch.specs.declared.bounds.Bounds.{Bounds}
 use Rattle.convoy_branch.specs.declared.step.Turn.{Turn}
 use Rattle.convoy_branch.specs.declared.step.Turn.TheVariants.{Closed, Halves}
 use Rattle.convoy_branch.specs.Fronts.{front_after, spent_in}
-use Rattle.convoy_branch.specs.Steps.{IsTurn}
+use Rattle.convoy_branch.specs.Steps.{IsSplitOf, IsTurn}
 
 -- the range of a packet that is split, and that of the box within it
 module _ (plan : Scenario) (box : Box) (packet at : ℕ) (table : IsTable (table_of plan)) (inside : IsBox plan box) (part : CanSplit box packet at) where
@@ -46,17 +45,27 @@ module _ (plan : Scenario) (box : Box) (packet at : ℕ) (table : IsTable (table
 pub IsNode-split : (plan : Scenario) (box : Box) (packet at : ℕ) → IsTable (table_of plan) → IsBox plan box → CanSplit box packet at → IsNode plan (Split packet at)
 IsNode-split plan box packet at table inside part = split_where plan box packet at table inside part (is_timed plan) refl
 
--- a leaf that closes a box may stand in a certificate
-pub leaf_node : (bounds : Bounds) (plan : Scenario) (known : ℕ) (box : Box) (node : Node) → IsTurn bounds plan box known (Closed node) → IsNode plan node
-leaf_node bounds plan known box (Split packet at) turn = absurd turn
-leaf_node bounds plan known box Bound turn = tt
-leaf_node bounds plan known box Point turn = turn.1
-leaf_node bounds plan known box Stamp turn = turn.stamps.0
-leaf_node bounds plan known box (Lead latency) turn = omega (arith, turn.0, turn.1.named)
+-- a node that splits a region may stand in a certificate
+pub split_node : (plan : Scenario) (split : Node) (region : Region) → IsTable (table_of plan) → IsRegion plan region → IsSplitOf plan split region → IsNode plan split
+split_node plan (Split packet at) region table lawful part = IsNode-split plan region.ranges packet at table lawful.inside part
+split_node plan (Order first second) region table lawful part = part.0
+split_node plan Bound region table lawful part = absurd part
+split_node plan Point region table lawful part = absurd part
+split_node plan Stamp region table lawful part = absurd part
+split_node plan (Lead latency) region table lawful part = absurd part
 
--- what a step makes of a box may: a leaf, or a split
-pub All-turn : (bounds : Bounds) (plan : Scenario) (known : ℕ) (box : Box) (turn : Turn) → IsTable (table_of plan) → IsBox plan box → IsTurn bounds plan box known turn → All (IsNode plan) (spent_in (front_after turn))
-All-turn bounds plan known box (Closed node) table inside is =
-    All-cons (IsNode plan) node [] (leaf_node bounds plan known box node is) (All-nil (IsNode plan))
-All-turn bounds plan known box (Halves packet at lower upper) table inside is =
-    All-cons (IsNode plan) (Split packet at) [] (IsNode-split plan box packet at table inside is.1) (All-nil (IsNode plan))
+-- a leaf that closes a region may stand in a certificate
+pub leaf_node : (bounds : Bounds) (plan : Scenario) (known : ℕ) (region : Region) (node : Node) → IsTurn bounds plan region known (Closed node) → IsNode plan node
+leaf_node bounds plan known region (Split packet at) turn = absurd turn
+leaf_node bounds plan known region (Order first second) turn = absurd turn
+leaf_node bounds plan known region Bound turn = tt
+leaf_node bounds plan known region Point turn = tt
+leaf_node bounds plan known region Stamp turn = turn.stamps.0
+leaf_node bounds plan known region (Lead latency) turn = omega (arith, turn.0, turn.1.named)
+
+-- what a step makes of a region may: a leaf, or a split
+pub All-turn : (bounds : Bounds) (plan : Scenario) (known : ℕ) (region : Region) (turn : Turn) → IsTable (table_of plan) → IsRegion plan region → IsTurn bounds plan region known turn → All (IsNode plan) (spent_in (front_after turn))
+All-turn bounds plan known region (Closed node) table lawful is =
+    All-cons (IsNode plan) node [] (leaf_node bounds plan known region node is) (All-nil (IsNode plan))
+All-turn bounds plan known region (Halves split first second tried) table lawful is =
+    All-cons (IsNode plan) split [] (split_node plan split region table lawful is.part) (All-nil (IsNode plan))

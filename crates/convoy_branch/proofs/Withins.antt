@@ -72,7 +72,7 @@ IsWithinBothWays-ended limit plain scenario workers first outcome plain_is withi
     let Answer : Outcome → Type 0 = λ answer. IsWithinBothWays limit (λ by_plain by_leads. IsOutcomeBothWays scenario workers by_plain by_leads answer) in
     subst Answer (sym ended.0) (IsWithinBothWays-first limit plain scenario workers first plain_is within ended.1)
 
--- the latency that a search has found that left boxes is that of its best record
+-- the latency that a search has found that left regions is that of its best record
 pub left_best : (best : Record) (upper : ℕ) (first : Outcome) → IsLeftAt best upper first → best_of first ≡ best.latency
 left_best best upper (Proved certificate tickets by_worker) left = absurd left
 left_best best upper (Open found above tickets by_worker) left = ap (λ (r : Record). r.latency) left.0

@@ -1,4 +1,4 @@
--- A search both ways: by plain bounds, and where boxes are left then, by leads from the root.
+-- A search both ways: by plain bounds, and where regions are left then, by leads from the root.
 use Rattle.std.specs.Prelude.{◌≡◌, ◌⊎◌, ℕ, ◌-◌, ◌≤◌, min, true, false, List}
 use Rattle.convoy_scenario.specs.Scenario.{Scenario}
 use Rattle.convoy_sim.specs.Greatest.{IsReached, IsUpper}
@@ -11,7 +11,7 @@ use Rattle.convoy_branch.specs.declared.ways.AfterPlain.TheVariants.{Ended, ByLe
 use Rattle.convoy_branch.specs.declared.ways.TheConstants.{PLAIN_TICKETS}
 use Rattle.convoy_branch.specs.declared.outcome.Outcome.{Outcome}
 use Rattle.convoy_branch.specs.declared.outcome.Outcome.TheVariants.{Proved, Open}
-use Rattle.convoy_branch.specs.Fronts.{HasStopped}
+use Rattle.convoy_branch.specs.Fronts.{IsFront}
 use Rattle.convoy_branch.specs.Outcomes.{AreTicketsByWorker, IsOpen, IsProved}
 
 -- how many of the tickets may be spent by plain bounds, and of the others by leads
@@ -36,15 +36,15 @@ pub record AreFrontsBothWays (scenario : Scenario) (best upper plain leads : ℕ
   pub plain_best : ℕ
   pub plain_upper : ℕ
   pub lead_upper : ℕ
-  pub by_plain : HasStopped Plain scenario plain_best plain_upper plain
-  pub by_leads : HasStopped Lead scenario best lead_upper leads
+  pub by_plain : IsFront Plain scenario plain_best plain_upper plain
+  pub by_leads : IsFront Lead scenario best lead_upper leads
   pub no_worse : plain_best ≤ best
   pub lesser : upper ≡ min plain_upper lead_upper
 
 -- how far a search both ways has come that has not ended, where so many tickets may be spent by plain bounds and by leads: where there is none for leads, as far as by plain bounds
 abbrev pub IsFrontBothWays : Scenario → ℕ → ℕ → ℕ → ℕ → Type 0
 IsFrontBothWays scenario best upper plain leads =
-    ((leads ≡ 0) × HasStopped Plain scenario best upper plain) ⊎ AreFrontsBothWays scenario best upper plain leads
+    ((leads ≡ 0) × IsFront Plain scenario best upper plain) ⊎ AreFrontsBothWays scenario best upper plain leads
 
 -- An open outcome of both searches: the tickets told are those of the second.
 pub record IsOpenBothWays (scenario : Scenario) (workers plain leads : ℕ) (best : Record) (upper tickets : ℕ) (by_worker : List ℕ) : Type 0 where
@@ -53,7 +53,7 @@ pub record IsOpenBothWays (scenario : Scenario) (workers plain leads : ℕ) (bes
   pub reached : IsReached scenario best.latency
   pub none_greater : IsUpper scenario upper
   pub fronts : AreFrontsBothWays scenario best.latency upper plain leads
-  pub all : tickets ≡ fronts.by_leads.tickets
+  pub all : tickets ≡ leads
   pub shares : AreTicketsByWorker workers tickets by_worker
 
 -- what a search both ways by so many workers answers, where so many tickets may be spent by plain bounds and by leads
@@ -70,12 +70,12 @@ abbrev pub IsLast : Limit → Outcome → Type 0
 IsLast limit (Proved certificate tickets by_worker) = Unit {0}
 IsLast limit (Open best upper tickets by_worker) = (lead_share limit.tickets ≡ 0) ⊎ (limit.may_stop ≡ true)
 
--- boxes are left, with that best record and that upper bound
+-- regions are left, with that best record and that upper bound
 abbrev pub IsLeftAt : Record → ℕ → Outcome → Type 0
 IsLeftAt best upper (Proved certificate tickets by_worker) = ⊥
 IsLeftAt best upper (Open found above tickets by_worker) = (found ≡ best) × (above ≡ upper)
 
--- what comes after a search by plain bounds with that outcome: nothing where it ends the search, or the search by leads where boxes are left and there is a ticket for leads
+-- what comes after a search by plain bounds with that outcome: nothing where it ends the search, or the search by leads where regions are left and there is a ticket for leads
 abbrev pub IsAfterPlain : Limit → Outcome → AfterPlain → Type 0
 IsAfterPlain limit first (Ended outcome) = (outcome ≡ first) × IsLast limit first
 IsAfterPlain limit first (ByLeads best upper) = IsLeftAt best upper first × (1 ≤ lead_share limit.tickets)

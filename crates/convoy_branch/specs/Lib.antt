@@ -7,6 +7,9 @@ pub use Rattle.convoy_sim.specs.Record
 pub use Rattle.convoy_intervals.specs.Boxes
 pub use Rattle.convoy_intervals.specs.Bounds
 pub use Rattle.convoy_intervals.specs.Tracked
+pub use Rattle.convoy_regions.specs.Stages
+pub use Rattle.convoy_regions.specs.Regions
+pub use Rattle.convoy_regions.specs.Branches
 pub use Rattle.convoy_stamps.specs.StampBounds
 pub use Rattle.convoy_leads.specs.Closing
 pub use Rattle.convoy_leads.specs.Openings
@@ -15,7 +18,7 @@ pub use Rattle.convoy_certificate.specs.Text
 pub use Rattle.convoy_checker.specs.Trees
 pub use Rattle.convoy_checker.specs.Leaves
 pub use Rattle.convoy_checker.specs.Validity
--- What a search promises: the bounds by which it goes, which boxes it closes, what it tells of those that are left, a step over a box, how far a search has come, what it answers, alone and both ways, how far it may go, and the laws of fronts.
+-- What a search promises: the bounds by which it goes, which boxes it closes, what it tells of those that are left, a step over a region, how far a search has come, what it answers, alone and both ways, how far it may go, and the laws of fronts.
 pub mod SearchBounds
 pub mod Options
 pub mod Uppers

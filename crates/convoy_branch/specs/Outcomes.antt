@@ -12,7 +12,7 @@ use Rattle.convoy_branch.specs.declared.bounds.Bounds.{Bounds}
 use Rattle.convoy_branch.specs.declared.bounds.Bounds.TheVariants as bounds_of
 use Rattle.convoy_branch.specs.declared.outcome.Outcome.{Outcome}
 use Rattle.convoy_branch.specs.declared.outcome.Outcome.TheVariants.{Proved, Open}
-use Rattle.convoy_branch.specs.Fronts.{HasStopped}
+use Rattle.convoy_branch.specs.Fronts.{IsFront}
 use Rattle.convoy_branch.specs.SearchBounds.{most_nodes}
 
 -- a number of tickets for each of so many workers, which add up to that many
@@ -35,14 +35,14 @@ pub record IsProved (bounds : Bounds) (scenario : Scenario) (workers limit : ℕ
   pub readable : limit ≤ most_nodes bounds → AreReadable certificate.nodes
   pub shares : AreTicketsByWorker workers tickets by_worker
 
--- An open outcome: boxes are left, and as many tickets as there may be were spent, or else one of the boxes is a point in real time that the search does not close for the best latency.
+-- An open outcome: regions are left, and as many tickets as there may be were spent.
 pub record IsOpen (bounds : Bounds) (scenario : Scenario) (workers limit : ℕ) (best : Record) (upper tickets : ℕ) (by_worker : List ℕ) : Type 0 where
   pub of_scenario : best.scenario ≡ scenario
   -- some assignment has the best latency, and none has one above the upper bound
   pub reached : IsReached scenario best.latency
   pub none_greater : IsUpper scenario upper
-  pub front : HasStopped bounds scenario best.latency upper limit
-  pub all : tickets ≡ front.tickets
+  pub front : IsFront bounds scenario best.latency upper tickets
+  pub all : tickets ≡ limit
   pub shares : AreTicketsByWorker workers tickets by_worker
 
 -- what a search of so many workers by those bounds answers, where at most `limit` tickets may be spent

@@ -14,8 +14,11 @@ use convoy_scenario::Time;
 use convoy_sim::Record;
 use std::alloc::{AllocError, Global};
 
-/// How many latencies the root box is asked for at most.
-const MOST_TESTS: u32 = 24;
+/// How many latencies the root box is asked for at most, by steps of which no range has more.
+const MOST_TESTS: u32 = 100;
+
+/// How many times boxes are split at most until all are closed for a latency.
+const MOST_AIMS: u32 = 24;
 
 /// How many boxes are taken up at most below the root.
 const MOST_BOXES: u32 = 200;
@@ -31,13 +34,12 @@ pub struct FromAbove {
 }
 
 /// Seeks a schedule of a greater latency than a record has, from above (docs/LEADS.md, "From above"): answers a
-/// record of one, or the one given. First the root box is asked for latencies between the record's and its
-/// bound, which is halved down; then boxes are split as in a search by leads that closes them for a latency just
-/// below the least one for which the root is closed. Each box that is open has its wish runs simulated.
+/// record of one, or the one given. The root box is asked for latencies between the record's and its bound, and has
+/// its wish runs simulated for each for which it is open.
 ///
 /// Where the limit says that the gate may stop the search, and it does, the best record so far is answered. The
 /// error is that memory ran out.
-pub fn from_above<G: Gate>(
+pub fn root_from_above<G: Gate>(
     alloc: Global,
     instance: &Instance,
     known: Record,
@@ -48,16 +50,33 @@ pub fn from_above<G: Gate>(
     ensures of_scenario { IfOk result (λ found. found.best.scenario ≡ instance.now) }
     ensures no_lower { IfOk result (λ found. known.latency ≤ found.best.latency) }
 {
-    let mut above = Above {
-        alloc,
-        instance,
-        best: known,
-        boxes: MOST_BOXES,
-    };
+    let mut above = Above::of(alloc, instance, known);
     let root = Tracked::root(alloc, instance)?;
-    let mut bound = above.halve(&root, limit, gate)?;
+    let bound = above.approach(&root, limit, gate)?;
+    Ok(FromAbove {
+        best: above.best,
+        bound,
+    })
+}
+
+/// The same below the root, where a bound in ticks is known for which leads close it: boxes are split as in a search
+/// by leads that closes them for a latency just below that. Each box that is open has its wish runs simulated.
+pub fn split_from_above<G: Gate>(
+    alloc: Global,
+    instance: &Instance,
+    known: Record,
+    bound: u32,
+    limit: Limit,
+    gate: &G,
+) -> Result<FromAbove, AllocError>
+    requires of_scenario { known.scenario ≡ instance.now }
+    ensures of_scenario { IfOk result (λ found. found.best.scenario ≡ instance.now) }
+    ensures no_lower { IfOk result (λ found. known.latency ≤ found.best.latency) }
+{
+    let mut above = Above::of(alloc, instance, known);
+    let mut bound = bound;
     let mut below = 1;
-    for _ in 0..MOST_TESTS {
+    for _ in 0..MOST_AIMS {
         if above.best.latency() >= bound || limit.is_over(gate) {
             break;
         }
@@ -99,37 +118,72 @@ struct Above<'a> {
 }
 
 impl<'a> Above<'a> {
+    /// Where seeking from above starts from a record.
+    fn of(alloc: Global, instance: &'a Instance, known: Record) -> Above<'a>
+        ensures best { result.best ≡ known }
+        ensures instance { result.instance.now ≡ instance.now }
+    {
+        Above {
+            alloc,
+            instance,
+            best: known,
+            boxes: MOST_BOXES,
+        }
+    }
+
     /// Asks leads to close the root for latencies between the record's and the plain bound, and simulates the
-    /// wish runs of what they leave open; the least latency in ticks for which it was seen closed. It goes down
-    /// from the bound in steps that double, until the root is open, and halves from there: a test far below the
-    /// greatest latency takes long.
-    fn halve<G: Gate>(&mut self, root: &Tracked, limit: Limit, gate: &G) -> Result<u32, AllocError>
+    /// wish runs of what they leave open; the least latency in ticks for which it was seen closed. A test that is
+    /// open takes long, the longer the further it is below the greatest latency, and one that is closed mostly does
+    /// not: so it goes down from the bound in steps that grow by half until the root is open, and from there in
+    /// quarters of what is left.
+    fn approach<G: Gate>(
+        &mut self,
+        root: &Tracked,
+        limit: Limit,
+        gate: &G,
+    ) -> Result<u32, AllocError>
         requires above { IsAbove self.old }
         requires root { root.now.scenario ≡ self.old.instance.now }
         ensures { OnOk result (HasRisen self.old self.new) }
     {
-        let mut low = self.best.latency();
-        let mut bound = root.bound();
+        let (mut low, mut bound) = (self.best.latency(), root.bound());
         let mut below = 1;
+        let mut was_open = false;
         for _ in 0..MOST_TESTS {
             if low >= bound || limit.is_over(gate) {
                 break;
             }
-            let middle = bound.saturating_sub(below).max(low);
-            let asked = Bounds::Lead.ask(self.alloc, self.instance, root, middle)?;
-            if asked.leaf.is_some() {
-                bound = middle;
-                below = below.saturating_mul(2);
+            let aim = bound.saturating_sub(below).max(low);
+            if self.ask(root, aim)? {
+                bound = aim;
             } else {
-                let known = self.best.latency();
-                if let Some(found) = wished(self.alloc, self.instance, root, &asked, known)? {
-                    self.best = found;
-                }
-                low = self.best.latency().max(middle.saturating_add(1));
-                below = bound.saturating_sub(low) / 2 + 1;
+                was_open = true;
+                low = self.best.latency().max(aim.saturating_add(1));
             }
+            below = if was_open {
+                bound.saturating_sub(low) / 4 + 1
+            } else {
+                below.saturating_add(below / 2 + 1)
+            };
         }
         Ok(bound)
+    }
+
+    /// Whether leads close the root for a latency in ticks; where they do not, its wish runs are simulated.
+    fn ask(&mut self, root: &Tracked, aim: u32) -> Result<bool, AllocError>
+        requires above { IsAbove self.old }
+        requires root { root.now.scenario ≡ self.old.instance.now }
+        ensures { OnOk result (HasRisen self.old self.new) }
+    {
+        let asked = Bounds::Lead.ask(self.alloc, self.instance, root, aim)?;
+        if asked.leaf.is_some() {
+            return Ok(true);
+        }
+        let known = self.best.latency();
+        if let Some(found) = wished(self.alloc, self.instance, root, &asked, known)? {
+            self.best = found;
+        }
+        Ok(false)
     }
 
     /// Splits boxes until all are closed for a latency in ticks, or a greater one is found.
@@ -180,7 +234,7 @@ impl<'a> Above<'a> {
             self.best = found;
         }
         let delay_box = branch.delay_box();
-        let place = place_to_split(self.alloc, self.instance, delay_box, aim, asked.left)?;
+        let place = place_to_split(self.alloc, self.instance, delay_box, aim, asked.left, true)?;
         let Some((packet, at)) = place else {
             return Ok(matches!(self.instance.time(), Time::Ticks));
         };

@@ -1,11 +1,9 @@
-ghost use Rattle.std.specs.Prelude.{◌≡◌, ◌≤◌, false, if◌then◌else◌, Some, None, IfNone, IfOk, IfSome};
+ghost use Rattle.std.specs.Prelude.{◌≡◌, ◌≤◌, if◌then◌else◌, Some, None, IfOk, IfSome};
 ghost use Rattle.convoy_certificate.specs.declared.node.Node.TheVariants.{Lead};
 ghost use Rattle.convoy_intervals.specs.Boxes.{IsBox};
 ghost use Rattle.convoy_leads.specs.Closing.{closes_by_leads};
-ghost use Rattle.convoy_branch.specs.declared.step.Turn.TheVariants.{Closed};
 ghost use Rattle.convoy_branch.specs.Asked.{IsAsked, IsLeftOpen};
-ghost use Rattle.convoy_branch.specs.SearchBounds.{closes_for, least_bound, most_nodes};
-ghost use Rattle.convoy_branch.specs.Steps.{IsTurn};
+ghost use Rattle.convoy_branch.specs.SearchBounds.{least_bound, most_nodes};
 ghost use Rattle.convoy_branch.specs.Uppers.{IsRaised, IsRaisedByLeads};
 
 use super::asked::{Asked, LeftOpen};
@@ -14,7 +12,6 @@ use convoy_intervals::{DelayBox, Tracked};
 use convoy_leads::LeadTest;
 use convoy_packets::Instance;
 use convoy_scenario::Time;
-use convoy_stamps::stamp_bound_laws::stamp_bound_at_most_plain;
 use convoy_stamps::stamp_bound_of;
 use std::alloc::{AllocError, Global};
 
@@ -41,26 +38,6 @@ impl Bounds {
             Bounds::Plain | Bounds::Stamp => MOST_NODES,
             Bounds::Lead => MOST_LEADS,
         }
-    }
-
-    /// The leaf with which a search closes a box for a latency in ticks; none where it does not. The error is
-    /// that memory ran out.
-    pub fn closing_leaf(
-        self,
-        alloc: Global,
-        instance: &Instance,
-        branch: &Tracked,
-        latency: u32,
-    ) -> Result<Option<Node>, AllocError>
-        requires of_scenario { branch.now.scenario ≡ instance.now }
-        ensures some { IfOk result (λ leaf. IfSome leaf
-            (λ node. IsTurn self instance.now branch.now.delay_box latency (Closed node))) }
-        ensures none { IfOk result (λ leaf. IfNone leaf
-            (closes_for self instance.now branch.now.delay_box latency ≡ false)) }
-    {
-        stamp_bound_at_most_plain();
-        let asked = self.ask(alloc, instance, branch, latency)?;
-        Ok(asked.leaf)
     }
 
     /// Asks for the leaf that closes a box for a latency in ticks: that of the plain bound, else that of

@@ -2,7 +2,7 @@
 //! the law calls the function.
 
 ghost use Rattle.convoy_branch.specs.FrontLaws.{FrontsAppend, FrontsBetter, FrontsBound, FrontsFilled};
-ghost use Rattle.convoy_branch.specs.FrontLaws.{OnlyLeadsHaveLeadLeaves, PlainFrontsHaveNoStamps, TicksSpendAll};
+ghost use Rattle.convoy_branch.specs.FrontLaws.{OnlyLeadsHaveLeadLeaves, PlainFrontsHaveNoStamps};
 ghost use Rattle.convoy_branch.specs.FrontLaws.{TurnsAreFronts, TurnsAreNodes, UppersBegin, UppersRaised};
 ghost use Rattle.convoy_branch.specs.FrontLaws.{WholeFrontsAreReadable, WholeFrontsAreTrees};
 
@@ -15,17 +15,12 @@ pub fn fronts_bound()
     trees_cover();
 }
 
-/// In whole ticks a search that stops with boxes left has spent all its tickets.
-pub fn ticks_spend_all()
-    ensures { TicksSpendAll }
-{}
-
-/// Fronts over some boxes and then fronts over others are fronts over all of them.
+/// Fronts over some regions and then fronts over others are fronts over all of them.
 pub fn fronts_append()
     ensures { FrontsAppend }
 {}
 
-/// A front over a box may take the place of the box where it is left.
+/// A front over a region may take the place of the region where it is left.
 pub fn fronts_filled()
     ensures { FrontsFilled }
 {}
@@ -35,7 +30,7 @@ pub fn fronts_better()
     ensures { FrontsBetter }
 {}
 
-/// What becomes of a box in a step is a front over the box.
+/// What becomes of a region in a step is a front over the region.
 pub fn turns_are_fronts()
     ensures { TurnsAreFronts }
 {}
@@ -45,27 +40,27 @@ pub fn turns_are_nodes()
     ensures { TurnsAreNodes }
 {}
 
-/// With no box left a front is a tree that closes the root.
+/// With no region left a front is a tree that closes the root.
 pub fn whole_fronts_are_trees()
     ensures { WholeFrontsAreTrees }
 {}
 
-/// With no box left, a front of a search by plain bounds has no stamp leaf.
+/// With no region left, a front of a search by plain bounds has no stamp leaf.
 pub fn plain_fronts_have_no_stamps()
     ensures { PlainFrontsHaveNoStamps }
 {}
 
-/// Only a front of a search by leads has lead leaves, with no box left.
+/// Only a front of a search by leads has lead leaves, with no region left.
 pub fn only_leads_have_lead_leaves()
     ensures { OnlyLeadsHaveLeadLeaves }
 {}
 
-/// With no box left, the nodes of a front can be read where they are few enough for its bounds.
+/// With no region left, the nodes of a front can be read where they are few enough for its bounds.
 pub fn whole_fronts_are_readable()
     ensures { WholeFrontsAreReadable }
 {}
 
-/// Where no box is left, the upper bound is the best latency.
+/// Where no region is left, the upper bound is the best latency.
 pub fn uppers_begin()
     ensures { UppersBegin }
 {}

@@ -1,7 +1,7 @@
-//! Branch and bound: the step over one box, the search of one worker, and that of both ways.
+//! Branch and bound: the step over one region, the search of one worker, and that of both ways.
 #![tactic(auto)]
 
-pub use above::{FromAbove, from_above};
+pub use above::{FromAbove, root_from_above, split_from_above};
 pub use bounds::Bounds;
 pub use convoy_shares::MOST_WORKERS;
 pub use gate::{Gate, NoGate};
@@ -10,9 +10,8 @@ pub use options::{
     DEFAULT_LIMIT, DEFAULT_SIMULATIONS, MOST_SIMULATIONS, MOST_TICKETS, Options, Settings, Ways,
 };
 pub use outcome::Outcome;
-pub use prospect::{Prospect, prospect_of};
 pub use search::{search_alone, search_alone_from};
-pub use step::{Fate, Step, Turn, step_branch};
+pub use step::{Step, Turn, step_branch};
 pub use ways::{AfterPlain, PLAIN_TICKETS, after_plain, lead_share, plain_share, search_both_ways};
 
 mod above;
@@ -24,7 +23,6 @@ mod limit;
 mod options;
 mod outcome;
 mod placing;
-mod prospect;
 mod search;
 mod step;
 mod want;

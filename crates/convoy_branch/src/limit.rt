@@ -7,7 +7,7 @@ use super::gate::Gate;
 pub struct Limit {
     /// How many tickets it spends at most.
     pub tickets: u64,
-    /// Whether its gate is asked, before each box that is taken up, whether the search is to stop.
+    /// Whether its gate is asked, before each region that is taken up, whether the search is to stop.
     pub may_stop: bool,
 }
 
@@ -36,7 +36,7 @@ impl Limit {
         self.may_stop && gate.is_over()
     }
 
-    /// Whether a search that has spent so many tickets may take up a box.
+    /// Whether a search that has spent so many tickets may take up a region.
     pub(crate) fn allows<G: Gate>(self, tickets: u64, gate: &G) -> bool
         ensures some { IsTrue result → tickets < self.tickets }
         ensures none { IsFalse result → (self.tickets ≤ tickets) ⊎ (self.may_stop ≡ true) }

@@ -12,10 +12,9 @@ pub enum Outcome {
         tickets: u64,
         by_worker: Vec<u64>,
     },
-    /// Boxes are left. The greatest latency is that of `best` or more, and at most `upper`, in ticks.
-    /// As many tickets as may be were spent, or in real time one of the boxes left is a point that the
-    /// search does not close for that latency.
-    /// `tickets` were spent in all, and `by_worker` has how many of them each worker drew, as above.
+    /// Regions are left. The greatest latency is that of `best` or more, and at most `upper`, in ticks.
+    /// As many tickets as may be were spent, which is `tickets`, and `by_worker` has how many of them
+    /// each worker drew, as above.
     Open {
         best: Record,
         upper: u32,

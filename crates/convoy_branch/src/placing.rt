@@ -19,20 +19,21 @@ use std::alloc::{AllocError, Global};
 /// middle. Of several it is that of the widest range, and of these the first (docs/LEADS.md, "Where a
 /// box is split"). Where some message may wait, a range that has an edge of what the chain wants comes
 /// before those that have none, and is split there; and of an arrival the chain speaks by the wait of the
-/// message as well as by its delay on its way. The error is that memory ran out; all that is taken is
-/// given back.
+/// message as well as by its delay on its way. Where the rival is to come first, that is wanted as a link
+/// wants something. The error is that memory ran out; all that is taken is given back.
 pub(crate) fn place_by_leads(
     alloc: Global,
     instance: &Instance,
     delay_box: &DelayBox,
     opening: &Opening,
     latency: u32,
+    rival_first: bool,
 ) -> Result<Option<(u16, u16)>, AllocError>
     requires open_box { IsOpening instance.now opening.now }
     ensures part { IfOk result
         (λ found. IfSome found (λ place. CanSplit delay_box.now place.0 place.1)) }
 {
-    let wants = wants_of(alloc, instance, delay_box, opening, latency)?;
+    let wants = wants_of(alloc, instance, delay_box, opening, latency, rival_first)?;
     Ok(place_by_wants(instance, delay_box, &wants))
 }
 

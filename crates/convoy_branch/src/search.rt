@@ -1,5 +1,5 @@
-ghost use Rattle.std.specs.Prelude.{◌≡◌, ℕ, ◌+◌, ◌<◌, ◌≤◌, [], ◌∷◌, ◌++◌, length, map};
-ghost use Rattle.std.specs.Prelude.{IfNone, IfOk, IfSome, OnOk, unwrap_or};
+ghost use Rattle.std.specs.Prelude.{◌≡◌, ℕ, ◌+◌, ◌<◌, ◌≤◌, [], ◌∷◌, ◌++◌, map};
+ghost use Rattle.std.specs.Prelude.{IfOk, OnOk, unwrap_or};
 ghost use Rattle.std.specs.List.{All};
 ghost use Rattle.convoy_scenario.specs.WellFormed.{IsScenario};
 ghost use Rattle.convoy_packets.specs.Assignment.{ranges_of};
@@ -9,7 +9,7 @@ ghost use Rattle.convoy_branch.specs.declared.bounds.Bounds.{Bounds};
 ghost use Rattle.convoy_branch.specs.Fronts.{left_in};
 ghost use Rattle.convoy_branch.specs.Limits.{IsWithin};
 ghost use Rattle.convoy_branch.specs.Outcomes.{IsOutcome, best_of};
-ghost use Rattle.convoy_branch.specs.Searching.{HasEndedAt, HasStayed, HasTurned, IsSearching, IsWork};
+ghost use Rattle.convoy_branch.specs.Searching.{HasTurned, IsSearching, IsWork};
 ghost use Rattle.convoy_branch.specs.Searching.{IsRaisedOver, front_of, nodes_after, work_after};
 ghost use Rattle.convoy_branch.specs.Uppers.{IsUpperOf};
 
@@ -18,26 +18,24 @@ use super::front_laws::{fronts_bound, uppers_begin, uppers_raised};
 use super::gate::{Gate, NoGate};
 use super::limit::Limit;
 use super::outcome::Outcome;
-use super::step::{Fate, Turn, step_branch};
+use super::step::{Turn, step_branch};
 use convoy_certificate::{Certificate, Node};
 use convoy_checker::tree_laws::trees_cover;
-use convoy_intervals::Tracked;
-use convoy_intervals::box_laws::{halves_are_boxes, upper_keeps_greatest};
 use convoy_packets::schedule_laws::fixed_order_is_order;
 use convoy_packets::{Instance, Schedule};
+use convoy_regions::Branch;
+use convoy_regions::region_laws::halves_are_regions;
 use convoy_sim::Record;
 use std::alloc::{AllocError, Global};
 
 /// Searches for the greatest latency of a scenario with one worker, by branch and bound
-/// (docs/PROTOCOL.md). It starts from the record of the least delays, takes up the upper half of
-/// each split first, and spends a ticket for each box that it closes or splits, at most `limit` of them.
-/// Boxes are closed by those bounds: by plain ones no node of the certificate is a stamp leaf, and only
-/// by leads is one a lead leaf, which names the latency that was known where it closed its box.
+/// (docs/PROTOCOL.md). It starts from the record of the least delays, takes up the second half of
+/// each split first, and spends a ticket for each region that it closes or splits, at most `limit` of them.
+/// Regions are closed by those bounds: by plain ones no node of the certificate is a stamp leaf, and only
+/// by leads is one a lead leaf, which names the latency that was known where it closed its region.
 ///
-/// `Outcome::Open` is the answer only where a box is left when all tickets are spent, or in real time
-/// where one of the boxes left is a point that the bounds do not close for the best latency, which is no
-/// less than that of the point's greatest delays: the search ends there, since it can't close the root
-/// then. The error is that memory ran out.
+/// `Outcome::Open` is the answer only where a region is left when all tickets are spent. The error is that
+/// memory ran out.
 pub fn search_alone(
     alloc: Global,
     instance: &Instance,
@@ -55,8 +53,8 @@ pub fn search_alone(
 
 /// The search of [`search_alone`] from an opening record of the scenario. Its latency is at least
 /// that of the least delays, and the latency that the search finds is at least that of the record.
-/// The gate is called before each box that is taken up, by worker 0; where the limit says that it may stop
-/// the search, and it does, boxes may be left with fewer tickets spent. The error is that memory ran out.
+/// The gate is called before each region that is taken up, by worker 0; where the limit says that it may stop
+/// the search, and it does, regions may be left with fewer tickets spent. The error is that memory ran out.
 pub fn search_alone_from<G: Gate>(
     alloc: Global,
     instance: &Instance,
@@ -77,9 +75,7 @@ pub fn search_alone_from<G: Gate>(
             Work::Write(node) => search.nodes.push(node)?,
             Work::Branch { branch, tried } if limit.allows(search.tickets, gate) => {
                 gate.before_branch(0, search.tickets + 1);
-                if let Some(branch) = search.take_up(alloc, instance, branch, tried, bounds)? {
-                    return search.into_open(alloc, instance, branch, tried, bounds);
-                }
+                search.take_up(alloc, instance, branch, tried, bounds)?;
             }
             Work::Branch { branch, tried } => {
                 return search.into_open(alloc, instance, branch, tried, bounds);
@@ -92,9 +88,9 @@ pub fn search_alone_from<G: Gate>(
 /// What a search has still to do.
 #[derive(Drop)]
 enum Work {
-    /// To take up a box. Where it is `tried`, the schedule of its greatest delays is known to have
-    /// no greater latency than the best record.
-    Branch { branch: Tracked, tried: bool },
+    /// To take up a region. Where it is `tried`, its run is known to have no greater latency than the best
+    /// record.
+    Branch { branch: Branch, tried: bool },
     /// To write a split: both its halves are done.
     Write(Node),
 }
@@ -108,12 +104,12 @@ struct Search {
     work: Vec<Work>,
     /// The nodes of the tree that are done, from the last one back.
     nodes: Vec<Node>,
-    /// How many boxes were closed or split.
+    /// How many regions were closed or split.
     tickets: u64,
 }
 
 impl Search {
-    /// A search of the root box from an opening record.
+    /// A search of the root from an opening record.
     fn start(alloc: Global, instance: &Instance, opening: Record) -> Result<Search, AllocError>
         requires of_scenario { opening.scenario ≡ instance.now }
         requires least { latency_of instance.now (least_of (ranges_of instance.now))
@@ -126,7 +122,7 @@ impl Search {
     {
         let mut work = Vec::with_capacity(alloc, instance.table().len())?;
         work.push(Work::Branch {
-            branch: Tracked::root(alloc, instance)?,
+            branch: Branch::root(alloc, instance)?,
             tried: false,
         })?;
         Ok(Search {
@@ -137,42 +133,32 @@ impl Search {
         })
     }
 
-    /// Spends a ticket for a box, or gives the box back if it stays.
+    /// Spends a ticket for a region.
     fn take_up(
         &mut self,
         alloc: Global,
         instance: &Instance,
-        branch: Tracked,
+        branch: Branch,
         tried: bool,
         bounds: Bounds,
-    ) -> Result<Option<Tracked>, AllocError>
+    ) -> Result<(), AllocError>
         requires lawful { IsTable (table_of instance.now) }
         requires searching { IsSearching bounds instance.now self.old.best
             (self.old.work.items ++ Work.Branch branch tried ∷ []) self.old.nodes.items
             self.old.tickets }
         requires ticket { self.old.tickets < u64.MAX }
-        ensures turned { IfOk result (λ left. IfNone left
-            (HasTurned bounds instance.now self.old self.new)) }
-        ensures stays { IfOk result (λ left. IfSome left
-            (HasStayed bounds instance.now self.old self.new tried)) }
+        ensures turned { OnOk result (HasTurned bounds instance.now self.old self.new) }
         ensures best { OnOk result (self.old.best.latency ≤ self.new.best.latency) }
     {
-        halves_are_boxes();
-        upper_keeps_greatest();
+        halves_are_regions();
         let seen = self.best.latency();
         let step = match step_branch(alloc, instance, branch, tried, seen, bounds) {
             Ok(step) => step,
             Err((_, error)) => return Err(error),
         };
         self.note(step.found);
-        match step.fate {
-            Fate::Turned(turn) => {
-                self.tickets += 1;
-                self.follow(turn)?;
-                Ok(None)
-            }
-            Fate::Stays(branch) => Ok(Some(branch)),
-        }
+        self.tickets += 1;
+        self.follow(step.turn)
     }
 
     /// Keeps the record that a step has found.
@@ -184,7 +170,7 @@ impl Search {
         }
     }
 
-    /// Writes the leaf that closes a box, or else leaves the halves to be taken up, the upper one
+    /// Writes the leaf that closes a region, or else leaves the halves to be taken up, the second one
     /// first, and then the split to be written.
     fn follow(&mut self, turn: Turn) -> Result<(), AllocError>
         ensures work { OnOk result (self.new.work.items ≡ work_after self.old.work.items turn) }
@@ -195,19 +181,19 @@ impl Search {
         match turn {
             Turn::Closed(node) => self.nodes.push(node)?,
             Turn::Halves {
-                packet,
-                at,
-                lower,
-                upper,
+                split,
+                first,
+                second,
+                tried,
             } => {
-                self.work.push(Work::Write(Node::Split { packet, at }))?;
+                self.work.push(Work::Write(split))?;
                 self.work.push(Work::Branch {
-                    branch: lower,
+                    branch: first,
                     tried: false,
                 })?;
                 self.work.push(Work::Branch {
-                    branch: upper,
-                    tried: true,
+                    branch: second,
+                    tried,
                 })?;
             }
         }
@@ -239,20 +225,18 @@ impl Search {
         })
     }
 
-    /// The outcome of a search that has no ticket left for a box, or that leaves the box as an open point.
+    /// The outcome of a search that has no ticket left for a region.
     fn into_open(
         mut self,
         alloc: Global,
         instance: &Instance,
-        branch: Tracked,
+        branch: Branch,
         tried: bool,
         bounds: Bounds,
     ) -> Result<Outcome, AllocError>
         requires searching { IsSearching bounds instance.now self.best
             (self.work.items ++ Work.Branch branch tried ∷ []) self.nodes.items self.tickets }
-        ensures value { (limit : ℕ) → HasEndedAt bounds instance.now self.best.latency
-            self.tickets branch.delay_box limit
-            → IfOk result (λ outcome. IsOutcome bounds instance.now 1 limit outcome) }
+        ensures value { IfOk result (λ outcome. IsOutcome bounds instance.now 1 self.tickets outcome) }
         ensures best { IfOk result (λ outcome. best_of outcome ≡ self.best.latency) }
     {
         fronts_bound();
@@ -276,7 +260,7 @@ fn is_scenario(instance: &Instance)
     let _ = instance.delay();
 }
 
-/// The upper bound of all latencies, in ticks, where that is the best one and the boxes of the work are
+/// The upper bound of all latencies, in ticks, where that is the best one and the regions of the work are
 /// left.
 fn upper_of(
     alloc: Global,
@@ -298,7 +282,7 @@ fn upper_of(
     Ok(upper)
 }
 
-/// What a piece of work raises an upper bound to, in ticks: a box that is left, and nothing else.
+/// What a piece of work raises an upper bound to, in ticks: a region that is left, and nothing else.
 fn raised_over(
     alloc: Global,
     instance: &Instance,
@@ -311,7 +295,7 @@ fn raised_over(
         (λ raised. IsRaisedOver bounds instance.now piece.now upper raised) }
 {
     match piece {
-        Work::Branch { branch, .. } => bounds.raised(alloc, instance, branch, upper),
+        Work::Branch { branch, .. } => bounds.raised(alloc, instance, branch.tracked(), upper),
         Work::Write(_) => Ok(upper),
     }
 }

@@ -1,85 +1,78 @@
 ghost use Rattle.std.specs.Prelude.{◌≡◌, ◌↔◌, ℕ, length, nat_le, if◌then◌else◌};
-ghost use Rattle.std.specs.Prelude.{IfErr, IfOk, IfSome, IsNone};
-ghost use Rattle.convoy_scenario.specs.Scenario.{Scenario};
+ghost use Rattle.std.specs.Prelude.{IfErr, IfOk, IfSome, IsNone, IsTrue};
 ghost use Rattle.convoy_sim.specs.Delivery.{latency_of};
 ghost use Rattle.convoy_sim.specs.Record.{attained_by};
-ghost use Rattle.convoy_intervals.specs.Boxes.{CanSplit, IsBox, IsPoint, greatest_of};
+ghost use Rattle.convoy_intervals.specs.Boxes.{CanSplit, IsBox, IsPoint};
+ghost use Rattle.convoy_draft.specs.declared.time.Time.TheVariants.{Real};
+ghost use Rattle.convoy_regions.specs.Regions.{can_order, run_of};
 ghost use Rattle.convoy_branch.specs.declared.bounds.Bounds.{Bounds};
 ghost use Rattle.convoy_branch.specs.declared.bounds.Bounds.TheVariants.{Lead};
 ghost use Rattle.convoy_branch.specs.Asked.{IsLeftOpen};
-ghost use Rattle.convoy_branch.specs.Steps.{IsBetter, IsFate, IsStep, IsTriedIf, StaysOpen, known_after};
-ghost use Rattle.convoy_branch.specs.Looks.{IsLook, IsLookAtGreatest};
+ghost use Rattle.convoy_branch.specs.Steps.{IsBetter, IsStep, IsTriedIf, IsTurn, StaysOpen, known_after};
+ghost use Rattle.convoy_branch.specs.Looks.{IsLook, IsLookAtRun};
 
 use super::asked::{Asked, LeftOpen};
 use super::bounds::Bounds;
 use super::placing::place_by_leads;
 use convoy_certificate::Node;
-use convoy_intervals::box_laws::members_are_assignments;
+use convoy_intervals::box_laws::{tests_decide, upper_keeps_greatest};
 use convoy_intervals::{DelayBox, Tracked};
-use convoy_packets::schedule_laws::fixed_order_is_order;
 use convoy_packets::{Instance, PacketTable};
+use convoy_regions::Branch;
+use convoy_regions::region_laws::stages_are_few;
 use convoy_scenario::Time;
 use convoy_sim::Record;
 use convoy_stamps::stamp_bound_laws::stamp_bound_at_most_plain;
 use convoy_wishes::wish;
 use std::alloc::{AllocError, Global};
 
-/// What a step over a box gave.
+/// What a step over a region gave.
 #[derive(Drop)]
 pub struct Step {
-    /// A record of a greater latency than was seen, if the greatest delays of the box have one, or in a
-    /// search by leads a run that does what keeps the box open.
+    /// A record of a greater latency than was seen, if the run of the region has one, or in a search by
+    /// leads a run that does what keeps the region open.
     pub found: Option<Record>,
-    /// What becomes of the box.
-    pub fate: Fate,
+    /// What becomes of the region.
+    pub turn: Turn,
 }
 
-/// What becomes of a box that is taken up.
-#[derive(Drop)]
-pub enum Fate {
-    /// It is closed or split, for which a ticket is spent.
-    Turned(Turn),
-    /// It can't be: it has one delay for each packet, and in real time a run for each order of ties.
-    /// It stays left as it was, and no ticket is spent.
-    Stays(Tracked),
-}
-
-/// What becomes of a box for which a ticket is spent.
+/// What becomes of a region, for which a ticket is spent.
 #[derive(Drop)]
 pub enum Turn {
     /// No member has a greater latency than is known: the leaf that says why, never a split.
     Closed(Node),
-    /// The box is split at a packet: into the members whose delay of it is at most `at` ticks, and
-    /// those whose delay is more. The greatest delays of the upper half are those of the box, which
-    /// this step or an earlier one has tried.
+    /// The region is split by that node, at a packet or by an order of two moments: the halves in the order of
+    /// the tree. Where the second is `tried`, its run is known to have no greater latency: by a delay it is that
+    /// of the region.
     Halves {
-        packet: u16,
-        at: u16,
-        lower: Tracked,
-        upper: Tracked,
+        split: Node,
+        first: Branch,
+        second: Branch,
+        tried: bool,
     },
 }
 
-/// Takes up one box of a search, where the best record has the latency `seen`, in ticks. The caller
-/// says by `tried` that the schedule of the box's greatest delays is known to have no greater one.
+/// Takes up one region of a search, where the best record has the latency `seen`, in ticks. The caller
+/// says by `tried` that the region's run is known to have no greater one.
 ///
-/// The box is closed for `seen` if a bound of it is at most that: the plain one, or else, where the
-/// search asks for it, the stamp bound; or else, where it goes by leads, if these close it. Else the
-/// schedule of its greatest delays is simulated, unless it was tried, and a latency above `seen` is
-/// found; by leads, wish runs of the case that they leave open are simulated too. Then the box is closed for
-/// what was found, or in whole ticks where it has one member, and else is split; in real time a box of one
-/// delay for each packet stays (docs/PROTOCOL.md). Where memory runs out the box comes back as it was.
+/// The region is closed for `seen` if a bound of its ranges is at most that: the plain one, or else, where the
+/// search asks for it, the stamp bound; or else, where it goes by leads, if these close it. Else its run is
+/// simulated, unless it was tried, and a latency above `seen` is
+/// found; by leads, wish runs of the case that they leave open are simulated too. Then the region is closed for
+/// what was found, or as a point where no tie of it is open, and else is split: at a packet, or where each has
+/// one delay left, by the order of two moments that tie (docs/PROTOCOL.md). Where memory runs out the region
+/// comes back as it was.
 pub fn step_branch(
     alloc: Global,
     instance: &Instance,
-    branch: Tracked,
+    branch: Branch,
     tried: bool,
     seen: u32,
     bounds: Bounds,
-) -> Result<Step, (Tracked, AllocError)>
+) -> Result<Step, (Branch, AllocError)>
     requires of_scenario { branch.scenario ≡ instance.now }
-    requires known { IsTriedIf instance.now branch.delay_box tried seen }
-    ensures value { IfOk result (λ step. IsStep bounds instance.now branch.delay_box seen step) }
+    requires known { IsTriedIf instance.now branch.region tried seen }
+    ensures value { IfOk result (λ step. IsStep bounds instance.now branch.region seen step) }
     ensures back { IfErr result (λ refused. refused.0 ≡ branch) }
 {
     stamp_bound_at_most_plain();
@@ -89,68 +82,68 @@ pub fn step_branch(
     };
     let Look { found, asked } = look;
     let Asked { leaf, left } = asked;
-    let fate = match leaf {
-        Some(leaf) => Fate::Turned(Turn::Closed(leaf)),
+    let turn = match leaf {
+        Some(leaf) => Turn::Closed(leaf),
         None => {
             let known = known_after(&found, seen);
-            open_fate(alloc, instance, branch, known, left)?
+            open_turn(alloc, instance, branch, known, left)?
         }
     };
-    Ok(Step { found, fate })
+    Ok(Step { found, turn })
 }
 
-/// What a look at a box shows.
+/// What a look at a region shows.
 #[derive(Drop)]
 pub(crate) struct Look<'a> {
     /// A record of a greater latency than was seen.
     pub found: Option<Record>,
-    /// What was asked of the box for the latency that is known then.
+    /// What was asked of the region's ranges for the latency that is known then.
     pub asked: Asked<'a>,
 }
 
-/// Asks whether the box is closed for the latency seen, in ticks, then for that of its greatest delays if it
+/// Asks whether the region is closed for the latency seen, in ticks, then for that of its run if it
 /// is greater, and then for that of a wish run.
-pub(crate) fn look_at<'a>(
+fn look_at<'a>(
     alloc: Global,
     instance: &'a Instance,
-    branch: &Tracked,
+    branch: &Branch,
     tried: bool,
     seen: u32,
     bounds: Bounds,
 ) -> Result<Look<'a>, AllocError>
     requires of_scenario { branch.now.scenario ≡ instance.now }
-    requires known { IsTriedIf instance.now branch.now.delay_box tried seen }
-    ensures value { IfOk result (λ look. IsLook bounds instance.now branch.now.delay_box seen look) }
+    requires known { IsTriedIf instance.now branch.now.region tried seen }
+    ensures value { IfOk result (λ look. IsLook bounds instance.now branch.now.region seen look) }
 {
-    let look = look_at_greatest(alloc, instance, branch, tried, seen, bounds)?;
+    let look = look_at_run(alloc, instance, branch, tried, seen, bounds)?;
     match bounds {
         Bounds::Lead => look_by_wishes(alloc, instance, branch, seen, look),
         Bounds::Plain | Bounds::Stamp => Ok(look),
     }
 }
 
-/// What a search by leads sees of a box at whose greatest delays it has looked: where it is open, wish runs are
+/// What a search by leads sees of a region at whose run it has looked: where it is open, wish runs are
 /// simulated, and where one of these has a greater latency it asks for that.
 fn look_by_wishes<'a>(
     alloc: Global,
     instance: &'a Instance,
-    branch: &Tracked,
+    branch: &Branch,
     seen: u32,
     look: Look<'a>,
 ) -> Result<Look<'a>, AllocError>
     requires of_scenario { branch.now.scenario ≡ instance.now }
-    requires look { IsLookAtGreatest Lead instance.now branch.now.delay_box seen look }
-    ensures { IfOk result (λ look. IsLook Lead instance.now branch.now.delay_box seen look) }
+    requires look { IsLookAtRun Lead instance.now branch.now.region seen look }
+    ensures { IfOk result (λ look. IsLook Lead instance.now branch.now.region seen look) }
 {
     stamp_bound_at_most_plain();
     if look.asked.leaf.is_some() {
         return Ok(look);
     }
     let known = known_after(&look.found, seen);
-    match wished(alloc, instance, branch, &look.asked, known)? {
+    match wished(alloc, instance, branch.tracked(), &look.asked, known)? {
         None => Ok(look),
         Some(found) => {
-            let asked = Bounds::Lead.ask(alloc, instance, branch, found.latency())?;
+            let asked = Bounds::Lead.ask(alloc, instance, branch.tracked(), found.latency())?;
             Ok(Look {
                 found: Some(found),
                 asked,
@@ -188,31 +181,31 @@ pub(crate) fn wished(
     )
 }
 
-/// Asks whether the box is closed for the latency seen, in ticks, then for that of its greatest
-/// delays, and then whether it is closed for that if it is greater.
-fn look_at_greatest<'a>(
+/// Asks whether the region is closed for the latency seen, in ticks, then for that of its run, and then whether
+/// it is closed for that if it is greater.
+fn look_at_run<'a>(
     alloc: Global,
     instance: &'a Instance,
-    branch: &Tracked,
+    branch: &Branch,
     tried: bool,
     seen: u32,
     bounds: Bounds,
 ) -> Result<Look<'a>, AllocError>
     requires of_scenario { branch.now.scenario ≡ instance.now }
-    requires known { IsTriedIf instance.now branch.now.delay_box tried seen }
+    requires known { IsTriedIf instance.now branch.now.region tried seen }
     ensures value { IfOk result
-        (λ look. IsLookAtGreatest bounds instance.now branch.now.delay_box seen look) }
+        (λ look. IsLookAtRun bounds instance.now branch.now.region seen look) }
 {
     stamp_bound_at_most_plain();
-    let asked = bounds.ask(alloc, instance, branch, seen)?;
+    let asked = bounds.ask(alloc, instance, branch.tracked(), seen)?;
     if asked.leaf.is_some() {
         return Ok(Look { found: None, asked });
     }
-    match try_greatest(alloc, instance, branch, tried, seen)? {
+    match try_run(alloc, instance, branch, tried, seen)? {
         None => Ok(Look { found: None, asked }),
         Some(found) => {
             let latency = found.latency();
-            let asked = bounds.ask(alloc, instance, branch, latency)?;
+            let asked = bounds.ask(alloc, instance, branch.tracked(), latency)?;
             Ok(Look {
                 found: Some(found),
                 asked,
@@ -221,27 +214,25 @@ fn look_at_greatest<'a>(
     }
 }
 
-/// The record of the greatest delays of a box, if their latency is above `seen`, in ticks. This is
-/// the one place where a step asks for a latency, and it does not where the delays were tried.
-fn try_greatest(
+/// The record of the run of a region, if its latency is above `seen`, in ticks. This is
+/// the one place where a step asks for a latency, and it does not where the run was tried.
+fn try_run(
     alloc: Global,
     instance: &Instance,
-    branch: &Tracked,
+    branch: &Branch,
     tried: bool,
     seen: u32,
 ) -> Result<Option<Record>, AllocError>
     requires of_scenario { branch.now.scenario ≡ instance.now }
-    requires known { IsTriedIf instance.now branch.now.delay_box tried seen }
-    ensures { let schedule = greatest_of branch.now.delay_box in IfOk result (λ found. found
+    requires known { IsTriedIf instance.now branch.now.region tried seen }
+    ensures { let schedule = run_of instance.now branch.now.region in IfOk result (λ found. found
         ≡ (if nat_le (latency_of instance.now schedule) seen
         then None else Some (attained_by instance.now schedule))) }
 {
-    if tried || branch.greatest_latency(instance) <= seen {
+    if tried || branch.run_latency(alloc, instance)? <= seen {
         return Ok(None);
     }
-    fixed_order_is_order();
-    members_are_assignments();
-    let schedule = branch.delay_box().greatest(alloc)?;
+    let schedule = branch.run(alloc, instance)?;
     Ok(Some(Record::of(instance, schedule)))
 }
 
@@ -255,62 +246,123 @@ fn known_after(found: &Option<Record>, seen: u32) -> u32
     }
 }
 
-/// What becomes of a box that no bound closes, nor leads, for the latency that is known, in ticks: its
-/// halves, where it can be split. Where memory runs out the box comes back as it was.
-fn open_fate(
+/// What becomes of a region that no bound closes, nor leads, for the latency that is known, in ticks: its
+/// halves, where it can be split. Where memory runs out the region comes back as it was.
+fn open_turn(
     alloc: Global,
     instance: &Instance,
-    branch: Tracked,
+    branch: Branch,
     latency: u32,
     left: Option<Box<LeftOpen>>,
-) -> Result<Fate, (Tracked, AllocError)>
+) -> Result<Turn, (Branch, AllocError)>
     requires of_scenario { branch.scenario ≡ instance.now }
-    requires left { IfSome left (λ left. IsLeftOpen instance.now branch.delay_box left.value) }
-    ensures value { (by : Bounds) (known : ℕ) → StaysOpen by instance.now branch.delay_box known
-        → IfOk result (λ fate. IsFate by instance.now branch.delay_box known fate) }
+    requires left { IfSome left (λ left. IsLeftOpen instance.now branch.region.ranges left.value) }
+    ensures value { (by : Bounds) (known : ℕ) → StaysOpen by instance.now branch.region known
+        → IfOk result (λ turn. IsTurn by instance.now branch.region known turn) }
     ensures back { IfErr result (λ refused. refused.0 ≡ branch) }
 {
-    let place = match place_to_split(alloc, instance, branch.delay_box(), latency, left) {
+    upper_keeps_greatest();
+    let place = match place_to_split(alloc, instance, branch.delay_box(), latency, left, false) {
         Ok(place) => place,
         Err(error) => return Err((branch, error)),
     };
     match place {
-        None => Ok(point_fate(instance, branch)),
+        None => point_turn(alloc, instance, branch),
         Some((packet, at)) => {
-            let (lower, upper) = branch.halves(instance, usize::from(packet), at)?;
-            Ok(Fate::Turned(Turn::Halves {
-                packet,
-                at,
-                lower,
-                upper,
-            }))
+            let (first, second) = branch.halves(instance, usize::from(packet), at)?;
+            Ok(Turn::Halves {
+                split: Node::Split { packet, at },
+                first,
+                second,
+                tried: true,
+            })
         }
     }
 }
 
-/// What becomes of such a box that can't be split: in whole ticks it has one member, which was tried,
-/// and is closed; in real time it stays.
-fn point_fate(instance: &Instance, branch: Tracked) -> Fate
+/// What becomes of such a region in which each packet has one delay left: in whole ticks no tie is open, and it
+/// is closed as a point, since its run was tried. Where memory runs out the region comes back as it was.
+fn point_turn(
+    alloc: Global,
+    instance: &Instance,
+    branch: Branch,
+) -> Result<Turn, (Branch, AllocError)>
     requires of_scenario { branch.scenario ≡ instance.now }
-    requires point { IsPoint branch.delay_box }
-    ensures { (bounds : Bounds) (known : ℕ) → StaysOpen bounds instance.now branch.delay_box known
-        → IsFate bounds instance.now branch.delay_box known result }
+    requires point { IsPoint branch.region.ranges }
+    ensures value { (bounds : Bounds) (known : ℕ) → StaysOpen bounds instance.now branch.region known
+        → IfOk result (λ turn. IsTurn bounds instance.now branch.region known turn) }
+    ensures back { IfErr result (λ refused. refused.0 ≡ branch) }
 {
+    tests_decide();
     match instance.time() {
-        Time::Ticks => Fate::Turned(Turn::Closed(Node::Point)),
-        Time::Real => Fate::Stays(branch),
+        Time::Ticks => Ok(Turn::Closed(Node::Point)),
+        Time::Real => tied_turn(alloc, instance, branch),
     }
+}
+
+/// The same in real time: it is closed as a point where no tie is open, and else split by the order of an open
+/// tie.
+#[tactic(auto, using(crate::proofs::OpenTurns::decided_without_ties))]
+fn tied_turn(
+    alloc: Global,
+    instance: &Instance,
+    branch: Branch,
+) -> Result<Turn, (Branch, AllocError)>
+    requires of_scenario { branch.scenario ≡ instance.now }
+    requires real { instance.now.time ≡ Real }
+    requires point { IsPoint branch.region.ranges }
+    ensures value { (bounds : Bounds) (known : ℕ) → StaysOpen bounds instance.now branch.region known
+        → IfOk result (λ turn. IsTurn bounds instance.now branch.region known turn) }
+    ensures back { IfErr result (λ refused. refused.0 ≡ branch) }
+{
+    tests_decide();
+    match branch.open_tie(alloc, instance) {
+        Err(error) => Err((branch, error)),
+        Ok(None) => Ok(Turn::Closed(Node::Point)),
+        Ok(Some((first, second))) => ordered_turn(alloc, instance, branch, first, second),
+    }
+}
+
+/// The halves of a region by the order of two moments, by their numbers.
+fn ordered_turn(
+    alloc: Global,
+    instance: &Instance,
+    branch: Branch,
+    first: usize,
+    second: usize,
+) -> Result<Turn, (Branch, AllocError)>
+    requires of_scenario { branch.scenario ≡ instance.now }
+    requires real { instance.now.time ≡ Real }
+    requires can_order { IsTrue (can_order instance.now branch.region first second) }
+    ensures value { (bounds : Bounds) (known : ℕ) → StaysOpen bounds instance.now branch.region known
+        → IfOk result (λ turn. IsTurn bounds instance.now branch.region known turn) }
+    ensures back { IfErr result (λ refused. refused.0 ≡ branch) }
+{
+    stages_are_few();
+    let split = Node::Order {
+        first: first as u8,
+        second: second as u8,
+    };
+    let halves = branch.orders(alloc, instance, first, second)?;
+    Ok(Turn::Halves {
+        split,
+        first: halves.0,
+        second: halves.1,
+        tried: false,
+    })
 }
 
 /// Where to split a box that is not closed for the latency that is known, in ticks: by what leads leave
 /// open of it, where they were asked, if the chain that keeps it open says so, and else in the middle of
-/// the widest range. None where each packet has one delay left. The error is that memory ran out.
+/// the widest range. None where each packet has one delay left. Where the rival is to come first, so that it has
+/// a low stamp, the place speaks of that, too. The error is that memory ran out.
 pub(crate) fn place_to_split(
     alloc: Global,
     instance: &Instance,
     branch: &DelayBox,
     latency: u32,
     left: Option<Box<LeftOpen>>,
+    rival_first: bool,
 ) -> Result<Option<(u16, u16)>, AllocError>
     requires inside { IsBox instance.now branch.now }
     requires left { IfSome left (λ left. IsLeftOpen instance.now branch.now left.value) }
@@ -321,7 +373,7 @@ pub(crate) fn place_to_split(
     if let Some(left) = left
         && let Some(opening) = &left.opening
     {
-        let place = place_by_leads(alloc, instance, branch, opening, latency)?;
+        let place = place_by_leads(alloc, instance, branch, opening, latency, rival_first)?;
         if place.is_some() {
             return Ok(place);
         }

@@ -22,14 +22,15 @@ struct Scene<'a> {
 
 /// What the links of a chain want of the delay of each packet of a box, and of the waits: the case that
 /// leads leave open for a latency in ticks, and how a stamp of the target may exceed the rival's there.
-/// Where some message may wait, the case wants nothing beside a chain: waits make it hold in most halves.
-/// The error is that memory ran out.
+/// Where some message may wait, the case wants nothing beside a chain: waits make it hold in most halves. Where the
+/// rival is to come first, its stamp at the target's group is to be low, too. The error is that memory ran out.
 pub(crate) fn wants_of(
     alloc: Global,
     instance: &Instance,
     delay_box: &DelayBox,
     opening: &Opening,
     latency: u32,
+    rival_first: bool,
 ) -> Result<Vec<Want>, AllocError>
     requires { IsOpening instance.now opening.now }
 {
@@ -48,6 +49,9 @@ pub(crate) fn wants_of(
     }
     for link in &opening.links {
         scene.add_link(wants.as_mut_slice(), link);
+    }
+    if rival_first {
+        scene.add_rival_first(wants.as_mut_slice(), opening.case.rival);
     }
     Ok(wants)
 }
@@ -146,6 +150,24 @@ impl<'a> Scene<'a> {
         );
         self.arrives(wants, rival, group, When::By(last));
         self.arrives(wants, target, group, When::Since(first));
+    }
+
+    /// Adds what keeps the stamp of the rival at the target's group low: each message that may arrive there before it,
+    /// and need not, is to arrive after it.
+    fn add_rival_first(&self, wants: &mut [Want], rival: usize)
+        requires { rival < length self.now.instance.now.multicasts }
+    {
+        let group = target_group(self.instance.scenario());
+        let first = self.windows.least_arrival(rival, group);
+        for other in 0..self.instance.message_count() {
+            if other != rival
+                && self.instance.destinations(other).contains(&group)
+                && self.windows.least_arrival(other, group) < first
+                && first < self.windows.greatest_arrival(other, group)
+            {
+                self.arrives(wants, other, group, When::Since(first));
+            }
+        }
     }
 
     /// Adds what a link wants: its message and those that it counts arrive in time, after the commit

@@ -1,4 +1,4 @@
-//! The search both ways: by plain bounds, and where boxes are left then, by leads.
+//! The search both ways: by plain bounds, and where regions are left then, by leads.
 
 ghost use Rattle.std.specs.Prelude.{◌≡◌, ℕ, ◌≤◌, List, IfOk};
 ghost use Rattle.convoy_scenario.specs.Scenario.{Scenario};
@@ -42,11 +42,11 @@ pub fn lead_share(limit: u64) -> u64
 
 /// Searches both ways with one worker, from an opening record of the scenario as
 /// [`search_alone_from`] does: first by plain bounds, with at most [`PLAIN_TICKETS`] of the `limit`
-/// tickets, and where boxes are left and tickets too, by leads from the root, with the best record that was
+/// tickets, and where regions are left and tickets too, by leads from the root, with the best record that was
 /// found. The gate is told of the second search; where it may stop the search, and does so before then, there is
 /// no second one. The tickets of the outcome are those of the search that ended last.
 ///
-/// `Outcome::Open` is the answer only where both searches left boxes, or the first one did and there was no
+/// `Outcome::Open` is the answer only where both searches left regions, or the first one did and there was no
 /// second one: no latency is above its upper bound, the lesser one of theirs where there were two. The error is
 /// that memory ran out.
 pub fn search_both_ways<G: Gate>(
@@ -84,7 +84,7 @@ pub enum AfterPlain {
 }
 
 /// What comes in a search both ways with that limit after its first search, by plain bounds, has ended so. The
-/// search by leads comes where boxes are left, some tickets are for leads, and the gate does not stop the search;
+/// search by leads comes where regions are left, some tickets are for leads, and the gate does not stop the search;
 /// the gate is told of it.
 pub fn after_plain<G: Gate>(first: Outcome, limit: Limit, gate: &G) -> AfterPlain
     ensures { IsAfterPlain limit first result }

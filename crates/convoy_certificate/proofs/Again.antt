@@ -26,9 +26,9 @@ use Rattle.convoy_packets.specs.Packets.{packets_of}
 use Rattle.convoy_packets.specs.declared.packet.Packet.{Packet}
 use Rattle.convoy_certificate.specs.declared.certificate.TheConstants.{MOST_LEADS, MOST_NODES}
 use Rattle.convoy_certificate.specs.declared.node.Node.{Node}
-use Rattle.convoy_certificate.specs.declared.node.Node.TheVariants.{Split, Bound, Point, Stamp, Lead}
+use Rattle.convoy_certificate.specs.declared.node.Node.TheVariants.{Split, Bound, Point, Stamp, Lead, Order as OrderSplit}
 use Rattle.convoy_certificate.specs.declared.version.Version.{Version}
-use Rattle.convoy_certificate.specs.declared.version.Version.TheVariants.{One, Two, Three, Four}
+use Rattle.convoy_certificate.specs.declared.version.Version.TheVariants.{One, Two, Three, Four, Five}
 use Rattle.convoy_certificate.specs.declared.text_fault.TextFault.{TextFault}
 use Rattle.convoy_certificate.specs.declared.text_fault.TextFault.TheVariants as faults
 use Rattle.convoy_certificate.specs.Certificate.{Certificate, IsNode, IsNodeWhere, IsCertificate}
@@ -36,14 +36,15 @@ use Rattle.convoy_certificate.specs.Forms.{version_in, numbers_in, list_in, sche
 use Rattle.convoy_certificate.specs.Reading.{in_text, is_same_version, whole, is_assignment, is_order_list, order_in_time, order_at, leads_with, are_too_many, nodes_in, nodes_at, schedule_at, tree_at, certificate_of, AreReadable, IsTextOf}
 use Rattle.convoy_certificate.specs.CertificateLaws.{TextsAreRead}
 use Rattle.convoy_scenario.specs.Memory.{IsUnlessMemory}
-use Rattle.convoy_certificate.specs.Text.{is_stamp, is_lead, says_time, lines_version, version_for, version_of, version_line, latency_line, schedule_line, order_line, order_lines, ranks_written, schedule_lines, node_line, end_line, certificate_lines, certificate_text}
+use Rattle.convoy_certificate.specs.Text.{is_stamp, is_lead, decides_ties, says_time, lines_version, version_for, version_of, version_line, latency_line, schedule_line, order_line, order_lines, ranks_written, schedule_lines, node_line, end_line, certificate_lines, certificate_text}
 use Rattle.convoy_certificate.proofs.Assigned.{passes}
 use Rattle.convoy_certificate.proofs.Orders.{IsWritten, written}
 use Rattle.convoy_certificate.proofs.Parts.{says_again}
+use Rattle.convoy_certificate.proofs.Taken.{one_version}
 use Rattle.convoy_certificate.proofs.Steps.{after_version, after_scenario, after_latency, after_schedule, after_tree, after_delays, order_after, after_order, read_from, in_steps, then_ok}
 use Rattle.convoy_lines.proofs.LabelLemmas.{label_again, number_line_again}
 use Rattle.convoy_lines.proofs.Spelling.{AreWords, AreLines, known_word, lines_append, decimal_word, number_again, line_lacks, lines_again}
-use Rattle.convoy_certificate.proofs.NodeLaws.{packet_fits, place_fits, neither, leads_more, split_again, lead_again}
+use Rattle.convoy_certificate.proofs.NodeLaws.{packet_fits, place_fits, neither, leads_more, split_again, order_split_again, lead_again}
 
 -- ---- the schedule
 
@@ -91,66 +92,98 @@ tail_of c = latency_line c.latency ∷ (schedule_lines c.scenario c.schedule ++ 
 
 -- ---- versions
 
--- the version has a line for such a leaf
-abbrev is_listed : Version → Node → Bool
-is_listed version Stamp = not (is_same_version version One)
-is_listed version (Lead latency) = is_same_version version Three || is_same_version version Four
-is_listed version node = true
+-- the version has lines for nodes that decide ties, where time goes so
+abbrev ties_listed : Version → Time → Bool
+ties_listed version Ticks = true
+ties_listed version Real = is_same_version version Five
 
-abbrev Lists : Version → List Node → Type 0
-Lists version nodes = AllByRecursion (λ node. is_listed version node ≡ true) nodes
+abbrev leads_listed : Version → Bool
+leads_listed version = is_same_version version Three || is_same_version version Four || is_same_version version Five
+
+-- the version has a line for such a node, where time goes so
+abbrev is_listed : Version → Time → Node → Bool
+is_listed version time (OrderSplit first second) = ties_listed version time
+is_listed version time Point = ties_listed version time
+is_listed version time Stamp = not (is_same_version version One)
+is_listed version time (Lead latency) = leads_listed version
+is_listed version time node = true
+
+abbrev Lists : Version → Time → List Node → Type 0
+Lists version time nodes = AllByRecursion (λ node. is_listed version time node ≡ true) nodes
 
 not_true : (b : Bool) → not b ≡ true → b ≡ false
 not_true false e = refl
 not_true true e = absurd cc
 
--- a version that has stamp and lead leaves has a line for each node
-lists_each : (version : Version) → is_same_version version One ≡ false → (is_same_version version Three || is_same_version version Four) ≡ true → (nodes : List Node) → Lists version nodes
-lists_each version later leads [] = tt
-lists_each version later leads (node ∷ nodes) = (one node, lists_each version later leads nodes) where
-  one : (node : Node) → is_listed version node ≡ true
+-- a version that has all kinds of nodes has a line for each of them
+lists_each : (version : Version) (time : Time) → is_same_version version One ≡ false → leads_listed version ≡ true → ties_listed version time ≡ true → (nodes : List Node) → Lists version time nodes
+lists_each version time later leads ties [] = tt
+lists_each version time later leads ties (node ∷ nodes) = (one node, lists_each version time later leads ties nodes) where
+  one : (node : Node) → is_listed version time node ≡ true
   one (Split packet at) = refl
+  one (OrderSplit first second) = ties
   one Bound = refl
-  one Point = refl
+  one Point = ties
   one Stamp = rw later refl
   one (Lead latency) = leads
 
-lists_two : (nodes : List Node) → list_any is_lead nodes ≡ false → Lists Two nodes
+lists_four : (nodes : List Node) → list_any decides_ties nodes ≡ false → Lists Four Real nodes
+lists_four [] none = tt
+lists_four (node ∷ nodes) none =
+    let parts = neither (decides_ties node) (list_any decides_ties nodes) none in
+    (one node parts.0, lists_four nodes parts.1) where
+      one : (node : Node) → decides_ties node ≡ false → is_listed Four Real node ≡ true
+      one (Split packet at) other = refl
+      one (OrderSplit first second) other = absurd cc
+      one Bound other = refl
+      one Point other = absurd cc
+      one Stamp other = refl
+      one (Lead latency) other = refl
+
+lists_two : (nodes : List Node) → list_any is_lead nodes ≡ false → Lists Two Ticks nodes
 lists_two [] none = tt
 lists_two (node ∷ nodes) none =
     let parts = neither (is_lead node) (list_any is_lead nodes) none in
     (one node parts.0, lists_two nodes parts.1) where
-      one : (node : Node) → is_lead node ≡ false → is_listed Two node ≡ true
+      one : (node : Node) → is_lead node ≡ false → is_listed Two Ticks node ≡ true
       one (Split packet at) other = refl
+      one (OrderSplit first second) other = refl
       one Bound other = refl
       one Point other = refl
       one Stamp other = refl
       one (Lead latency) other = absurd cc
 
-lists_one : (nodes : List Node) → list_any is_lead nodes ≡ false → list_any is_stamp nodes ≡ false → Lists One nodes
+lists_one : (nodes : List Node) → list_any is_lead nodes ≡ false → list_any is_stamp nodes ≡ false → Lists One Ticks nodes
 lists_one [] none unstamped = tt
 lists_one (node ∷ nodes) none unstamped =
     let leads = neither (is_lead node) (list_any is_lead nodes) none in
     let stamps = neither (is_stamp node) (list_any is_stamp nodes) unstamped in
     (one node leads.0 stamps.0, lists_one nodes leads.1 stamps.1) where
-      one : (node : Node) → is_lead node ≡ false → is_stamp node ≡ false → is_listed One node ≡ true
+      one : (node : Node) → is_lead node ≡ false → is_stamp node ≡ false → is_listed One Ticks node ≡ true
       one (Split packet at) other unstamped = refl
+      one (OrderSplit first second) other unstamped = refl
       one Bound other unstamped = refl
       one Point other unstamped = refl
       one Stamp other unstamped = absurd cc
       one (Lead latency) other unstamped = absurd cc
 
--- the version can say how time goes and the links, and has a line for each of the nodes
-record IsOwn (plan : Scenario) (nodes : List Node) (version : Version) : Type 0 where
+-- the version can say how time goes and the links, and has a line for each of the nodes where time goes so
+record IsOwn (plan : Scenario) (time : Time) (nodes : List Node) (version : Version) : Type 0 where
   timed : CanSayTime (lines_version version) plan
   linked : CanSayLinks (lines_version version) plan.links
-  lists : Lists version nodes
+  lists : Lists version time nodes
 
-own_for : (plan : Scenario) (timed : Bool) (nodes : List Node) → is_timed plan ≡ timed → IsOwn plan nodes (version_for timed (length plan.links) nodes)
-own_for plan true nodes is = record { timed = tt; linked = tt; lists = lists_each Four refl refl nodes }
-own_for plan false nodes is =
+own_for : (plan : Scenario) (time : Time) (timed : Bool) (nodes : List Node) → plan.time ≡ time → is_timed plan ≡ timed → IsOwn plan time nodes (version_for time timed (length plan.links) nodes)
+own_for plan Real true nodes goes is =
+    elim (cases_Bool (list_any decides_ties nodes)) [
+      | inl tied ↦ rw tied (record { timed = tt; linked = tt; lists = lists_each Five Real refl refl refl nodes })
+      | inr none ↦ rw none (record { timed = tt; linked = tt; lists = lists_four nodes none })
+    ]
+own_for plan Real false nodes goes is = let timed : true ≡ false = rw goes at is in absurd cc
+own_for plan Ticks true nodes goes is = record { timed = tt; linked = tt; lists = lists_each Four Ticks refl refl refl nodes }
+own_for plan Ticks false nodes goes is =
     elim (cases_Bool (list_any is_lead nodes)) [
-      | inl led ↦ rw led (record { timed = is; linked = tt; lists = lists_each Three refl refl nodes })
+      | inl led ↦ rw led (record { timed = is; linked = tt; lists = lists_each Three Ticks refl refl refl nodes })
       | inr none ↦
           elim (cases_Bool (length plan.links == 0 && not (list_any is_stamp nodes))) [
             | inl one ↦
@@ -161,8 +194,8 @@ own_for plan false nodes is =
     ]
 
 -- the version in which a certificate is written is its own
-own : (c : Certificate) → IsOwn c.scenario c.nodes (version_of c)
-own c = own_for c.scenario (is_timed c.scenario) c.nodes refl
+own : (c : Certificate) → IsOwn c.scenario c.scenario.time c.nodes (version_of c)
+own c = own_for c.scenario c.scenario.time (is_timed c.scenario) c.nodes refl refl
 
 said : (c : Certificate) → CanSay (lines_version (version_of c)) c.scenario
 said c = let mine = own c in record { time = mine.timed; links = mine.linked }
@@ -172,25 +205,28 @@ abbrev NodesOf : Version → Time → List Node → Type 0
 NodesOf version time nodes = All (IsNodeWhere (says_time version) time) nodes
 
 nodes_of : (c : Certificate) → IsCertificate c → NodesOf (version_of c) c.scenario.time c.nodes
-nodes_of c is = subst (λ (timed : Bool). All (IsNodeWhere timed c.scenario.time) c.nodes) (sym (says_again (is_timed c.scenario) (length c.scenario.links) c.nodes)) is.nodes
+nodes_of c is = subst (λ (timed : Bool). All (IsNodeWhere timed c.scenario.time) c.nodes) (sym (says_again c.scenario.time (is_timed c.scenario) (length c.scenario.links) c.nodes)) is.nodes
 
 version_again : (version : Version) → version_in (version_line version) ≡ Some version
 version_again One = refl
 version_again Two = refl
 version_again Three = refl
 version_again Four = refl
+version_again Five = refl
 
 version_line_is : (version : Version) → IsLine (version_line version)
 version_line_is One = refl
 version_line_is Two = refl
 version_line_is Three = refl
 version_line_is Four = refl
+version_line_is Five = refl
 
 same_version : (version : Version) → is_same_version version version ≡ true
 same_version One = refl
 same_version Two = refl
 same_version Three = refl
 same_version Four = refl
+same_version Five = refl
 
 whole_again : (c : Certificate) (past : Place) → is_at_end past ≡ true → whole (version_of c) c.scenario (c.nodes, past) ≡ Ok c.nodes
 whole_again c past end = rw (same_version (version_of c), end) refl
@@ -252,20 +288,31 @@ order_again Real plan order number more real is = order_read plan order (ranks_w
 in_ticks_again : (version : Version) (time : Time) (node : Node) (line : List ℕ) → time ≡ Ticks → node_or_end version Ticks line ≡ Some (Some node) → node_or_end version time line ≡ Some (Some node)
 in_ticks_again version time node line ticks e = ap (λ (t : Time). node_or_end version t line) ticks ∙ e
 
-node_again : (version : Version) (time : Time) (node : Node) → IsNodeWhere (says_time version) time node → is_listed version node ≡ true → node_or_end version time (node_line node) ≡ Some (Some node)
+-- a node that decides ties is read in real time in the version that has such nodes
+ties_again : (version : Version) (time : Time) (node : Node) (line : List ℕ) → time ≡ Real → ties_listed version time ≡ true → node_or_end Five Real line ≡ Some (Some node) → node_or_end version time line ≡ Some (Some node)
+ties_again version time node line real listed e =
+    let five : version ≡ Five = one_version version Five (rw real at listed) in
+    ap (λ (t : Time). node_or_end version t line) real ∙ ap (λ (v : Version). node_or_end v Real line) five ∙ e
+
+node_again : (version : Version) (time : Time) (node : Node) → IsNodeWhere (says_time version) time node → is_listed version time node ≡ true → node_or_end version time (node_line node) ≡ Some (Some node)
 node_again version time (Split packet at) is listed = ap (option_map (λ node. Some node)) (split_again version time packet at is.0 is.1 is.2)
+node_again version time (OrderSplit first second) is listed =
+    ties_again version time (OrderSplit first second) (node_line (OrderSplit first second)) is.0 listed (ap (option_map (λ node. Some node)) (order_split_again first second is.1 is.2))
 node_again version time Bound is listed = refl
-node_again version time Point is listed = in_ticks_again version time Point (codes "p") is refl
+node_again version Ticks Point is listed = refl
+node_again version Real Point is listed = ties_again version Real Point (codes "p") refl listed refl
 node_again One time Stamp is listed = absurd cc
 node_again Two time Stamp is listed = in_ticks_again Two time Stamp (codes "t") is refl
 node_again Three time Stamp is listed = in_ticks_again Three time Stamp (codes "t") is refl
 node_again Four time Stamp is listed = in_ticks_again Four time Stamp (codes "t") is refl
+node_again Five time Stamp is listed = in_ticks_again Five time Stamp (codes "t") is refl
 node_again One time (Lead latency) is listed = absurd cc
 node_again Two time (Lead latency) is listed = absurd cc
 node_again Three time (Lead latency) is listed = ap (option_map (λ node. Some node)) (lead_again Three time latency (λ words. refl) (omega (arith, is)))
 node_again Four time (Lead latency) is listed = ap (option_map (λ node. Some node)) (lead_again Four time latency (λ words. refl) (omega (arith, is)))
+node_again Five time (Lead latency) is listed = ap (option_map (λ node. Some node)) (lead_again Five time latency (λ words. refl) (omega (arith, is)))
 
-nodes_again : (version : Version) (time : Time) (nodes : List Node) (count leads number : ℕ) (rest : List ℕ) (more : List (List ℕ)) → NodesOf version time nodes → Lists version nodes → count + length nodes ≤ MOST_NODES → leads + count_by is_lead nodes ≤ MOST_LEADS
+nodes_again : (version : Version) (time : Time) (nodes : List Node) (count leads number : ℕ) (rest : List ℕ) (more : List (List ℕ)) → NodesOf version time nodes → Lists version time nodes → count + length nodes ≤ MOST_NODES → leads + count_by is_lead nodes ≤ MOST_LEADS
     → nodes_in version time count leads number rest (map node_line nodes ++ end_line ∷ more) ≡ Ok (nodes, record { ended = more; rest = rest; number = number + length nodes + 1 })
 unfolding nodes_in
 nodes_again version time [] count leads number rest more are listed few few_leads = let e : number + 0 + 1 ≡ number + 1 = omega arith in rw e refl
@@ -287,6 +334,7 @@ node_lines plan (node ∷ nodes) are = (one node (All-head (IsNode plan) node no
 
   one : (node : Node) → IsNode plan node → IsLine (node_line node)
   one (Split packet at) is = line_lacks (codes "s") (decimal packet ∷ decimal at ∷ []) refl (decimal_word packet (omega (arith, is.0, packet_fits timed)), (decimal_word at (omega (arith, is.2, place_fits timed)), tt))
+  one (OrderSplit first second) is = line_lacks (codes "o") (decimal first ∷ decimal second ∷ []) refl (decimal_word first (omega (arith, is.1, is.2)), (decimal_word second (omega (arith, is.2)), tt))
   one Bound is = refl
   one Point is = refl
   one Stamp is = refl
@@ -367,7 +415,7 @@ certificate_again lines scenarios c is readable =
 
 -- ---- two certificates with one text
 
-nodes_unique : (version : Version) (time : Time) (xs ys : List Node) → NodesOf version time xs → NodesOf version time ys → Lists version xs → Lists version ys → map node_line xs ++ end_line ∷ [] ≡ map node_line ys ++ end_line ∷ [] → xs ≡ ys
+nodes_unique : (version : Version) (time : Time) (xs ys : List Node) → NodesOf version time xs → NodesOf version time ys → Lists version time xs → Lists version time ys → map node_line xs ++ end_line ∷ [] ≡ map node_line ys ++ end_line ∷ [] → xs ≡ ys
 nodes_unique version time [] [] p q l m e = refl
 nodes_unique version time [] (y ∷ ys) p q l m e =
     let h = parts end_line (node_line y) [] (map node_line ys ++ end_line ∷ []) e in
@@ -415,7 +463,9 @@ is_unique lines scenarios b c p q e =
     let time : b.scenario.time ≡ c.scenario.time = ap (λ (x : Scenario). x.time) scenario in
     let theirs : NodesOf (version_of b) b.scenario.time c.nodes =
     subst (λ (v : Version). NodesOf v b.scenario.time c.nodes) (sym version) (subst (λ (t : Time). NodesOf (version_of c) t c.nodes) (sym time) (nodes_of c q)) in
-    let nodes : b.nodes ≡ c.nodes = nodes_unique (version_of b) b.scenario.time b.nodes c.nodes (nodes_of b p) theirs (own b).lists (subst (λ (v : Version). Lists v c.nodes) (sym version) (own c).lists) ended in
+    let listed : Lists (version_of b) b.scenario.time c.nodes =
+    subst (λ (v : Version). Lists v b.scenario.time c.nodes) (sym version) (subst (λ (t : Time). Lists (version_of c) t c.nodes) (sym time) (own c).lists) in
+    let nodes : b.nodes ≡ c.nodes = nodes_unique (version_of b) b.scenario.time b.nodes c.nodes (nodes_of b p) theirs (own b).lists listed ended in
     made scenario latency delays order nodes where
       made : b.scenario ≡ c.scenario → b.latency ≡ c.latency → b.schedule.delays ≡ c.schedule.delays → b.schedule.order ≡ c.schedule.order → b.nodes ≡ c.nodes → b ≡ c
       made s l d o n =

@@ -32,9 +32,9 @@ use Rattle.convoy_packets.proofs.Ranges.{length-assignment}
 use Rattle.convoy_scenario.proofs.FewLinks.{few_links}
 use Rattle.convoy_certificate.specs.declared.certificate.TheConstants.{LONGEST_TEXT, MOST_NODES}
 use Rattle.convoy_certificate.specs.declared.node.Node.{Node}
-use Rattle.convoy_certificate.specs.declared.node.Node.TheVariants.{Split, Bound, Point, Stamp, Lead}
+use Rattle.convoy_certificate.specs.declared.node.Node.TheVariants.{Split, Order, Bound, Point, Stamp, Lead}
 use Rattle.convoy_certificate.specs.declared.version.Version.{Version}
-use Rattle.convoy_certificate.specs.declared.version.Version.TheVariants.{One, Two, Three, Four}
+use Rattle.convoy_certificate.specs.declared.version.Version.TheVariants.{One, Two, Three, Four, Five}
 use Rattle.convoy_certificate.specs.Certificate.{Certificate, IsNode, IsCertificate}
 use Rattle.convoy_certificate.specs.Text.{lines_version, version_of, version_line, latency_line, schedule_line, order_line, order_lines, ranks_written, schedule_lines, node_line, end_line, certificate_text}
 use Rattle.convoy_certificate.proofs.Again.{Small, small_assigned}
@@ -95,6 +95,14 @@ node_length plan (Split packet at) is =
     let five : length (decimal at) ≤ 5 = length-decimal-le 5 at (omega arith) (omega (arith, at_within, within)) (omega (arith, at_within, within)) in
     let both = length-append (spaced (decimal packet)) (spaced (decimal at) ++ []) in
     let last = length-append (spaced (decimal at)) [] in
+    omega arith
+node_length plan (Order first second) is =
+    let ascending = is.1 in
+    let high = is.2 in
+    let three : length (decimal first) ≤ 3 = length-decimal-le 3 first (omega arith) (omega (arith, ascending, high)) (omega (arith, ascending, high)) in
+    let others : length (decimal second) ≤ 3 = length-decimal-le 3 second (omega arith) (omega (arith, high)) (omega (arith, high)) in
+    let both = length-append (spaced (decimal first)) (spaced (decimal second) ++ []) in
+    let last = length-append (spaced (decimal second)) [] in
     omega arith
 node_length plan Bound is = omega arith
 node_length plan Point is = omega arith
@@ -295,6 +303,7 @@ version_length One = refl
 version_length Two = refl
 version_length Three = refl
 version_length Four = refl
+version_length Five = refl
 
 -- the text of a certificate is within the limit
 pub certificate_length : (c : Certificate) → IsCertificate c → length c.nodes ≤ MOST_NODES → length (certificate_text c) ≤ LONGEST_TEXT

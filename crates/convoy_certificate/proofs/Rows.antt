@@ -15,11 +15,11 @@ use Rattle.convoy_packets.specs.Order.{no_order, place}
 use Rattle.convoy_packets.specs.OrderLists.{marks_of}
 use Rattle.convoy_packets.specs.Packets.{packets_of}
 use Rattle.convoy_certificate.specs.declared.node.Node.{Node}
-use Rattle.convoy_certificate.specs.declared.node.Node.TheVariants.{Split, Bound, Point, Stamp, Lead}
+use Rattle.convoy_certificate.specs.declared.node.Node.TheVariants.{Split, Order, Bound, Point, Stamp, Lead}
 use Rattle.convoy_certificate.specs.declared.text_fault.TextFault.{TextFault}
 use Rattle.convoy_certificate.specs.declared.text_fault.TextFault.TheVariants as faults
 use Rattle.convoy_certificate.specs.declared.version.Version.{Version}
-use Rattle.convoy_certificate.specs.declared.version.Version.TheVariants.{One, Two, Three, Four}
+use Rattle.convoy_certificate.specs.declared.version.Version.TheVariants.{One, Two, Three, Four, Five}
 use Rattle.convoy_certificate.specs.Certificate.{Certificate}
 use Rattle.convoy_certificate.specs.Forms.{node_or_end}
 use Rattle.convoy_certificate.specs.Reading.{is_order_list, nodes_in, certificate_of}
@@ -84,6 +84,10 @@ linked = record base {
 abbrev in_real_time : Certificate
 in_real_time = record base { scenario = record base.scenario { time = Real }; nodes = Lead 12 ∷ [] }
 
+-- the same with a split by order, and two point leaves
+abbrev with_ties_split : Certificate
+with_ties_split = record in_real_time { nodes = Order 2 6 ∷ Point ∷ Point ∷ [] }
+
 -- the same with the arrival of t at b of a later rank
 abbrev tied : Certificate
 tied = record in_real_time { schedule = record in_real_time.schedule { order = record no_order { arrivals = slice_set (replicate 128 0) (place 1 1) 1 } } }
@@ -125,18 +129,32 @@ texts_with_time : HaveTexts (
 unfolding digits no_order marks_of
 texts_with_time = (refl, (refl, (refl, (refl, tt))))
 
+-- in version 5: real time where the tree has a split by order, or a point leaf
+texts_with_ties : HaveTexts (
+    (with_ties_split, codes "convoy 5\ntime real\ndelay 3\ngroups a b\n" ++ issued ++ foot ++ codes "order\no 2 6\np\np\nend\n")
+    ∷ (record in_real_time { nodes = Point ∷ [] }, codes "convoy 5\ntime real\ndelay 3\ngroups a b\n" ++ issued ++ foot ++ codes "order\np\nend\n")
+    ∷ [])
+unfolding digits no_order
+texts_with_ties = (refl, (refl, tt))
+
 -- ---- what is read
 
 -- each line is read as that node in that version, where time goes so
 abbrev AreNodes : List (Version × Time × List ℕ × Option (Option Node)) → Type 0
 AreNodes rows = AllByRecursion (λ (row : Version × Time × List ℕ × Option (Option Node)). node_or_end row.0 row.1 row.2 ≡ row.3) rows
 
--- version 1 has no lines `t`, versions 1 and 2 have no lines `c`, and real time has no lines `p` and `t`; a lead has 32 bits
+-- version 1 has no lines `t`, versions 1 and 2 have no lines `c`, and real time has no lines `t`, and lines `p` in version 5 alone; a lead has 32 bits
 leaves : AreNodes (
-    (One, Ticks, codes "t", None) ∷ (Two, Ticks, codes "t", Some (Some Stamp)) ∷ (Four, Real, codes "t", None) ∷ (Four, Real, codes "p", None)
+    (One, Ticks, codes "t", None) ∷ (Two, Ticks, codes "t", Some (Some Stamp)) ∷ (Five, Real, codes "t", None) ∷ (Four, Real, codes "p", None) ∷ (Five, Real, codes "p", Some (Some Point))
     ∷ (One, Ticks, codes "c 12", None) ∷ (Two, Ticks, codes "c 12", None) ∷ (Three, Ticks, codes "c 12", Some (Some (Lead 12))) ∷ (Four, Real, codes "c 12", Some (Some (Lead 12)))
     ∷ (Three, Ticks, codes "c 4294967295", Some (Some (Lead 4_294_967_295))) ∷ (Three, Ticks, codes "c 4294967296", None) ∷ [])
-leaves = (refl, (refl, (refl, (refl, (refl, (refl, (refl, (refl, (refl, (refl, tt))))))))))
+leaves = (refl, (refl, (refl, (refl, (refl, (refl, (refl, (refl, (refl, (refl, (refl, tt)))))))))))
+
+-- a split by order is of version 5 and of real time; its two numbers ascend, and go up to 255
+order_splits : AreNodes (
+    (Five, Real, codes "o 0 255", Some (Some (Order 0 255))) ∷ (Five, Real, codes "o 0 256", None) ∷ (Five, Real, codes "o 1 1", None) ∷ (Five, Real, codes "o 2 1", None)
+    ∷ (Five, Real, codes "o 1", None) ∷ (Five, Real, codes "o 1 2 3", None) ∷ (Five, Real, codes "o", None) ∷ (Four, Real, codes "o 1 2", None) ∷ (Five, Ticks, codes "o 1 2", None) ∷ [])
+order_splits = (refl, (refl, (refl, (refl, (refl, (refl, (refl, (refl, (refl, tt)))))))))
 
 -- a split is after 1 to 16 in versions 1 to 3, of a packet up to 1,023, and after 0 to 65,535 in version 4, of a packet up to 1,039
 splits : AreNodes (

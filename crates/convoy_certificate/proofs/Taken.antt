@@ -32,7 +32,7 @@ use Rattle.convoy_certificate.specs.declared.certificate.TheConstants.{MOST_LEAD
 use Rattle.convoy_certificate.specs.declared.node.Node.{Node}
 use Rattle.convoy_certificate.specs.declared.text_fault.TextFault.{TextFault}
 use Rattle.convoy_certificate.specs.declared.version.Version.{Version}
-use Rattle.convoy_certificate.specs.declared.version.Version.TheVariants.{One, Two, Three, Four}
+use Rattle.convoy_certificate.specs.declared.version.Version.TheVariants.{One, Two, Three, Four, Five}
 use Rattle.convoy_certificate.specs.declared.text_fault.TextFault.TheVariants as faults
 use Rattle.convoy_certificate.specs.Certificate.{Certificate}
 use Rattle.convoy_certificate.specs.Forms.{version_in, numbers_in, list_in, schedule_in, order_in, node_in, node_or_end, greatest_listed}
@@ -77,6 +77,27 @@ took_at {A} expected form number rest (line ∷ lines) x e = by_value (form line
 took : {A : Type 0} (expected : Expected) (form : List ℕ → Option A) (p : Place) (x : A × Place) → in_text (form_at expected form p) ≡ Ok x → Took form p x
 took expected form p x e = took_at expected form p.number p.rest p.ended x e
 
+newer_takes : (line : List ℕ) (version : Version)
+    → cond (bytes_eq line (version_line Three)) (Some Three) (cond (bytes_eq line (version_line Four)) (Some Four) (cond (bytes_eq line (version_line Five)) (Some Five) None)) ≡ Some version
+    → line ≡ version_line version
+newer_takes line version e =
+    elim (cases_Bool (bytes_eq line (version_line Three))) [
+      | inl three ↦
+          let read : Some Three ≡ Some version = rw three at e in
+          same_bytes line (version_line Three) three ∙ ap version_line (same_Some Three version read)
+      | inr other ↦
+          let read : cond (bytes_eq line (version_line Four)) (Some Four) (cond (bytes_eq line (version_line Five)) (Some Five) None) ≡ Some version = rw other at e in
+          elim (cases_Bool (bytes_eq line (version_line Four))) [
+            | inl four ↦
+                let last : Some Four ≡ Some version = rw four at read in
+                same_bytes line (version_line Four) four ∙ ap version_line (same_Some Four version last)
+            | inr neither ↦
+                let last : cond (bytes_eq line (version_line Five)) (Some Five) None ≡ Some version = rw neither at read in
+                let five = cond_some (bytes_eq line (version_line Five)) Five version last in
+                same_bytes line (version_line Five) five.0 ∙ ap version_line five.1
+          ]
+    ]
+
 version_takes : (line : List ℕ) (version : Version) → version_in line ≡ Some version → line ≡ version_line version
 version_takes line version e =
     elim (cases_Bool (bytes_eq line (version_line One))) [
@@ -84,30 +105,23 @@ version_takes line version e =
           let read : Some One ≡ Some version = rw one at e in
           same_bytes line (version_line One) one ∙ ap version_line (same_Some One version read)
       | inr other ↦
-          let read : cond (bytes_eq line (version_line Two)) (Some Two) (cond (bytes_eq line (version_line Three)) (Some Three) (cond (bytes_eq line (version_line Four)) (Some Four) None)) ≡ Some version = rw other at e in
+          let read : cond (bytes_eq line (version_line Two)) (Some Two) (cond (bytes_eq line (version_line Three)) (Some Three) (cond (bytes_eq line (version_line Four)) (Some Four) (cond (bytes_eq line (version_line Five)) (Some Five) None))) ≡ Some version = rw other at e in
           elim (cases_Bool (bytes_eq line (version_line Two))) [
             | inl two ↦
                 let last : Some Two ≡ Some version = rw two at read in
                 same_bytes line (version_line Two) two ∙ ap version_line (same_Some Two version last)
             | inr neither ↦
-                let newer : cond (bytes_eq line (version_line Three)) (Some Three) (cond (bytes_eq line (version_line Four)) (Some Four) None) ≡ Some version = rw neither at read in
-                elim (cases_Bool (bytes_eq line (version_line Three))) [
-                  | inl three ↦
-                      let last : Some Three ≡ Some version = rw three at newer in
-                      same_bytes line (version_line Three) three ∙ ap version_line (same_Some Three version last)
-                  | inr none ↦
-                      let last : cond (bytes_eq line (version_line Four)) (Some Four) None ≡ Some version = rw none at newer in
-                      let four = cond_some (bytes_eq line (version_line Four)) Four version last in
-                      same_bytes line (version_line Four) four.0 ∙ ap version_line four.1
-                ]
+                let newer : cond (bytes_eq line (version_line Three)) (Some Three) (cond (bytes_eq line (version_line Four)) (Some Four) (cond (bytes_eq line (version_line Five)) (Some Five) None)) ≡ Some version = rw neither at read in
+                newer_takes line version newer
           ]
     ]
 
 pub one_version : (version other : Version) → is_same_version version other ≡ true → version ≡ other
-one_version version One e = elim version as (λ v. is_same_version v One ≡ true → v ≡ One) [ One ↦ λ f. refl | Two ↦ λ f. absurd (false≢true f) | Three ↦ λ f. absurd (false≢true f) | Four ↦ λ f. absurd (false≢true f) ] e
-one_version version Two e = elim version as (λ v. is_same_version v Two ≡ true → v ≡ Two) [ One ↦ λ f. absurd (false≢true f) | Two ↦ λ f. refl | Three ↦ λ f. absurd (false≢true f) | Four ↦ λ f. absurd (false≢true f) ] e
-one_version version Three e = elim version as (λ v. is_same_version v Three ≡ true → v ≡ Three) [ One ↦ λ f. absurd (false≢true f) | Two ↦ λ f. absurd (false≢true f) | Three ↦ λ f. refl | Four ↦ λ f. absurd (false≢true f) ] e
-one_version version Four e = elim version as (λ v. is_same_version v Four ≡ true → v ≡ Four) [ One ↦ λ f. absurd (false≢true f) | Two ↦ λ f. absurd (false≢true f) | Three ↦ λ f. absurd (false≢true f) | Four ↦ λ f. refl ] e
+one_version version One e = elim version as (λ v. is_same_version v One ≡ true → v ≡ One) [ One ↦ λ f. refl | Two ↦ λ f. absurd (false≢true f) | Three ↦ λ f. absurd (false≢true f) | Four ↦ λ f. absurd (false≢true f) | Five ↦ λ f. absurd (false≢true f) ] e
+one_version version Two e = elim version as (λ v. is_same_version v Two ≡ true → v ≡ Two) [ One ↦ λ f. absurd (false≢true f) | Two ↦ λ f. refl | Three ↦ λ f. absurd (false≢true f) | Four ↦ λ f. absurd (false≢true f) | Five ↦ λ f. absurd (false≢true f) ] e
+one_version version Three e = elim version as (λ v. is_same_version v Three ≡ true → v ≡ Three) [ One ↦ λ f. absurd (false≢true f) | Two ↦ λ f. absurd (false≢true f) | Three ↦ λ f. refl | Four ↦ λ f. absurd (false≢true f) | Five ↦ λ f. absurd (false≢true f) ] e
+one_version version Four e = elim version as (λ v. is_same_version v Four ≡ true → v ≡ Four) [ One ↦ λ f. absurd (false≢true f) | Two ↦ λ f. absurd (false≢true f) | Three ↦ λ f. absurd (false≢true f) | Four ↦ λ f. refl | Five ↦ λ f. absurd (false≢true f) ] e
+one_version version Five e = elim version as (λ v. is_same_version v Five ≡ true → v ≡ Five) [ One ↦ λ f. absurd (false≢true f) | Two ↦ λ f. absurd (false≢true f) | Three ↦ λ f. absurd (false≢true f) | Four ↦ λ f. absurd (false≢true f) | Five ↦ λ f. refl ] e
 
 abbrev line_for : Option Node → List ℕ
 line_for None = end_line
@@ -234,12 +248,12 @@ record TookTree (version : Version) (plan : Scenario) (place : Place) (nodes : L
   before : place.ended ≡ map node_line nodes ++ end_line ∷ []
   after : place.rest ≡ []
   readable : AreReadable nodes
-  due : version ≡ version_for (is_timed plan) (length plan.links) nodes
+  due : version ≡ version_for plan.time (is_timed plan) (length plan.links) nodes
 
 tree_takes : (version : Version) (plan : Scenario) (place : Place) (nodes : List Node) → tree_at version plan place ≡ Ok nodes → TookTree version plan place nodes
 tree_takes version plan place nodes e =
     let a = bind_ok (nodes_at version plan.time 0 0 place) (whole version plan) nodes e in
-    let due = version_for (is_timed plan) (length plan.links) a.0.0 in
+    let due = version_for plan.time (is_timed plan) (length plan.links) a.0.0 in
     let b = if_true (is_same_version version due) (faults.Line 1 expected.Convoy) (cond (is_at_end a.0.1) (Ok a.0.0) (Err faults.AfterEnd)) nodes a.2 in
     let last = if_true (is_at_end a.0.1) faults.AfterEnd (Ok a.0.0) nodes b.1 in
     let over = nil_ended a.0.1 last.0 in

@@ -2,14 +2,14 @@
 use Rattle.std.specs.Prelude.{◌≡◌, ℕ, ◌≤◌, ◌<◌, ◌^◌, Bool, true, false, List}
 use Rattle.std.specs.List.{All}
 use Rattle.convoy_draft.specs.declared.time.Time.{Time}
-use Rattle.convoy_draft.specs.declared.time.Time.TheVariants.{Ticks}
+use Rattle.convoy_draft.specs.declared.time.Time.TheVariants.{Ticks, Real}
 use Rattle.convoy_draft.specs.declared.limits.TheConstants.{GREATEST_DELAY, GREATEST_WHOLE_DELAY}
 use Rattle.convoy_scenario.specs.Scenario.{Scenario, is_timed}
 use Rattle.convoy_scenario.specs.WellFormed.{IsScenario}
 use Rattle.convoy_packets.specs.Assignment.{IsAssignment, Schedule}
 use Rattle.convoy_certificate.specs.declared.node.Node.{Node}
-use Rattle.convoy_certificate.specs.declared.node.Node.TheVariants.{Split, Bound, Point, Stamp, Lead}
-use Rattle.convoy_certificate.specs.declared.node.TheConstants.{GREATEST_PACKET, GREATEST_UNTIMED_PACKET}
+use Rattle.convoy_certificate.specs.declared.node.Node.TheVariants.{Split, Order, Bound, Point, Stamp, Lead}
+use Rattle.convoy_certificate.specs.declared.node.TheConstants.{GREATEST_MOMENT, GREATEST_PACKET, GREATEST_UNTIMED_PACKET}
 
 -- a scenario, a latency, a schedule, and nodes in their order
 pub record Certificate : Type 0 where
@@ -33,11 +33,12 @@ abbrev pub greatest_place : Bool → ℕ
 greatest_place true = GREATEST_DELAY
 greatest_place false = GREATEST_WHOLE_DELAY
 
--- a node where time is real or some message may wait, or not, and time goes so: a split names a packet, and cuts, within the limits; a latency has 32 bits; point and stamp leaves are of whole ticks alone
+-- a node where time is real or some message may wait, or not, and time goes so: a split names a packet, and cuts, within the limits; a split by order is of real time alone, and its numbers of moments ascend; a stamp leaf is of whole ticks alone; a latency has 32 bits
 abbrev pub IsNodeWhere : Bool → Time → Node → Type 0
 IsNodeWhere timed time (Split packet at) = (packet ≤ greatest_packet timed) × (least_place timed ≤ at) × (at ≤ greatest_place timed)
+IsNodeWhere timed time (Order first second) = (time ≡ Real) × (first < second) × (second ≤ GREATEST_MOMENT)
 IsNodeWhere timed time Bound = Unit {0}
-IsNodeWhere timed time Point = time ≡ Ticks
+IsNodeWhere timed time Point = Unit {0}
 IsNodeWhere timed time Stamp = time ≡ Ticks
 IsNodeWhere timed time (Lead latency) = latency < 2 ^ 32
 

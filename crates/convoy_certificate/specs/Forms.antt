@@ -1,5 +1,5 @@
 -- The forms of a certificate's own lines: what a line says, where it has its form.
-use Rattle.std.specs.Prelude.{ℕ, nat_le, ◌==◌, Bool, ◌&&◌, if◌then◌else◌, List, [], ◌∷◌, length, codes, Option, Some, None, option_map, option_and_then}
+use Rattle.std.specs.Prelude.{ℕ, nat_le, nat_lt, ◌==◌, Bool, ◌&&◌, if◌then◌else◌, List, [], ◌∷◌, length, codes, Option, Some, None, option_map, option_and_then}
 use Rattle.std.specs.Str.{bytes_eq}
 use Rattle.convoy_draft.specs.declared.time.Time.{Time}
 use Rattle.convoy_draft.specs.declared.time.Time.TheVariants.{Ticks, Real}
@@ -7,9 +7,10 @@ use Rattle.convoy_lines.specs.Chains.{◌>>=◌}
 use Rattle.convoy_lines.specs.Labels.{greatest_number, words_after}
 use Rattle.convoy_lines.specs.Words.{words_of, next_word, number_of}
 use Rattle.convoy_certificate.specs.declared.node.Node.{Node}
-use Rattle.convoy_certificate.specs.declared.node.Node.TheVariants.{Split, Bound, Point, Stamp, Lead}
+use Rattle.convoy_certificate.specs.declared.node.Node.TheVariants.{Split, Order, Bound, Point, Stamp, Lead}
 use Rattle.convoy_certificate.specs.declared.version.Version.{Version}
-use Rattle.convoy_certificate.specs.declared.version.Version.TheVariants.{One, Two, Three, Four}
+use Rattle.convoy_certificate.specs.declared.version.Version.TheVariants.{One, Two, Three, Four, Five}
+use Rattle.convoy_certificate.specs.declared.node.TheConstants.{GREATEST_MOMENT}
 use Rattle.convoy_certificate.specs.Certificate.{greatest_packet, greatest_place, least_place}
 use Rattle.convoy_certificate.specs.Text.{says_time, version_line, end_line}
 
@@ -21,7 +22,8 @@ greatest_listed = 65_535
 abbrev pub version_in : List ℕ → Option Version
 version_in line =
     if bytes_eq line (version_line One) then Some One else if bytes_eq line (version_line Two) then Some Two
-    else if bytes_eq line (version_line Three) then Some Three else if bytes_eq line (version_line Four) then Some Four else None
+    else if bytes_eq line (version_line Three) then Some Three else if bytes_eq line (version_line Four) then Some Four
+    else if bytes_eq line (version_line Five) then Some Five else None
 
 -- the numbers that the words are, where each of them is one
 abbrev pub numbers_in : List (List ℕ) → Option (List ℕ)
@@ -50,6 +52,20 @@ split_in timed words = do
   at ← number_of (greatest_place timed) second.0
   if nat_le (least_place timed) at && (length second.1 == 0) then Some (Split packet at) else None
 
+-- the split by order of two moments whose numbers the words are, the first below the second
+abbrev pub moments_in : List (List ℕ) → Option Node
+moments_in words = do
+  earlier ← next_word words
+  first ← number_of GREATEST_MOMENT earlier.0
+  later ← next_word earlier.1
+  second ← number_of GREATEST_MOMENT later.0
+  if nat_lt first second && (length later.1 == 0) then Some (Order first second) else None
+
+-- the split of a line `o`, by the words after its first: version 5 alone has such lines, and in real time alone
+abbrev pub order_split_in : Version → Time → List (List ℕ) → Option Node
+order_split_in Five Real words = moments_in words
+order_split_in version time words = None
+
 -- the lead leaf of a line `c`, by the words after its first
 abbrev pub latency_in : List (List ℕ) → Option Node
 latency_in words = do
@@ -63,29 +79,31 @@ lead_in One words = None
 lead_in Two words = None
 lead_in Three words = latency_in words
 lead_in Four words = latency_in words
+lead_in Five words = latency_in words
 
--- a leaf of whole ticks alone
-abbrev pub in_ticks : Time → Node → Option Node
-in_ticks Ticks node = Some node
-in_ticks Real node = None
+-- in real time version 5 alone has point leaves
+abbrev pub point_in : Version → Time → Option Node
+point_in version Ticks = Some Point
+point_in Five Real = Some Point
+point_in version Real = None
 
--- version 1 has no stamp leaves
+-- real time has no stamp leaves, and version 1 has none
 abbrev pub stamp_in : Version → Time → Option Node
-stamp_in One time = None
-stamp_in Two time = in_ticks time Stamp
-stamp_in Three time = in_ticks time Stamp
-stamp_in Four time = in_ticks time Stamp
+stamp_in version Real = None
+stamp_in One Ticks = None
+stamp_in version Ticks = Some Stamp
 
 -- the leaf that a line of one word is
 abbrev pub leaf_in : Version → Time → List ℕ → Option Node
 leaf_in version time word =
-    if bytes_eq word (codes "b") then Some Bound else if bytes_eq word (codes "p") then in_ticks time Point else if bytes_eq word (codes "t") then stamp_in version time else None
+    if bytes_eq word (codes "b") then Some Bound else if bytes_eq word (codes "p") then point_in version time else if bytes_eq word (codes "t") then stamp_in version time else None
 
 -- the node of a line in that version, where time goes so
 abbrev pub node_in : Version → Time → List ℕ → Option Node
 node_in version time line = do
   first ← next_word (words_of line)
-  if bytes_eq first.0 (codes "s") then split_in (says_time version) first.1 else if bytes_eq first.0 (codes "c") then lead_in version first.1
+  if bytes_eq first.0 (codes "s") then split_in (says_time version) first.1 else if bytes_eq first.0 (codes "o") then order_split_in version time first.1
+      else if bytes_eq first.0 (codes "c") then lead_in version first.1
       else if length first.1 == 0 then leaf_in version time first.0 else None
 
 -- the node of a line, or none at the line `end`

@@ -12,9 +12,9 @@ use Rattle.convoy_scenario_lines.specs.declared.version.Version.{Version as Line
 use Rattle.convoy_scenario_lines.specs.declared.version.Version.TheVariants as lines
 use Rattle.convoy_scenario_lines.specs.ScenarioLines.{scenario_lines}
 use Rattle.convoy_certificate.specs.declared.node.Node.{Node}
-use Rattle.convoy_certificate.specs.declared.node.Node.TheVariants.{Split, Bound, Point, Stamp, Lead}
+use Rattle.convoy_certificate.specs.declared.node.Node.TheVariants.{Split, Bound, Point, Stamp, Lead, Order as OrderSplit}
 use Rattle.convoy_certificate.specs.declared.version.Version.{Version}
-use Rattle.convoy_certificate.specs.declared.version.Version.TheVariants.{One, Two, Three, Four}
+use Rattle.convoy_certificate.specs.declared.version.Version.TheVariants.{One, Two, Three, Four, Five}
 use Rattle.convoy_certificate.specs.Certificate.{Certificate}
 
 abbrev pub is_stamp : Node → Bool
@@ -25,15 +25,26 @@ abbrev pub is_lead : Node → Bool
 is_lead (Lead latency) = true
 is_lead node = false
 
--- the version for so many links and for nodes: 4 where time is real or some message may wait; else 3 where the tree has a lead leaf, and else 1 where there is no link and the tree has no stamp leaf, and 2 where one of them is there
-abbrev pub version_for : Bool → ℕ → List Node → Version
-version_for true links nodes = Four
-version_for false links nodes =
+-- a split by order or a point leaf
+abbrev pub decides_ties : Node → Bool
+decides_ties (OrderSplit first second) = true
+decides_ties Point = true
+decides_ties node = false
+
+-- the version for nodes where the text says how time goes: 5 in real time where a node decides ties, else 4
+abbrev pub timed_version : Time → List Node → Version
+timed_version Real nodes = if list_any decides_ties nodes then Five else Four
+timed_version Ticks nodes = Four
+
+-- the version for so many links and for nodes, where time goes so: 4 or 5 where it is real or some message may wait; else 3 where the tree has a lead leaf, and else 1 where there is no link and the tree has no stamp leaf, and 2 where one of them is there
+abbrev pub version_for : Time → Bool → ℕ → List Node → Version
+version_for time true links nodes = timed_version time nodes
+version_for time false links nodes =
     if list_any is_lead nodes then Three else if links == 0 && not (list_any is_stamp nodes) then One else Two
 
 -- the version in which a certificate is written
 abbrev pub version_of : Certificate → Version
-version_of certificate = version_for (is_timed certificate.scenario) (length certificate.scenario.links) certificate.nodes
+version_of certificate = version_for certificate.scenario.time (is_timed certificate.scenario) (length certificate.scenario.links) certificate.nodes
 
 -- the lines of that version say how time goes
 abbrev pub says_time : Version → Bool
@@ -41,6 +52,7 @@ says_time One = false
 says_time Two = false
 says_time Three = false
 says_time Four = true
+says_time Five = true
 
 -- the version of the lines of the scenario
 abbrev pub lines_version : Version → LinesVersion
@@ -48,6 +60,7 @@ lines_version One = lines.One
 lines_version Two = lines.Two
 lines_version Three = lines.Two
 lines_version Four = lines.Three
+lines_version Five = lines.Three
 
 -- the first line
 abbrev pub version_line : Version → List ℕ
@@ -55,6 +68,7 @@ version_line One = codes "convoy 1"
 version_line Two = codes "convoy 2"
 version_line Three = codes "convoy 3"
 version_line Four = codes "convoy 4"
+version_line Five = codes "convoy 5"
 
 abbrev pub latency_line : ℕ → List ℕ
 latency_line latency = number_line (codes "latency") latency
@@ -83,6 +97,7 @@ schedule_lines scenario schedule =
 
 abbrev pub node_line : Node → List ℕ
 node_line (Split packet at) = line_of (codes "s") (decimal packet ∷ decimal at ∷ [])
+node_line (OrderSplit first second) = line_of (codes "o") (decimal first ∷ decimal second ∷ [])
 node_line Bound = codes "b"
 node_line Point = codes "p"
 node_line Stamp = codes "t"

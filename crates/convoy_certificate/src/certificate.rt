@@ -2,12 +2,12 @@ ghost use Rattle.std.specs.Prelude.{◌≡◌};
 ghost use Rattle.std.specs.List.{All, list_any};
 ghost use Rattle.convoy_packets.specs.Assignment.{IsAssignment};
 ghost use Rattle.convoy_certificate.specs.Certificate.{IsNode, IsCertificate, Certificate};
-ghost use Rattle.convoy_certificate.specs.Text.{is_stamp, is_lead, version_for, version_of};
+ghost use Rattle.convoy_certificate.specs.Text.{is_stamp, is_lead, decides_ties, timed_version, version_for, version_of};
 
 use super::node::Node;
 use super::version::Version;
 use convoy_packets::{Instance, Schedule};
-use convoy_scenario::Scenario;
+use convoy_scenario::{Scenario, Time};
 use std::marker::Model;
 
 /// How many nodes a certificate that is read has at most.
@@ -25,8 +25,9 @@ pub const LONGEST_TEXT: usize = 67_108_864;
 /// The schedule is an assignment of the scenario. Where time goes in whole ticks and no message may
 /// wait, each split names a packet number from 0 to `GREATEST_UNTIMED_PACKET` and cuts after 1 to
 /// `GREATEST_WHOLE_DELAY` ticks; else it names one from 0 to `GREATEST_PACKET`, and cuts after 0 to
-/// `GREATEST_DELAY` ticks. In real time no node is a point or stamp leaf. Nothing else is known of the
-/// nodes: they may be no tree, and there may be none.
+/// `GREATEST_DELAY` ticks. Splits by order are of real time alone, each of two numbers of moments that
+/// ascend, and stamp leaves of whole ticks alone. Nothing else is known of the nodes: they may be no
+/// tree, and there may be none.
 #[derive(Drop)]
 pub struct Certificate {
     instance: Instance,
@@ -83,14 +84,20 @@ impl Certificate {
         &self.instance
     }
 
-    /// The version in which the certificate is written: `Four` where its scenario's time is real or one
-    /// of its messages may wait. Else `Three` where its tree has a lead leaf; else `Two` where its
-    /// scenario has a link or its tree a stamp leaf; else `One` (docs/FORMATS.md, "Certificate text").
+    /// The version in which the certificate is written: `Five` where its scenario's time is real and its
+    /// tree has a split by order or a point leaf. Else `Four` where time is real or one of the messages
+    /// may wait; else `Three` where the tree has a lead leaf; else `Two` where the scenario has a link or
+    /// the tree a stamp leaf; else `One` (docs/FORMATS.md, "Certificate text").
     pub fn version(&self) -> Version
         ensures { result ≡ version_of self.now }
     {
         let scenario = self.scenario();
-        version_for(scenario.is_timed(), scenario.link_count(), &self.nodes)
+        version_for(
+            scenario.time(),
+            scenario.is_timed(),
+            scenario.link_count(),
+            &self.nodes,
+        )
     }
 
     /// The stated latency, in ticks.
@@ -133,19 +140,46 @@ impl Certificate {
     }
 }
 
-/// The version for so many links and for these nodes, where time is real or some message may wait, or
-/// not.
-pub(crate) fn version_for(timed: bool, links: usize, nodes: &[Node]) -> Version
-    ensures { result ≡ version_for timed links nodes.now }
+/// The version for so many links and for these nodes, where time goes so, and is real or some message
+/// may wait, or not.
+pub(crate) fn version_for(time: Time, timed: bool, links: usize, nodes: &[Node]) -> Version
+    ensures { result ≡ version_for time timed links nodes.now }
 {
     if timed {
-        Version::Four
+        timed_version(time, nodes)
     } else if has_lead(nodes) {
         Version::Three
     } else if links == 0 && !has_stamp(nodes) {
         Version::One
     } else {
         Version::Two
+    }
+}
+
+/// The version for these nodes, where the text says how time goes.
+fn timed_version(time: Time, nodes: &[Node]) -> Version
+    ensures { result ≡ timed_version time nodes.now }
+{
+    match time {
+        Time::Real if decide_ties(nodes) => Version::Five,
+        _ => Version::Four,
+    }
+}
+
+/// Whether one of the nodes decides ties.
+fn decide_ties(nodes: &[Node]) -> bool
+    ensures { result ≡ list_any decides_ties nodes.now }
+{
+    nodes.iter().any(|node| decides_ties(*node))
+}
+
+/// Whether a node is a split by order or a point leaf.
+fn decides_ties(node: Node) -> bool
+    ensures { result ≡ decides_ties node }
+{
+    match node {
+        Node::Order { .. } | Node::Point => true,
+        Node::Split { .. } | Node::Bound | Node::Stamp | Node::Lead { .. } => false,
     }
 }
 
@@ -161,7 +195,8 @@ fn is_stamp(node: Node) -> bool
 {
     match node {
         Node::Stamp => true,
-        Node::Split { .. } | Node::Bound | Node::Point | Node::Lead { .. } => false,
+        Node::Split { .. } | Node::Order { .. } | Node::Bound | Node::Point | Node::Lead { .. } =>
+            false,
     }
 }
 
@@ -178,6 +213,8 @@ pub(crate) fn is_lead(node: Node) -> bool
 {
     match node {
         Node::Lead { .. } => true,
-        Node::Split { .. } | Node::Bound | Node::Point | Node::Stamp => false,
+        Node::Split { .. } | Node::Order { .. } | Node::Bound | Node::Point | Node::Stamp => {
+            false
+        }
     }
 }

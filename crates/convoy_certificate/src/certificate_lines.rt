@@ -1,12 +1,13 @@
-ghost use Rattle.std.specs.Prelude.{◌≡◌, ok_or, IfSome};
+ghost use Rattle.std.specs.Prelude.{◌≡◌, Bool, ok_or, IfSome};
+ghost use Rattle.convoy_draft.specs.declared.time.Time.TheVariants.{Real};
 ghost use Rattle.convoy_certificate.specs.Certificate.{IsNodeWhere, greatest_packet, least_place, greatest_place};
 ghost use Rattle.std.specs.Result.{result_map_both};
 ghost use Rattle.convoy_scenario.specs.Memory.{IsUnlessMemory};
 ghost use Rattle.convoy_lines.specs.Labels.{words_after};
-ghost use Rattle.convoy_certificate.specs.Forms.{version_in, list_in, split_in, lead_in, in_ticks, stamp_in, leaf_in, node_in, node_or_end};
+ghost use Rattle.convoy_certificate.specs.Forms.{version_in, list_in, split_in, moments_in, order_split_in, lead_in, point_in, stamp_in, leaf_in, node_in, node_or_end};
 ghost use Rattle.convoy_certificate.specs.Text.{says_time};
 
-use super::node::{GREATEST_PACKET, GREATEST_UNTIMED_PACKET, Node};
+use super::node::{GREATEST_MOMENT, GREATEST_PACKET, GREATEST_UNTIMED_PACKET, Node};
 use super::text_fault::TextFault;
 use super::version::Version;
 use convoy_lines::{Words, number_of, words_after};
@@ -25,6 +26,8 @@ pub fn version_in(line: &[u8]) -> Option<Version>
         Some(Version::Three)
     } else if line == b"convoy 4".as_slice() {
         Some(Version::Four)
+    } else if line == b"convoy 5".as_slice() {
+        Some(Version::Five)
     } else {
         None
     }
@@ -50,6 +53,8 @@ fn node_in(version: Version, time: Time, line: &[u8]) -> Option<Node>
     let first = words.next()?;
     if first == b"s".as_slice() {
         split_in(version, words)
+    } else if first == b"o".as_slice() {
+        order_split_in(version, time, words)
     } else if first == b"c".as_slice() {
         lead_in(version, words)
     } else if words.are_over() {
@@ -79,7 +84,7 @@ fn greatest_packet(version: Version) -> u16
 {
     match version {
         Version::One | Version::Two | Version::Three => GREATEST_UNTIMED_PACKET,
-        Version::Four => GREATEST_PACKET,
+        Version::Four | Version::Five => GREATEST_PACKET,
     }
 }
 
@@ -89,7 +94,7 @@ fn least_place(version: Version) -> u32
 {
     match version {
         Version::One | Version::Two | Version::Three => 1,
-        Version::Four => 0,
+        Version::Four | Version::Five => 0,
     }
 }
 
@@ -99,8 +104,34 @@ fn greatest_place(version: Version) -> u16
 {
     match version {
         Version::One | Version::Two | Version::Three => GREATEST_WHOLE_DELAY,
-        Version::Four => GREATEST_DELAY,
+        Version::Four | Version::Five => GREATEST_DELAY,
     }
+}
+
+/// The split of a line `o`, by the words after its first. Version 5 alone has such lines, and in real
+/// time alone.
+fn order_split_in(version: Version, time: Time, words: Words) -> Option<Node>
+    ensures value { result ≡ order_split_in version time words.entry }
+    ensures lawful { IfSome result (IsNodeWhere (says_time version) time) }
+{
+    match (version, time) {
+        (Version::Five, Time::Real) => moments_in(words),
+        _ => None,
+    }
+}
+
+/// The split by order of two moments whose numbers these words are, the first below the second.
+fn moments_in(words: Words) -> Option<Node>
+    ensures value { result ≡ moments_in words.entry }
+    ensures lawful { (timed : Bool) → IfSome result (IsNodeWhere timed Real) }
+{
+    let mut words = words;
+    let first = number_of(words.next()?, u32::from(GREATEST_MOMENT))?;
+    let second = number_of(words.next()?, u32::from(GREATEST_MOMENT))?;
+    (first < second && words.are_over()).then_some(Node::Order {
+        first: first as u8,
+        second: second as u8,
+    })
 }
 
 /// The lead leaf of a line `c`, by the words after its first. Versions 1 and 2 have none.
@@ -110,7 +141,7 @@ fn lead_in(version: Version, words: Words) -> Option<Node>
 {
     match version {
         Version::One | Version::Two => None,
-        Version::Three | Version::Four => {
+        Version::Three | Version::Four | Version::Five => {
             let mut words = words;
             let latency = number_of(words.next()?, u32::MAX)?;
             words.are_over().then_some(Node::Lead { latency })
@@ -124,19 +155,20 @@ fn leaf_in(version: Version, time: Time, word: &[u8]) -> Option<Node>
 {
     match word {
         b"b" => Some(Node::Bound),
-        b"p" => in_ticks(time, Node::Point),
+        b"p" => point_in(version, time),
         b"t" => stamp_in(version, time),
         _ => None,
     }
 }
 
-/// A leaf of whole ticks alone.
-fn in_ticks(time: Time, leaf: Node) -> Option<Node>
-    ensures { result ≡ in_ticks time leaf }
+/// The point leaf, which in real time version 5 alone has.
+fn point_in(version: Version, time: Time) -> Option<Node>
+    ensures value { result ≡ point_in version time }
+    ensures lawful { IfSome result (IsNodeWhere (says_time version) time) }
 {
-    match time {
-        Time::Ticks => Some(leaf),
-        Time::Real => None,
+    match (version, time) {
+        (_, Time::Ticks) | (Version::Five, Time::Real) => Some(Node::Point),
+        _ => None,
     }
 }
 
@@ -145,9 +177,9 @@ fn stamp_in(version: Version, time: Time) -> Option<Node>
     ensures value { result ≡ stamp_in version time }
     ensures lawful { IfSome result (IsNodeWhere (says_time version) time) }
 {
-    match version {
-        Version::One => None,
-        Version::Two | Version::Three | Version::Four => in_ticks(time, Node::Stamp),
+    match (version, time) {
+        (Version::One, _) | (_, Time::Real) => None,
+        _ => Some(Node::Stamp),
     }
 }
 

@@ -3,7 +3,7 @@
 
 pub use certificate::{Certificate, LONGEST_TEXT, MOST_LEADS, MOST_NODES};
 pub use form::{Form, form_of};
-pub use node::{GREATEST_PACKET, GREATEST_UNTIMED_PACKET, Node};
+pub use node::{GREATEST_MOMENT, GREATEST_PACKET, GREATEST_UNTIMED_PACKET, Node};
 pub use reading::read;
 pub use text_fault::TextFault;
 pub use version::Version;

@@ -74,6 +74,7 @@ fn is_same_version(version: Version, other: Version) -> bool
         (Version::Two, Version::Two) => true,
         (Version::Three, Version::Three) => true,
         (Version::Four, Version::Four) => true,
+        (Version::Five, Version::Five) => true,
         _ => false,
     }
 }
@@ -212,8 +213,9 @@ fn read_tree(
         (result_map_both (λ nodes. nodes.items) (λ fault. fault) result) }
     ensures lawful { IfOk result (λ nodes. All (IsNode scenario.now) nodes.items) }
 {
-    let nodes = read_nodes(alloc, version, scenario.time(), reader)?;
-    let due = version_for(scenario.is_timed(), scenario.link_count(), &nodes);
+    let time = scenario.time();
+    let nodes = read_nodes(alloc, version, time, reader)?;
+    let due = version_for(time, scenario.is_timed(), scenario.link_count(), &nodes);
     if !is_same_version(version, due) {
         return Err(TextFault::Line(1, Expected::Convoy));
     }

@@ -12,10 +12,13 @@ pub enum Version {
     /// A scenario in whole ticks in which no message may wait: lead leaves may stand in the text too,
     /// and one of them does.
     Three,
-    /// A scenario in real time, with a schedule with an order of ties and a tree of splits, bound leaves
-    /// and lead leaves; or one in whole ticks in which some message may wait, with a tree of all kinds
-    /// of leaves.
+    /// A scenario in real time, with a schedule with an order of ties and a tree of splits of delays,
+    /// bound leaves and lead leaves; or one in whole ticks in which some message may wait, with a tree
+    /// of such splits and all kinds of leaves.
     Four,
+    /// A scenario in real time, with such a schedule: splits by order and point leaves may stand in the
+    /// tree too, and one of them does.
+    Five,
 }
 
 impl Version {
@@ -29,7 +32,7 @@ impl Version {
         match self {
             Version::One => LinesVersion::One,
             Version::Two | Version::Three => LinesVersion::Two,
-            Version::Four => LinesVersion::Three,
+            Version::Four | Version::Five => LinesVersion::Three,
         }
     }
 }

@@ -45,6 +45,7 @@ fn version_line(version: Version) -> &'static [u8]
         Version::Two => b"convoy 2\n",
         Version::Three => b"convoy 3\n",
         Version::Four => b"convoy 4\n",
+        Version::Five => b"convoy 5\n",
     }
 }
 
@@ -113,6 +114,11 @@ fn push_node(text: &mut Vec<u8>, node: Node) -> Result<(), AllocError>
             text.push(b's')?;
             push_further_number(text, u32::from(packet))?;
             push_further_number(text, u32::from(at))?;
+        }
+        Node::Order { first, second } => {
+            text.push(b'o')?;
+            push_further_number(text, u32::from(first))?;
+            push_further_number(text, u32::from(second))?;
         }
         Node::Bound => text.push(b'b')?,
         Node::Point => text.push(b'p')?,

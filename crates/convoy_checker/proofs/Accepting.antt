@@ -4,7 +4,7 @@ use Rattle.std.specs.Result.{result_map_both}
 use Rattle.std.proofs.lemmas.Result.{IfOk-weaker}
 use Rattle.convoy_scenario.specs.Memory.{IsUnlessMemory}
 use Rattle.convoy_sim.specs.Delivery.{latency_of}
-use Rattle.convoy_intervals.specs.Boxes.{root_of}
+use Rattle.convoy_regions.specs.Regions.{root_region}
 use Rattle.convoy_certificate.specs.Certificate.{Certificate, IsCertificate}
 use Rattle.convoy_checker.specs.declared.refused.Refused.{Refused}
 use Rattle.convoy_checker.specs.declared.refused.Refused.TheVariants as refused
@@ -27,7 +27,7 @@ checked_latency : (certificate : Certificate) (latency : ℕ) → checked certif
 unfolding checked
 checked_latency certificate latency answer =
     let simulated = latency_of certificate.scenario certificate.schedule in
-    let fault = first_fault certificate.scenario certificate.latency 0 (root_of certificate.scenario ∷ []) certificate.nodes in
+    let fault = first_fault certificate.scenario certificate.latency 0 (root_region certificate.scenario ∷ []) certificate.nodes in
     if_latency certificate fault (refused.Latency simulated) (simulated == certificate.latency) latency answer
 
 -- what is accepted is valid, and has the latency that is answered

@@ -2,7 +2,7 @@ pub mod Accepting
 pub mod Covering
 pub mod Faults
 pub mod NextNode
-pub mod OpenBoxes
+pub mod OpenRegions
 pub mod Rows
 pub mod SplitTrees
 pub mod StepLimits

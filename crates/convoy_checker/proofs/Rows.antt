@@ -1,9 +1,10 @@
 -- Worked rows of what checking answers, computed from the definitions alone.
 use Rattle.std.specs.Prelude.{Ok, Err}
-use Rattle.std.proofs.Common.{◌≡◌, ℕ, List, [], ◌∷◌, replicate, refl}
+use Rattle.std.proofs.Common.{◌≡◌, ℕ, List, [], ◌∷◌, codes, replicate, refl}
 use Rattle.convoy_draft.specs.declared.time.Time.TheVariants.{Real}
 use Rattle.convoy_scenario.specs.Scenario.{Scenario}
-use Rattle.convoy_scenario.proofs.RowScenarios.{message, base_with, swapped, tied}
+use Rattle.convoy_scenario.specs.declared.sender.Sender.TheVariants.{Client}
+use Rattle.convoy_scenario.proofs.RowScenarios.{message, base_with, of_two, swapped, tied}
 use Rattle.convoy_packets.specs.Packets.{packets_of}
 use Rattle.convoy_packets.specs.Assignment.{delay_of, in_fixed_order, ranges_of}
 use Rattle.convoy_packets.specs.Order.{no_order}
@@ -13,12 +14,13 @@ use Rattle.convoy_sim.specs.Moments.{arrival_rank, commit_rank, moments_of}
 use Rattle.convoy_sim.specs.Stamps.{clocks_of, local_stamp, final_stamp}
 use Rattle.convoy_sim.specs.Delivery.{holds_back, deliver, latency_at, latency_of}
 use Rattle.convoy_intervals.specs.Bounds.{plain_bound}
+use Rattle.convoy_regions.specs.Stages.{stages_of}
 use Rattle.convoy_sure.specs.SureLeads.{leads_of, sure_time}
 use Rattle.convoy_leads.specs.Leads.{is_led}
 use Rattle.convoy_leads.specs.Closing.{closes_by_leads}
 use Rattle.convoy_certificate.specs.Certificate.{Certificate}
 use Rattle.convoy_certificate.specs.declared.node.Node.{Node}
-use Rattle.convoy_certificate.specs.declared.node.Node.TheVariants.{Split, Bound, Point, Lead}
+use Rattle.convoy_certificate.specs.declared.node.Node.TheVariants.{Split, Order, Bound, Point, Lead}
 use Rattle.convoy_checker.specs.declared.refused.Refused.TheVariants as refused
 use Rattle.convoy_checker.specs.Checks.{checked}
 
@@ -92,7 +94,7 @@ lead_of_swapped : checked (all_greatest swapped 6 (Lead 6 ∷ [])) ≡ Ok 6
 unfolding swapped all_greatest message packets_of ranges_of delay_of arrive settle arrival_rank commit_rank no_order moments_of clocks_of local_stamp final_stamp holds_back deliver latency_at latency_of leads_of sure_time is_led closes_by_leads checked
 lead_of_swapped = refl
 
--- in real time the same, but that no point and no stamp bound closes a box
+-- in real time the same, but that a point with a tie that is open, and the stamp bound, close no region
 in_real_time : Scenario → Scenario
 in_real_time plan = record plan { time = Real }
 
@@ -101,7 +103,7 @@ unfolding in_real_time base_with all_greatest message packets_of ranges_of delay
 real_lead = refl
 
 no_real_point : checked (all_greatest (in_real_time (base_with 1 2)) 4 (Point ∷ [])) ≡ Err (refused.PointLeaf 0)
-unfolding in_real_time base_with all_greatest message packets_of ranges_of delay_of arrive settle arrival_rank commit_rank no_order moments_of clocks_of local_stamp final_stamp holds_back deliver latency_at latency_of plain_bound checked
+unfolding stages_of in_real_time base_with all_greatest message packets_of ranges_of delay_of arrive settle arrival_rank commit_rank no_order moments_of clocks_of local_stamp final_stamp holds_back deliver latency_at latency_of plain_bound checked
 no_real_point = refl
 
 -- the certificate with these ranks and one bound leaf
@@ -121,3 +123,25 @@ late_at_b = refl
 first_at_b : checked (with_ranks [] 4) ≡ Err (refused.Latency 2)
 unfolding with_ranks tied message marks_of packets_of ranges_of delay_of arrive settle arrival_rank commit_rank no_order moments_of clocks_of local_stamp final_stamp holds_back deliver latency_at latency_of plain_bound checked
 first_at_b = refl
+
+-- in real time t and x come to their group in one tick: either may come first, and before or after the commit of the other
+with_ties : List Node → Certificate
+with_ties nodes = record {
+  scenario = of_two Real 1 (message (codes "t") Client (0 ∷ []) 0 ∷ message (codes "x") Client (0 ∷ []) 0 ∷ []) 0 0;
+  latency = 1;
+  schedule = in_fixed_order (replicate 2 1);
+  nodes = nodes;
+}
+
+ties_decided : checked (with_ties (Order 0 2 ∷ Order 1 2 ∷ Point ∷ Point ∷ Order 0 3 ∷ Point ∷ Point ∷ [])) ≡ Ok 1
+unfolding with_ties stages_of message marks_of packets_of ranges_of delay_of arrive settle arrival_rank commit_rank no_order moments_of clocks_of local_stamp final_stamp holds_back deliver latency_at latency_of plain_bound checked
+ties_decided = refl
+
+tie_is_open : checked (with_ties (Point ∷ [])) ≡ Err (refused.PointLeaf 0)
+unfolding with_ties stages_of message marks_of packets_of ranges_of delay_of arrive settle arrival_rank commit_rank no_order moments_of clocks_of local_stamp final_stamp holds_back deliver latency_at latency_of plain_bound checked
+tie_is_open = refl
+
+-- no order is decided twice, and none of stages of two groups
+no_order_twice : checked (with_ties (Order 0 2 ∷ Order 0 2 ∷ Point ∷ Point ∷ Point ∷ [])) ≡ Err (refused.Split 1)
+unfolding with_ties stages_of message marks_of packets_of ranges_of delay_of arrive settle arrival_rank commit_rank no_order moments_of clocks_of local_stamp final_stamp holds_back deliver latency_at latency_of plain_bound checked
+no_order_twice = refl

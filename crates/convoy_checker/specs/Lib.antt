@@ -6,6 +6,8 @@ pub use Rattle.convoy_packets.specs.Table
 pub use Rattle.convoy_sim.specs.Delivery
 pub use Rattle.convoy_intervals.specs.Boxes
 pub use Rattle.convoy_intervals.specs.Bounds
+pub use Rattle.convoy_regions.specs.Stages
+pub use Rattle.convoy_regions.specs.Regions
 pub use Rattle.convoy_stamps.specs.Reach
 pub use Rattle.convoy_stamps.specs.StampBounds
 pub use Rattle.convoy_sure.specs.SureLeads

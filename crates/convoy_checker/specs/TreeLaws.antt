@@ -9,20 +9,21 @@ use Rattle.convoy_sim.specs.Delivery.{latency_of}
 use Rattle.convoy_certificate.specs.Certificate.{Certificate, IsCertificate}
 use Rattle.convoy_certificate.specs.declared.node.Node.{Node}
 use Rattle.convoy_certificate.specs.declared.node.Node.TheVariants.{Split}
-use Rattle.convoy_intervals.specs.Boxes.{Box, CanSplit, IsBox, IsIn}
+use Rattle.convoy_intervals.specs.Boxes.{CanSplit}
+use Rattle.convoy_regions.specs.Regions.{Region, IsMember, IsRegion}
 use Rattle.convoy_checker.specs.Checks.{checked}
 use Rattle.convoy_checker.specs.Leaves.{ClosesByBound, ClosesByLeads, ClosesByPoint, ClosesByStamps}
 use Rattle.convoy_checker.specs.Validity.{AreHalfTrees, IsTree, IsTreeOver, IsValid}
 use Rattle.convoy_sim.specs.Greatest.{IsGreatest, IsUpper}
 
--- this way of closing boxes is sound: if it closes a box for a latency, no member of the box, with any order of the scenario's ties, has a greater latency
-abbrev pub Covers : (Scenario → ℕ → Box → Type 0) → Type 0
+-- this way of closing regions is sound: if it closes a region for a latency, no member of the region, with an order of the scenario's ties, has a greater latency
+abbrev pub Covers : (Scenario → ℕ → Region → Type 0) → Type 0
 Covers Closes =
-    (scenario : Scenario) (latency : ℕ) (box : Box) (schedule : Schedule)
+    (scenario : Scenario) (latency : ℕ) (region : Region) (schedule : Schedule)
     → IsScenario scenario
-    → IsBox scenario box
-    → Closes scenario latency box
-    → IsIn box schedule
+    → IsRegion scenario region
+    → Closes scenario latency region
+    → IsMember scenario region schedule
     → IsOrder scenario schedule.order
     → latency_of scenario schedule ≤ latency
 
@@ -42,15 +43,15 @@ StampLeavesCover = Covers ClosesByStamps
 abbrev pub LeadLeavesCover : Type 0
 LeadLeavesCover = Covers ClosesByLeads
 
--- nodes that begin with a split are a tree over a box exactly if the box can be split so, and after the split comes a
--- tree over its lower half, and then a tree over its upper half
+-- nodes that begin with a split by a delay are a tree over a region exactly if the region can be split so, and after the split
+-- comes a tree over its lower half, and then a tree over its upper half
 abbrev pub SplitIsTwoTrees : Type 0
 SplitIsTwoTrees =
-    (scenario : Scenario) (latency : ℕ) (box : Box) (packet at : ℕ) (nodes : List Node)
-    → IsTreeOver scenario latency box (Split packet at ∷ nodes)
-    ↔ CanSplit box packet at × AreHalfTrees scenario latency box packet at nodes
+    (scenario : Scenario) (latency : ℕ) (region : Region) (packet at : ℕ) (nodes : List Node)
+    → IsTreeOver scenario latency region (Split packet at ∷ nodes)
+    ↔ CanSplit region.ranges packet at × AreHalfTrees scenario latency region packet at nodes
 
--- if the nodes are a tree over the root box and right for a latency, no assignment has a greater latency
+-- if the nodes are a tree over the root and right for a latency, no assignment has a greater latency
 abbrev pub TreesCover : Type 0
 TreesCover =
     (scenario : Scenario) (latency : ℕ) (nodes : List Node)

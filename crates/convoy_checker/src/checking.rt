@@ -1,7 +1,9 @@
-ghost use Rattle.std.specs.Prelude.{◌≡◌, ◌&&◌, nat_le, [], ◌∷◌, Ok, IfOk, IfSome, OnOk};
+ghost use Rattle.std.specs.Prelude.{◌≡◌, ◌&&◌, nat_le, [], ◌∷◌, All, Ok, IfOk, IfSome, OnOk};
 ghost use Rattle.convoy_scenario.specs.Memory.{IsUnlessMemory};
 ghost use Rattle.convoy_sim.specs.Delivery.{latency_of};
-ghost use Rattle.convoy_intervals.specs.Boxes.{IsBox, root_of, greatest_of, is_point};
+ghost use Rattle.convoy_intervals.specs.Boxes.{IsBox};
+ghost use Rattle.convoy_regions.specs.Stages.{IsPrecedence};
+ghost use Rattle.convoy_regions.specs.Regions.{IsRegion, Region, can_order, is_decided, root_region, run_of};
 ghost use Rattle.convoy_certificate.specs.Certificate.{IsCertificate};
 ghost use Rattle.convoy_checker.specs.Checks.{checked, first_fault, in_ticks, node_fault};
 ghost use Rattle.convoy_checker.specs.Steps.{allows, checked_within, node_steps, steps_to_fault};
@@ -10,21 +12,23 @@ ghost use Rattle.convoy_checker.specs.Validity.{IsValid};
 ghost use Rattle.convoy_sim.specs.Greatest.{IsGreatest};
 
 use super::accepted::Accepted;
+use super::open_region::OpenRegion;
 use super::refused::Refused;
 use super::steps::node_steps;
 use super::tree_laws::{checked_is_valid, valid_is_greatest};
 use super::walk::Walk;
 use convoy_certificate::{Certificate, Node};
-use convoy_intervals::box_laws::halves_are_boxes;
 use convoy_intervals::{DelayBox, bound};
 use convoy_leads::closes_by_leads;
 use convoy_packets::Instance;
+use convoy_regions::region_laws::halves_are_regions;
+use convoy_regions::{Precedence, can_order, is_decided, run_latency};
 use convoy_scenario::Time;
 use convoy_stamps::stamp_bound;
 use std::alloc::{AllocError, Global};
 
 /// Checks a certificate: that its schedule has the stated latency, and that its nodes are one tree
-/// over the root box of which every leaf is right (docs/PROTOCOL.md). Then no schedule has a
+/// over the root of which every leaf is right (docs/PROTOCOL.md). Then no schedule has a
 /// greater latency.
 ///
 /// The bound of each leaf is computed from scratch. Memory grows with the depth of the tree; a lead
@@ -119,35 +123,35 @@ enum Looked {
     Short,
 }
 
-/// The first fault of the nodes as a tree over the root box.
+/// The first fault of the nodes as a tree over the root.
 fn first_fault(
     alloc: Global,
     claim: &Claim,
     nodes: &[Node],
     limit: Option<u64>,
 ) -> Result<Looked, AllocError>
-    ensures { let scenario = claim.now.instance.now in let root = root_of scenario in
+    ensures { let scenario = claim.now.instance.now in let root = root_region scenario in
         IfOk result (λ looked. looked ≡ looked_within limit
         (steps_to_fault scenario claim.now.latency 0 (root ∷ []) nodes.now)
         (first_fault scenario claim.now.latency 0 (root ∷ []) nodes.now)) }
 {
-    halves_are_boxes();
+    halves_are_regions();
     let mut walk = Walk::over(alloc, DelayBox::root(alloc, claim.instance)?);
     let mut left = limit;
     for (number, node) in nodes.iter().enumerate() {
-        let Some(delay_box) = walk.next_box() else {
+        let Some(region) = walk.next_region() else {
             return Ok(Looked::All(Some(Refused::TreeCount)));
         };
-        if !spend(alloc, claim.instance, *node, delay_box, &mut left)? {
+        if !spend(alloc, claim.instance, *node, region, &mut left)? {
             return Ok(Looked::Short);
         }
-        let fault = node_fault(alloc, claim, number, *node, delay_box)?;
+        let fault = node_fault(alloc, claim, number, *node, region)?;
         if fault.is_some() {
             return Ok(Looked::All(fault));
         }
-        walk.pass(*node)?;
+        walk.pass(alloc, claim.instance, *node)?;
     }
-    Ok(Looked::All(walk.next_box().is_some().then_some(Refused::TreeCount)))
+    Ok(Looked::All(walk.next_region().is_some().then_some(Refused::TreeCount)))
 }
 
 /// Takes the steps of a node from those that are left, where they are limited. Answers whether there were
@@ -156,39 +160,44 @@ fn spend(
     alloc: Global,
     instance: &Instance,
     node: Node,
-    delay_box: &DelayBox,
+    region: &OpenRegion,
     left: &mut Option<u64>,
 ) -> Result<bool, AllocError>
-    requires inside { IsBox instance.now delay_box.now }
-    ensures enough { IfOk result
-        (λ enough. enough ≡ allows left.old (node_steps instance.now node delay_box.now)) }
-    ensures left { OnOk result
-        (left.new ≡ left_after left.old (node_steps instance.now node delay_box.now)) }
+    requires inside { IsRegion instance.now region.now }
+    ensures enough { IfOk result (λ enough. enough
+        ≡ allows left.old (node_steps instance.now node region.now)) }
+    ensures left { OnOk result (left.new
+        ≡ left_after left.old (node_steps instance.now node region.now)) }
 {
     let Some(most) = *left else {
         return Ok(true);
     };
-    let steps = node_steps(alloc, instance, node, delay_box)?;
+    let steps = node_steps(alloc, instance, node, region)?;
     *left = Some(most.saturating_sub(steps));
     Ok(steps <= most)
 }
 
-/// The fault of the node of that number over its box.
+/// The fault of the node of that number over its region.
 fn node_fault(
     alloc: Global,
     claim: &Claim,
     number: usize,
     node: Node,
-    delay_box: &DelayBox,
+    region: &OpenRegion,
 ) -> Result<Option<Refused>, AllocError>
-    requires inside { IsBox claim.now.instance.now delay_box.now }
-    ensures { IfOk result (λ fault. fault
-        ≡ node_fault claim.now.instance.now claim.now.latency number node delay_box.now) }
+    requires inside { IsRegion claim.now.instance.now region.now }
+    ensures { IfOk result (λ fault. fault ≡ node_fault claim.now.instance.now claim.now.latency number
+        node region.now) }
 {
     let (instance, latency) = (claim.instance, claim.latency);
+    let (delay_box, before) = (region.delay_box(), region.before());
     let (holds, fault) = match node {
         Node::Split { packet, at } => (
             delay_box.can_split(usize::from(packet), at),
+            Refused::Split(number),
+        ),
+        Node::Order { first, second } => (
+            may_order(alloc, instance, region, first, second)?,
             Refused::Split(number),
         ),
         Node::Bound => {
@@ -196,7 +205,7 @@ fn node_fault(
             (bound <= latency, Refused::BoundLeaf(number, bound))
         }
         Node::Point => (
-            is_within(instance, latency, delay_box),
+            is_within(alloc, instance, latency, delay_box, before)?,
             Refused::PointLeaf(number),
         ),
         Node::Stamp => {
@@ -221,12 +230,38 @@ fn in_ticks(instance: &Instance) -> bool
     instance.time() == Time::Ticks
 }
 
-/// Whether the box has one member, whose latency is at most that; in real time it has more, since ties
-/// fall in any order.
-fn is_within(instance: &Instance, latency: u32, delay_box: &DelayBox) -> bool
-    requires inside { IsBox instance.now delay_box.now }
-    ensures { result ≡ (in_ticks instance.now.time && (is_point delay_box.now
-        && nat_le (latency_of instance.now (greatest_of delay_box.now)) latency)) }
+/// Whether the region may be split by the order of two stages, by their numbers.
+fn may_order(
+    alloc: Global,
+    instance: &Instance,
+    region: &OpenRegion,
+    first: u8,
+    second: u8,
+) -> Result<bool, AllocError>
+    requires { IsRegion instance.now region.now }
+    ensures { IfOk result (λ can. can ≡ can_order instance.now region.now first second) }
 {
-    in_ticks(instance) && delay_box.is_point() && delay_box.greatest_latency(instance) <= latency
+    let (first, second) = (usize::from(first), usize::from(second));
+    can_order(alloc, instance.scenario(), region.before(), first, second)
+}
+
+/// Whether each packet has one delay left in the box, no tie is open there by the precedences, and the latency
+/// of the run is at most that.
+fn is_within(
+    alloc: Global,
+    instance: &Instance,
+    latency: u32,
+    delay_box: &DelayBox,
+    before: &[Precedence],
+) -> Result<bool, AllocError>
+    requires inside { IsBox instance.now delay_box.now }
+    requires within { All (IsPrecedence instance.now) before.now }
+    ensures { let region : Region = record { ranges = delay_box.now; before = before.now } in
+        IfOk result (λ within. within ≡ (is_decided instance.now region
+        && nat_le (latency_of instance.now (run_of instance.now region)) latency)) }
+{
+    if !is_decided(alloc, instance, delay_box, before)? {
+        return Ok(false);
+    }
+    Ok(run_latency(alloc, instance, delay_box, before)? <= latency)
 }

@@ -8,6 +8,7 @@ pub use refused::Refused;
 
 mod accepted;
 mod checking;
+mod open_region;
 mod refusal;
 mod refused;
 mod steps;

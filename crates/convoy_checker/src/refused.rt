@@ -12,8 +12,9 @@ pub enum Refused {
     #[error("the latency of the schedule is {0} ticks, and not the stated one")]
     Latency(u32),
     /// The split of that number names no packet of the scenario, or a place at which the packet's
-    /// range in the box can't be split.
-    #[error("node {0} splits a packet that is not there, or at a place where it can't be split")]
+    /// range in the box can't be split; or that split by order names moments that are not of one group, or
+    /// whose order is decided there.
+    #[error("node {0} splits a packet or an order that is not there, or where it can't be split")]
     Split(usize),
     /// The nodes end before the tree is whole, or go on after it.
     #[error("the nodes are not one whole tree")]
@@ -22,8 +23,8 @@ pub enum Refused {
     /// bound in ticks.
     #[error("node {0} is a leaf whose plain bound is {1} ticks, above the stated latency")]
     BoundLeaf(usize, u32),
-    /// The box of the leaf of that number has more members than one, or one of a latency above the
-    /// stated one.
+    /// The box of the leaf of that number has several delays for a packet, or in real time a tie in which either
+    /// of two moments may come first, or its run has a latency above the stated one.
     #[error("node {0} is a point leaf of several schedules, or of one above the stated latency")]
     PointLeaf(usize),
     /// The stamp bound of the box of that leaf is above the stated latency: the leaf's number, and the

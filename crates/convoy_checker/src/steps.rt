@@ -5,13 +5,17 @@ ghost use Rattle.std.specs.List.{filter};
 ghost use Rattle.convoy_draft.specs.declared.limits.TheConstants.{MOST_GROUPS};
 ghost use Rattle.convoy_scenario.specs.Scenario.{message_at};
 ghost use Rattle.convoy_intervals.specs.Boxes.{IsBox};
+ghost use Rattle.convoy_regions.specs.Regions.{IsRegion, any_order};
 ghost use Rattle.convoy_stamps.specs.Reach.{pairs_of};
 ghost use Rattle.convoy_sure.specs.Windows.{tables_by};
-ghost use Rattle.convoy_checker.specs.Steps.{is_late, node_steps, pair_steps, test_count, test_steps, ticks_seen};
+ghost use Rattle.convoy_intervals.specs.Boxes.{Box};
+ghost use Rattle.convoy_checker.specs.Steps.{is_late, node_steps, pair_steps, test_count, test_steps, ticks_seen, tie_steps};
 
+use super::open_region::OpenRegion;
 use convoy_certificate::Node;
 use convoy_intervals::DelayBox;
 use convoy_packets::Instance;
+use convoy_regions::Precedence;
 use convoy_scenario::{AllocResult, MOST_GROUPS, MOST_MULTICASTS, Scenario, Time};
 use convoy_stamps::Pair;
 use convoy_sure::{LAST_SETTLING, Windows, destinations, list_pairs, target_group};
@@ -23,27 +27,48 @@ const MOST_PAIR_STEPS: u64 = LAST_SETTLING as u64 + 2;
 /// How many pairs a scenario has at most.
 const MOST_PAIRS: usize = MOST_MULTICASTS * MOST_GROUPS;
 
-/// How many steps it takes at most to look at a node over its box.
+/// How many steps it takes at most to look at a node over its region.
 pub(crate) fn node_steps(
     alloc: Global,
     instance: &Instance,
     node: Node,
-    delay_box: &DelayBox,
+    region: &OpenRegion,
 ) -> AllocResult<u64>
-    requires inside { IsBox instance.now delay_box.now }
-    ensures { IfOk result (λ steps. steps ≡ node_steps instance.now node delay_box.now) }
+    requires inside { IsRegion instance.now region.now }
+    ensures { IfOk result (λ steps. steps
+        ≡ node_steps instance.now node region.now) }
 {
     match node {
         Node::Split { .. } | Node::Bound => Ok(1),
-        Node::Point => Ok(1 + instance.table().len() as u64),
+        Node::Order { .. } => Ok(1 + region.before().len() as u64),
+        Node::Point => {
+            let ties = tie_steps(alloc, instance, region.before())?;
+            Ok(1 + instance.table().len() as u64 + ties)
+        }
         Node::Stamp => stamp_steps(alloc, instance.scenario()),
-        Node::Lead { latency } => lead_steps(alloc, instance, latency, delay_box),
+        Node::Lead { latency } => lead_steps(alloc, instance, latency, region.delay_box()),
+    }
+}
+
+/// How many steps a test of ties takes where there are these precedences: none in whole ticks.
+fn tie_steps(alloc: Global, instance: &Instance, before: &[Precedence]) -> AllocResult<u64>
+    ensures value { (ranges : Box) → IfOk result (λ steps. steps
+        ≡ tie_steps instance.now.time instance.now (record { ranges = ranges; before = before.now })) }
+    ensures fits { IfOk result (λ steps. steps ≤ MOST_PAIRS * MOST_PAIRS + length before.now) }
+{
+    match instance.time() {
+        Time::Ticks => Ok(0),
+        Time::Real => {
+            let pairs = list_pairs(alloc, instance.scenario())?;
+            let pairs = pairs.len() as u64;
+            Ok(pairs * pairs + before.len() as u64)
+        }
     }
 }
 
 /// How many steps a stamp leaf takes.
 fn stamp_steps(alloc: Global, scenario: &Scenario) -> AllocResult<u64>
-    ensures { IfOk result (λ steps. steps ≡ node_steps scenario.now Node.Stamp []) }
+    ensures { IfOk result (λ steps. steps ≡ node_steps scenario.now Node.Stamp (any_order [])) }
 {
     let pairs = list_pairs(alloc, scenario)?;
     Ok(1 + target_destinations(scenario) * pairs.len() as u64)
@@ -58,7 +83,7 @@ fn lead_steps(
 ) -> AllocResult<u64>
     requires inside { IsBox instance.now delay_box.now }
     ensures { IfOk result (λ steps. steps
-        ≡ node_steps instance.now (Node.Lead latency) delay_box.now) }
+        ≡ node_steps instance.now (Node.Lead latency) (any_order delay_box.now)) }
 {
     let scenario = instance.scenario();
     let pairs = list_pairs(alloc, scenario)?;
@@ -137,22 +162,21 @@ fn pair_steps(scenario: &Scenario, windows: &Windows, pairs: usize, pair: Pair) 
     requires message { pair.message < length scenario.now.multicasts }
     requires group { pair.group < MOST_GROUPS }
     requires pairs { pairs ≡ length (pairs_of scenario.now) }
+    requires few { pairs ≤ MOST_PAIRS }
     ensures value { result ≡ pair_steps scenario.now (tables_by windows.now).times pair }
     ensures fits { result ≤ MOST_PAIR_STEPS }
 {
     let committed = windows.greatest_settling(scenario.target_message(), target_group(scenario));
     let last = committed.min(windows.greatest_settling(pair.message, pair.group));
     let first = windows.least_settling(pair.message, pair.group);
-    1 + ticks_seen(scenario.time(), pairs, (last + 1).saturating_sub(first))
+    1 + ticks_seen(pairs, (last + 1).saturating_sub(first))
 }
 
-/// Of so many ticks those that leads go through one by one, where there are so many pairs.
-fn ticks_seen(time: Time, pairs: usize, ticks: u32) -> u64
-    ensures value { result ≡ ticks_seen time pairs ticks }
+/// At how many of so many ticks leads look for starts at most, where there are so many pairs.
+fn ticks_seen(pairs: usize, ticks: u32) -> u64
+    requires few { pairs ≤ MOST_PAIRS }
+    ensures value { result ≡ ticks_seen pairs ticks }
     ensures fits { result ≤ ticks }
 {
-    match time {
-        Time::Ticks => u64::from(ticks),
-        Time::Real => u64::from(ticks).min(pairs as u64),
-    }
+    u64::from(ticks).min(3 * pairs as u64)
 }

@@ -6,10 +6,12 @@ ghost use Rattle.convoy_checker.specs.TreeLaws.{LeadLeavesCover, TreesCover};
 ghost use Rattle.convoy_checker.specs.TreeLaws.{SplitIsTwoTrees, ValidIsGreatest, CheckedIsValid};
 
 use convoy_intervals::box_laws::{
-    greatest_is_member, halves_are_boxes, halves_partition, members_are_assignments,
-    plain_bound_holds, point_has_one_member, root_holds_all, root_is_box,
+    halves_partition, members_are_assignments, plain_bound_holds, root_is_box,
 };
 use convoy_leads::lead_laws::leads_hold;
+use convoy_regions::region_laws::{
+    decided_has_one_latency, halves_are_regions, orders_partition, root_holds_all,
+};
 use convoy_stamps::stamp_bound_laws::stamp_bound_holds;
 
 /// Where a box is closed by its plain bound, no member of it has a greater latency than the stated
@@ -20,12 +22,12 @@ pub fn bound_leaves_cover()
     plain_bound_holds();
 }
 
-/// Where a box is closed as a point, in whole ticks, no member of it has a greater latency than the stated one.
+/// Where a region is closed as a point whose ties are decided, no member of it has a greater latency than the
+/// stated one.
 pub fn point_leaves_cover()
     ensures { PointLeavesCover }
 {
-    greatest_is_member();
-    point_has_one_member();
+    decided_has_one_latency();
 }
 
 /// Where a box is closed by its stamp bound, in whole ticks, no member of it has a greater latency than the stated
@@ -69,8 +71,9 @@ pub fn trees_cover()
 {
     root_is_box();
     root_holds_all();
-    halves_are_boxes();
+    halves_are_regions();
     halves_partition();
+    orders_partition();
     leaves_cover();
 }
 

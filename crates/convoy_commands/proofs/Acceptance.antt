@@ -1,5 +1,5 @@
 -- What is written for a scenario of which a search has ended, and what `check` answers for it.
-use Rattle.std.proofs.Common.{◌≡◌, ◌≢◌, ◌≤◌, ◌++◌, ◌∙◌, ℕ, List, Vec, length, None, Ok, false, inl, inr, refl, sym, ap, arith}
+use Rattle.std.proofs.Common.{◌≡◌, ◌≢◌, ◌≤◌, ◌++◌, ◌∙◌, ℕ, List, Vec, length, None, Ok, false, inl, inr, refl, sym, ap, subst, arith}
 use Rattle.std.specs.List.{list_any}
 use Rattle.std.specs.declared.alloc.Global.{Global}
 use Rattle.convoy_scenario.specs.Scenario.{Scenario}
@@ -17,6 +17,7 @@ use Rattle.convoy_branch.specs.declared.bounds.Bounds.TheVariants.{Plain, Lead}
 use Rattle.convoy_branch.specs.declared.outcome.Outcome.TheVariants.{Proved, Open}
 use Rattle.convoy_branch.specs.Options.{Settings, first_bounds, highest_limit, limit_of}
 use Rattle.convoy_branch.specs.BothWays.{IsFrontBothWays, IsOutcomeBothWays, lead_share, plain_share}
+use Rattle.convoy_branch.specs.Fronts.{IsFront}
 use Rattle.convoy_branch.specs.Outcomes.{IsProved}
 use Rattle.convoy_branch.specs.SearchBounds.{most_nodes}
 use Rattle.convoy_branch.specs.declared.limit.Limit.{Limit}
@@ -113,7 +114,7 @@ open_both scenario workers plain leads best upper tickets by_worker (inl found) 
   of_scenario = found.1.of_scenario;
   reached = found.1.reached;
   none_greater = found.1.none_greater;
-  front = inl (found.0, found.1.front);
+  front = inl (found.0, subst (λ (n : ℕ). IsFront Plain scenario best.latency upper n) found.1.all found.1.front);
 }
 open_both scenario workers plain leads best upper tickets by_worker (inr found) = record {
   of_scenario = found.of_scenario;
@@ -128,7 +129,7 @@ open_end (One bounds) scenario workers limit best upper tickets by_worker found 
   of_scenario = found.answer.of_scenario;
   reached = found.answer.reached;
   none_greater = found.answer.none_greater;
-  front = record { spendable = found.spendable; few = found.few; all = found.all; answer = found.answer.front };
+  front = record { spendable = found.spendable; few = found.few; all = found.all; answer = subst (λ (n : ℕ). IsFront bounds scenario best.latency upper n) found.answer.all found.answer.front };
 }
 open_end Both scenario workers limit best upper tickets by_worker found =
     let ended = open_both scenario workers found.plain found.leads best upper tickets by_worker found.answer in

@@ -16,7 +16,7 @@ use Rattle.convoy_checker.specs.Validity.{IsValid}
 use Rattle.convoy_branch.specs.declared.bounds.Bounds.{Bounds}
 use Rattle.convoy_branch.specs.declared.bounds.Bounds.TheVariants.{Plain, Lead}
 use Rattle.convoy_branch.specs.BothWays.{IsWithinBothWays, IsFrontBothWays, IsOutcomeBothWays}
-use Rattle.convoy_branch.specs.Fronts.{HasStopped}
+use Rattle.convoy_branch.specs.Fronts.{IsFront}
 use Rattle.convoy_branch.specs.Limits.{IsWithin}
 use Rattle.convoy_branch.specs.Outcomes.{IsOutcome}
 use Rattle.convoy_branch.specs.declared.limit.Limit.{Limit}
@@ -53,7 +53,7 @@ IsOutcomeBy Both scenario workers limit outcome =
 
 -- how far one has come that has stopped with boxes left
 abbrev pub IsFrontBy : Ways → Scenario → ℕ → ℕ → Limit → Type 0
-IsFrontBy (One bounds) scenario least most limit = IsWithin limit (λ tickets. HasStopped bounds scenario least most tickets)
+IsFrontBy (One bounds) scenario least most limit = IsWithin limit (λ tickets. IsFront bounds scenario least most tickets)
 IsFrontBy Both scenario least most limit =
     IsWithinBothWays limit (λ plain leads. IsFrontBothWays scenario least most plain leads)
 

@@ -9,7 +9,8 @@ use super::answer::ReadInstance;
 use super::fault::Fault;
 use super::watch::Watch;
 use convoy_branch::{
-    Bounds, FromAbove, Options, Outcome, Ways, from_above, lead_share, plain_share, search_alone,
+    Bounds, FromAbove, Options, Outcome, Ways, lead_share, plain_share, root_from_above,
+    search_alone, split_from_above,
 };
 use convoy_packets::schedule_laws::fixed_order_is_order;
 use convoy_packets::{Instance, Schedule};
@@ -20,8 +21,12 @@ use std::alloc::{AllocError, Global};
 use std::sync::Wait;
 use std::thread::Threads;
 
-/// How many schedules are simulated at most before runs are sought from above.
+/// How many schedules are simulated at most before the root is asked from above.
 const FIRST_SIMULATIONS: u64 = 500;
+
+/// How many schedules are simulated at most before boxes are split from above. Where messages crowd, so many take less
+/// time than one such box.
+const MORE_SIMULATIONS: u64 = 2_000;
 
 /// Searches for the greatest latency of the scenario that a text gives, by the options' limit of
 /// tickets, by their bounds or both ways, and with their number of workers: that scenario with its
@@ -99,8 +104,9 @@ fn search<R: Threads + Wait + Sync, W: Watch + Sync>(
 }
 
 /// A record of a good schedule to start a search from, which is no lower than the one given: where the search may
-/// ask leads, some schedules are simulated, then runs are sought from above, and then the rest of the options'
-/// number of simulations is made if these have not shown the greatest latency; else all of them at once.
+/// ask leads, runs are sought from above, with some schedules simulated before the root is asked and more before boxes
+/// are split, and then the rest of the options' number of simulations is made if these have not shown the greatest
+/// latency; else all of them at once.
 fn sought<W: Watch>(
     alloc: Global,
     instance: &Instance,
@@ -118,7 +124,10 @@ fn sought<W: Watch>(
     }
     let few = simulations.min(FIRST_SIMULATIONS);
     let found = seek_within(alloc, instance, known, upper, few)?;
-    let FromAbove { best, bound } = from_above(alloc, instance, found, limit, watch)?;
+    let FromAbove { best, bound } = root_from_above(alloc, instance, found, limit, watch)?;
+    let more = simulations.min(MORE_SIMULATIONS);
+    let found = seek_within(alloc, instance, best, bound, more)?;
+    let FromAbove { best, bound } = split_from_above(alloc, instance, found, bound, limit, watch)?;
     seek_within(alloc, instance, best, bound, simulations)
 }
 

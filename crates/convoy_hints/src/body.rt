@@ -94,12 +94,26 @@ pub(crate) fn has_order(text: &[u8]) -> bool {
     says_time(text) && matches!(reader.line(), Some(b"time real"))
 }
 
-/// Whether the lines of a certificate with that text say how time goes: it is of version 4.
+/// Whether the lines of a certificate with that text say how time goes: it is of version 4 or 5.
 pub(crate) fn says_time(text: &[u8]) -> bool {
-    matches!(form_of(text), Form::Certificate(Some(Version::Four)))
+    matches!(
+        form_of(text),
+        Form::Certificate(Some(Version::Four | Version::Five))
+    )
 }
 
-/// The packet that a line splits, and after how many ticks; None where it is no split.
+/// Whether splits by order and point leaves in real time may stand in a certificate with that text: it is of
+/// version 5.
+pub(crate) fn decides_ties(text: &[u8]) -> bool {
+    matches!(form_of(text), Form::Certificate(Some(Version::Five)))
+}
+
+/// Whether a line is a split: of a packet, or by the order of two moments.
+pub(crate) fn is_split(line: &str) -> bool {
+    split_of(line).is_some() || line.starts_with("o ")
+}
+
+/// The packet that a line splits, and after how many ticks; None where it is no such split.
 pub(crate) fn split_of(line: &str) -> Option<(usize, u16)> {
     let (packet, at) = line.strip_prefix("s ")?.split_once(' ')?;
     Some((packet.parse().ok()?, at.parse().ok()?))

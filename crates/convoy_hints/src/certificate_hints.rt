@@ -1,4 +1,4 @@
-use super::body::{has_order, says_time};
+use super::body::{decides_ties, has_order, says_time};
 use super::scenario_lines::{numbers_of, scenario_in, sketch_of_lines};
 use super::search_hints::rest_of_option;
 use super::tree_hints::hint_for_refused;
@@ -80,7 +80,7 @@ fn hint_for_other_text(alloc: Global, text: &[u8]) -> Result<String, AllocError>
     }
     String::from_str(
         alloc,
-        "the input does not begin as a certificate, with one of the lines 'convoy 1' to 'convoy 4'",
+        "the input does not begin as a certificate, with one of the lines 'convoy 1' to 'convoy 5'",
     )
 }
 
@@ -254,7 +254,9 @@ fn flaw_of(line: &str) -> Option<&'static str> {
 fn flaw_of_issue(line: &str, is_timed: bool) -> Option<&'static str> {
     let (first, last) = line.split(' ').nth(3)?.split_once("..")?;
     if !is_timed {
-        return Some("has two ticks of issue, which stand in certificates 'convoy 4' alone");
+        return Some(
+            "has two ticks of issue, which stand in certificates 'convoy 4' and 'convoy 5' alone",
+        );
     }
     let first: u32 = first.parse().ok()?;
     let last: u32 = last.parse().ok()?;
@@ -264,7 +266,7 @@ fn flaw_of_issue(line: &str, is_timed: bool) -> Option<&'static str> {
 /// The form of a line of a certificate with that text (docs/FORMATS.md, "Certificate text").
 fn form_of_line(expected: Expected, text: &[u8]) -> &'static str {
     match expected {
-        Expected::Convoy => "one of 'convoy 1' to 'convoy 4'",
+        Expected::Convoy => "one of 'convoy 1' to 'convoy 5'",
         Expected::Time => "'time real' or 'time ticks'",
         Expected::Tick =>
             "'tick COUNT UNIT', in the greatest of the units s, ms, us and ns that divides it",
@@ -280,6 +282,7 @@ fn form_of_line(expected: Expected, text: &[u8]) -> &'static str {
         Expected::Latency => "'latency L'",
         Expected::Schedule => "'schedule C ..'",
         Expected::Order => "'order R ..', or 'order' alone where all ranks are 0",
+        Expected::Node if decides_ties(text) => "'s P A', 'o I J', 'b', 'p', 'c N' or 'end'",
         Expected::Node if has_order(text) => "'s P A', 'b', 'c N' or 'end'",
         Expected::Node => "'s P A', 'b', 'p', 't', 'c N' or 'end'",
     }

@@ -6,8 +6,8 @@
 pub use certificate_hints::{hint_for_certificate, hint_for_unchecked};
 pub use checked_texts::{CheckedText, hint_of_text};
 pub use convoy_hints_scenario::{
-    hint_for_given_order, hint_for_given_schedule, hint_for_named_group, hint_for_order_in_ticks,
-    hint_for_plain_number, hint_for_scenario,
+    hint_for_file_as_group, hint_for_given_order, hint_for_given_schedule, hint_for_named_group,
+    hint_for_order_in_ticks, hint_for_plain_number, hint_for_scenario, is_name_of_file,
 };
 pub use convoy_hints_sketch::Hint;
 pub use device_hints::{
@@ -17,7 +17,7 @@ pub use difference_hints::hint_for_difference;
 pub use job_hints::hint_for_batch;
 pub use search_hints::{
     hint_for_both, hint_for_ceiling, hint_for_first, hint_for_greatest, hint_for_leads,
-    hint_for_limit, hint_for_real_time, hint_for_seconds, hint_for_tickets,
+    hint_for_limit, hint_for_seconds, hint_for_tickets,
 };
 
 mod body;

@@ -1,12 +1,13 @@
-use super::body::{Body, split_of};
+use super::body::{Body, is_split, split_of};
 use std::alloc::{AllocError, Global};
 
-/// One half of a box: the schedules in which a packet takes at most that, or more.
+/// One half of a box: the schedules in which a packet takes at most so many ticks, or more; or those in which two
+/// moments come in the one order, or in the other.
 #[derive(Clone, Copy, PartialEq, Eq)]
 pub(crate) struct Half {
-    packet: usize,
-    at: u16,
-    is_upper: bool,
+    /// The packet, and after how many ticks it is split; None for an order.
+    cut: Option<(usize, u16)>,
+    is_second: bool,
 }
 
 /// The halves that lead from the box of all schedules to that of a node, where the splits before it
@@ -18,24 +19,24 @@ pub(crate) fn path_to(
 ) -> Result<Vec<Half>, AllocError> {
     let mut path = Vec::new(alloc);
     for line in body.text.lines().skip(body.head).take(node) {
-        match split_of(line) {
-            Some((packet, at)) => path.push(Half {
-                packet,
-                at,
-                is_upper: false,
-            })?,
-            None => leave(&mut path),
+        if is_split(line) {
+            path.push(Half {
+                cut: split_of(line),
+                is_second: false,
+            })?;
+        } else {
+            leave(&mut path);
         }
     }
     Ok(path)
 }
 
-/// Goes on from a leaf to the upper half of the last split whose lower half it ends.
+/// Goes on from a leaf to the second half of the last split whose first half it ends.
 fn leave(path: &mut Vec<Half>) {
-    let last = path.iter().rposition(|half| !half.is_upper);
+    let last = path.iter().rposition(|half| !half.is_second);
     path.truncate(last.map_or(0, |place| place.saturating_add(1)));
     if let Some(half) = path.last_mut() {
-        half.is_upper = true;
+        half.is_second = true;
     }
 }
 
@@ -43,11 +44,13 @@ fn leave(path: &mut Vec<Half>) {
 pub(crate) fn range_along(path: &[Half], packet: usize, range: (u16, u16)) -> (u16, u16) {
     let (mut least, mut most) = range;
     for half in path {
-        if half.packet == packet {
-            if half.is_upper {
-                least = half.at.saturating_add(1);
+        if let Some((split, at)) = half.cut
+            && split == packet
+        {
+            if half.is_second {
+                least = at.saturating_add(1);
             } else {
-                most = half.at;
+                most = at;
             }
         }
     }

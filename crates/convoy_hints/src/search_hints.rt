@@ -98,43 +98,6 @@ pub fn hint_for_tickets(alloc: Global, tickets: u64, most: u64) -> Result<String
     hint_for_search(alloc, most, rest)
 }
 
-/// What to do where a search in real time did not end, that could spend so many tickets by plain or stamp
-/// bounds, and then so many by leads, of `most` that it may have by these, in one line `hint: ..`: to go by
-/// leads; to allow more tickets by leads, or where a point was left before they were spent to look for a
-/// slower schedule; or to rely on what is known.
-pub fn hint_for_real_time(
-    alloc: Global,
-    by_bounds: u64,
-    by_leads: u64,
-    most: u64,
-) -> Result<String, AllocError> {
-    let way = way_in_real_time(alloc, by_bounds, by_leads, most)?;
-    format!(in alloc; "hint: the search in real time did not end: {way}\n")
-}
-
-/// What to do where such a search did not end.
-fn way_in_real_time(
-    alloc: Global,
-    by_bounds: u64,
-    by_leads: u64,
-    most: u64,
-) -> Result<String, AllocError> {
-    if by_leads == 0 {
-        return String::from_str(alloc, "with '--bounds lead' it mostly does");
-    }
-    if by_leads < most {
-        let tickets = noun(by_leads == 1, "ticket", "tickets");
-        let highest = by_bounds.saturating_add(most);
-        return format!(in alloc;
-            "where it has spent its {by_leads} {tickets} by leads, '--limit {highest}' allows the most; else more schedules, as with '--seek 1000000', may raise the first number"
-        );
-    }
-    String::from_str(
-        alloc,
-        "no latency is above the second number, and more schedules, as with '--seek 1000000', may raise the first",
-    )
-}
-
 /// What to do where a search was stopped after so many seconds, of `most` that it may have, in one line
 /// `hint: ..`: to allow more of them, or to rely on what is known.
 pub fn hint_for_seconds(alloc: Global, seconds: u32, most: u32) -> Result<String, AllocError> {

@@ -1,4 +1,4 @@
-use super::body::{Body, Line, split_of};
+use super::body::{Body, Line, has_order, is_split};
 use super::paths::{Half, path_to, range_along};
 use super::scenario_lines::scenario_in;
 use convoy_checker::Refused;
@@ -41,6 +41,11 @@ fn hint_for_latency(alloc: Global, body: &Body<'_>, simulated: u32) -> Result<St
 /// A split names no packet of the scenario, or a delay after which the packet's range can't be split.
 fn hint_for_split(alloc: Global, body: &Body<'_>, node: usize) -> Hint {
     let line = body.line_of(node);
+    if line.text.is_some_and(|text| text.starts_with("o ")) {
+        return format!(in alloc;
+            "{line} splits by the order of two moments that is known there, or of two commits, or at two groups"
+        ).map(Some);
+    }
     let Some((packet, at)) = line.split() else {
         return format!(in alloc;
             "{line} splits a packet that the scenario does not have, or after a delay at which its range there can't be split"
@@ -121,7 +126,7 @@ fn hint_for_count(alloc: Global, body: &Body<'_>) -> Hint {
         if open == 0 {
             return hint_for_further(alloc, &body.line_of(node)).map(Some);
         }
-        open = if split_of(text).is_some() {
+        open = if is_split(text) {
             open.saturating_add(1)
         } else {
             open.saturating_sub(1)
@@ -171,6 +176,15 @@ fn hint_for_point(alloc: Global, body: &Body<'_>, node: usize) -> Hint {
     let path = path_to(alloc, body, node)?;
     match first_open(instance.table().ranges(), &path) {
         Some((packet, taken)) => hint_for_range(alloc, &line, packet, taken).map(Some),
+        None if has_order(body.text.as_bytes()) => {
+            hint_for_box(
+                alloc,
+                body,
+                &line,
+                "delays with a tie that is not decided, or of a run",
+            )
+            .map(Some)
+        }
         None => hint_for_box(alloc, body, &line, "one schedule,").map(Some),
     }
 }

@@ -11,7 +11,7 @@ pub use scenario_hints::{
     hint_for_fault, hint_for_plain_number, hint_for_scenario, hint_for_sketch, with_label,
 };
 pub use schedules::{has_waits, hint_for_order, hint_for_schedule};
-pub use targets::hint_for_named_group;
+pub use targets::{hint_for_file_as_group, hint_for_named_group, is_name_of_file};
 
 mod damage;
 mod inputs;

@@ -1,5 +1,7 @@
 use super::names::{first_double, names_of};
-use convoy_hints_sketch::{Hint, Names, Part, Quoted, Sketch, nearest, words_of};
+use convoy_hints_sketch::{
+    Hint, Names, Part, Quoted, Sketch, is_word_for_clients, nearest, words_of,
+};
 use convoy_scenario::{DraftLink, DraftMulticast, Name};
 use convoy_toml::ScenarioTable;
 use std::alloc::{AllocError, Global};
@@ -104,7 +106,7 @@ fn unknown<'s>(name: &'s Name, names: &[Name]) -> Option<&'s str> {
 /// A name is that of none of the groups.
 fn hint_for_stray(alloc: Global, stray: Stray<'_>, groups: &[&str]) -> Result<String, AllocError> {
     let Stray { name, key, part } = stray;
-    if name == "client" && key == "from" {
+    if is_word_for_clients(name) && key == "from" {
         let shown = Quoted(name);
         return format!(in alloc;
             "'{key}' in {part} is {shown}, which is no group: leave the key '{key}' out where clients send"

@@ -11,7 +11,7 @@ use super::references::{
 use convoy_certificate::{Form, form_of};
 use convoy_hints_sketch::{
     Hint, Quoted, ScenarioText, Sketch, hint_for_mixture, hint_for_part_of_tick, hint_for_shape,
-    sketch_of_draft, spot_at,
+    sketch_of_draft, spot_at, with_cause_of_tick,
 };
 use convoy_scenario::{DraftScenario, Key, Limit, Scenario, ScenarioFault};
 use convoy_toml::{
@@ -80,7 +80,7 @@ fn hint_for_given_certificate(alloc: Global, text: &[u8]) -> Result<String, Allo
         Form::Certificate(Some(_)) =>
             "the input is a certificate, and a scenario is read here: 'convoy check' reads certificates",
         Form::Certificate(None) | Form::Other =>
-            "the input begins as a certificate, but its first line is none of 'convoy 1' to 'convoy 4'",
+            "the input begins as a certificate, but its first line is none of 'convoy 1' to 'convoy 5'",
     };
     String::from_str(alloc, hint)
 }
@@ -110,9 +110,46 @@ fn hint_for_error(alloc: Global, text: &str, error: &Error) -> Hint {
     };
     let spot = spot_at(text.as_bytes(), span.start);
     let (line, column) = (spot.line, spot.column);
-    let words = Quoted(text.lines().nth(line.saturating_sub(1)).unwrap_or(""));
-    let message = error.message();
-    format!(in alloc; "line {line}, column {column}, in {words}: {message}").map(Some)
+    let words = text.lines().nth(line.saturating_sub(1)).unwrap_or("");
+    let rule = if gives_bare_time(words) {
+        IN_QUOTES
+    } else {
+        ""
+    };
+    let (words, message) = (Quoted(words), error.message());
+    format!(in alloc; "line {line}, column {column}, in {words}: {message}{rule}").map(Some)
+}
+
+/// How a duration is written.
+const IN_QUOTES: &str =
+    "; a duration stands in quotes, with a point before its decimals, as \"0.5 ms\"";
+
+/// Whether a line gives a time that is neither a number nor in quotes, as `least = 0,5 ms`.
+fn gives_bare_time(line: &str) -> bool {
+    let Some((key, value)) = line.split_once('=') else {
+        return false;
+    };
+    let (value, _) = value.split_once('#').unwrap_or((value, ""));
+    let key = key.trim();
+    is_key_of_time(key) && is_bare_duration(value.trim())
+}
+
+/// Whether a time may stand at the key of that word.
+fn is_key_of_time(word: &str) -> bool {
+    matches!(word, "tick" | "delay" | "least" | "most" | "at" | "until")
+}
+
+/// Whether a value begins as a number and has a unit or a decimal comma.
+fn is_bare_duration(value: &str) -> bool {
+    match value.as_bytes() {
+        [first, rest @ ..] => {
+            first.is_ascii_digit()
+                && rest
+                    .iter()
+                    .any(|byte| *byte == b',' || byte.is_ascii_alphabetic())
+        }
+        [] => false,
+    }
 }
 
 /// What is wrong with the table of a scenario: it is read as the commands read it, up to the fault.
@@ -178,14 +215,31 @@ fn hint_for_draft(
     fault: ScenarioFault,
 ) -> Hint {
     match fault {
-        ScenarioFault::NoRange => hint_for_no_range(alloc, &draft),
+        ScenarioFault::NoRange => hint_for_no_range(alloc, &draft, written.delay.is_some()),
         ScenarioFault::TargetWaits if !source.table.contains_key(Key::Target.word()) => {
             hint_for_no_known_issue(alloc).map(Some)
         }
         fault => {
             let sketch = sketch_of_draft(alloc, source, &written.links, draft)?;
-            hint_for_sketch(alloc, &sketch, fault)
+            let hint = hint_for_sketch(alloc, &sketch, fault)?;
+            with_cause(alloc, source, written, fault, hint)
         }
+    }
+}
+
+/// The hint, and which duration makes the tick so short where times are too many of it.
+fn with_cause(
+    alloc: Global,
+    source: ScenarioText<'_>,
+    written: &WrittenScenario,
+    fault: ScenarioFault,
+    hint: Option<String>,
+) -> Hint {
+    match (fault, hint) {
+        (ScenarioFault::OverLimit(Limit::Delay | Limit::At | Limit::Until), Some(hint)) => {
+            with_cause_of_tick(alloc, source, written, hint).map(Some)
+        }
+        (_, hint) => Ok(hint),
     }
 }
 

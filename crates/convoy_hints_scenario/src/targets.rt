@@ -1,23 +1,70 @@
-use convoy_hints_sketch::Hint;
-use convoy_scenario::Scenario;
+use convoy_hints_sketch::{Hint, Names, Quoted, nearest};
+use convoy_scenario::{Scenario, ScenarioFault};
 use convoy_toml::read_toml_any_target;
-use std::alloc::Global;
+use std::alloc::{AllocError, Global};
 
-/// What is wrong with the group at which a command line asks for the ceilings of the scenario of that text,
-/// in one line `hint: ..`: that the scenario has none of that name. None where it has, or where the text is
-/// that of no scenario, and so has a fault of its own.
-pub fn hint_for_named_group(alloc: Global, text: &[u8], name: &str) -> Hint {
-    match read_toml_any_target(alloc, text) {
-        Ok(input) if !has_group(&input.scenario, name) => String::from_str(
-            alloc,
-            "hint: the scenario has no group of the name that '--group' gives\n",
-        )
-        .map(Some),
+/// What is wrong with the group at which a command line asks for the ceilings of the scenario of that text, in one line
+/// `hint: ..`: that the scenario has none of that name, or that this is the name of a file where no text was given. None
+/// where the scenario has such a group, or the text has a fault of its own.
+pub fn hint_for_named_group(alloc: Global, text: &[u8], name: &str, fault: ScenarioFault) -> Hint {
+    match (fault, read_toml_any_target(alloc, text)) {
+        (ScenarioFault::UnknownGroup, Ok(input)) => hint_for_group(alloc, &input.scenario, name),
+        (_, Err(_)) if is_name_of_file(name) && is_blank(text) => {
+            hint_for_file_as_group(alloc, name).map(Some)
+        }
         _ => Ok(None),
     }
 }
 
-/// Whether a group of the scenario has that name.
-fn has_group(scenario: &Scenario, name: &str) -> bool {
-    (0..scenario.group_count()).any(|group| scenario.group_name(group) == name)
+/// Whether a text has nothing in it.
+fn is_blank(text: &[u8]) -> bool {
+    text.iter().all(|byte| byte.is_ascii_whitespace())
+}
+
+/// Whether a name has a sign that those of files have, and those of groups do not.
+pub fn is_name_of_file(name: &str) -> bool {
+    name.contains('.') || name.contains('/')
+}
+
+/// What to write where a file is named in place of a group, in one line `hint: ..`.
+pub fn hint_for_file_as_group(alloc: Global, name: &str) -> Result<String, AllocError> {
+    let name = Quoted(name);
+    format!(in alloc;
+        "hint: '--group' names a group, and {name} seems to be a file: convoy ceiling --group GROUP FILE\n"
+    )
+}
+
+/// That the scenario has no group of that name; None where it has.
+fn hint_for_group(alloc: Global, scenario: &Scenario, name: &str) -> Hint {
+    let groups = groups_of(alloc, scenario)?;
+    if groups.iter().any(|group| *group == name) {
+        return Ok(None);
+    }
+    if is_name_of_file(name) {
+        return hint_for_file_as_group(alloc, name).map(Some);
+    }
+    let shown = Quoted(name);
+    match nearest(alloc, name, &groups)? {
+        Some(near) => {
+            let near = Quoted(near);
+            format!(in alloc;
+                "hint: '--group' names {shown}, which is no group: did you mean {near}?\n"
+            ).map(Some)
+        }
+        None => {
+            let groups = Names(&groups);
+            format!(in alloc;
+                "hint: '--group' names {shown}, which is no group: the groups are {groups}\n"
+            ).map(Some)
+        }
+    }
+}
+
+/// The names of the groups of a scenario.
+fn groups_of(alloc: Global, scenario: &Scenario) -> Result<Vec<&str>, AllocError> {
+    let mut groups = Vec::new(alloc);
+    for group in 0..scenario.group_count() {
+        groups.push(scenario.group_name(group))?;
+    }
+    Ok(groups)
 }

@@ -73,7 +73,9 @@ fn flaw_of(text: &str) -> &'static str {
         None => "is empty",
         Some(b'-') => "is negative",
         Some(byte) if !byte.is_ascii_digit() => "does not begin with a digit",
+        Some(_) if text.contains(',') => "has a comma, where decimals follow a point",
         Some(_) if unit.is_empty() => "has no unit",
+        Some(_) if begins_with_micro(unit) => "has the micro sign, which is written u here",
         Some(_) => match TimeUnit::named(unit.as_bytes()) {
             None => "has another unit",
             Some(unit) if is_too_long(text, unit) => "is longer than 1000000 s",
@@ -84,6 +86,11 @@ fn flaw_of(text: &str) -> &'static str {
 }
 
 const _: () = prove!(LONGEST_DURATION == 1_000_000_000_000_000);
+
+/// Whether a unit begins with the micro sign, or with the letter mu of Greek.
+fn begins_with_micro(unit: &str) -> bool {
+    unit.starts_with('\u{b5}') || unit.starts_with('\u{3bc}')
+}
 
 /// What follows the digits and points at the head of a text, without spaces around it.
 fn unit_in(text: &str) -> &str {

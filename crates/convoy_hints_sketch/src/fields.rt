@@ -7,6 +7,8 @@ pub(crate) enum Kind {
     Integer,
     /// A number of ticks, or where time is real a duration.
     Time,
+    /// A duration, where time is real and no other time is a number of ticks.
+    Duration,
     Text,
     Texts,
     /// A text, or an array of texts that is not empty.
@@ -52,6 +54,22 @@ pub(crate) fn field_at(table: ScenarioTable, key: Key) -> Field {
         Key::Unknown => (Kind::Text, ""),
     };
     Field { kind, sample }
+}
+
+/// What has to stand at a key whose time is a duration; None where it has no time.
+pub(crate) fn lasting_field(key: Key) -> Option<Field> {
+    let sample = match key {
+        Key::Delay => "delay = \"80 ms\"",
+        Key::Least => "least = \"1 ms\"",
+        Key::Most => "most = \"2 ms\"",
+        Key::At => "at = \"0 ms\"",
+        Key::Until => "until = \"10 ms\"",
+        _ => return None,
+    };
+    Some(Field {
+        kind: Kind::Duration,
+        sample,
+    })
 }
 
 /// The keys that a table may have.

@@ -27,6 +27,13 @@ impl<'a> ScenarioText<'a> {
         }
     }
 
+    /// Whether one of its times is a number, which counts ticks.
+    pub(crate) fn has_counts(&self) -> bool {
+        has_count(self.table)
+            || self.items_at(Key::Multicast).iter().any(is_with_count)
+            || self.items_at(Key::Link).iter().any(is_with_count)
+    }
+
     /// One of its tables, as a person finds it.
     pub fn part(&self, table: ScenarioTable) -> Part<'a> {
         let among = match table {
@@ -53,6 +60,27 @@ impl<'a> ScenarioText<'a> {
             Some(items) => items.as_slice(),
             None => &[],
         }
+    }
+}
+
+/// The keys at which a time may stand.
+const TIMES: [Key; 5] = [Key::Delay, Key::Least, Key::Most, Key::At, Key::Until];
+
+/// Whether one of the times of a table is a number.
+fn has_count(table: &Table) -> bool {
+    for key in TIMES {
+        if table.get(key.word()).is_some_and(Value::is_integer) {
+            return true;
+        }
+    }
+    false
+}
+
+/// Whether a value is a table of which a time is a number.
+fn is_with_count(value: &Value) -> bool {
+    match value.as_table() {
+        Some(table) => has_count(table),
+        None => false,
     }
 }
 

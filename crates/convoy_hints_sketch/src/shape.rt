@@ -1,7 +1,8 @@
 use super::durations::hint_for_duration;
-use super::fields::{Field, Kind, TOP_KEYS, field_at, keys_of};
+use super::fields::{Field, Kind, TOP_KEYS, field_at, keys_of, lasting_field};
 use super::hint::Hint;
 use super::near::nearest;
+use super::other_keys::{advice_for, advice_in_place, is_word_for_clients};
 use super::part::Part;
 use super::quoting::{Quoted, Words};
 use super::scenario_text::ScenarioText;
@@ -37,6 +38,15 @@ fn time_of(source: ScenarioText<'_>) -> Time {
     time_of_table(source.table).unwrap_or(Time::Ticks)
 }
 
+/// What has to stand at a key of a table of a text: where time is real and no time is a number, a duration.
+fn field_of(source: ScenarioText<'_>, table: ScenarioTable, key: Key) -> Field {
+    let field = field_at(table, key);
+    if time_of(source) == Time::Ticks || source.has_counts() {
+        return field;
+    }
+    lasting_field(key).unwrap_or(field)
+}
+
 /// What is wrong with the value of a key.
 fn hint_for_value(
     alloc: Global,
@@ -46,7 +56,7 @@ fn hint_for_value(
     value: &Value,
     part: &Part<'_>,
 ) -> Result<String, AllocError> {
-    let field = field_at(part.table, key);
+    let field = field_of(source, part.table, key);
     let time = time_of(source);
     match (key, value.as_str()) {
         (Key::Time, Some(word)) => hint_for_time_word(alloc, word),
@@ -61,11 +71,16 @@ fn hint_for_value(
                 "'least' is the least delay of what goes by no link where time is real, and in whole ticks that is 1 tick: write 'time = \"real\"', or leave it out",
             )
         }
+        (Key::From, _) if names_clients(value) => format!(in alloc;
+            "'{key}' in {part} has the clients in it: leave the key '{key}' out where clients send"
+        ),
         (Key::Both, _) if leads_back_to_clients(table) => format!(in alloc;
             "'both' in {part} is true, and nothing is sent to clients: name the groups in 'from', or leave 'both' out"
         ),
-        _ if field.kind == Kind::Time => hint_for_when(alloc, key, value, part, time),
-        _ => hint_for_kind(alloc, key, value, part),
+        _ if matches!(field.kind, Kind::Time | Kind::Duration) => {
+            hint_for_when(alloc, key, field, value, part, time)
+        }
+        _ => hint_for_kind(alloc, key, field, value, part),
     }
 }
 
@@ -92,6 +107,19 @@ fn hint_for_time_word(alloc: Global, word: &str) -> Result<String, AllocError> {
     }
 }
 
+/// Whether a value is an array with a word for the clients in it.
+fn names_clients(value: &Value) -> bool {
+    match value.as_array() {
+        Some(items) => items.iter().any(is_clients),
+        None => false,
+    }
+}
+
+/// Whether a value is a word for the clients.
+fn is_clients(value: &Value) -> bool {
+    value.as_str().is_some_and(is_word_for_clients)
+}
+
 /// Whether a table of links from the clients asks for the ways back.
 fn leads_back_to_clients(table: &Table) -> bool {
     let both = table.get("both").and_then(Value::as_bool);
@@ -111,6 +139,7 @@ fn odd_item(items: &Array, kind: Kind) -> Option<&Value> {
 fn hint_for_when(
     alloc: Global,
     key: Key,
+    field: Field,
     value: &Value,
     part: &Part<'_>,
     time: Time,
@@ -126,7 +155,7 @@ fn hint_for_when(
                 "'{key}' in {part} is the duration {shown}, and time goes in whole ticks: write 'time = \"real\"' above the first header, or an integer"
             )
         }
-        _ => hint_for_kind(alloc, key, value, part),
+        _ => hint_for_kind(alloc, key, field, value, part),
     }
 }
 
@@ -142,10 +171,11 @@ fn is_window(value: &Value) -> bool {
 fn hint_for_kind(
     alloc: Global,
     key: Key,
+    field: Field,
     value: &Value,
     part: &Part<'_>,
 ) -> Result<String, AllocError> {
-    let Field { kind, sample } = field_at(part.table, key);
+    let Field { kind, sample } = field;
     match kind {
         Kind::Tables if value.is_table() => format!(in alloc;
             "'{key}' is one table, and there may be several: write the header '{sample}', in double brackets"
@@ -193,6 +223,7 @@ fn kind_of_items(kind: Kind) -> Option<Kind> {
 fn words_for(kind: Kind) -> &'static str {
     match kind {
         Kind::Integer | Kind::Time => "an integer",
+        Kind::Duration => "a duration",
         Kind::Text => "a string",
         Kind::Texts => "an array of strings",
         Kind::Names => "a string or an array of strings",
@@ -235,7 +266,14 @@ fn hint_for_absent(
             "'{key}' stands below the header of a table, and so belongs to that: write it above the first header"
         );
     }
-    let sample = field_at(part.table, key).sample;
+    if let (ScenarioTable::Link(_), Some((other, advice))) = (
+        part.table,
+        advice_in_place(table, key),
+    ) {
+        let other = Quoted(other);
+        return format!(in alloc; "{part} has no key '{key}', but {other}: {advice}");
+    }
+    let sample = field_of(source, part.table, key).sample;
     format!(in alloc; "{part} has no key '{key}': write it as '{sample}'")
 }
 
@@ -309,6 +347,9 @@ fn hint_for_other_key(alloc: Global, word: &str, part: &Part<'_>) -> Result<Stri
 /// A key is none of any table.
 fn hint_for_strange_key(alloc: Global, word: &str, part: &Part<'_>) -> Result<String, AllocError> {
     let shown = Quoted(word);
+    if let Some(advice) = advice_for(part.table, word) {
+        return format!(in alloc; "{part} has an unknown key, {shown}: {advice}");
+    }
     let keys = keys_of(part.table);
     let words: Vec<&str> = keys.iter().map(|key| key.word()).collect(alloc)?;
     match nearest(alloc, word, &words)? {

@@ -12,15 +12,15 @@ use toml::Value;
 
 /// A time of a scenario text: where it stands, and what is written.
 #[derive(Clone, Copy, Drop)]
-struct Spell {
-    table: ScenarioTable,
-    key: Key,
+pub(crate) struct Spell {
+    pub(crate) table: ScenarioTable,
+    pub(crate) key: Key,
     time: WrittenTime,
 }
 
 impl Spell {
     /// The nanoseconds of a duration; None for a number of ticks.
-    fn length(&self) -> Option<u64> {
+    pub(crate) fn length(&self) -> Option<u64> {
         match self.time {
             WrittenTime::Count(_) => None,
             WrittenTime::Lasting(duration) => Some(duration.nanoseconds()),
@@ -50,13 +50,16 @@ impl Spell {
     }
 
     /// The table in which it stands, as a person finds it.
-    fn part<'a>(&self, source: ScenarioText<'a>) -> Part<'a> {
+    pub(crate) fn part<'a>(&self, source: ScenarioText<'a>) -> Part<'a> {
         source.part(self.table)
     }
 }
 
 /// All times of a scenario, in the order in which faults of them are told.
-fn spells_of(alloc: Global, scenario: &WrittenScenario) -> Result<Vec<Spell>, AllocError> {
+pub(crate) fn spells_of(
+    alloc: Global,
+    scenario: &WrittenScenario,
+) -> Result<Vec<Spell>, AllocError> {
     let mut spells = Vec::new(alloc);
     add_spell(&mut spells, ScenarioTable::Top, Key::Delay, scenario.delay)?;
     add_spell(&mut spells, ScenarioTable::Top, Key::Least, scenario.least)?;
@@ -98,7 +101,7 @@ fn divisor_of(spells: &[Spell]) -> Option<u64> {
 }
 
 /// So many nanoseconds, as a hint shows them: `1500 us`.
-fn shown(alloc: Global, nanoseconds: u64) -> Result<String, AllocError> {
+pub(crate) fn shown(alloc: Global, nanoseconds: u64) -> Result<String, AllocError> {
     match Duration::from_nanoseconds(nanoseconds) {
         Some(duration) => shown_length(alloc, duration),
         None => format!(in alloc; "{nanoseconds} ns"),
@@ -161,7 +164,7 @@ fn is_length_of_tick(nanoseconds: u64) -> bool {
 }
 
 /// Whether a time would be more ticks than it may be, by a smaller tick than this one.
-fn has_too_many(spells: &[Spell], tick: u64, smaller: u64) -> bool {
+pub(crate) fn has_too_many(spells: &[Spell], tick: u64, smaller: u64) -> bool {
     let mut before = 0;
     for spell in spells {
         let ticks = spell.ticks_by(tick, smaller);

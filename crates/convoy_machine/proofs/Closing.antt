@@ -1,8 +1,9 @@
 -- The leaves that close a box: in one test, and that no member of the box has a greater latency.
-use Rattle.std.specs.Prelude.{◌≡◌, ℕ, ◌≤◌, nat_le, Bool, true, false, ◌&&◌, ◌||◌, [], Option, Some, None}
+use Rattle.std.specs.Prelude.{◌≡◌, ℕ, ◌≤◌, nat_le, Bool, true, false, ◌&&◌, ◌||◌, IsTrue, [], Option, Some, None}
 use Rattle.std.specs.Option.{is_none}
 use Rattle.std.proofs.Common.{arith, refl, ap, ◌∙◌, inl, inr}
 use Rattle.std.proofs.lemmas.Bool.{false≢true, or_cases, le-leb}
+use Rattle.std.proofs.lemmas.List.Elements.{All-nil}
 use Rattle.convoy_scenario.specs.Scenario.{Scenario}
 use Rattle.convoy_scenario.specs.WellFormed.{IsScenario}
 use Rattle.convoy_packets.specs.Assignment.{Schedule, ranges_of}
@@ -10,43 +11,43 @@ use Rattle.convoy_packets.specs.Order.{IsOrder}
 use Rattle.convoy_sim.specs.Delivery.{latency_of}
 use Rattle.convoy_intervals.specs.Bounds.{plain_bound}
 use Rattle.convoy_intervals.proofs.Members.{AreRanges-box}
-use Rattle.convoy_intervals.specs.Boxes.{Box, IsBox, IsIn, is_point, greatest_of}
+use Rattle.convoy_intervals.specs.Boxes.{Box, IsBox, IsIn}
+use Rattle.convoy_regions.specs.Stages.{IsPrecedence, Precedence, comes_before}
+use Rattle.convoy_regions.specs.Regions.{IsMember, IsRegion, Region, any_order, is_decided, run_of}
 use Rattle.convoy_stamps.specs.StampBounds.{stamp_bound}
 use Rattle.convoy_leads.specs.Closing.{closes_by_leads}
 use Rattle.convoy_certificate.specs.declared.node.Node.{Node}
-use Rattle.convoy_certificate.specs.declared.node.Node.TheVariants.{Split, Bound, Point, Stamp, Lead}
+use Rattle.convoy_certificate.specs.declared.node.Node.TheVariants.{Split, Order, Bound, Point, Stamp, Lead}
 use Rattle.convoy_checker.specs.declared.refused.Refused.{Refused}
 use Rattle.convoy_checker.specs.declared.refused.Refused.TheVariants as refused
 use Rattle.convoy_checker.specs.Checks.{fault_unless, in_ticks, node_fault}
 use Rattle.convoy_checker.specs.TreeLaws.{BoundLeavesCover, LeadLeavesCover, PointLeavesCover, StampLeavesCover}
 use Rattle.convoy_checker.specs.Leaves.{ClosesByLeads, IsRight}
-use Rattle.convoy_checker.specs.Trees.{boxes_below}
+use Rattle.convoy_checker.specs.Trees.{regions_below}
 use Rattle.convoy_checker.proofs.Faults.{node_none}
 use Rattle.convoy_laws.specs.Monotone.{LeadsCloseForMore}
 use Rattle.convoy_machine.specs.MachineLaws.{RightLeavesClose}
 use Rattle.convoy_machine.specs.Machine.{closes}
 
--- the tests of four faults, of which the second and the third are asked for in whole ticks alone
-four_tests : (bound ticks point stamp lead : Bool) (first second third fourth : Refused) → (is_none (fault_unless bound first) || (is_none (fault_unless (ticks && point) second) || (is_none (fault_unless (ticks && stamp) third) || (is_none (fault_unless lead fourth) || false)))) ≡ (bound || (ticks && (point || stamp) || lead))
-four_tests true ticks point stamp lead first second third fourth = refl
-four_tests false true true stamp lead first second third fourth = refl
-four_tests false true false true lead first second third fourth = refl
-four_tests false true false false true first second third fourth = refl
-four_tests false true false false false first second third fourth = refl
-four_tests false false point stamp true first second third fourth = refl
-four_tests false false point stamp false first second third fourth = refl
+-- the tests of four faults
+four_tests : (bound point stamp lead : Bool) (first second third fourth : Refused) → (is_none (fault_unless bound first) || (is_none (fault_unless point second) || (is_none (fault_unless stamp third) || (is_none (fault_unless lead fourth) || false)))) ≡ (bound || (point || (stamp || lead)))
+four_tests true point stamp lead first second third fourth = refl
+four_tests false true stamp lead first second third fourth = refl
+four_tests false false true lead first second third fourth = refl
+four_tests false false false true first second third fourth = refl
+four_tests false false false false first second third fourth = refl
 
 -- the test of all kinds of leaves, in the order of what they take
-pub closes_is : (plan : Scenario) (latency : ℕ) (box : Box) → closes plan latency box ≡ (nat_le (plain_bound plan box) latency || (in_ticks plan.time && (is_point box && nat_le (latency_of plan (greatest_of box)) latency || nat_le (stamp_bound plan box) latency) || closes_by_leads plan box latency))
+pub closes_is : (plan : Scenario) (latency : ℕ) (box : Box) → closes plan latency box ≡ (nat_le (plain_bound plan box) latency || ((is_decided plan (any_order box) && nat_le (latency_of plan (run_of plan (any_order box))) latency) || ((in_ticks plan.time && nat_le (stamp_bound plan box) latency) || closes_by_leads plan box latency)))
 closes_is plan latency box =
+    let region : Region = any_order box in
     let bound = plain_bound plan box in
     let low = nat_le bound latency in
-    let ticks = in_ticks plan.time in
-    let point = is_point box && nat_le (latency_of plan (greatest_of box)) latency in
-    let stamp = nat_le (stamp_bound plan box) latency in
+    let point = is_decided plan region && nat_le (latency_of plan (run_of plan region)) latency in
+    let stamp = in_ticks plan.time && nat_le (stamp_bound plan box) latency in
     let lead = closes_by_leads plan box latency in
-    four_tests low ticks point stamp (nat_le latency latency && lead) (refused.BoundLeaf 0 bound) (refused.PointLeaf 0) (refused.StampLeaf 0 (stamp_bound plan box)) (refused.LeadLeaf 0)
-    ∙ ap (λ (itself : Bool). low || (ticks && (point || stamp) || (itself && lead))) (le-leb latency latency (omega arith))
+    four_tests low point stamp (nat_le latency latency && lead) (refused.BoundLeaf 0 bound) (refused.PointLeaf 0) (refused.StampLeaf 0 (stamp_bound plan box)) (refused.LeadLeaf 0)
+    ∙ ap (λ (itself : Bool). low || (point || (stamp || (itself && lead)))) (le-leb latency latency (omega arith))
 
 -- what rests on the kinds of leaves: a law for each
 pub record LeafGrounds : Type 0 where
@@ -59,25 +60,36 @@ none_told : (fault : Option Refused) → is_none fault ≡ true → fault ≡ No
 none_told None none = refl
 none_told (Some fault) none = absurd (false≢true none)
 
+-- a box of a scenario is a region of it, and what is in the box is a member of that
+box_is_region : (plan : Scenario) (box : Box) → IsBox plan box → IsRegion plan (any_order box)
+box_is_region plan box inside = record { inside = inside; within = All-nil (IsPrecedence plan) }
+
+in_is_member : (plan : Scenario) (box : Box) (schedule : Schedule) → IsIn box schedule → IsMember plan (any_order box) schedule
+in_is_member plan box schedule member =
+    (member, All-nil (λ (pair : Precedence). IsTrue (comes_before plan schedule pair.0 pair.1)))
+
 -- no member of a box that is closed has a greater latency, whatever the order of its ties
 pub closed_covers : (plan : Scenario) (latency : ℕ) (box : Box) (schedule : Schedule) → LeafGrounds → IsScenario plan → IsBox plan box → closes plan latency box ≡ true → IsIn box schedule → IsOrder plan schedule.order → latency_of plan schedule ≤ latency
 closed_covers plan latency box schedule grounds lawful inside closed member order =
-    let fits : Node → Bool = λ leaf. is_none (node_fault plan latency 0 leaf box) in
+    let fits : Node → Bool = λ leaf. is_none (node_fault plan latency 0 leaf (any_order box)) in
+    let region = any_order box in
+    let within = box_is_region plan box inside in
+    let is = in_is_member plan box schedule member in
     elim (or_cases (fits Bound) (fits Point || (fits Stamp || (fits (Lead latency) || false))) closed) [
-      | inl by_bound ↦ grounds.bound plan latency box schedule lawful inside (right Bound by_bound) member order
+      | inl by_bound ↦ grounds.bound plan latency region schedule lawful within (right Bound by_bound) is order
       | inr others ↦ elim (or_cases (fits Point) (fits Stamp || (fits (Lead latency) || false)) others) [
-        | inl as_point ↦ grounds.point plan latency box schedule lawful inside (right Point as_point) member order
+        | inl as_point ↦ grounds.point plan latency region schedule lawful within (right Point as_point) is order
         | inr further ↦ elim (or_cases (fits Stamp) (fits (Lead latency) || false) further) [
-          | inl by_stamps ↦ grounds.stamp plan latency box schedule lawful inside (right Stamp by_stamps) member order
+          | inl by_stamps ↦ grounds.stamp plan latency region schedule lawful within (right Stamp by_stamps) is order
           | inr last ↦ elim (or_cases (fits (Lead latency)) false last) [
-            | inl by_leads ↦ grounds.lead plan latency box schedule lawful inside (right (Lead latency) by_leads).1 member order
+            | inl by_leads ↦ grounds.lead plan latency region schedule lawful within (right (Lead latency) by_leads).1 is order
             | inr none ↦ absurd (false≢true none)
           ]
         ]
       ]
     ] where
-      right : (leaf : Node) → is_none (node_fault plan latency 0 leaf box) ≡ true → IsRight plan latency leaf box
-      right leaf fits = (node_none plan latency 0 leaf box).0 (none_told (node_fault plan latency 0 leaf box) fits)
+      right : (leaf : Node) → is_none (node_fault plan latency 0 leaf (any_order box)) ≡ true → IsRight plan latency leaf (any_order box)
+      right leaf fits = (node_none plan latency 0 leaf (any_order box)).0 (none_told (node_fault plan latency 0 leaf (any_order box)) fits)
 
 -- ---- Which boxes are closed
 
@@ -99,16 +111,17 @@ fourth_of first second third fourth rest yes' = ap (λ tests. first || tests) (t
 pub right_closes : LeadsCloseForMore → RightLeavesClose
 right_closes more plan latency leaf box lawful inside below right = by_leaf leaf below right where
   fits : Node → Bool
-  fits leaf = is_none (node_fault plan latency 0 leaf box)
+  fits leaf = is_none (node_fault plan latency 0 leaf (any_order box))
 
-  fitting : (leaf : Node) → IsRight plan latency leaf box → fits leaf ≡ true
-  fitting leaf right = ap is_none ((node_none plan latency 0 leaf box).1 right)
+  fitting : (leaf : Node) → IsRight plan latency leaf (any_order box) → fits leaf ≡ true
+  fitting leaf right = ap is_none ((node_none plan latency 0 leaf (any_order box)).1 right)
 
-  by_leaf : (leaf : Node) → boxes_below leaf box ≡ [] → IsRight plan latency leaf box → closes plan latency box ≡ true
+  by_leaf : (leaf : Node) → regions_below plan leaf (any_order box) ≡ [] → IsRight plan latency leaf (any_order box) → closes plan latency box ≡ true
   by_leaf (Split packet at) below right = absurd cc
+  by_leaf (Order first second) below right = absurd cc
   by_leaf Bound below right = ap (λ test. test || (fits Point || (fits Stamp || (fits (Lead latency) || false)))) (fitting Bound right)
   by_leaf Point below right = second_of (fits Bound) (fits Point) (fits Stamp || (fits (Lead latency) || false)) (fitting Point right)
   by_leaf Stamp below right = third_of (fits Bound) (fits Point) (fits Stamp) (fits (Lead latency) || false) (fitting Stamp right)
   by_leaf (Lead named) below right =
-      let closed : ClosesByLeads plan latency box = more plan box named latency lawful (AreRanges-box (ranges_of plan) box inside) right.0 right.1 in
+      let closed : ClosesByLeads plan latency (any_order box) = more plan box named latency lawful (AreRanges-box (ranges_of plan) box inside) right.0 right.1 in
       fourth_of (fits Bound) (fits Point) (fits Stamp) (fits (Lead latency)) false (fitting (Lead latency) (omega arith, closed))

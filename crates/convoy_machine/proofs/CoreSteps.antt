@@ -1,20 +1,19 @@
 -- What holds of each state that lawful events lead to, step by step.
-use Rattle.std.specs.Prelude.{◌≡◌, ◌⊎◌, ℕ, ◌+◌, ◌≤◌, ◌<◌, ◌==◌, nat_lt, Bool, true, false, not, IsTrue, if◌then◌else◌, List, [], ◌∷◌, ◌++◌, length, replicate, slice_index_or}
-use Rattle.std.specs.List.{All, Any, count_by, sum_by}
-use Rattle.std.proofs.Common.{arith, refl, sym, ap, subst, ◌∙◌, inl, inr}
-use Rattle.std.proofs.lemmas.Bool.{cases_lt, cases_eq, ltb-true, eq-eqb, ne_eqb}
+use Rattle.std.specs.Prelude.{◌≡◌, ◌⊎◌, ℕ, ◌+◌, ◌≤◌, ◌<◌, nat_lt, Bool, true, false, IsTrue, if◌then◌else◌, List, [], ◌∷◌, length, slice_index_or}
+use Rattle.std.specs.List.{All, count_by}
+use Rattle.std.proofs.Common.{arith, refl, ◌∙◌, inl, inr}
+use Rattle.std.proofs.lemmas.Bool.{cases_lt, ltb-true}
 use Rattle.std.proofs.lemmas.List.{length-set, length-replicate}
 use Rattle.std.proofs.lemmas.List.Elements.{All-nil, All-cons, All-append, All-get_or, All-replicate, All-set, All-weaker}
 use Rattle.std.proofs.lemmas.List.Quantifiers.{any-set}
 use Rattle.std.proofs.lemmas.List.Sums.{sum_by-append, sum_by-set}
 use Rattle.convoy_scenario.specs.Scenario.{Scenario}
 use Rattle.convoy_scenario.specs.WellFormed.{IsScenario}
-use Rattle.convoy_packets.specs.Assignment.{Schedule, IsAssignment, ranges_of}
-use Rattle.convoy_packets.specs.Table.{least_of}
+use Rattle.convoy_packets.specs.Assignment.{Schedule, IsAssignment}
 use Rattle.convoy_packets.specs.Order.{IsOrder}
 use Rattle.convoy_sim.specs.Delivery.{latency_of}
-use Rattle.convoy_sim.specs.Record.{Record, IsAttained, attained_by}
-use Rattle.convoy_intervals.specs.Boxes.{Box, CanSplit, IsBox, IsIn, root_of, lower_half, upper_half}
+use Rattle.convoy_sim.specs.Record.{Record, IsAttained}
+use Rattle.convoy_intervals.specs.Boxes.{CanSplit, IsBox, IsIn, root_of, lower_half, upper_half}
 use Rattle.convoy_intervals.specs.BoxLaws.{HalvesAreBoxes, HalvesPartition, RootHoldsAll, RootIsBox}
 use Rattle.convoy_machine.specs.declared.parts.TheConstants.{WORKERS}
 use Rattle.convoy_machine.specs.declared.parts.Worker.{Worker}
@@ -23,11 +22,11 @@ use Rattle.convoy_machine.specs.declared.parts.BranchState.{BranchState}
 use Rattle.convoy_machine.specs.declared.parts.BranchState.TheVariants as states
 use Rattle.convoy_machine.specs.declared.event.Event.{Event}
 use Rattle.convoy_machine.specs.declared.event.Event.TheVariants.{Look, Publish, Draw, Put, Take, Split, Close}
-use Rattle.convoy_machine.specs.Machine.{Core, after, allows, best_after, branch_at, branches_after, halves_taken, is_left, stands, start, taken, turned, worker_after, worker_at, worker_of}
-use Rattle.convoy_machine.specs.Replays.{IsEventOf, IsFound, IsLeftIn, ends, is_done, tickets_spent}
-use Rattle.convoy_machine.proofs.BranchLists.{Any-append_left, Any-append_right, Any-set_cases, count_done-turned, stands-append, stands-set_other, stands-set_same}
+use Rattle.convoy_machine.specs.Machine.{Core, after, allows, best_after, branch_at, branches_after, halves_taken, is_left, start, taken, turned, worker_after, worker_at, worker_of}
+use Rattle.convoy_machine.specs.Replays.{IsEventOf, IsFound, IsLeftIn, is_done, tickets_spent}
+use Rattle.convoy_machine.proofs.BranchLists.{Any-append_left, Any-append_right, Any-set_cases, count_done-turned}
 use Rattle.convoy_machine.proofs.Closing.{LeafGrounds, closed_covers}
-use Rattle.convoy_machine.proofs.LawfulEvents.{ClosesBranch, IsOpen, SplitsBranch, close_told, free_is_open, held_is_open, split_told}
+use Rattle.convoy_machine.proofs.LawfulEvents.{close_told, free_is_open, held_is_open, split_told}
 
 -- what the machine rests on
 pub record Grounds : Type 0 where

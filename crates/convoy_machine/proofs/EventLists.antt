@@ -1,6 +1,6 @@
 -- The replay of a list of events, event by event, and what holds at its end.
-use Rattle.std.specs.Prelude.{◌≡◌, ◌⊎◌, ℕ, ◌+◌, ◌≤◌, ◌<◌, Bool, true, if◌then◌else◌, List, [], ◌∷◌, length, take, drop, Result}
-use Rattle.std.specs.List.{All, Any, count_by, sum_by}
+use Rattle.std.specs.Prelude.{◌≡◌, ℕ, ◌+◌, ◌≤◌, ◌<◌, true, List, [], ◌∷◌, length, take, drop, Result}
+use Rattle.std.specs.List.{All, count_by, sum_by}
 use Rattle.std.proofs.Common.{arith, refl, sym, ap, subst, ◌∙◌, inl, inr, get_or, zero, suc}
 use Rattle.std.proofs.lemmas.Bool.{cond-true}
 use Rattle.std.proofs.lemmas.List.{at_drop_more, take_all}
@@ -10,7 +10,6 @@ use Rattle.convoy_scenario.specs.Scenario.{Scenario}
 use Rattle.convoy_scenario.specs.WellFormed.{IsScenario}
 use Rattle.convoy_packets.specs.Assignment.{IsAssignment, Schedule}
 use Rattle.convoy_sim.specs.Delivery.{latency_of}
-use Rattle.convoy_sim.specs.Greatest.{IsGreatest}
 use Rattle.convoy_sim.specs.Record.{IsAttained}
 use Rattle.convoy_machine.specs.declared.parts.TheConstants.{WORKERS}
 use Rattle.convoy_machine.specs.declared.parts.Worker.{Worker}
@@ -19,7 +18,7 @@ use Rattle.convoy_machine.specs.declared.event.Event.{Event}
 use Rattle.convoy_machine.specs.declared.event.Event.TheVariants.{Look, Publish, Draw, Put, Take, Split, Close}
 use Rattle.convoy_machine.specs.declared.replaying.ReplayFault.{ReplayFault}
 use Rattle.convoy_machine.specs.Machine.{Core, after, best_after, is_lawful, is_left, replayed, run, stands, start, worker_after, worker_at, worker_of}
-use Rattle.convoy_machine.specs.Replays.{IsEventOf, IsFound, IsLeftIn, IsReplayed, ends, is_done, left_of}
+use Rattle.convoy_machine.specs.Replays.{IsEventOf, IsFound, IsLeftIn, IsReplayed, ends, is_done}
 use Rattle.convoy_machine.proofs.CoreSteps.{Grounds, IsSound, IsSound-after, IsSound-start, IsWorker}
 use Rattle.convoy_machine.proofs.Endings.{done-after, flag}
 use Rattle.convoy_machine.proofs.LawfulEvents.{lawful_parts}

@@ -14,6 +14,7 @@ use Rattle.convoy_sim.specs.Stamps.{clocks_of, local_stamp, final_stamp}
 use Rattle.convoy_sim.specs.Delivery.{holds_back, deliver, latency_at, latency_of}
 use Rattle.convoy_sim.specs.Record.{Record, attained_by}
 use Rattle.convoy_intervals.specs.Bounds.{plain_bound}
+use Rattle.convoy_regions.specs.Stages.{stages_of}
 use Rattle.convoy_stamps.specs.Reach.{reach_of}
 use Rattle.convoy_stamps.specs.StampBounds.{stamp_bound}
 use Rattle.convoy_sure.specs.SureLeads.{leads_of, sure_time}
@@ -112,7 +113,7 @@ closed_as_point : told (replayed (tied_in Ticks) (Draw 0 ∷ Close 0 0 ∷ [])) 
 unfolding told tied_in tied message packets_of ranges_of delay_of arrive settle arrival_rank commit_rank no_order moments_of clocks_of local_stamp final_stamp holds_back deliver latency_at latency_of plain_bound reach_of stamp_bound leads_of sure_time is_led closes_by_leads replayed
 closed_as_point = refl
 
--- in real time the point has more runs than one
+-- in real time the point has more runs than one, as ties are open
 not_closed_as_point : told (replayed (tied_in Real) (Draw 0 ∷ Close 0 0 ∷ [])) ≡ Err (Unlawful 1)
-unfolding told tied_in tied message packets_of ranges_of delay_of arrive settle arrival_rank commit_rank no_order moments_of clocks_of local_stamp final_stamp holds_back deliver latency_at latency_of plain_bound reach_of stamp_bound leads_of sure_time is_led closes_by_leads replayed
+unfolding told tied_in tied message packets_of ranges_of delay_of arrive settle arrival_rank commit_rank no_order moments_of clocks_of local_stamp final_stamp holds_back deliver latency_at latency_of plain_bound reach_of stamp_bound leads_of sure_time is_led closes_by_leads stages_of replayed
 not_closed_as_point = refl

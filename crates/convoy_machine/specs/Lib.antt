@@ -5,6 +5,8 @@ pub use Rattle.convoy_packets.specs.Table
 pub use Rattle.convoy_sim.specs.Delivery
 pub use Rattle.convoy_sim.specs.Record
 pub use Rattle.convoy_intervals.specs.Boxes
+pub use Rattle.convoy_regions.specs.Stages
+pub use Rattle.convoy_regions.specs.Regions
 pub use Rattle.convoy_certificate.specs.Certificate
 pub use Rattle.convoy_checker.specs.Checks
 pub use Rattle.convoy_checker.specs.Leaves

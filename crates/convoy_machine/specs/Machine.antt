@@ -7,6 +7,7 @@ use Rattle.convoy_packets.specs.Assignment.{ranges_of}
 use Rattle.convoy_packets.specs.Table.{least_of}
 use Rattle.convoy_sim.specs.Record.{Record, attained_by}
 use Rattle.convoy_intervals.specs.Boxes.{Box, CanSplit, can_split, root_of, lower_half, upper_half}
+use Rattle.convoy_regions.specs.Regions.{any_order}
 use Rattle.convoy_certificate.specs.declared.node.Node.{Node}
 use Rattle.convoy_certificate.specs.declared.node.Node.TheVariants as nodes
 use Rattle.convoy_checker.specs.Checks.{node_fault}
@@ -85,9 +86,9 @@ has_ticket worker = nat_lt worker.spent worker.drawn
 abbrev pub leaves_for : ℕ → List Node
 leaves_for latency = nodes.Bound ∷ nodes.Point ∷ nodes.Stamp ∷ nodes.Lead latency ∷ []
 
--- whether the box is closed for that latency: in a certificate that states it, one of these leaves would have no fault over the box
+-- whether the box is closed for that latency: in a certificate that states it, one of these leaves would have no fault over the box, whatever order ties fall in
 abbrev pub closes : Scenario → ℕ → Box → Bool
-closes scenario latency box = list_any (λ leaf. is_none (node_fault scenario latency 0 leaf box)) (leaves_for latency)
+closes scenario latency box = list_any (λ leaf. is_none (node_fault scenario latency 0 leaf (any_order box))) (leaves_for latency)
 
 -- whether the state allows the event, where there is a worker of its number
 abbrev pub allows : Scenario → Core → Event → Bool

@@ -1,14 +1,12 @@
 -- What holds in each state that lawful events lead to.
-use Rattle.std.specs.Prelude.{◌≡◌, ◌⊎◌, ℕ, ◌≤◌, ◌==◌, Bool, true, false, not, IsTrue, if◌then◌else◌, List, length}
+use Rattle.std.specs.Prelude.{◌≡◌, ◌⊎◌, ℕ, ◌≤◌, ◌==◌, Bool, false, not, IsTrue, if◌then◌else◌, List}
 use Rattle.std.specs.List.{All, Any, count_by, sum_by}
 use Rattle.convoy_scenario.specs.Scenario.{Scenario}
 use Rattle.convoy_packets.specs.Assignment.{Schedule, IsAssignment}
 use Rattle.convoy_sim.specs.Delivery.{latency_of}
 use Rattle.convoy_sim.specs.Greatest.{IsGreatest}
 use Rattle.convoy_sim.specs.Record.{IsAttained}
-use Rattle.convoy_intervals.specs.Boxes.{IsBox, IsIn}
-use Rattle.convoy_machine.specs.declared.parts.TheConstants.{WORKERS}
-use Rattle.convoy_machine.specs.declared.parts.Worker.{Worker}
+use Rattle.convoy_intervals.specs.Boxes.{IsIn}
 use Rattle.convoy_machine.specs.declared.parts.Branch.{Branch}
 use Rattle.convoy_machine.specs.declared.parts.BranchState.{BranchState}
 use Rattle.convoy_machine.specs.declared.event.Event.{Event}

@@ -1,15 +1,16 @@
 //! The search of many workers as a machine of its own: which events are lawful, and what becomes of
 //! the state.
 
-ghost use Rattle.std.specs.Prelude.{◌≡◌, ◌+◌, ◌<◌, ◌≤◌, ◌^◌, ◌&&◌, ◌||◌, nat_le};
+ghost use Rattle.std.specs.Prelude.{◌≡◌, ◌+◌, ◌<◌, ◌≤◌, ◌^◌, ◌&&◌, nat_le};
 ghost use Rattle.std.specs.Prelude.{Bool, List, length, slice_set};
 ghost use Rattle.std.specs.Prelude.{IfNone, IfOk, IfSome, IsFalse, IsTrue, OnOk};
 ghost use Rattle.std.specs.List.{All};
 ghost use Rattle.convoy_scenario.specs.Scenario.{Scenario};
 ghost use Rattle.convoy_sim.specs.Delivery.{latency_of};
 ghost use Rattle.convoy_sim.specs.Record.{IsAttained};
-ghost use Rattle.convoy_intervals.specs.Boxes.{CanSplit, IsBox, greatest_of, is_point};
+ghost use Rattle.convoy_intervals.specs.Boxes.{CanSplit, IsBox};
 ghost use Rattle.convoy_intervals.specs.Boxes.{lower_half, upper_half};
+ghost use Rattle.convoy_regions.specs.Regions.{Region, any_order, is_decided, run_of};
 ghost use Rattle.convoy_stamps.specs.StampBounds.{stamp_bound};
 ghost use Rattle.convoy_checker.specs.Checks.{in_ticks};
 ghost use Rattle.convoy_machine.specs.Machine.{after, allows, best_after, branch_at, branches_after};
@@ -24,6 +25,7 @@ use convoy_intervals::{DelayBox, bound};
 use convoy_leads::closes_by_leads;
 use convoy_packets::schedule_laws::least_is_assignment;
 use convoy_packets::{Instance, Schedule};
+use convoy_regions::{is_decided, run_latency};
 use convoy_scenario::{AllocResult, Scenario, Time};
 use convoy_sim::Record;
 use convoy_stamps::stamp_bound;
@@ -274,8 +276,8 @@ fn halves_of(delay_box: &DelayBox, packet: u16, at: u16) -> AllocResult<(DelayBo
     }
 }
 
-/// Whether a leaf of some kind closes the box for that latency, in ticks. Each kind is asked for where
-/// those that take less time do not close it. The error is that memory ran out.
+/// Whether a leaf of some kind closes the box for that latency, in ticks, whatever order ties fall in. Each
+/// kind is asked for where those that take less time do not close it. The error is that memory ran out.
 #[tactic(auto, using(crate::proofs::Closing::closes_is))]
 fn closes(
     alloc: Global,
@@ -289,29 +291,32 @@ fn closes(
     if bound(instance, delay_box) <= latency {
         return Ok(true);
     }
-    if in_ticks(instance) && closes_in_ticks(alloc, instance, delay_box, latency)? {
+    if closes_as_point(alloc, instance, delay_box, latency)? {
+        return Ok(true);
+    }
+    if in_ticks(instance) && stamp_bound(alloc, instance, delay_box)? <= latency {
         return Ok(true);
     }
     closes_by_leads(alloc, instance, delay_box, latency)
 }
 
-/// Whether the latency of the only member of the box, or its stamp bound, is at most that latency, in
-/// ticks: in whole ticks either closes it. The error is that memory ran out.
-fn closes_in_ticks(
+/// Whether the box has one delay for each packet and leaves no tie open, and the latency of its one run
+/// is at most that latency, in ticks. The error is that memory ran out.
+fn closes_as_point(
     alloc: Global,
     instance: &Instance,
     delay_box: &DelayBox,
     latency: u32,
 ) -> AllocResult<bool>
     requires inside { IsBox instance.now delay_box.now }
-    ensures { IfOk result (λ closed. closed
-        ≡ (is_point delay_box.now && nat_le (latency_of instance.now (greatest_of delay_box.now)) latency
-        || nat_le (stamp_bound instance.now delay_box.now) latency)) }
+    ensures { let region : Region = any_order delay_box.now in
+        IfOk result (λ closed. closed ≡ (is_decided instance.now region
+        && nat_le (latency_of instance.now (run_of instance.now region)) latency)) }
 {
-    if delay_box.is_point() && delay_box.greatest_latency(instance) <= latency {
-        return Ok(true);
+    if !is_decided(alloc, instance, delay_box, &[])? {
+        return Ok(false);
     }
-    Ok(stamp_bound(alloc, instance, delay_box)? <= latency)
+    Ok(run_latency(alloc, instance, delay_box, &[])? <= latency)
 }
 
 /// Whether time goes in whole ticks.

@@ -1,17 +1,15 @@
 -- The end of a search: what the owner has once all trees are one, and once board and ledger are closed.
 use Rattle.std.specs.Prelude.{◌≡◌, ℕ, ◌+◌, ◌-◌, ◌≤◌, List, [], length}
-use Rattle.std.specs.List.{All, sum}
+use Rattle.std.specs.List.{sum}
 use Rattle.std.proofs.Common.{arith, ap, sym, subst, ◌∙◌, inl, inr}
-use Rattle.std.proofs.lemmas.List.Elements.{All-nil}
 use Rattle.convoy_sim.specs.Record.{IsAttained}
-use Rattle.convoy_intervals.specs.Boxes.{Box}
+use Rattle.convoy_regions.specs.Regions.{Region}
 use Rattle.convoy_incumbent.specs.Boards.{Holding}
 use Rattle.convoy_shares.specs.Shares.{whole}
 use Rattle.convoy_ledger.specs.Tickets.{LedgerId, Account, HasAll}
 use Rattle.convoy_branch.specs.declared.limit.Limit.{Limit}
 use Rattle.convoy_branch.specs.Fronts.{left_in}
 use Rattle.convoy_branch.specs.FrontLaws.{FrontsBetter}
-use Rattle.convoy_branch.specs.Steps.{IsOpenPoint}
 use Rattle.convoy_share_deque.specs.Tasks.{AreAllTaken}
 use Rattle.convoy_share.specs.declared.ending.Ended.{Ended}
 use Rattle.convoy_share.specs.declared.means.Means.{Means}
@@ -23,12 +21,11 @@ use Rattle.convoy_share.specs.Common.{Common}
 use Rattle.convoy_share.specs.Ended.{IsClosed, IsEnded, IsTreeAtEnd}
 use Rattle.convoy_share.specs.Filling.{CanBeFilled, IsFilling}
 use Rattle.convoy_share.specs.Finishing.{IsFinishing}
-use Rattle.convoy_share.specs.Means.{IsLater, IsTriedPoint, drawn}
+use Rattle.convoy_share.specs.Means.{IsLater, drawn}
 use Rattle.convoy_share.specs.Opening.{AreOpened}
 use Rattle.convoy_share.specs.Pieces.{front}
 use Rattle.convoy_share.specs.Workers.{HasJoined, StaysOwner}
 use Rattle.convoy_share.proofs.Fillings.{IsFilling-better}
-use Rattle.convoy_share.proofs.Grown.{tried_later}
 use Rattle.convoy_share.proofs.Outcomes.{left_boxes_in}
 
 -- each branch was taken: all trees can be put together
@@ -36,9 +33,9 @@ pub can_fill : (shared : Common) (before worker : OwnerWorker) (count : ℕ) →
 can_fill shared before worker count is all count_is =
     record { result = is.result; all = all; count_is = count_is; some_put = is.some_put; root = is.root }
 
-pub IsFinishing-start : (shared : Common) (put : List Box) (means : Means) (done rest : List Piece) (slots : List (List Piece)) → done ≡ [] → IsFilling shared.bounds shared.scenario means.hand.seen (drawn means) put done rest slots → IsFinishing shared put means done rest slots
+pub IsFinishing-start : (shared : Common) (put : List Region) (means : Means) (done rest : List Piece) (slots : List (List Piece)) → done ≡ [] → IsFilling shared.bounds shared.scenario means.hand.seen (drawn means) put done rest slots → IsFinishing shared put means done rest slots
 IsFinishing-start shared put means done rest slots none filling =
-    record { filling = filling; left = inl (subst (λ (ps : List Piece). All (IsTriedPoint shared.scenario means.hand.seen) (left_in (front put ps))) (sym none) (All-nil (IsTriedPoint shared.scenario means.hand.seen))) }
+    record { filling = filling; left = inl (ap (λ (ps : List Piece). left_in (front put ps)) none) }
 
 -- all places are filled, and what was left is searched as far as there are tickets
 pub IsEnded-finished : (shared : Common) (before worker : OwnerWorker) (after : Means) (done : List Piece) (slots : List (List Piece)) (ended : Ended) → StaysOwner shared before worker → IsLater worker.means after → drawn worker.means ≤ drawn after → IsFinishing shared worker.end.put after done [] slots → ended.hand ≡ after.hand → ended.clerk ≡ after.clerk → ended.pieces.items ≡ done → ended.drawn_by_thieves.items ≡ worker.drawn_by_thieves.items → IsEnded shared before.means.hand.share before.means.clerk.share (length before.drawn_by_thieves.items) before.means.hand.seen ended
@@ -61,9 +58,7 @@ IsEnded-finished shared before worker after done slots ended is later more finis
         filling = subst (λ (ps : List Piece). IsFilling shared.bounds shared.scenario ended.hand.seen (length ended.clerk.tickets) worker.end.put ps [] slots) (sym pieces) at_tickets;
       };
       left = elim finished.left [
-        | inl points ↦ (
-            let at_end = subst (λ (n : ℕ). All (IsTriedPoint shared.scenario n) (left_in (front worker.end.put done))) seen points in
-            inl (subst (λ (ps : List Piece). All (IsTriedPoint shared.scenario ended.hand.seen) (left_in (front worker.end.put ps))) (sym pieces) at_end))
+        | inl none ↦ inl (ap (λ (ps : List Piece). left_in (front worker.end.put ps)) pieces ∙ none)
         | inr over ↦ inr (elim over [ inl done ↦ inl (ap (λ (a : Account). a.done) clerk ∙ done) | inr stops ↦ inr stops ])
       ];
     }
@@ -84,7 +79,7 @@ IsEnded-opened shared workers least owner joined thieves ended opened has is =
     }
 
 -- board and ledger are closed: what the workers have brought is whole for the best latency
-pub IsTreeAtEnd-ended : (better : FrontsBetter) (shared : Common) (joined least : ℕ) (ended : Ended) (best tickets : ℕ) (limit : Limit) (ledger : LedgerId) → shared.ledger ≡ ledger → shared.may_stop ≡ limit.may_stop → limit.tickets ≡ ledger.most → IsEnded shared whole whole joined least ended → ended.hand.seen ≤ best → HasAll ended.clerk tickets → IsTreeAtEnd (IsTriedPoint shared.scenario best) shared.bounds shared.scenario best tickets limit ended.pieces.items
+pub IsTreeAtEnd-ended : (better : FrontsBetter) (shared : Common) (joined least : ℕ) (ended : Ended) (best tickets : ℕ) (limit : Limit) (ledger : LedgerId) → shared.ledger ≡ ledger → shared.may_stop ≡ limit.may_stop → limit.tickets ≡ ledger.most → IsEnded shared whole whole joined least ended → ended.hand.seen ≤ best → HasAll ended.clerk tickets → IsTreeAtEnd shared.bounds shared.scenario best tickets limit ended.pieces.items
 IsTreeAtEnd-ended better shared joined least ended best tickets limit ledger ledger_is stops_is limit_is is above all =
     let plan = shared.scenario in
     let put = is.whole.put in
@@ -100,16 +95,14 @@ IsTreeAtEnd-ended better shared joined least ended best tickets limit ledger led
       };
       few = omega (arith, all.within, most);
       left = elim is.left [
-        | inl points ↦ (
-            let later = tried_later plan ended.hand.seen best (left_in (front put pieces)) above points in
-            inl (subst (λ (bs : List Box). All (IsTriedPoint plan best) bs) (left_boxes_in put pieces is.whole.filling.settled) later))
+        | inl none ↦ inl (sym (left_boxes_in put pieces is.whole.filling.settled) ∙ none)
         | inr over ↦ inr (elim over [ inl done ↦ inl (all.done done ∙ most) | inr stops ↦ inr (sym stops_is ∙ stops) ])
       ];
     }
 
--- and what is left was looked at once more
-pub IsClosed-settled : (shared : Common) (joined least : ℕ) (limit : Limit) (ended : Ended) (closed : Closed) → IsEnded shared whole whole joined least ended → closed.best.scenario ≡ shared.scenario → IsAttained closed.best → length closed.by_worker.items ≡ length ended.drawn_by_thieves.items + 1 → sum closed.by_worker.items ≡ closed.tickets → IsTreeAtEnd (IsOpenPoint shared.bounds shared.scenario closed.best.latency) shared.bounds shared.scenario closed.best.latency closed.tickets limit closed.pieces.items → IsClosed shared.bounds shared.scenario (joined + 1) limit closed
-IsClosed-settled shared joined least limit ended closed is scenario attained count sum_is tree = record {
+-- so the search has come to this
+pub IsClosed-ended : (shared : Common) (joined least : ℕ) (limit : Limit) (ended : Ended) (closed : Closed) → IsEnded shared whole whole joined least ended → closed.best.scenario ≡ shared.scenario → IsAttained closed.best → length closed.by_worker.items ≡ length ended.drawn_by_thieves.items + 1 → sum closed.by_worker.items ≡ closed.tickets → IsTreeAtEnd shared.bounds shared.scenario closed.best.latency closed.tickets limit closed.pieces.items → IsClosed shared.bounds shared.scenario (joined + 1) limit closed
+IsClosed-ended shared joined least limit ended closed is scenario attained count sum_is tree = record {
   of_scenario = scenario;
   attained = attained;
   tickets_by_worker = record { each = omega (arith, count, is.joined_is); all = sum_is };

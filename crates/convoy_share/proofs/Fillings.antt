@@ -8,8 +8,8 @@ use Rattle.std.proofs.lemmas.List.Elements.{All-head, All-tail, All-append, All-
 use Rattle.std.proofs.lemmas.List.Sums.{sum_by-set}
 use Rattle.convoy_ledger.specs.Tickets.{times}
 use Rattle.convoy_scenario.specs.Scenario.{Scenario}
-use Rattle.convoy_intervals.specs.Boxes.{Box, root_of}
-use Rattle.convoy_intervals.specs.Tracked.{Tracked}
+use Rattle.convoy_regions.specs.Regions.{Region, any_order, root_region}
+use Rattle.convoy_regions.specs.Branches.{Branch}
 use Rattle.convoy_branch.specs.declared.bounds.Bounds.{Bounds}
 use Rattle.convoy_certificate.specs.declared.node.Node.{Node}
 use Rattle.convoy_branch.specs.Fronts.{FrontNode, Spent, left_box, left_in}
@@ -25,16 +25,16 @@ use Rattle.convoy_share.proofs.Joins.{IsSlot-better}
 use Rattle.convoy_share.proofs.Slots.{there_le, slot_there, there_below, IsSlot-set}
 
 -- the tree of a place that is next is there
-place_there : (bounds : Bounds) (scenario : Scenario) (seen tickets : ℕ) (put : List Box) (done rest : List Piece) (number : ℕ) (slots : List (List Piece)) → IsFilling bounds scenario seen tickets put done (Pushed number ∷ rest) slots → 0 < there (slot_at slots number)
+place_there : (bounds : Bounds) (scenario : Scenario) (seen tickets : ℕ) (put : List Region) (done rest : List Piece) (number : ℕ) (slots : List (List Piece)) → IsFilling bounds scenario seen tickets put done (Pushed number ∷ rest) slots → 0 < there (slot_at slots number)
 place_there bounds scenario seen tickets put done rest number slots filling =
     omega (arith, filling.once number, times-cons number number (places_in rest), own_number number)
 
-pub place_below : (bounds : Bounds) (scenario : Scenario) (seen tickets : ℕ) (put : List Box) (done rest : List Piece) (number : ℕ) (slots : List (List Piece)) → IsFilling bounds scenario seen tickets put done (Pushed number ∷ rest) slots → number < length slots
+pub place_below : (bounds : Bounds) (scenario : Scenario) (seen tickets : ℕ) (put : List Region) (done rest : List Piece) (number : ℕ) (slots : List (List Piece)) → IsFilling bounds scenario seen tickets put done (Pushed number ∷ rest) slots → number < length slots
 place_below bounds scenario seen tickets put done rest number slots filling =
     there_below slots number (place_there bounds scenario seen tickets put done rest number slots filling)
 
 -- a place is filled by the tree of its number
-pub IsFilling-filled : (bounds : Bounds) (scenario : Scenario) (seen tickets : ℕ) (put : List Box) (done rest : List Piece) (number : ℕ) (slots : List (List Piece)) → IsFilling bounds scenario seen tickets put done (Pushed number ∷ rest) slots → IsFilling bounds scenario seen tickets put done (slot_at slots number ++ rest) (set slots number [])
+pub IsFilling-filled : (bounds : Bounds) (scenario : Scenario) (seen tickets : ℕ) (put : List Region) (done rest : List Piece) (number : ℕ) (slots : List (List Piece)) → IsFilling bounds scenario seen tickets put done (Pushed number ∷ rest) slots → IsFilling bounds scenario seen tickets put done (slot_at slots number ++ rest) (set slots number [])
 IsFilling-filled bounds scenario seen tickets put done rest number slots filling =
     let slot = slot_at slots number in
     let P = IsPiece scenario seen put in
@@ -42,7 +42,7 @@ IsFilling-filled bounds scenario seen tickets put done rest number slots filling
     let low = there_below slots number is_there in
     let sub = slot_there bounds scenario seen put number slot is_there (filling.each_slot number) in
     record {
-      tree = AreTreesOf-filled bounds scenario seen put (root_of scenario ∷ []) (get_or put number []) (Pushed number) done slot rest refl sub.tree filling.tree;
+      tree = AreTreesOf-filled bounds scenario seen put (root_region scenario ∷ []) (get_or put number (any_order [])) (Pushed number) done slot rest refl sub.tree filling.tree;
       settled = filling.settled;
       each_done = filling.each_done;
       each_rest = All-append P slot rest sub.each (All-tail P (Pushed number) rest filling.each_rest);
@@ -66,12 +66,12 @@ not_pushed (Done node) rest is = refl
 not_pushed (Todo branch tried) rest is = refl
 not_pushed (Pushed number) rest is = absurd (cc)
 
-pub IsFilling-moved : (bounds : Bounds) (scenario : Scenario) (seen tickets : ℕ) (put : List Box) (done rest : List Piece) (piece : Piece) (slots : List (List Piece)) → pushed_number piece ≡ None → IsFilling bounds scenario seen tickets put done (piece ∷ rest) slots → IsFilling bounds scenario seen tickets put (done ++ piece ∷ []) rest slots
+pub IsFilling-moved : (bounds : Bounds) (scenario : Scenario) (seen tickets : ℕ) (put : List Region) (done rest : List Piece) (piece : Piece) (slots : List (List Piece)) → pushed_number piece ≡ None → IsFilling bounds scenario seen tickets put done (piece ∷ rest) slots → IsFilling bounds scenario seen tickets put (done ++ piece ∷ []) rest slots
 IsFilling-moved bounds scenario seen tickets put done rest piece slots is filling =
     let P = IsPiece scenario seen put in
     let same : done ++ piece ∷ rest ≡ (done ++ piece ∷ []) ++ rest = sym (append_assoc done (piece ∷ []) rest) in
     record {
-      tree = subst (λ (ps : List Piece). AreTreesOf bounds scenario seen put (root_of scenario ∷ []) ps) same filling.tree;
+      tree = subst (λ (ps : List Piece). AreTreesOf bounds scenario seen put (root_region scenario ∷ []) ps) same filling.tree;
       settled = filter_map-append pushed_number done (piece ∷ []) ∙ ap (λ (ts : List ℕ). places_in done ++ ts) (not_pushed piece [] is) ∙ append-nil (places_in done) ∙ filling.settled;
       each_done = All-push P done piece filling.each_done (All-head P piece rest filling.each_rest);
       each_rest = All-tail P piece rest filling.each_rest;
@@ -81,13 +81,13 @@ IsFilling-moved bounds scenario seen tickets put done rest piece slots is fillin
     }
 
 -- a branch that is left is searched, and its tree settled
-pub IsFilling-searched : (bounds : Bounds) (scenario : Scenario) (seen tickets : ℕ) (put : List Box) (done rest : List Piece) (branch : Tracked) (tried : Bool) (pieces : List Piece) (more : ℕ) (slots : List (List Piece)) → IsUnderWay bounds scenario seen [] [] 0 (branch.delay_box ∷ []) pieces more → IsFilling bounds scenario seen tickets put done (Todo branch tried ∷ rest) slots → IsFilling bounds scenario seen (tickets + more) put (done ++ pieces) rest slots
+pub IsFilling-searched : (bounds : Bounds) (scenario : Scenario) (seen tickets : ℕ) (put : List Region) (done rest : List Piece) (branch : Branch) (tried : Bool) (pieces : List Piece) (more : ℕ) (slots : List (List Piece)) → IsUnderWay bounds scenario seen [] [] 0 (branch.region ∷ []) pieces more → IsFilling bounds scenario seen tickets put done (Todo branch tried ∷ rest) slots → IsFilling bounds scenario seen (tickets + more) put (done ++ pieces) rest slots
 IsFilling-searched bounds scenario seen tickets put done rest branch tried pieces more slots way filling =
     let P = IsPiece scenario seen put in
     let each = way.trees.each in
-    let tree = AreTreesOf-filled bounds scenario seen put (root_of scenario ∷ []) branch.delay_box (Todo branch tried) done pieces rest refl (AreTreesOf-later bounds scenario seen [] put (branch.delay_box ∷ []) pieces each way.trees.tree) filling.tree in
+    let tree = AreTreesOf-filled bounds scenario seen put (root_region scenario ∷ []) branch.region (Todo branch tried) done pieces rest refl (AreTreesOf-later bounds scenario seen [] put (branch.region ∷ []) pieces each way.trees.tree) filling.tree in
     record {
-      tree = subst (λ (ps : List Piece). AreTreesOf bounds scenario seen put (root_of scenario ∷ []) ps) (sym (append_assoc done pieces rest)) tree;
+      tree = subst (λ (ps : List Piece). AreTreesOf bounds scenario seen put (root_region scenario ∷ []) ps) (sym (append_assoc done pieces rest)) tree;
       settled = filter_map-append pushed_number done pieces ∙ ap (λ (ts : List ℕ). places_in done ++ ts) (places_none scenario seen pieces each) ∙ append-nil (places_in done) ∙ filling.settled;
       each_done = All-append P done pieces filling.each_done (pieces_later scenario seen [] put pieces each);
       each_rest = All-tail P (Todo branch tried) rest filling.each_rest;
@@ -97,9 +97,9 @@ IsFilling-searched bounds scenario seen tickets put done rest branch tried piece
     }
 
 -- a better latency leaves all right
-pub IsFilling-better : (better : FrontsBetter) (bounds : Bounds) (scenario : Scenario) (seen more tickets : ℕ) (put : List Box) (done rest : List Piece) (slots : List (List Piece)) → seen ≤ more → IsFilling bounds scenario seen tickets put done rest slots → IsFilling bounds scenario more tickets put done rest slots
+pub IsFilling-better : (better : FrontsBetter) (bounds : Bounds) (scenario : Scenario) (seen more tickets : ℕ) (put : List Region) (done rest : List Piece) (slots : List (List Piece)) → seen ≤ more → IsFilling bounds scenario seen tickets put done rest slots → IsFilling bounds scenario more tickets put done rest slots
 IsFilling-better better bounds scenario seen more tickets put done rest slots above filling = record {
-  tree = AreTreesOf-better better bounds scenario seen more put (root_of scenario ∷ []) (done ++ rest) above filling.tree;
+  tree = AreTreesOf-better better bounds scenario seen more put (root_region scenario ∷ []) (done ++ rest) above filling.tree;
   settled = filling.settled;
   each_done = pieces_better scenario seen more put done above filling.each_done;
   each_rest = pieces_better scenario seen more put rest above filling.each_rest;
@@ -109,15 +109,15 @@ IsFilling-better better bounds scenario seen more tickets put done rest slots ab
 }
 
 -- the same by what the program makes of its lists
-pub IsFilling-by : (bounds : Bounds) (scenario : Scenario) (seen tickets : ℕ) (put : List Box) (done done' rest rest' : List Piece) (slots slots' : List (List Piece)) → done' ≡ done → rest' ≡ rest → slots' ≡ slots → IsFilling bounds scenario seen tickets put done rest slots → IsFilling bounds scenario seen tickets put done' rest' slots'
+pub IsFilling-by : (bounds : Bounds) (scenario : Scenario) (seen tickets : ℕ) (put : List Region) (done done' rest rest' : List Piece) (slots slots' : List (List Piece)) → done' ≡ done → rest' ≡ rest → slots' ≡ slots → IsFilling bounds scenario seen tickets put done rest slots → IsFilling bounds scenario seen tickets put done' rest' slots'
 IsFilling-by bounds scenario seen tickets put done done' rest rest' slots slots' d r s filling = rw (d, r, s) filling
 
 -- the next piece is popped from the end of the rest
-pub IsFilling-popped : (bounds : Bounds) (scenario : Scenario) (seen tickets : ℕ) (put : List Box) (done rest less : List Piece) (piece other : Piece) (slots : List (List Piece)) → rest ≡ less ++ piece ∷ [] → piece ≡ other → IsFilling bounds scenario seen tickets put done (reverse rest) slots → IsFilling bounds scenario seen tickets put done (other ∷ reverse less) slots
+pub IsFilling-popped : (bounds : Bounds) (scenario : Scenario) (seen tickets : ℕ) (put : List Region) (done rest less : List Piece) (piece other : Piece) (slots : List (List Piece)) → rest ≡ less ++ piece ∷ [] → piece ≡ other → IsFilling bounds scenario seen tickets put done (reverse rest) slots → IsFilling bounds scenario seen tickets put done (other ∷ reverse less) slots
 IsFilling-popped bounds scenario seen tickets put done rest less piece other slots popped is filling =
     subst (λ (ps : List Piece). IsFilling bounds scenario seen tickets put done ps slots) (ap (λ (ps : List Piece). reverse ps) popped ∙ reverse-append less (piece ∷ []) ∙ ap (λ (p : Piece). p ∷ reverse less) is) filling
 
 -- a node more leaves the same boxes
-pub left_done : (put : List Box) (done : List Piece) (node : Node) → left_in (front put (done ++ Done node ∷ [])) ≡ left_in (front put done)
+pub left_done : (put : List Region) (done : List Piece) (node : Node) → left_in (front put (done ++ Done node ∷ [])) ≡ left_in (front put done)
 left_done put done node =
     ap (λ (ns : List FrontNode). left_in ns) (map-append (front_of put) done (Done node ∷ [])) ∙ filter_map-append left_box (front put done) (Spent node ∷ []) ∙ append-nil (left_in (front put done))

@@ -1,11 +1,12 @@
--- How far a worker's boxes are, after it took up one of them.
-use Rattle.std.specs.Prelude.{◌≡◌, ◌⊎◌, ℕ, ◌+◌, ◌≤◌, List, [], ◌∷◌, ◌++◌, length, Bool}
+-- How far a worker's regions are, after it took up one of them.
+use Rattle.std.specs.Prelude.{◌≡◌, ℕ, ◌+◌, ◌≤◌, List, [], ◌∷◌, ◌++◌, length, Bool}
 use Rattle.std.specs.List.{All}
 use Rattle.std.proofs.Common.{arith, refl, sym, subst, ◌∙◌, inl, inr}
-use Rattle.std.proofs.lemmas.List.Elements.{All-cons, All-head, All-nil, All-weaker}
+use Rattle.std.proofs.lemmas.List.Elements.{All-head, All-nil}
 use Rattle.convoy_scenario.specs.Scenario.{Scenario}
-use Rattle.convoy_intervals.specs.Boxes.{Box}
-use Rattle.convoy_intervals.specs.Tracked.{Tracked}
+use Rattle.convoy_regions.specs.Regions.{Region}
+use Rattle.convoy_regions.specs.Branches.{Branch}
+use Rattle.convoy_certificate.specs.declared.node.Node.{Node}
 use Rattle.convoy_branch.specs.declared.bounds.Bounds.{Bounds}
 use Rattle.convoy_branch.specs.declared.step.Turn.{Turn}
 use Rattle.convoy_branch.specs.declared.step.Turn.TheVariants.{Halves}
@@ -17,7 +18,7 @@ use Rattle.convoy_share.specs.declared.piece.Piece.TheVariants.{Todo, Pushed}
 use Rattle.convoy_share.specs.Pieces.{IsPiece, left_boxes}
 use Rattle.convoy_share.specs.Subtrees.{ArePieces}
 use Rattle.convoy_share.specs.Turns.{parted, pieces_of}
-use Rattle.convoy_share.specs.Means.{IsLater, IsTakenUp, IsGrown, IsLeftAtEnd, IsOver, IsTriedPoint}
+use Rattle.convoy_share.specs.Means.{IsLater, IsTakenUp, IsGrown, IsLeftAtEnd, IsOver}
 use Rattle.convoy_share.proofs.Counts.{All-parts}
 use Rattle.convoy_share.proofs.Places.{places_none}
 use Rattle.convoy_share.proofs.UnderWay.{IsUnderWay-start, IsUnderWay-better, IsUnderWay-turned, IsUnderWay-put}
@@ -36,12 +37,12 @@ IsLater-then before between after first second = record {
 }
 
 -- a branch that is left is one of the scenario, and was tried if it is told to be
-pub todo_right : (bounds : Bounds) (scenario : Scenario) (before after : Means) (first put : List Box) (low : ℕ) (boxes : List Box) (front rest : List Piece) (branch : Tracked) (tried : Bool) → IsGrown bounds scenario before after first put low boxes (front ++ Todo branch tried ∷ rest) → IsPiece scenario after.hand.seen put (Todo branch tried)
+pub todo_right : (bounds : Bounds) (scenario : Scenario) (before after : Means) (first put : List Region) (low : ℕ) (boxes : List Region) (front rest : List Piece) (branch : Branch) (tried : Bool) → IsGrown bounds scenario before after first put low boxes (front ++ Todo branch tried ∷ rest) → IsPiece scenario after.hand.seen put (Todo branch tried)
 todo_right bounds scenario before after first put low boxes front rest branch tried grown =
     let P = IsPiece scenario after.hand.seen put in
     All-head P (Todo branch tried) rest (All-parts P front (Todo branch tried ∷ rest) grown.way.trees.each).1
 
-pub IsGrown-start : (bounds : Bounds) (scenario : Scenario) (means : Means) (put : List Box) (low : ℕ) (branch : Tracked) (tried : Bool) → IsPiece scenario means.hand.seen put (Todo branch tried) → IsGrown bounds scenario means means put put low (branch.delay_box ∷ []) (Todo branch tried ∷ [])
+pub IsGrown-start : (bounds : Bounds) (scenario : Scenario) (means : Means) (put : List Region) (low : ℕ) (branch : Branch) (tried : Bool) → IsPiece scenario means.hand.seen put (Todo branch tried) → IsGrown bounds scenario means means put put low (branch.region ∷ []) (Todo branch tried ∷ [])
 IsGrown-start bounds scenario means put low branch tried is = record {
   later = IsLater-same means;
   tickets = 0;
@@ -49,7 +50,7 @@ IsGrown-start bounds scenario means put low branch tried is = record {
   way = IsUnderWay-start bounds scenario means.hand.seen put low branch tried is;
 }
 
-pub IsGrown-turned : (better : FrontsBetter) (bounds : Bounds) (scenario : Scenario) (may_stop : Bool) (most : ℕ) (before between after : Means) (first put : List Box) (low : ℕ) (boxes : List Box) (front rest : List Piece) (branch : Tracked) (tried : Bool) (turn : Turn) → IsTakenUp bounds scenario may_stop most branch between after (Turned turn) → IsGrown bounds scenario before between first put low boxes (front ++ Todo branch tried ∷ rest) → IsGrown bounds scenario before after first put low boxes (front ++ (pieces_of turn ++ rest))
+pub IsGrown-turned : (better : FrontsBetter) (bounds : Bounds) (scenario : Scenario) (may_stop : Bool) (most : ℕ) (before between after : Means) (first put : List Region) (low : ℕ) (boxes : List Region) (front rest : List Piece) (branch : Branch) (tried : Bool) (turn : Turn) → IsTakenUp bounds scenario may_stop most branch between after (Turned turn) → IsGrown bounds scenario before between first put low boxes (front ++ Todo branch tried ∷ rest) → IsGrown bounds scenario before after first put low boxes (front ++ (pieces_of turn ++ rest))
 IsGrown-turned better bounds scenario may_stop most before between after first put low boxes front rest branch tried turn taken grown =
     let pieces = front ++ Todo branch tried ∷ rest in
     let way = IsUnderWay-better better bounds scenario between.hand.seen after.hand.seen first put low boxes pieces grown.tickets taken.later.seen grown.way in
@@ -60,20 +61,20 @@ IsGrown-turned better bounds scenario may_stop most before between after first p
       way = IsUnderWay-turned bounds scenario after.hand.seen first put low boxes front rest branch tried grown.tickets turn taken.ticket.3 way;
     }
 
-pub IsGrown-put : (better : FrontsBetter) (bounds : Bounds) (scenario : Scenario) (may_stop : Bool) (most : ℕ) (before between after : Means) (first put : List Box) (low : ℕ) (boxes : List Box) (front rest : List Piece) (branch : Tracked) (tried : Bool) (packet at : ℕ) (lower upper : Tracked) (number : ℕ) → IsTakenUp bounds scenario may_stop most branch between after (Turned (Halves packet at lower upper)) → number ≡ length put → low ≤ length put → IsGrown bounds scenario before between first put low boxes (front ++ Todo branch tried ∷ rest) → IsGrown bounds scenario before after first (put ++ lower.delay_box ∷ []) low boxes (front ++ (parted packet at (Pushed number) upper ++ rest))
-IsGrown-put better bounds scenario may_stop most before between after first put low boxes front rest branch tried packet at lower upper number taken same below grown =
-    let pieces = front ++ Todo branch tried ∷ rest in
+pub IsGrown-put : (better : FrontsBetter) (bounds : Bounds) (scenario : Scenario) (may_stop : Bool) (most : ℕ) (before between after : Means) (first put : List Region) (low : ℕ) (boxes : List Region) (front rest : List Piece) (branch : Branch) (was_tried : Bool) (split : Node) (half other : Branch) (tried : Bool) (number : ℕ) → IsTakenUp bounds scenario may_stop most branch between after (Turned (Halves split half other tried)) → number ≡ length put → low ≤ length put → IsGrown bounds scenario before between first put low boxes (front ++ Todo branch was_tried ∷ rest) → IsGrown bounds scenario before after first (put ++ half.region ∷ []) low boxes (front ++ (parted split (Pushed number) other tried ++ rest))
+IsGrown-put better bounds scenario may_stop most before between after first put low boxes front rest branch was_tried split half other tried number taken same below grown =
+    let pieces = front ++ Todo branch was_tried ∷ rest in
     let way = IsUnderWay-better better bounds scenario between.hand.seen after.hand.seen first put low boxes pieces grown.tickets taken.later.seen grown.way in
     record {
       later = IsLater-then before between after grown.later taken.later;
       tickets = grown.tickets + 1;
       spent = omega (arith, taken.ticket.0, grown.spent);
-      way = IsUnderWay-put bounds scenario after.hand.seen first put low boxes front rest branch tried grown.tickets packet at lower upper number taken.ticket.3 same below way;
+      way = IsUnderWay-put bounds scenario after.hand.seen first put low boxes front rest branch was_tried grown.tickets split half other tried number taken.ticket.3 same below way;
     }
 
-pub IsGrown-left : (better : FrontsBetter) (bounds : Bounds) (scenario : Scenario) (may_stop : Bool) (most : ℕ) (before between after : Means) (first put : List Box) (low : ℕ) (boxes : List Box) (front rest : List Piece) (branch left : Tracked) (tried : Bool) → IsTakenUp bounds scenario may_stop most branch between after (Left left) → IsGrown bounds scenario before between first put low boxes (front ++ Todo branch tried ∷ rest) → IsGrown bounds scenario before after first put low boxes (front ++ Todo left tried ∷ rest)
+pub IsGrown-left : (better : FrontsBetter) (bounds : Bounds) (scenario : Scenario) (may_stop : Bool) (most : ℕ) (before between after : Means) (first put : List Region) (low : ℕ) (boxes : List Region) (front rest : List Piece) (branch left : Branch) (tried : Bool) → IsTakenUp bounds scenario may_stop most branch between after (Left left) → IsGrown bounds scenario before between first put low boxes (front ++ Todo branch tried ∷ rest) → IsGrown bounds scenario before after first put low boxes (front ++ Todo left tried ∷ rest)
 IsGrown-left better bounds scenario may_stop most before between after first put low boxes front rest branch left tried taken grown =
-    let same = subst (λ (b : Tracked). IsGrown bounds scenario before between first put low boxes (front ++ Todo b tried ∷ rest)) (sym taken.ticket.0) grown in
+    let same = subst (λ (b : Branch). IsGrown bounds scenario before between first put low boxes (front ++ Todo b tried ∷ rest)) (sym taken.ticket.0) grown in
     record {
       later = IsLater-then before between after same.later taken.later;
       tickets = same.tickets;
@@ -82,7 +83,7 @@ IsGrown-left better bounds scenario may_stop most before between after first put
     }
 
 -- where nothing was put, there is no place, and so none below any number
-pub IsGrown-kept : (bounds : Bounds) (scenario : Scenario) (before after : Means) (low : ℕ) (boxes : List Box) (pieces : List Piece) → IsGrown bounds scenario before after [] [] 0 boxes pieces → IsGrown bounds scenario before after [] [] low boxes pieces
+pub IsGrown-kept : (bounds : Bounds) (scenario : Scenario) (before after : Means) (low : ℕ) (boxes : List Region) (pieces : List Piece) → IsGrown bounds scenario before after [] [] 0 boxes pieces → IsGrown bounds scenario before after [] [] low boxes pieces
 IsGrown-kept bounds scenario before after low boxes pieces grown =
     let way = grown.way in
     let Q : ℕ → Type 0 = λ n. low ≤ n in
@@ -104,34 +105,13 @@ pub over_later : (may_stop : Bool) (before after : Means) → IsLater before aft
 over_later may_stop before after later over = elim over [ inl done ↦ inl (later.done done) | inr stops ↦ inr stops ]
 
 -- other pieces may leave the same boxes
-pub IsLeftAtEnd-by : (scenario : Scenario) (may_stop : Bool) (means : Means) (pieces others : List Piece) → left_boxes others ≡ left_boxes pieces → IsLeftAtEnd scenario may_stop means pieces → IsLeftAtEnd scenario may_stop means others
-IsLeftAtEnd-by scenario may_stop means pieces others same left = elim left [
-  | inl points ↦ inl (subst (λ (bs : List Box). All (IsTriedPoint scenario means.hand.seen) bs) (sym same) points)
-  | inr over ↦ inr over
-]
-
--- a greater latency is seen, and what was tried was
-pub tried_later : (scenario : Scenario) (seen more : ℕ) (boxes : List Box) → seen ≤ more → All (IsTriedPoint scenario seen) boxes → All (IsTriedPoint scenario more) boxes
-tried_later scenario seen more boxes above points =
-    All-weaker (IsTriedPoint scenario seen) (IsTriedPoint scenario more) (λ box is. record { point = is.point; tried = omega (arith, is.tried, above) }) boxes points
-
--- a box more is left: all tickets were drawn, or the search may be stopped, or it is a point in real time that was tried
-pub left_more : (bounds : Bounds) (scenario : Scenario) (may_stop : Bool) (most : ℕ) (between after : Means) (pieces : List Piece) (boxes : List Box) (branch left : Tracked) → IsTakenUp bounds scenario may_stop most branch between after (Left left) → boxes ≡ left.delay_box ∷ left_boxes pieces → IsLeftAtEnd scenario may_stop between pieces → All (IsTriedPoint scenario after.hand.seen) boxes ⊎ IsOver may_stop after.clerk.done
-left_more bounds scenario may_stop most between after pieces boxes branch left taken more before = elim taken.ticket.2 [
-  | inl over ↦ inr over
-  | inr point ↦ elim before [
-    | inl points ↦ (
-        let P = IsTriedPoint scenario after.hand.seen in
-        let here : P left.delay_box = subst (λ (b : Tracked). P b.delay_box) (sym taken.ticket.0) point in
-        let others = tried_later scenario between.hand.seen after.hand.seen (left_boxes pieces) taken.later.seen points in
-        inl (subst (λ (bs : List Box). All P bs) (sym more) (All-cons P left.delay_box (left_boxes pieces) here others)))
-    | inr over ↦ inr (over_later may_stop between after taken.later over)
-  ]
-]
+pub IsLeftAtEnd-by : (may_stop : Bool) (means : Means) (pieces others : List Piece) → left_boxes others ≡ left_boxes pieces → IsLeftAtEnd may_stop means pieces → IsLeftAtEnd may_stop means others
+IsLeftAtEnd-by may_stop means pieces others same left =
+    elim left [ inl none ↦ inl (same ∙ none) | inr over ↦ inr over ]
 
 -- a ticket was spent, and no box more is left
-pub left_same : (bounds : Bounds) (scenario : Scenario) (may_stop : Bool) (most : ℕ) (between after : Means) (pieces : List Piece) (boxes : List Box) (branch : Tracked) (turn : Turn) → IsTakenUp bounds scenario may_stop most branch between after (Turned turn) → boxes ≡ left_boxes pieces → IsLeftAtEnd scenario may_stop between pieces → All (IsTriedPoint scenario after.hand.seen) boxes ⊎ IsOver may_stop after.clerk.done
-left_same bounds scenario may_stop most between after pieces boxes branch turn taken same before = elim before [
-  | inl points ↦ inl (subst (λ (bs : List Box). All (IsTriedPoint scenario after.hand.seen) bs) (sym same) (tried_later scenario between.hand.seen after.hand.seen (left_boxes pieces) taken.later.seen points))
+pub left_same : (bounds : Bounds) (scenario : Scenario) (may_stop : Bool) (most : ℕ) (between after : Means) (pieces others : List Piece) (branch : Branch) (turn : Turn) → IsTakenUp bounds scenario may_stop most branch between after (Turned turn) → left_boxes others ≡ left_boxes pieces → IsLeftAtEnd may_stop between pieces → IsLeftAtEnd may_stop after others
+left_same bounds scenario may_stop most between after pieces others branch turn taken same before = elim before [
+  | inl none ↦ inl (same ∙ none)
   | inr over ↦ inr (over_later may_stop between after taken.later over)
 ]

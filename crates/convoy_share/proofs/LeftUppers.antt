@@ -16,7 +16,7 @@ IsUpperOver bounds scenario best pieces upper = IsUpperOf bounds scenario best (
 
 IsUpperOver-cons : (bounds : Bounds) (scenario : Scenario) (best raised : ℕ) (piece : Piece) (rest : List Piece) (most : ℕ) → UppersRaised → IsRaisedOver bounds scenario piece best raised → IsUpperOver bounds scenario raised rest most → IsUpperOver bounds scenario best (piece ∷ rest) most
 IsUpperOver-cons bounds scenario best raised (Todo branch tried) rest most law is over =
-    law bounds scenario best raised branch.delay_box (left_boxes rest) most is over
+    law bounds scenario best raised branch.region.ranges (left_boxes rest) most is over
 IsUpperOver-cons bounds scenario best raised (Done node) rest most law is over =
     subst (λ (n : ℕ). IsUpperOver bounds scenario n rest most) is over
 IsUpperOver-cons bounds scenario best raised (Pushed number) rest most law is over =

@@ -10,7 +10,6 @@ pub mod Finishings
 pub mod Endings
 pub mod LeftUppers
 pub mod Outcomes
-pub mod LookedAt
 pub mod Grown
 pub mod Placed
 pub mod Worked

@@ -1,6 +1,6 @@
 -- What a whole tree says: a valid certificate, or a front.
-use Rattle.std.specs.Prelude.{◌≡◌, ◌⊎◌, ℕ, ◌≤◌, ◌<◌, true, false, List, [], ◌∷◌, length}
-use Rattle.std.specs.List.{All, Any, list_any}
+use Rattle.std.specs.Prelude.{◌≡◌, ℕ, ◌≤◌, ◌<◌, true, false, List, [], ◌∷◌, length}
+use Rattle.std.specs.List.{All, list_any}
 use Rattle.std.proofs.Common.{arith, refl, ap, sym, subst, ◌∙◌, inl, inr}
 use Rattle.std.proofs.lemmas.List.Elements.{All-nil, All-cons, All-head, All-tail}
 use Rattle.convoy_scenario.specs.Scenario.{Scenario}
@@ -14,7 +14,8 @@ use Rattle.convoy_certificate.specs.Certificate.{Certificate, IsNode}
 use Rattle.convoy_certificate.specs.Reading.{AreReadable}
 use Rattle.convoy_certificate.specs.Text.{is_lead, is_stamp}
 use Rattle.convoy_certificate.specs.declared.node.Node.{Node}
-use Rattle.convoy_intervals.specs.Boxes.{Box, root_of}
+use Rattle.convoy_intervals.specs.Boxes.{Box}
+use Rattle.convoy_regions.specs.Regions.{Region, root_region}
 use Rattle.convoy_checker.specs.TreeLaws.{TreesCover}
 use Rattle.convoy_branch.specs.declared.bounds.Bounds.{Bounds}
 use Rattle.convoy_branch.specs.declared.limit.Limit.{Limit}
@@ -24,7 +25,6 @@ use Rattle.convoy_branch.specs.Uppers.{IsUpperOf}
 use Rattle.convoy_branch.specs.Fronts.{left_in}
 use Rattle.convoy_branch.specs.FrontLaws.{FrontsBound, OnlyLeadsHaveLeadLeaves, PlainFrontsHaveNoStamps, WholeFrontsAreReadable, WholeFrontsAreTrees}
 use Rattle.convoy_branch.specs.Outcomes.{IsProved, IsOpen}
-use Rattle.convoy_branch.specs.Steps.{IsOpenPoint}
 use Rattle.convoy_branch.proofs.Withins.{IsWithin-all, IsWithin-spent}
 use Rattle.convoy_share.specs.declared.piece.Piece.{Piece}
 use Rattle.convoy_share.specs.declared.piece.Piece.TheVariants.{Done, Todo, Pushed}
@@ -34,10 +34,10 @@ use Rattle.convoy_share.specs.Pieces.{IsPiece, front, is_left, left_boxes, nodes
 use Rattle.convoy_share.proofs.Endings.{IsTree-filled, IsFront-filled, spent_nodes, whole_tree}
 
 -- the boxes that are left, where no place is
-pub left_boxes_in : (put : List Box) (pieces : List Piece) → places_in pieces ≡ [] → left_in (front put pieces) ≡ left_boxes pieces
+pub left_boxes_in : (put : List Region) (pieces : List Piece) → places_in pieces ≡ [] → left_in (front put pieces) ≡ left_boxes pieces
 left_boxes_in put [] none = refl
 left_boxes_in put (Done node ∷ pieces) none = left_boxes_in put pieces none
-left_boxes_in put (Todo branch tried ∷ pieces) none = ap (λ (bs : List Box). branch.delay_box ∷ bs) (left_boxes_in put pieces none)
+left_boxes_in put (Todo branch tried ∷ pieces) none = ap (λ (bs : List Box). branch.region.ranges ∷ bs) (left_boxes_in put pieces none)
 left_boxes_in put (Pushed number ∷ pieces) none = absurd (cc)
 
 pub none_left : (pieces : List Piece) → list_any is_left pieces ≡ false → left_boxes pieces ≡ []
@@ -53,7 +53,7 @@ some_left (Todo branch tried ∷ pieces) some = omega arith
 some_left (Pushed number ∷ pieces) some = some_left pieces some
 
 -- the nodes may stand in a certificate
-nodes_right : (scenario : Scenario) (seen : ℕ) (put : List Box) (pieces : List Piece) → All (IsPiece scenario seen put) pieces → All (IsNode scenario) (nodes_in pieces)
+nodes_right : (scenario : Scenario) (seen : ℕ) (put : List Region) (pieces : List Piece) → All (IsPiece scenario seen put) pieces → All (IsNode scenario) (nodes_in pieces)
 nodes_right scenario seen put [] each = All-nil (IsNode scenario)
 nodes_right scenario seen put (Done node ∷ pieces) each =
     let P = IsPiece scenario seen put in
@@ -122,7 +122,7 @@ IsProved-certificate trees cover no_stamps no_leads reads bounds scenario worker
         upper = cover scenario best.latency (nodes_in pieces) lawful tree.0;
       };
       nodes = tree.1;
-      plain = λ by_plain. subst (λ (ns : List Node). list_any is_stamp ns ≡ false) (spent_nodes put pieces) (no_stamps scenario best.latency (front put pieces) none_in (subst (λ (b : Bounds). AreTreesOf b scenario best.latency put (root_of scenario ∷ []) pieces) by_plain fronts));
+      plain = λ by_plain. subst (λ (ns : List Node). list_any is_stamp ns ≡ false) (spent_nodes put pieces) (no_stamps scenario best.latency (front put pieces) none_in (subst (λ (b : Bounds). AreTreesOf b scenario best.latency put (root_region scenario ∷ []) pieces) by_plain fronts));
       few = is.tree.few;
       no_leads = λ others. subst (λ (ns : List Node). list_any is_lead ns ≡ false) (spent_nodes put pieces) (no_leads bounds scenario best.latency (front put pieces) others none_in fronts);
       readable = λ within. subst AreReadable (spent_nodes put pieces) (reads bounds scenario best.latency (front put pieces) none_in fronts (subst (λ (ns : List Node). length ns ≤ most_nodes bounds) (sym (spent_nodes put pieces)) (omega (arith, tree.1, is.tree.few, within))));
@@ -133,15 +133,9 @@ pub IsProved-closed : (trees : WholeFrontsAreTrees) (cover : TreesCover) (no_sta
 IsProved-closed trees cover no_stamps no_leads reads bounds scenario workers limit closed certificate none same is =
     subst (λ (c : Certificate). IsProved bounds scenario workers limit.tickets c closed.tickets closed.by_worker.items) (sym same) (IsProved-certificate trees cover no_stamps no_leads reads bounds scenario workers limit closed none is)
 
--- where all elements meet something and there are some, one does
-some_of : {X : Type 0} (P : X → Type 0) (xs : List X) → 0 < length xs → All P xs → Any P xs
-some_of P [] some all = absurd (omega arith)
-some_of P (x ∷ xs) some all = (0, x, omega arith, refl, All-head P x xs all)
-
--- a box is left, and the tree is a front: all the tickets that may be spent were, or it is an open point
-IsOpen-front : (bound : FrontsBound) (bounds : Bounds) (scenario : Scenario) (workers : ℕ) (limit : Limit) (upper spendable : ℕ) (closed : Closed) → list_any is_left closed.pieces.items ≡ true → latency_of scenario (least_of (ranges_of scenario)) ≤ closed.best.latency → IsUpperOf bounds scenario closed.best.latency (left_boxes closed.pieces.items) upper → IsClosed bounds scenario workers limit closed → closed.tickets ≤ spendable → All (IsOpenPoint bounds scenario closed.best.latency) (left_boxes closed.pieces.items) ⊎ (closed.tickets ≡ spendable) → IsOpen bounds scenario workers spendable closed.best upper closed.tickets closed.by_worker.items
-unfolding IsFront-filled
-IsOpen-front bound bounds scenario workers limit upper spendable closed some least upper_is is few ended =
+-- a box is left, and the tree is a front
+IsOpen-front : (bound : FrontsBound) (bounds : Bounds) (scenario : Scenario) (workers : ℕ) (limit : Limit) (upper spendable : ℕ) (closed : Closed) → list_any is_left closed.pieces.items ≡ true → latency_of scenario (least_of (ranges_of scenario)) ≤ closed.best.latency → IsUpperOf bounds scenario closed.best.latency (left_boxes closed.pieces.items) upper → IsClosed bounds scenario workers limit closed → closed.tickets ≡ spendable → IsOpen bounds scenario workers spendable closed.best upper closed.tickets closed.by_worker.items
+IsOpen-front bound bounds scenario workers limit upper spendable closed some least upper_is is all =
     let best = closed.best in
     let pieces = closed.pieces.items in
     let put = is.tree.whole.put in
@@ -155,16 +149,8 @@ IsOpen-front bound bounds scenario workers limit upper spendable closed some lea
       of_scenario = is.of_scenario;
       reached = reached;
       none_greater = bound bounds scenario best.latency upper closed.tickets (best_lawful scenario best is.of_scenario is.attained) open_front;
-      front = record {
-        tickets = closed.tickets;
-        front = open_front;
-        few = few;
-        all = elim ended [
-          | inl points ↦ inr (some_of (IsOpenPoint bounds scenario best.latency) (left_in (front put pieces)) left (subst (λ (bs : List Box). All (IsOpenPoint bounds scenario best.latency) bs) (sym boxes) points))
-          | inr all ↦ inl all
-        ];
-      };
-      all = refl;
+      front = open_front;
+      all = all;
       shares = is.tickets_by_worker;
     }
 
@@ -172,11 +158,10 @@ IsOpen-front bound bounds scenario workers limit upper spendable closed some lea
 pub IsOpen-closed : (bound : FrontsBound) (bounds : Bounds) (scenario : Scenario) (workers : ℕ) (limit : Limit) (upper : ℕ) (closed : Closed) → list_any is_left closed.pieces.items ≡ true → latency_of scenario (least_of (ranges_of scenario)) ≤ closed.best.latency → IsUpperOf bounds scenario closed.best.latency (left_boxes closed.pieces.items) upper → IsClosed bounds scenario workers limit closed → IsWithin limit (λ tickets. IsOpen bounds scenario workers tickets closed.best upper closed.tickets closed.by_worker.items)
 IsOpen-closed bound bounds scenario workers limit upper closed some least upper_is is =
     let IsAnswer : ℕ → Type 0 = λ tickets. IsOpen bounds scenario workers tickets closed.best upper closed.tickets closed.by_worker.items in
-    let by_all = λ (ended : All (IsOpenPoint bounds scenario closed.best.latency) (left_boxes closed.pieces.items) ⊎ (closed.tickets ≡ limit.tickets)). IsWithin-all limit IsAnswer (IsOpen-front bound bounds scenario workers limit upper limit.tickets closed some least upper_is is is.tree.few ended) in
     elim is.tree.left [
-      | inl points ↦ by_all (inl points)
+      | inl none ↦ absurd (omega (arith, some_left closed.pieces.items some, ap length none))
       | inr spent ↦ elim spent [
-        | inl all ↦ by_all (inr all)
-        | inr stops ↦ IsWithin-spent limit IsAnswer closed.tickets is.tree.few (inr stops) (IsOpen-front bound bounds scenario workers limit upper closed.tickets closed some least upper_is is (omega arith) (inr refl))
+        | inl all ↦ IsWithin-all limit IsAnswer (IsOpen-front bound bounds scenario workers limit upper limit.tickets closed some least upper_is is all)
+        | inr stops ↦ IsWithin-spent limit IsAnswer closed.tickets is.tree.few (inr stops) (IsOpen-front bound bounds scenario workers limit upper closed.tickets closed some least upper_is is refl)
       ]
     ]

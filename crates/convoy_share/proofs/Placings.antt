@@ -9,7 +9,7 @@ use Rattle.std.proofs.lemmas.List.Sums.{sum_by-cons, sum_by-set}
 use Rattle.convoy_shares.specs.Shares.{once_below}
 use Rattle.convoy_ledger.specs.Tickets.{times}
 use Rattle.convoy_scenario.specs.Scenario.{Scenario}
-use Rattle.convoy_intervals.specs.Boxes.{Box, root_of}
+use Rattle.convoy_regions.specs.Regions.{Region, any_order, root_region}
 use Rattle.convoy_branch.specs.declared.bounds.Bounds.{Bounds}
 use Rattle.convoy_share_deque.specs.declared.task.Task.{Task}
 use Rattle.convoy_share_deque.specs.Tasks.{tasks_at, AreAllTaken, IsPut}
@@ -22,12 +22,12 @@ use Rattle.convoy_share.proofs.Counts.{sum_none, own_number, other_number, tasks
 use Rattle.convoy_share.proofs.Slots.{IsSlot-set, put_is}
 
 -- a tree over a box is not empty
-subtree_there : (bounds : Bounds) (scenario : Scenario) (seen : ℕ) (put : List Box) (number : ℕ) (branch : Box) (pieces : List Piece) → IsSubtree bounds scenario seen put number branch pieces → there pieces ≡ 1
+subtree_there : (bounds : Bounds) (scenario : Scenario) (seen : ℕ) (put : List Region) (number : ℕ) (branch : Region) (pieces : List Piece) → IsSubtree bounds scenario seen put number branch pieces → there pieces ≡ 1
 subtree_there bounds scenario seen put number branch [] is = absurd is.tree
 subtree_there bounds scenario seen put number branch (piece ∷ pieces) is = refl
 
 -- and may lie in the slot of its number
-subtree_slot : (bounds : Bounds) (scenario : Scenario) (seen : ℕ) (put : List Box) (number : ℕ) (pieces : List Piece) → IsSubtree bounds scenario seen put number (get_or put number []) pieces → IsSlot bounds scenario seen put number pieces
+subtree_slot : (bounds : Bounds) (scenario : Scenario) (seen : ℕ) (put : List Region) (number : ℕ) (pieces : List Piece) → IsSubtree bounds scenario seen put number (get_or put number (any_order [])) pieces → IsSlot bounds scenario seen put number pieces
 subtree_slot bounds scenario seen put number [] is = tt
 subtree_slot bounds scenario seen put number (piece ∷ pieces) is = is
 
@@ -36,7 +36,7 @@ none_there [] is = refl
 none_there (piece ∷ pieces) is = absurd (omega arith)
 
 -- the first of the tasks that are left finds its slot empty, and its number is below the count
-first_free : (bounds : Bounds) (scenario : Scenario) (seen : ℕ) (put : List Box) (all : List Subtree) (slots : List (List Piece)) (task : Task) (tasks : List Task) (subtrees : List Subtree) → IsPlacing bounds scenario seen put all slots (task ∷ tasks) subtrees → (slot_at slots task.number ≡ []) × (task.number < length slots)
+first_free : (bounds : Bounds) (scenario : Scenario) (seen : ℕ) (put : List Region) (all : List Subtree) (slots : List (List Piece)) (task : Task) (tasks : List Task) (subtrees : List Subtree) → IsPlacing bounds scenario seen put all slots (task ∷ tasks) subtrees → (slot_at slots task.number ≡ []) × (task.number < length slots)
 first_free bounds scenario seen put all slots task tasks subtrees placing =
     let n = task.number in
     let once = placing.once n in
@@ -52,18 +52,18 @@ placed_sum f slots n subtree subtrees none empty low =
     omega (arith, sum_by-set f slots n subtree.pieces [] low, sum_by-cons (λ (s : Subtree). f s.pieces) subtree subtrees, ap f empty, none)
 
 -- it is put there
-pub IsPlacing-next : (bounds : Bounds) (scenario : Scenario) (seen : ℕ) (put : List Box) (all : List Subtree) (slots : List (List Piece)) (task : Task) (tasks : List Task) (subtree : Subtree) (subtrees : List Subtree) → IsPlacing bounds scenario seen put all slots (task ∷ tasks) (subtree ∷ subtrees) → IsPlacing bounds scenario seen put all (set slots task.number subtree.pieces) tasks subtrees
+pub IsPlacing-next : (bounds : Bounds) (scenario : Scenario) (seen : ℕ) (put : List Region) (all : List Subtree) (slots : List (List Piece)) (task : Task) (tasks : List Task) (subtree : Subtree) (subtrees : List Subtree) → IsPlacing bounds scenario seen put all slots (task ∷ tasks) (subtree ∷ subtrees) → IsPlacing bounds scenario seen put all (set slots task.number subtree.pieces) tasks subtrees
 IsPlacing-next bounds scenario seen put all slots task tasks subtree subtrees placing =
     let n = task.number in
     let pieces = subtree.pieces in
     let free = first_free bounds scenario seen put all slots task tasks (subtree ∷ subtrees) placing in
     let branch = put_is put task (All-head (IsPut put) task tasks placing.right) in
-    let sub : IsSubtree bounds scenario seen put n (get_or put n []) pieces = subst (λ (b : Box). IsSubtree bounds scenario seen put n b pieces) (sym branch) placing.trees.1 in
+    let sub : IsSubtree bounds scenario seen put n (get_or put n (any_order [])) pieces = subst (λ (b : Region). IsSubtree bounds scenario seen put n b pieces) (sym branch) placing.trees.1 in
     record {
       each_slot = IsSlot-set bounds scenario seen put slots n pieces (subtree_slot bounds scenario seen put n pieces sub) placing.each_slot free.1;
       size = length-set slots n pieces ∙ placing.size;
       trees = placing.trees.2;
-      once = λ x. once x free.0 free.1 (subtree_there bounds scenario seen put n (get_or put n []) pieces sub);
+      once = λ x. once x free.0 free.1 (subtree_there bounds scenario seen put n (get_or put n (any_order [])) pieces sub);
       right = All-tail (IsPut put) task tasks placing.right;
       sums = λ f none. omega (arith, placing.sums f none, placed_sum f slots n subtree subtrees none free.0 free.1);
     } where
@@ -83,7 +83,7 @@ empty_slot n x = elim (cases_lt x n) [
   | inr past ↦ get_or_past (replicate n []) x [] (omega (arith, past, length-replicate {A = List Piece} n []))
 ]
 
-pub IsPlacing-start : (bounds : Bounds) (scenario : Scenario) (seen tickets roots : ℕ) (put : List Box) (taken : List Task) (subtrees : List Subtree) → IsResult bounds scenario seen tickets roots put taken subtrees → AreAllTaken put taken → IsPlacing bounds scenario seen put subtrees (replicate (length put) []) taken subtrees
+pub IsPlacing-start : (bounds : Bounds) (scenario : Scenario) (seen tickets roots : ℕ) (put : List Region) (taken : List Task) (subtrees : List Subtree) → IsResult bounds scenario seen tickets roots put taken subtrees → AreAllTaken put taken → IsPlacing bounds scenario seen put subtrees (replicate (length put) []) taken subtrees
 IsPlacing-start bounds scenario seen tickets roots put taken subtrees is all = record {
   each_slot = λ x. rw (empty_slot (length put) x) tt;
   size = length-replicate (length put) [];
@@ -94,7 +94,7 @@ IsPlacing-start bounds scenario seen tickets roots put taken subtrees is all = r
 }
 
 -- all have them: the root stands under the number 0
-pub IsFilling-start : (bounds : Bounds) (scenario : Scenario) (seen tickets : ℕ) (put : List Box) (taken : List Task) (subtrees : List Subtree) (slots : List (List Piece)) → get_or put 0 [] ≡ root_of scenario → 0 < length put → IsResult bounds scenario seen tickets 1 put taken subtrees → IsPlacing bounds scenario seen put subtrees slots [] [] → IsFilling bounds scenario seen tickets put [] (Pushed 0 ∷ []) slots
+pub IsFilling-start : (bounds : Bounds) (scenario : Scenario) (seen tickets : ℕ) (put : List Region) (taken : List Task) (subtrees : List Subtree) (slots : List (List Piece)) → get_or put 0 (any_order []) ≡ root_region scenario → 0 < length put → IsResult bounds scenario seen tickets 1 put taken subtrees → IsPlacing bounds scenario seen put subtrees slots [] [] → IsFilling bounds scenario seen tickets put [] (Pushed 0 ∷ []) slots
 IsFilling-start bounds scenario seen tickets put taken subtrees slots root some is placing = record {
   tree = (root, tt);
   settled = refl;
@@ -106,7 +106,7 @@ IsFilling-start bounds scenario seen tickets put taken subtrees slots root some 
 }
 
 -- the first tree that is left
-first_placed : (bounds : Bounds) (scenario : Scenario) (seen : ℕ) (put : List Box) (all : List Subtree) (slots : List (List Piece)) (tasks : List Task) (tree : Subtree) (trees : List Subtree) → IsPlacing bounds scenario seen put all slots tasks (tree ∷ trees) → (tree.number < length slots) × ((rest : List Task) × IsPlacing bounds scenario seen put all (set slots tree.number tree.pieces) rest trees)
+first_placed : (bounds : Bounds) (scenario : Scenario) (seen : ℕ) (put : List Region) (all : List Subtree) (slots : List (List Piece)) (tasks : List Task) (tree : Subtree) (trees : List Subtree) → IsPlacing bounds scenario seen put all slots tasks (tree ∷ trees) → (tree.number < length slots) × ((rest : List Task) × IsPlacing bounds scenario seen put all (set slots tree.number tree.pieces) rest trees)
 first_placed bounds scenario seen put all slots [] tree trees placing = absurd placing.trees
 first_placed bounds scenario seen put all slots (task ∷ tasks) tree trees placing =
     let same = placing.trees.0 in
@@ -116,25 +116,25 @@ first_placed bounds scenario seen put all slots (task ∷ tasks) tree trees plac
     )
 
 -- the trees are put from the last of a list that is turned round
-pub IsPlacing-popped : (bounds : Bounds) (scenario : Scenario) (seen : ℕ) (put : List Box) (all : List Subtree) (slots : List (List Piece)) (tasks : List Task) (trees less : List Subtree) (tree : Subtree) → trees ≡ less ++ tree ∷ [] → IsPlacing bounds scenario seen put all slots tasks (reverse trees) → (tree.number < length slots) × ((rest : List Task) × IsPlacing bounds scenario seen put all (set slots tree.number tree.pieces) rest (reverse less))
+pub IsPlacing-popped : (bounds : Bounds) (scenario : Scenario) (seen : ℕ) (put : List Region) (all : List Subtree) (slots : List (List Piece)) (tasks : List Task) (trees less : List Subtree) (tree : Subtree) → trees ≡ less ++ tree ∷ [] → IsPlacing bounds scenario seen put all slots tasks (reverse trees) → (tree.number < length slots) × ((rest : List Task) × IsPlacing bounds scenario seen put all (set slots tree.number tree.pieces) rest (reverse less))
 IsPlacing-popped bounds scenario seen put all slots tasks trees less tree popped placing =
     let turned : reverse trees ≡ tree ∷ reverse less = ap (λ (ts : List Subtree). reverse ts) popped ∙ reverse-append less (tree ∷ []) in
     first_placed bounds scenario seen put all slots tasks tree (reverse less) (subst (λ (ts : List Subtree). IsPlacing bounds scenario seen put all slots tasks ts) turned placing)
 
 -- the same by what the program makes of a tree
-pub IsPlacing-put : (bounds : Bounds) (scenario : Scenario) (seen : ℕ) (put : List Box) (all : List Subtree) (slots : List (List Piece)) (tasks : List Task) (trees less : List Subtree) (tree : Subtree) (number : ℕ) (pieces : List Piece) → number ≡ tree.number → pieces ≡ tree.pieces → trees ≡ less ++ tree ∷ [] → IsPlacing bounds scenario seen put all slots tasks (reverse trees) → (number < length slots) × ((rest : List Task) × IsPlacing bounds scenario seen put all (set slots number pieces) rest (reverse less))
+pub IsPlacing-put : (bounds : Bounds) (scenario : Scenario) (seen : ℕ) (put : List Region) (all : List Subtree) (slots : List (List Piece)) (tasks : List Task) (trees less : List Subtree) (tree : Subtree) (number : ℕ) (pieces : List Piece) → number ≡ tree.number → pieces ≡ tree.pieces → trees ≡ less ++ tree ∷ [] → IsPlacing bounds scenario seen put all slots tasks (reverse trees) → (number < length slots) × ((rest : List Task) × IsPlacing bounds scenario seen put all (set slots number pieces) rest (reverse less))
 IsPlacing-put bounds scenario seen put all slots tasks trees less tree number pieces same_number same_pieces popped placing =
     rw (same_number, same_pieces) (IsPlacing-popped bounds scenario seen put all slots tasks trees less tree popped placing)
 
 -- once all trees have their slots
-pub IsPlacing-ended : (bounds : Bounds) (scenario : Scenario) (seen : ℕ) (put : List Box) (all : List Subtree) (slots : List (List Piece)) (tasks : List Task) → IsPlacing bounds scenario seen put all slots tasks [] → IsPlacing bounds scenario seen put all slots [] []
+pub IsPlacing-ended : (bounds : Bounds) (scenario : Scenario) (seen : ℕ) (put : List Region) (all : List Subtree) (slots : List (List Piece)) (tasks : List Task) → IsPlacing bounds scenario seen put all slots tasks [] → IsPlacing bounds scenario seen put all slots [] []
 IsPlacing-ended bounds scenario seen put all slots [] placing = placing
 IsPlacing-ended bounds scenario seen put all slots (task ∷ tasks) placing = absurd placing.trees
 
-pub IsFilling-opened : (bounds : Bounds) (scenario : Scenario) (seen tickets count : ℕ) (put : List Box) (taken : List Task) (subtrees : List Subtree) (slots : List (List Piece)) → CanBeFilled bounds scenario seen tickets count put taken subtrees → IsPlacing bounds scenario seen put subtrees slots [] [] → IsFilling bounds scenario seen tickets put [] (Pushed 0 ∷ []) slots
+pub IsFilling-opened : (bounds : Bounds) (scenario : Scenario) (seen tickets count : ℕ) (put : List Region) (taken : List Task) (subtrees : List Subtree) (slots : List (List Piece)) → CanBeFilled bounds scenario seen tickets count put taken subtrees → IsPlacing bounds scenario seen put subtrees slots [] [] → IsFilling bounds scenario seen tickets put [] (Pushed 0 ∷ []) slots
 IsFilling-opened bounds scenario seen tickets count put taken subtrees slots can placing =
     IsFilling-start bounds scenario seen tickets put taken subtrees slots can.root can.some_put can.result placing
 
-pub IsPlacing-opened : (bounds : Bounds) (scenario : Scenario) (seen tickets count : ℕ) (put : List Box) (taken : List Task) (subtrees : List Subtree) (slots : List (List Piece)) → slots ≡ replicate count [] → CanBeFilled bounds scenario seen tickets count put taken subtrees → IsPlacing bounds scenario seen put subtrees slots taken subtrees
+pub IsPlacing-opened : (bounds : Bounds) (scenario : Scenario) (seen tickets count : ℕ) (put : List Region) (taken : List Task) (subtrees : List Subtree) (slots : List (List Piece)) → slots ≡ replicate count [] → CanBeFilled bounds scenario seen tickets count put taken subtrees → IsPlacing bounds scenario seen put subtrees slots taken subtrees
 IsPlacing-opened bounds scenario seen tickets count put taken subtrees slots empty can =
     subst (λ (s : List (List Piece)). IsPlacing bounds scenario seen put subtrees s taken subtrees) (ap (λ (n : ℕ). replicate n []) (sym can.count_is) ∙ sym empty) (IsPlacing-start bounds scenario seen tickets 1 put taken subtrees can.result can.all)

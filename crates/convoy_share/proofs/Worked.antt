@@ -6,7 +6,7 @@ use Rattle.std.proofs.lemmas.List.{get_or_append_left}
 use Rattle.std.proofs.lemmas.List.Sums.{sum_by_push}
 use Rattle.std.proofs.lemmas.Option.{slice_get_within}
 use Rattle.convoy_scenario.specs.Scenario.{Scenario}
-use Rattle.convoy_intervals.specs.Boxes.{Box}
+use Rattle.convoy_regions.specs.Regions.{Region, any_order}
 use Rattle.convoy_branch.specs.declared.bounds.Bounds.{Bounds}
 use Rattle.convoy_branch.specs.FrontLaws.{FrontsBetter}
 use Rattle.convoy_incumbent.specs.Boards.{Holding}
@@ -35,11 +35,11 @@ thief_own shared deque hand clerk worker is = record {
 }
 
 -- a result by its parts
-result_by : (bounds : Bounds) (scenario : Scenario) (roots : ℕ) (seen : ℕ) (tickets tickets' : ℕ) (put put' : List Box) (taken taken' : List Task) (trees trees' : List Subtree) → tickets' ≡ tickets → put' ≡ put → taken' ≡ taken → trees' ≡ trees → IsResult bounds scenario seen tickets roots put taken trees → IsResult bounds scenario seen tickets' roots put' taken' trees'
+result_by : (bounds : Bounds) (scenario : Scenario) (roots : ℕ) (seen : ℕ) (tickets tickets' : ℕ) (put put' : List Region) (taken taken' : List Task) (trees trees' : List Subtree) → tickets' ≡ tickets → put' ≡ put → taken' ≡ taken → trees' ≡ trees → IsResult bounds scenario seen tickets roots put taken trees → IsResult bounds scenario seen tickets' roots put' taken' trees'
 result_by bounds scenario roots seen tickets tickets' put put' taken taken' trees trees' t p k r is = rw (t, p, k, r) is
 
 -- one branch more
-pub thief_more : (better : FrontsBetter) (shared : Common) (deque : DequeId) (hand clerk : ℕ) (old new : ThiefWorker) (task : Task) (pieces : List Piece) → IsThief shared deque hand clerk old → new.end ≡ record old.end { taken = old.end.taken ++ task ∷ [] } → IsGrown shared.bounds shared.scenario old.means new.means [] [] (task.number + 1) (task.branch.delay_box ∷ []) pieces → new.trees.items ≡ old.trees.items ++ record { number = task.number; pieces = pieces } ∷ [] → IsThief shared deque hand clerk new
+pub thief_more : (better : FrontsBetter) (shared : Common) (deque : DequeId) (hand clerk : ℕ) (old new : ThiefWorker) (task : Task) (pieces : List Piece) → IsThief shared deque hand clerk old → new.end ≡ record old.end { taken = old.end.taken ++ task ∷ [] } → IsGrown shared.bounds shared.scenario old.means new.means [] [] (task.number + 1) (task.branch.region ∷ []) pieces → new.trees.items ≡ old.trees.items ++ record { number = task.number; pieces = pieces } ∷ [] → IsThief shared deque hand clerk new
 thief_more better shared deque hand clerk old new task pieces is end grown trees =
     let later = grown.later in
     let more = IsResult-more better shared.bounds shared.scenario old.means.hand.seen new.means.hand.seen (drawn old.means) grown.tickets 0 [] [] old.end.taken old.trees.items task pieces later.seen is.result grown.way in
@@ -72,11 +72,11 @@ owner_own shared deque hand clerk share joined least worker is = record {
 }
 
 -- a branch that the owner takes has a number below the count of those that it put
-pub number_below : (put : List Box) (task : Task) → IsPut put task → task.number + 1 ≤ length put
+pub number_below : (put : List Region) (task : Task) → IsPut put task → task.number + 1 ≤ length put
 number_below put task is =
-    let low = slice_get_within put task.number task.branch.delay_box is in omega arith
+    let low = slice_get_within put task.number task.branch.region is in omega arith
 
-pub owner_more : (better : FrontsBetter) (shared : Common) (old new : OwnerWorker) (task : Task) (pieces : List Piece) → StaysOwner shared old old → new.end ≡ record old.end { taken = old.end.taken ++ task ∷ []; put = new.end.put } → IsGrown shared.bounds shared.scenario old.means new.means old.end.put new.end.put (task.number + 1) (task.branch.delay_box ∷ []) pieces → new.trees.items ≡ old.trees.items ++ record { number = task.number; pieces = pieces } ∷ [] → new.drawn_by_thieves.items ≡ old.drawn_by_thieves.items → StaysOwner shared old new
+pub owner_more : (better : FrontsBetter) (shared : Common) (old new : OwnerWorker) (task : Task) (pieces : List Piece) → StaysOwner shared old old → new.end ≡ record old.end { taken = old.end.taken ++ task ∷ []; put = new.end.put } → IsGrown shared.bounds shared.scenario old.means new.means old.end.put new.end.put (task.number + 1) (task.branch.region ∷ []) pieces → new.trees.items ≡ old.trees.items ++ record { number = task.number; pieces = pieces } ∷ [] → new.drawn_by_thieves.items ≡ old.drawn_by_thieves.items → StaysOwner shared old new
 owner_more better shared old new task pieces is end grown trees thieves =
     let later = grown.later in
     let put = grown.way.more in
@@ -91,7 +91,7 @@ owner_more better shared old new task pieces is end grown trees thieves =
       scenario_is = ap (λ (e : OwnerEnd). e.scenario) end ∙ is.scenario_is;
       share_is = ap (λ (e : OwnerEnd). e.share) end;
       some_put = omega (arith, is.some_put, ap length put.1, length-append old.end.put put.0);
-      root = ap (λ (bs : List Box). get_or bs 0 []) put.1 ∙ get_or_append_left old.end.put put.0 [] 0 is.some_put ∙ is.root;
+      root = ap (λ (bs : List Region). get_or bs 0 (any_order [])) put.1 ∙ get_or_append_left old.end.put put.0 (any_order []) 0 is.some_put ∙ is.root;
       result = result_by shared.bounds plan 1 new.means.hand.seen _ (drawn new.means) new.end.put new.end.put _ new.end.taken _ new.trees.items grown.spent refl (ap (λ (e : OwnerEnd). e.taken) end) trees more;
       joined_is = ap length thieves;
       theirs = omega (arith, is.theirs, grown.spent, ap sum thieves);
@@ -99,7 +99,7 @@ owner_more better shared old new task pieces is end grown trees thieves =
     }
 
 -- the same of two latencies that are equal
-result_at : (bounds : Bounds) (scenario : Scenario) (roots seen seen' tickets : ℕ) (put : List Box) (taken : List Task) (trees : List Subtree) → seen' ≡ seen → IsResult bounds scenario seen tickets roots put taken trees → IsResult bounds scenario seen' tickets roots put taken trees
+result_at : (bounds : Bounds) (scenario : Scenario) (roots seen seen' tickets : ℕ) (put : List Region) (taken : List Task) (trees : List Subtree) → seen' ≡ seen → IsResult bounds scenario seen tickets roots put taken trees → IsResult bounds scenario seen' tickets roots put taken trees
 result_at bounds scenario roots seen seen' tickets put taken trees same is = rw same is
 
 -- what the owner has once it took in what a thief brings
@@ -124,7 +124,7 @@ owner_joined better shared deque hand clerk share joined least hand_too clerk_to
       scenario_is = ap (λ (e : OwnerEnd). e.scenario) end ∙ mine.scenario_is;
       share_is = omega (arith, ap (λ (e : OwnerEnd). e.share) end, mine.share_is);
       some_put = omega (arith, mine.some_put, ap length put);
-      root = ap (λ (bs : List Box). get_or bs 0 []) put ∙ mine.root;
+      root = ap (λ (bs : List Region). get_or bs 0 (any_order [])) put ∙ mine.root;
       result = result_at shared.bounds plan 1 _ new.means.hand.seen (drawn new.means) new.end.put new.end.taken new.trees.items (ap (λ (h : Holding). h.seen) hands) listed;
       joined_is = omega (arith, ap length thieves, length-append old.drawn_by_thieves.items (drawn thief.means ∷ []), mine.joined_is);
       theirs = omega (arith, ap sum thieves, sum_by_push (λ (n : ℕ). n) old.drawn_by_thieves.items (drawn thief.means), mine.theirs, all);

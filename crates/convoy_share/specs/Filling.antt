@@ -4,7 +4,7 @@ use Rattle.std.specs.List.{All, sum_by}
 use Rattle.convoy_shares.specs.Shares.{once_below}
 use Rattle.convoy_ledger.specs.Tickets.{times}
 use Rattle.convoy_scenario.specs.Scenario.{Scenario}
-use Rattle.convoy_intervals.specs.Boxes.{Box, root_of}
+use Rattle.convoy_regions.specs.Regions.{Region, any_order, root_region}
 use Rattle.convoy_branch.specs.declared.bounds.Bounds.{Bounds}
 use Rattle.convoy_share_deque.specs.declared.task.Task.{Task}
 use Rattle.convoy_share_deque.specs.Tasks.{tasks_at, AreAllTaken, IsPut}
@@ -22,12 +22,12 @@ there [] = 0
 there (piece ∷ pieces) = 1
 
 -- a tree that is there stands over the branch that was put under its number
-abbrev pub IsSlot : Bounds → Scenario → ℕ → List Box → ℕ → List Piece → Type 0
+abbrev pub IsSlot : Bounds → Scenario → ℕ → List Region → ℕ → List Piece → Type 0
 IsSlot bounds scenario seen put number [] = Unit {0}
-IsSlot bounds scenario seen put number (piece ∷ pieces) = IsSubtree bounds scenario seen put number (slice_index_or put number []) (piece ∷ pieces)
+IsSlot bounds scenario seen put number (piece ∷ pieces) = IsSubtree bounds scenario seen put number (slice_index_or put number (any_order [])) (piece ∷ pieces)
 
 -- Some of all the trees have their slots, and the others are still to be put into theirs. What is added up over them stays the same.
-pub record IsPlacing (bounds : Bounds) (scenario : Scenario) (seen : ℕ) (put : List Box) (all : List Subtree) (slots : List (List Piece)) (tasks : List Task) (subtrees : List Subtree) : Type 0 where
+pub record IsPlacing (bounds : Bounds) (scenario : Scenario) (seen : ℕ) (put : List Region) (all : List Subtree) (slots : List (List Piece)) (tasks : List Task) (subtrees : List Subtree) : Type 0 where
   pub each_slot : (number : ℕ) → IsSlot bounds scenario seen put number (slot_at slots number)
   pub size : length slots ≡ length put
   pub trees : AreSubtrees bounds scenario seen put tasks subtrees
@@ -36,16 +36,16 @@ pub record IsPlacing (bounds : Bounds) (scenario : Scenario) (seen : ℕ) (put :
   pub sums : (f : List Piece → ℕ) → f [] ≡ 0 → sum_by f slots + sum_by (λ subtree. f subtree.pieces) subtrees ≡ sum_by (λ subtree. f subtree.pieces) all
 
 -- The trees of a whole result can be put into slots and filled: each of the branches put, `count` of them, was taken, once, and the first one is the root.
-pub record CanBeFilled (bounds : Bounds) (scenario : Scenario) (seen tickets count : ℕ) (put : List Box) (taken : List Task) (subtrees : List Subtree) : Type 0 where
+pub record CanBeFilled (bounds : Bounds) (scenario : Scenario) (seen tickets count : ℕ) (put : List Region) (taken : List Task) (subtrees : List Subtree) : Type 0 where
   pub result : IsResult bounds scenario seen tickets 1 put taken subtrees
   pub all : AreAllTaken put taken
   pub count_is : count ≡ length put
   pub some_put : 0 < length put
-  pub root : slice_index_or put 0 [] ≡ root_of scenario
+  pub root : slice_index_or put 0 (any_order []) ≡ root_region scenario
 
 -- So far done, and the rest, in which there are places. Each tree that is there has one place.
-pub record IsFilling (bounds : Bounds) (scenario : Scenario) (seen tickets : ℕ) (put : List Box) (done rest : List Piece) (slots : List (List Piece)) : Type 0 where
-  pub tree : AreTreesOf bounds scenario seen put (root_of scenario ∷ []) (done ++ rest)
+pub record IsFilling (bounds : Bounds) (scenario : Scenario) (seen tickets : ℕ) (put : List Region) (done rest : List Piece) (slots : List (List Piece)) : Type 0 where
+  pub tree : AreTreesOf bounds scenario seen put (root_region scenario ∷ []) (done ++ rest)
   pub settled : places_in done ≡ []
   pub each_done : All (IsPiece scenario seen put) done
   pub each_rest : All (IsPiece scenario seen put) rest

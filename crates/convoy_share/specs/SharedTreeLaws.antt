@@ -7,7 +7,7 @@ use Rattle.convoy_sim.specs.Delivery.{latency_of}
 use Rattle.convoy_sim.specs.Greatest.{IsReached}
 use Rattle.convoy_branch.specs.declared.bounds.Bounds.{Bounds}
 use Rattle.convoy_branch.specs.Uppers.{IsUpperOf}
-use Rattle.convoy_intervals.specs.Boxes.{Box}
+use Rattle.convoy_regions.specs.Regions.{Region}
 use Rattle.convoy_checker.specs.Validity.{IsTree}
 use Rattle.convoy_branch.specs.Fronts.{IsFront, left_in}
 use Rattle.convoy_share_deque.specs.declared.task.Task.{Task}
@@ -21,7 +21,7 @@ use Rattle.convoy_share.specs.Filling.{slot_at, IsPlacing, IsFilling}
 -- a result and that of a thief are one result, for the greater latency
 abbrev pub ResultsJoin : Type 0
 ResultsJoin =
-    (bounds : Bounds) (scenario : Scenario) (seen other_seen tickets other_tickets roots : ℕ) (put : List Box) (taken other_taken : List Task) (subtrees others : List Subtree)
+    (bounds : Bounds) (scenario : Scenario) (seen other_seen tickets other_tickets roots : ℕ) (put : List Region) (taken other_taken : List Task) (subtrees others : List Subtree)
     → IsResult bounds scenario seen tickets roots put taken subtrees
     → IsResult bounds scenario other_seen other_tickets 0 [] other_taken others
     → IsResult bounds scenario (max seen other_seen) (tickets + other_tickets) roots put (taken ++ other_taken) (subtrees ++ others)
@@ -29,7 +29,7 @@ ResultsJoin =
 -- where each branch put was taken, once, the trees can be put into slots by their numbers
 abbrev pub TreesArePlaced : Type 0
 TreesArePlaced =
-    (bounds : Bounds) (scenario : Scenario) (seen tickets roots : ℕ) (put : List Box) (taken : List Task) (subtrees : List Subtree)
+    (bounds : Bounds) (scenario : Scenario) (seen tickets roots : ℕ) (put : List Region) (taken : List Task) (subtrees : List Subtree)
     → IsResult bounds scenario seen tickets roots put taken subtrees
     → AreAllTaken put taken
     → IsPlacing bounds scenario seen put subtrees (replicate (length put) []) taken subtrees
@@ -37,14 +37,14 @@ TreesArePlaced =
 -- a place is filled by the tree of its number
 abbrev pub PlacesAreFilled : Type 0
 PlacesAreFilled =
-    (bounds : Bounds) (scenario : Scenario) (seen tickets : ℕ) (put : List Box) (done rest : List Piece) (number : ℕ) (slots : List (List Piece))
+    (bounds : Bounds) (scenario : Scenario) (seen tickets : ℕ) (put : List Region) (done rest : List Piece) (number : ℕ) (slots : List (List Piece))
     → IsFilling bounds scenario seen tickets put done (Pushed number ∷ rest) slots
     → IsFilling bounds scenario seen tickets put done (slot_at slots number ++ rest) (slice_set slots number [])
 
 -- with every place filled and no box left, the nodes are a tree that closes the root, and number the tickets
 abbrev pub WholeTreesClose : Type 0
 WholeTreesClose =
-    (bounds : Bounds) (scenario : Scenario) (seen tickets : ℕ) (put : List Box) (done : List Piece) (slots : List (List Piece))
+    (bounds : Bounds) (scenario : Scenario) (seen tickets : ℕ) (put : List Region) (done : List Piece) (slots : List (List Piece))
     → left_in (front put done) ≡ []
     → IsFilling bounds scenario seen tickets put done [] slots
     → IsTree scenario seen (nodes_in done) × (length (nodes_in done) ≡ tickets)
@@ -52,7 +52,7 @@ WholeTreesClose =
 -- with every place filled and boxes left, the pieces are a front
 abbrev pub OpenTreesAreFronts : Type 0
 OpenTreesAreFronts =
-    (bounds : Bounds) (scenario : Scenario) (seen tickets upper : ℕ) (put : List Box) (done : List Piece) (slots : List (List Piece))
+    (bounds : Bounds) (scenario : Scenario) (seen tickets upper : ℕ) (put : List Region) (done : List Piece) (slots : List (List Piece))
     → 0 < length (left_in (front put done))
     → IsReached scenario seen
     → latency_of scenario (least_of (ranges_of scenario)) ≤ seen

@@ -1,7 +1,7 @@
 -- What a worker brings: its shares, its end of the deque, and a tree for each branch that it took.
 use Rattle.std.specs.Prelude.{◌≡◌, ℕ, ◌+◌, ◌≤◌, ◌<◌, List, length, slice_index_or, []}
 use Rattle.std.specs.List.{sum, sum_by}
-use Rattle.convoy_intervals.specs.Boxes.{root_of}
+use Rattle.convoy_regions.specs.Regions.{any_order, root_region}
 use Rattle.convoy_share_deque.specs.Tasks.{DequeId}
 use Rattle.convoy_share.specs.declared.workers.OwnerWorker.{OwnerWorker}
 use Rattle.convoy_share.specs.declared.workers.ThiefWorker.{ThiefWorker}
@@ -29,7 +29,7 @@ pub record IsOwner (shared : Common) (deque : DequeId) (hand clerk share joined 
   pub scenario_is : worker.end.scenario ≡ shared.scenario
   pub share_is : worker.end.share ≡ share
   pub some_put : 0 < length worker.end.put
-  pub root : slice_index_or worker.end.put 0 [] ≡ root_of shared.scenario
+  pub root : slice_index_or worker.end.put 0 (any_order []) ≡ root_region shared.scenario
   pub result : IsResult shared.bounds shared.scenario worker.means.hand.seen (drawn worker.means) 1 worker.end.put worker.end.taken worker.trees.items
   pub joined_is : length worker.drawn_by_thieves.items ≡ joined
   pub theirs : sum worker.drawn_by_thieves.items ≤ drawn worker.means

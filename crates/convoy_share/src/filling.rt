@@ -4,14 +4,14 @@ ghost use Rattle.std.specs.Prelude.{◌≡◌, ◌<◌, ◌+◌, ℕ, List, [], 
 ghost use Rattle.std.specs.Prelude.{IfNone, IfOk, IfSome, OnOk};
 ghost use Rattle.std.specs.List.{sum_by};
 ghost use Rattle.convoy_scenario.specs.Scenario.{Scenario};
-ghost use Rattle.convoy_intervals.specs.Boxes.{Box};
+ghost use Rattle.convoy_regions.specs.Regions.{Region};
 ghost use Rattle.convoy_branch.specs.Fronts.{left_in};
 ghost use Rattle.convoy_branch.specs.declared.bounds.Bounds.{Bounds};
 ghost use Rattle.convoy_share.specs.Filling.{IsFilling, slot_at};
 ghost use Rattle.convoy_share.specs.Pieces.{front};
 
 use super::piece::{Piece, Settled};
-use convoy_intervals::Tracked;
+use convoy_regions::Branch;
 use std::alloc::{AllocError, Global};
 use std::marker::Model;
 
@@ -85,10 +85,10 @@ impl Filling {
 
     /// The same, in the words of a filling, which it stays. No piece is lost or added.
     fn fill_place(&mut self, number: u64) -> Result<(), AllocError>
-        requires { (bounds : Bounds) × (scenario : Scenario) × (seen : ℕ) × (tickets : ℕ) × (put : List Box)
+        requires { (bounds : Bounds) × (scenario : Scenario) × (seen : ℕ) × (tickets : ℕ) × (put : List Region)
             × IsFilling bounds scenario seen tickets put self.old.done.items
             (Piece.Pushed number ∷ reverse self.old.rest.items) self.old.slots.items }
-        ensures filling { (bounds : Bounds) (scenario : Scenario) (seen tickets : ℕ) (put : List Box)
+        ensures filling { (bounds : Bounds) (scenario : Scenario) (seen tickets : ℕ) (put : List Region)
             → IsFilling bounds scenario seen tickets put self.old.done.items
             (Piece.Pushed number ∷ reverse self.old.rest.items) self.old.slots.items
             → OnOk result (IsFilling bounds scenario seen tickets put self.new.done.items
@@ -104,22 +104,22 @@ impl Filling {
 
     /// Settles what is next, until a branch is left: that branch, and whether it was tried. None where
     /// nothing is left.
-    pub fn next_left(&mut self) -> Result<Option<(Tracked, bool)>, AllocError>
-        requires { (bounds : Bounds) × (scenario : Scenario) × (seen : ℕ) × (tickets : ℕ) × (put : List Box)
+    pub fn next_left(&mut self) -> Result<Option<(Branch, bool)>, AllocError>
+        requires { (bounds : Bounds) × (scenario : Scenario) × (seen : ℕ) × (tickets : ℕ) × (put : List Region)
             × IsFilling bounds scenario seen tickets put self.old.done.items
             (reverse self.old.rest.items) self.old.slots.items }
-        ensures some { (bounds : Bounds) (scenario : Scenario) (seen tickets : ℕ) (put : List Box)
+        ensures some { (bounds : Bounds) (scenario : Scenario) (seen tickets : ℕ) (put : List Region)
             → IsFilling bounds scenario seen tickets put self.old.done.items
             (reverse self.old.rest.items) self.old.slots.items
             → IfOk result (λ next. IfSome next (λ left.
             IsFilling bounds scenario seen tickets put self.new.done.items
             (Piece.Todo left.0 left.1 ∷ reverse self.new.rest.items) self.new.slots.items)) }
-        ensures none { (bounds : Bounds) (scenario : Scenario) (seen tickets : ℕ) (put : List Box)
+        ensures none { (bounds : Bounds) (scenario : Scenario) (seen tickets : ℕ) (put : List Region)
             → IsFilling bounds scenario seen tickets put self.old.done.items
             (reverse self.old.rest.items) self.old.slots.items
             → IfOk result (λ next. IfNone next
             (IsFilling bounds scenario seen tickets put self.new.done.items [] self.new.slots.items)) }
-        ensures left { (put : List Box) → OnOk result
+        ensures left { (put : List Region) → OnOk result
             (left_in (front put self.new.done.items) ≡ left_in (front put self.old.done.items)) }
         ensures fewer { IfOk result (λ next. IfSome next (λ _.
             length self.new.rest.items + sum_by length self.new.slots.items

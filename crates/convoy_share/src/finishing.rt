@@ -1,7 +1,7 @@
 //! How the owner ends a search, once every thief was joined.
 
 ghost use Rattle.std.specs.Prelude.{◌≡◌, ◌≤◌, [], List, reverse, OnOk};
-ghost use Rattle.convoy_intervals.specs.Boxes.{Box};
+ghost use Rattle.convoy_regions.specs.Regions.{Region};
 ghost use Rattle.convoy_share.specs.Common.{common_of};
 ghost use Rattle.convoy_share.specs.Finishing.{IsFinishing};
 ghost use Rattle.convoy_share.specs.Means.{IsLater, drawn};
@@ -27,9 +27,9 @@ pub(crate) fn search_left<R: Wait, G: Gate>(
 ) -> Result<(), AllocError>
     requires hand { means.old.hand.board ≡ shared.now.board.now }
     requires clerk { means.old.clerk.ledger ≡ shared.now.ledger.now }
-    requires filling { (put : List Box) × IsFinishing (common_of shared.now) put means.old filling.old.done.items
+    requires filling { (put : List Region) × IsFinishing (common_of shared.now) put means.old filling.old.done.items
         (reverse filling.old.rest.items) filling.old.slots.items }
-    ensures finished { (put : List Box) → IsFinishing (common_of shared.now) put means.old filling.old.done.items
+    ensures finished { (put : List Region) → IsFinishing (common_of shared.now) put means.old filling.old.done.items
         (reverse filling.old.rest.items) filling.old.slots.items
         → OnOk result (IsFinishing (common_of shared.now) put means.new filling.new.done.items []
         filling.new.slots.items) }

@@ -8,7 +8,7 @@ ghost use Rattle.convoy_share.specs.Turns.{parted};
 
 use super::piece::{Piece, Settled};
 use convoy_certificate::Node;
-use convoy_intervals::Tracked;
+use convoy_regions::Branch;
 use std::alloc::{AllocError, Global};
 
 /// A tree that is being searched: its pieces are the work, and then what is written.
@@ -22,7 +22,7 @@ pub(crate) struct Growing {
 
 impl Growing {
     /// A branch that nobody has taken up.
-    pub fn of(alloc: Global, branch: Tracked, tried: bool) -> Result<Growing, AllocError>
+    pub fn of(alloc: Global, branch: Branch, tried: bool) -> Result<Growing, AllocError>
         ensures { IfOk result (λ growing.
             (growing.work.items ≡ Piece.Todo branch tried ∷ []) × (growing.written.items ≡ [])) }
     {
@@ -36,7 +36,7 @@ impl Growing {
 
     /// The last branch that is left among the work, and whether it was tried. What stands behind it is
     /// written.
-    pub fn next(&mut self) -> Result<Option<(Tracked, bool)>, AllocError>
+    pub fn next(&mut self) -> Result<Option<(Branch, bool)>, AllocError>
         ensures some { IfOk result (λ next. IfSome next (λ left. pieces_in self.old
             ≡ self.new.work.items ++ Piece.Todo left.0 left.1 ∷ reverse self.new.written.items)) }
         ensures fewer { IfOk result (λ next. IfSome next (λ left.
@@ -68,36 +68,36 @@ impl Growing {
         Ok(())
     }
 
-    /// A split comes in the place of a branch, with what became of the lower half, and the upper half,
-    /// which was tried.
+    /// A split comes in the place of a branch, with what became of its first half, and its second half,
+    /// which may have been tried.
     pub fn part(
         &mut self,
-        packet: u16,
-        at: u16,
-        lower: Piece,
-        upper: Tracked,
+        split: Node,
+        first: Piece,
+        second: Branch,
+        tried: bool,
     ) -> Result<(), AllocError>
         ensures pieces { OnOk result (pieces_in self.new
-            ≡ self.old.work.items ++ (parted packet at lower upper ++ reverse self.old.written.items)) }
+            ≡ self.old.work.items ++ (parted split first second tried ++ reverse self.old.written.items)) }
         ensures few { OnOk result (length self.new.work.items ≤ length self.old.work.items + 3) }
         ensures written { OnOk result (self.new.written.items ≡ self.old.written.items) }
     {
-        self.work.push(Piece::Done(Node::Split { packet, at }))?;
-        self.work.push(lower)?;
+        self.work.push(Piece::Done(split))?;
+        self.work.push(first)?;
         self.work.push(Piece::Todo {
-            branch: upper,
-            tried: true,
+            branch: second,
+            tried,
         })?;
         Ok(())
     }
 
     /// The branch stays left.
-    pub fn leave(&mut self, alloc: Global, branch: Tracked, tried: bool) -> Result<(), AllocError>
+    pub fn leave(&mut self, alloc: Global, branch: Branch, tried: bool) -> Result<(), AllocError>
         ensures pieces { OnOk result (pieces_in self.new
             ≡ self.old.work.items ++ Piece.Todo branch tried ∷ reverse self.old.written.items) }
         ensures few { OnOk result (self.new.work.items ≡ self.old.work.items) }
         ensures left { OnOk result (left_boxes (reverse self.new.written.items)
-            ≡ branch.delay_box ∷ left_boxes (reverse self.old.written.items)) }
+            ≡ branch.region.ranges ∷ left_boxes (reverse self.old.written.items)) }
     {
         self.written.push(Settled::left(alloc, branch, tried)?)?;
         Ok(())

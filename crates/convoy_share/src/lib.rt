@@ -12,7 +12,6 @@ mod finishing;
 mod gathering;
 mod growing;
 mod halves;
-mod looking;
 mod means;
 mod opening;
 mod owner;

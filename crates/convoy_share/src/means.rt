@@ -1,17 +1,16 @@
 //! What a worker looks, publishes and draws with, and how it takes up a branch.
 
-ghost use Rattle.std.specs.Prelude.{◌≡◌, ◌≤◌, ◌+◌, false, true, length, IfNone, IfOk, IfSome, OnOk};
+ghost use Rattle.std.specs.Prelude.{◌≡◌, ◌≤◌, ◌+◌, false, true, length, IfOk, IfSome, OnOk};
 ghost use Rattle.std.specs.Bool.{OnFalse, OnTrue};
-ghost use Rattle.convoy_branch.specs.Steps.{CanTurn, IsBetter, IsTriedIf, IsTurn, known_after};
-ghost use Rattle.convoy_share.specs.Means.{IsTakenUp, IsTriedPoint};
+ghost use Rattle.convoy_branch.specs.Steps.{IsStep, IsTriedIf, known_after};
+ghost use Rattle.convoy_share.specs.Means.{IsTakenUp};
 
 use super::shared::Shared;
 use convoy_branch::front_laws::{fronts_better, turns_are_fronts, turns_are_nodes};
-use convoy_branch::{Fate, Gate, Step, Turn, prospect_of, step_branch};
+use convoy_branch::{Gate, Step, Turn, step_branch};
 use convoy_incumbent::{Board, Hand};
-use convoy_intervals::Tracked;
-use convoy_intervals::box_laws::upper_keeps_greatest;
 use convoy_ledger::{Clerk, Ledger};
+use convoy_regions::Branch;
 use convoy_sim::Record;
 use std::alloc::AllocError;
 use std::sync::Wait;
@@ -46,32 +45,30 @@ impl Means {
 pub(crate) enum TakenUp {
     /// A ticket was spent for it.
     Turned(Turn),
-    /// There was no ticket left, or the search was stopped, or the branch is a point in real time that
-    /// nothing closes.
-    Left(Tracked),
+    /// There was no ticket left, or the search was stopped.
+    Left(Branch),
 }
 
-/// Takes up a branch: looks, draws a ticket if the step would spend it, and does the step where there
-/// was one. Where the search is stopped the branch is left at once.
+/// Takes up a branch: looks at the board, draws a ticket, does the step, and publishes what it found.
+/// Where there is no ticket, or the search is stopped, the branch is left.
 pub(crate) fn take_up<R: Wait, G: Gate>(
     rt: &R,
     gate: &G,
     shared: &Shared,
     means: &mut Means,
-    branch: Tracked,
+    branch: Branch,
     tried: bool,
 ) -> Result<TakenUp, AllocError>
     requires hand { means.old.hand.board ≡ shared.now.board.now }
     requires clerk { means.old.clerk.ledger ≡ shared.now.ledger.now }
     requires of_scenario { branch.scenario ≡ shared.now.instance.now }
-    requires known { IsTriedIf shared.now.instance.now branch.delay_box tried means.old.hand.seen }
+    requires known { IsTriedIf shared.now.instance.now branch.region tried means.old.hand.seen }
     ensures { IfOk result (λ taken. IsTakenUp shared.now.bounds shared.now.instance.now
         shared.now.limit.may_stop shared.now.ledger.now.most branch means.old means.new taken) }
 {
     fronts_better();
     turns_are_fronts();
     turns_are_nodes();
-    upper_keeps_greatest();
     let _ = shared.instance.table();
     let _delay_box = branch.delay_box();
     if shared.limit.is_over(gate) {
@@ -80,64 +77,21 @@ pub(crate) fn take_up<R: Wait, G: Gate>(
     means.taken_up = means.taken_up.saturating_add(1);
     gate.before_branch(means.worker, means.taken_up);
     let seen = shared.board.look(&mut means.hand);
-    let hand = &mut means.hand;
-    let Some(known) = known_for_step(rt, shared, hand, &branch, tried, seen)? else {
-        return Ok(TakenUp::Left(branch));
-    };
     if !has_drawn(shared.ledger, &mut means.clerk) {
         return Ok(TakenUp::Left(branch));
     }
-    let (found, turn) = step_of(shared, branch, tried, known)?;
+    let step = step_of(shared, branch, tried, seen)?;
+    let Step { found, turn } = step;
     publish_found(rt, shared.board, &mut means.hand, found)?;
     Ok(TakenUp::Turned(turn))
 }
 
-/// The latency with which a step is done, in ticks, if that closes or splits the branch; a record that
-/// shows on the way is published. None where the branch is a point in real time that nothing closes.
-fn known_for_step<R: Wait>(
-    rt: &R,
-    shared: &Shared,
-    hand: &mut Hand,
-    branch: &Tracked,
-    tried: bool,
-    seen: u32,
-) -> Result<Option<u32>, AllocError>
-    requires hand { hand.old.board ≡ shared.now.board.now }
-    requires of_scenario { branch.now.scenario ≡ shared.now.instance.now }
-    requires known { IsTriedIf shared.now.instance.now branch.now.delay_box tried seen }
-    requires seen { seen ≡ hand.old.seen }
-    ensures same { (hand.new.board ≡ shared.now.board.now) × (hand.new.share ≡ hand.old.share) }
-    ensures seen { OnOk result (hand.old.seen ≤ hand.new.seen) }
-    ensures turns { IfOk result (λ known. IfSome known (λ known. (seen ≤ known)
-        × (known ≤ hand.new.seen)
-        × CanTurn shared.now.bounds shared.now.instance.now branch.now.delay_box known)) }
-    ensures stays { IfOk result (λ known. IfNone known
-        (IsTriedPoint shared.now.instance.now hand.new.seen branch.now.delay_box)) }
-{
-    let Shared {
-        alloc,
-        instance,
-        bounds,
-        ..
-    } = *shared;
-    let prospect = prospect_of(alloc, instance, branch, tried, seen, bounds)?;
-    publish_found(rt, shared.board, hand, prospect.found)?;
-    Ok(prospect.turns.then_some(prospect.known))
-}
-
-/// The step over a branch, where it closes or splits it: what was found, and the turn.
-fn step_of(
-    shared: &Shared,
-    branch: Tracked,
-    tried: bool,
-    known: u32,
-) -> Result<(Option<Record>, Turn), AllocError>
+/// The step over a branch, where that latency is known, in ticks.
+fn step_of(shared: &Shared, branch: Branch, tried: bool, known: u32) -> Result<Step, AllocError>
     requires of_scenario { branch.scenario ≡ shared.now.instance.now }
-    requires known { IsTriedIf shared.now.instance.now branch.delay_box tried known }
-    requires turns { CanTurn shared.now.bounds shared.now.instance.now branch.delay_box known }
-    ensures found { IfOk result (λ made. IfSome made.0 (IsBetter shared.now.instance.now known)) }
-    ensures turn { IfOk result (λ made. IsTurn shared.now.bounds shared.now.instance.now
-        branch.delay_box (known_after known made.0) made.1) }
+    requires known { IsTriedIf shared.now.instance.now branch.region tried known }
+    ensures { IfOk result
+        (λ step. IsStep shared.now.bounds shared.now.instance.now branch.region known step) }
 {
     let Shared {
         alloc,
@@ -145,13 +99,9 @@ fn step_of(
         bounds,
         ..
     } = *shared;
-    let Ok(step) = step_branch(alloc, instance, branch, tried, known, bounds) else {
-        return Err(AllocError);
-    };
-    let Step { found, fate } = step;
-    match fate {
-        Fate::Turned(turn) => Ok((found, turn)),
-        Fate::Stays(_) => unreachable!(),
+    match step_branch(alloc, instance, branch, tried, known, bounds) {
+        Ok(step) => Ok(step),
+        Err((_, error)) => Err(error),
     }
 }
 

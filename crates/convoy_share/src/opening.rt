@@ -12,8 +12,8 @@ use super::means::Means;
 use super::shared::Shared;
 use super::workers::{OwnerWorker, ThiefWorker};
 use convoy_incumbent::Hand;
-use convoy_intervals::Tracked;
 use convoy_ledger::Clerk;
+use convoy_regions::Branch;
 use convoy_share_deque::Owner;
 use std::alloc::AllocError;
 
@@ -25,7 +25,7 @@ fn open_owner(shared: &Shared, hand: Hand, clerk: Clerk) -> Result<OwnerWorker, 
     ensures { IfOk result (λ owner. IsOwner (common_of shared.now) owner.end.deque hand.share clerk.share
         whole_share 0 hand.seen owner) }
 {
-    let root = Tracked::root(shared.alloc, shared.instance)?;
+    let root = Branch::root(shared.alloc, shared.instance)?;
     Ok(OwnerWorker {
         means: Means::of(hand, clerk, 0),
         end: Owner::open(shared.alloc, root)?,

@@ -14,7 +14,7 @@ use std::alloc::AllocError;
 use std::sync::Wait;
 use std::sync::atomic::Ordering;
 
-/// Takes a branch back, if there is one, and searches it as far as there are tickets; the lower half of
+/// Takes a branch back, if there is one, and searches it as far as there are tickets; the first half of
 /// each split is offered to thieves. Answers whether there was a branch.
 fn work_once<R: Wait, G: Gate>(
     rt: &R,

@@ -5,7 +5,7 @@ ghost use Rattle.convoy_share.specs.Kept.{piece_of};
 ghost use Rattle.convoy_share.specs.Pieces.{done_node, is_left};
 
 use convoy_certificate::Node;
-use convoy_intervals::Tracked;
+use convoy_regions::Branch;
 use std::alloc::{AllocError, Global};
 use std::marker::Model;
 
@@ -14,9 +14,9 @@ use std::marker::Model;
 pub enum Piece {
     /// A node, for which a ticket was spent.
     Done(Node),
-    /// A branch that is left. `tried` tells that the schedule of its greatest delays is known to have
-    /// no greater latency than the best one.
-    Todo { branch: Tracked, tried: bool },
+    /// A branch that is left. `tried` tells that its run is known to have no greater latency than the
+    /// best one.
+    Todo { branch: Branch, tried: bool },
     /// The number under which a branch was put into the deque: its tree belongs here.
     Pushed(u64),
 }
@@ -30,7 +30,7 @@ pub(crate) struct Settled(Kept);
 #[derive(Drop)]
 pub(crate) enum Kept {
     Done(Node),
-    Todo { tried: bool, branch: Box<Tracked> },
+    Todo { tried: bool, branch: Box<Branch> },
     Pushed(u64),
 }
 
@@ -61,7 +61,7 @@ impl Settled {
     }
 
     /// A branch that is left.
-    pub fn left(alloc: Global, branch: Tracked, tried: bool) -> Result<Settled, AllocError>
+    pub fn left(alloc: Global, branch: Branch, tried: bool) -> Result<Settled, AllocError>
         ensures { IfOk result (λ settled. settled ≡ Piece.Todo branch tried) }
     {
         let branch = Box::new(alloc, branch)?;

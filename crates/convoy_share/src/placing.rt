@@ -2,7 +2,7 @@
 
 ghost use Rattle.std.specs.Prelude.{◌≡◌, ℕ, List, [], replicate, reverse, IfOk};
 ghost use Rattle.convoy_scenario.specs.Scenario.{Scenario};
-ghost use Rattle.convoy_intervals.specs.Boxes.{Box};
+ghost use Rattle.convoy_regions.specs.Regions.{Region};
 ghost use Rattle.convoy_branch.specs.declared.bounds.Bounds.{Bounds};
 ghost use Rattle.convoy_share_deque.specs.declared.task.Task.{Task};
 ghost use Rattle.convoy_share.specs.Filling.{CanBeFilled, IsFilling, IsPlacing};
@@ -18,10 +18,10 @@ impl Filling {
     /// were put.
     pub fn of(alloc: Global, count: u64, trees: Vec<Tree>) -> Result<Filling, AllocError>
         requires { (bounds : Bounds) × (scenario : Scenario) × (seen : ℕ) × (tickets : ℕ)
-            × (put : List Box) × (taken : List Task)
+            × (put : List Region) × (taken : List Task)
             × CanBeFilled bounds scenario seen tickets count put taken trees.items }
         ensures filling { (bounds : Bounds) (scenario : Scenario) (seen tickets : ℕ)
-            (put : List Box) (taken : List Task)
+            (put : List Region) (taken : List Task)
             → CanBeFilled bounds scenario seen tickets count put taken trees.items
             → IfOk result (λ filling. IsFilling bounds scenario seen tickets put
             filling.done.items (reverse filling.rest.items) filling.slots.items) }
@@ -52,10 +52,10 @@ fn empty_slots(alloc: Global, count: u64) -> Result<Vec<Slot>, AllocError>
 
 /// Puts each tree into the slot of its number.
 fn place_trees(mut slots: Vec<Slot>, mut trees: Vec<Tree>) -> Vec<Slot>
-    requires { (bounds : Bounds) × (scenario : Scenario) × (seen : ℕ) × (put : List Box)
+    requires { (bounds : Bounds) × (scenario : Scenario) × (seen : ℕ) × (put : List Region)
         × (all : List Subtree) × (taken : List Task)
         × IsPlacing bounds scenario seen put all slots.items taken trees.items }
-    ensures { (bounds : Bounds) (scenario : Scenario) (seen : ℕ) (put : List Box)
+    ensures { (bounds : Bounds) (scenario : Scenario) (seen : ℕ) (put : List Region)
         (all : List Subtree) (taken : List Task)
         → IsPlacing bounds scenario seen put all slots.items taken trees.items
         → IsPlacing bounds scenario seen put all result.items [] [] }

@@ -16,7 +16,6 @@ ghost use Rattle.convoy_share.specs.Ended.{IsClosed, IsEnded};
 ghost use Rattle.convoy_share.specs.Pieces.{is_left};
 
 use super::ending::{Ended, finish};
-use super::looking::settle_points;
 use super::opening::open_workers;
 use super::piece::Settled;
 use super::running::run;
@@ -42,7 +41,7 @@ use std::thread::Threads;
 /// Searches for the greatest latency of a scenario with so many workers, each in a thread of its own,
 /// by branch and bound (docs/PROTOCOL.md). It starts from the record of the least delays. The workers
 /// draw their tickets from one ledger of `limit`, and each calls the gate before it takes up a branch;
-/// boxes are closed by those bounds. Where a thread can't be started, its worker runs after the others.
+/// regions are closed by those bounds. Where a thread can't be started, its worker runs after the others.
 /// One worker searches alone, as [`convoy_branch::search_alone`] does.
 ///
 /// The only error is that memory ran out, for any worker or for the outcome. It comes after all threads
@@ -70,8 +69,8 @@ pub fn search<R: Threads + Wait + Sync, G: Gate + Sync>(
 
 /// The search of [`search`] from an opening record of the scenario. Its latency is at least that of the
 /// least delays, and the latency that the search finds is at least that of the record. Where the limit
-/// says that the gate may stop the search, and it does, each worker leaves the boxes that it has not
-/// taken up: boxes of any kind may be left with fewer tickets spent.
+/// says that the gate may stop the search, and it does, each worker leaves the regions that it has not
+/// taken up: some may be left then with fewer tickets spent.
 ///
 /// The only error is that memory ran out, for any worker or for the outcome.
 pub fn search_from<'a, R: Threads + Wait + Sync, G: Gate + Sync>(
@@ -113,7 +112,7 @@ pub fn search_from<'a, R: Threads + Wait + Sync, G: Gate + Sync>(
         workers,
     };
     let brought = search_together(rt, gate, &shared, hand, clerk)?;
-    let closed = close(alloc, instance, bounds, limit, board, ledger, gate, brought)?;
+    let closed = close(alloc, instance, bounds, limit, board, ledger, brought)?;
     closed.into_outcome(instance, bounds)
 }
 
@@ -150,16 +149,14 @@ pub(crate) struct Closed {
     pieces: Vec<Settled>,
 }
 
-/// Ends board and ledger, of which all workers' shares are back, and looks at what is left once more,
-/// unless the search is stopped.
-fn close<G: Gate>(
+/// Ends board and ledger, of which all workers' shares are back.
+fn close(
     alloc: Global,
     instance: &Instance,
     bounds: Bounds,
     limit: Limit,
     board: Board,
     ledger: Ledger,
-    gate: &G,
     ended: Ended,
 ) -> Result<Closed, AllocError>
     requires of_scenario { board.scenario ≡ instance.now }
@@ -189,16 +186,6 @@ fn close<G: Gate>(
         Err(CloseFault::Memory(_, _)) => return Err(AllocError),
         Err(CloseFault::HandsOut(_, _)) => unreachable!(),
     };
-    let (pieces, tickets) = settle_points(
-        alloc,
-        instance,
-        bounds,
-        pieces,
-        gate,
-        best.latency(),
-        tickets,
-        limit,
-    )?;
     let by_worker = tickets_by_worker(alloc, tickets, &drawn_by_thieves)?;
     Ok(Closed {
         best,

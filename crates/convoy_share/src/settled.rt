@@ -2,7 +2,7 @@
 
 ghost use Rattle.std.specs.Prelude.{◌≡◌, ℕ, List, IfOk};
 ghost use Rattle.std.specs.List.{All, list_any};
-ghost use Rattle.convoy_intervals.specs.Boxes.{Box};
+ghost use Rattle.convoy_regions.specs.Regions.{Region};
 ghost use Rattle.convoy_branch.specs.Uppers.{IsUpperOf};
 ghost use Rattle.convoy_share.specs.Pieces.{IsPiece, IsRaisedOver, is_left, left_boxes, nodes_in};
 
@@ -47,7 +47,7 @@ pub(crate) fn upper_over(
     pieces: &[Settled],
     seen: u32,
 ) -> Result<u32, AllocError>
-    requires pieces { (best : ℕ) × (put : List Box) × All (IsPiece instance.now best put) pieces.now }
+    requires pieces { (best : ℕ) × (put : List Region) × All (IsPiece instance.now best put) pieces.now }
     ensures { IfOk result (λ upper. IsUpperOf bounds instance.now seen (left_boxes pieces.now) upper) }
 {
     uppers_begin();
@@ -67,12 +67,12 @@ fn raised_over(
     upper: u32,
     bounds: Bounds,
 ) -> Result<u32, AllocError>
-    requires piece { (best : ℕ) × (put : List Box) × IsPiece instance.now best put piece.now }
+    requires piece { (best : ℕ) × (put : List Region) × IsPiece instance.now best put piece.now }
     ensures { IfOk result
         (λ raised. IsRaisedOver bounds instance.now piece.now upper raised) }
 {
     match piece.kept() {
-        Kept::Todo { branch, .. } => bounds.raised(alloc, instance, branch, upper),
+        Kept::Todo { branch, .. } => bounds.raised(alloc, instance, branch.tracked(), upper),
         Kept::Done(_) | Kept::Pushed(_) => Ok(upper),
     }
 }

@@ -2,7 +2,7 @@
 
 ghost use Rattle.std.specs.Prelude.{◌≡◌, ◌≤◌, ◌+◌, ◌*◌, ◌-◌, ℕ, List, [], ◌∷◌, ◌++◌, length, reverse};
 ghost use Rattle.std.specs.Prelude.{IfOk, OnOk};
-ghost use Rattle.convoy_intervals.specs.Boxes.{Box};
+ghost use Rattle.convoy_regions.specs.Regions.{Region};
 ghost use Rattle.convoy_branch.specs.Steps.{IsTriedIf};
 ghost use Rattle.convoy_share.specs.Growing.{pieces_in};
 ghost use Rattle.convoy_share.specs.Means.{IsGrown, IsLeftAtEnd, drawn};
@@ -14,7 +14,7 @@ use super::piece::{Piece, Settled};
 use super::shared::Shared;
 use convoy_branch::front_laws::fronts_better;
 use convoy_branch::{Gate, Turn};
-use convoy_intervals::Tracked;
+use convoy_regions::Branch;
 use std::alloc::AllocError;
 use std::sync::Wait;
 
@@ -26,22 +26,22 @@ fn advance<R: Wait, G: Gate, H: Halves>(
     means: &mut Means,
     halves: &mut H,
     growing: &mut Growing,
-    branch: Tracked,
+    branch: Branch,
     tried: bool,
 ) -> Result<(), AllocError>
     requires hand { means.old.hand.board ≡ shared.now.board.now }
     requires clerk { means.old.clerk.ledger ≡ shared.now.ledger.now }
     requires halves { H.takes (H.fixed halves.old) shared.now.instance.now }
     requires of_scenario { branch.scenario ≡ shared.now.instance.now }
-    requires known { IsTriedIf shared.now.instance.now branch.delay_box tried means.old.hand.seen }
-    ensures grown { (before : Means) (first : List Box) (low : ℕ) (boxes : List Box)
+    requires known { IsTriedIf shared.now.instance.now branch.region tried means.old.hand.seen }
+    ensures grown { (before : Means) (first : List Region) (low : ℕ) (regions : List Region)
         → low ≤ length first
-        → IsGrown shared.now.bounds shared.now.instance.now before means.old first (H.put halves.old) low boxes
+        → IsGrown shared.now.bounds shared.now.instance.now before means.old first (H.put halves.old) low regions
         (growing.old.work.items ++ Piece.Todo branch tried ∷ reverse growing.old.written.items)
         → OnOk result (IsGrown shared.now.bounds shared.now.instance.now before means.new first (H.put halves.new) low
-        boxes (pieces_in growing.new)) }
-    ensures left { IsLeftAtEnd shared.now.instance.now shared.now.limit.may_stop means.old (reverse growing.old.written.items)
-        → OnOk result (IsLeftAtEnd shared.now.instance.now shared.now.limit.may_stop means.new
+        regions (pieces_in growing.new)) }
+    ensures left { IsLeftAtEnd shared.now.limit.may_stop means.old (reverse growing.old.written.items)
+        → OnOk result (IsLeftAtEnd shared.now.limit.may_stop means.new
         (reverse growing.new.written.items)) }
     ensures board { OnOk result (means.new.hand.board ≡ shared.now.board.now) }
     ensures ledger { OnOk result (means.new.clerk.ledger ≡ shared.now.ledger.now) }
@@ -55,41 +55,40 @@ fn advance<R: Wait, G: Gate, H: Halves>(
         TakenUp::Turned(Turn::Closed(node)) => growing.close(node)?,
         TakenUp::Turned(
             Turn::Halves {
-                packet,
-                at,
-                lower,
-                upper,
+                split,
+                first,
+                second,
+                tried,
             },
         ) => {
-            let lower = halves.place(lower, shared.workers);
-            growing.part(packet, at, lower, upper)?;
+            let first = halves.place(first, shared.workers);
+            growing.part(split, first, second, tried)?;
         }
         TakenUp::Left(branch) => growing.leave(shared.alloc, branch, tried)?,
     }
     Ok(())
 }
 
-/// Searches a branch as far as there are tickets, and until the search is stopped: the upper half of
-/// each split first, and then what became of the lower half. A point in real time that nothing closes
-/// stays left. The pieces of its tree are answered from the last one back.
+/// Searches a branch as far as there are tickets, and until the search is stopped: the second half of
+/// each split first, and then what became of the first half. The pieces of its tree are answered from the last one back.
 pub(crate) fn search_branch<R: Wait, G: Gate, H: Halves>(
     rt: &R,
     gate: &G,
     shared: &Shared,
     means: &mut Means,
     halves: &mut H,
-    branch: Tracked,
+    branch: Branch,
     tried: bool,
 ) -> Result<Vec<Settled>, AllocError>
     requires hand { means.old.hand.board ≡ shared.now.board.now }
     requires clerk { means.old.clerk.ledger ≡ shared.now.ledger.now }
     requires halves { H.takes (H.fixed halves.old) shared.now.instance.now }
     requires of_scenario { branch.scenario ≡ shared.now.instance.now }
-    requires known { IsTriedIf shared.now.instance.now branch.delay_box tried means.old.hand.seen }
+    requires known { IsTriedIf shared.now.instance.now branch.region tried means.old.hand.seen }
     ensures grown { (low : ℕ) → low ≤ length (H.put halves.old) → IfOk result (λ pieces.
         IsGrown shared.now.bounds shared.now.instance.now means.old means.new (H.put halves.old) (H.put halves.new) low
-        (branch.delay_box ∷ []) (reverse pieces.items)) }
-    ensures left { IfOk result (λ pieces. IsLeftAtEnd shared.now.instance.now shared.now.limit.may_stop
+        (branch.region ∷ []) (reverse pieces.items)) }
+    ensures left { IfOk result (λ pieces. IsLeftAtEnd shared.now.limit.may_stop
         means.new (reverse pieces.items)) }
     ensures fixed { OnOk result (H.fixed halves.new ≡ H.fixed halves.old) }
 {

@@ -7,7 +7,7 @@ use lib.ListN.{get_elem?}
 use Rattle.crossbeam_deque.specs.Tasks.{Pushes, Takes, Pops, Forks, Merges, Finds}
 use Rattle.atomic_table.proofs.Lists.{at_set, at_snoc}
 use Rattle.convoy_scenario.specs.Scenario.{Scenario}
-use Rattle.convoy_intervals.specs.Boxes.{Box}
+use Rattle.convoy_regions.specs.Regions.{Region}
 use Rattle.convoy_share_deque.specs.declared.rule.View.{View}
 use Rattle.convoy_share_deque.specs.declared.task.Task.{Task}
 use Rattle.convoy_share_deque.specs.Tasks.{whole_share, tasks_at, AreAllTaken, IsOf, IsPut}
@@ -16,10 +16,10 @@ use Rattle.convoy_shares.specs.Shares.{once_below}
 use Rattle.convoy_shares.proofs.Sums.{sum_set, sum_push}
 use Rattle.convoy_share_deque.proofs.Totals.{all_of_one, two_le_sum, tasks_at-append, once_more, none_below, get_last, put_more, none_put, All-parts}
 
-abbrev Each : Scenario → ℕ → List Box → List View → Type 0
+abbrev Each : Scenario → ℕ → List Region → List View → Type 0
 Each scenario owner_seat put views = (seat : ℕ) (view : View) → get_elem? views seat ≡ some view → IsRight scenario owner_seat put seat view
 
-each_set : (scenario : Scenario) (owner_seat : ℕ) (put : List Box) (views : List View) (id : ℕ) (w : View) → ((j : ℕ) (u : View) → j ≢ id → get_elem? views j ≡ some u → IsRight scenario owner_seat put j u) → IsRight scenario owner_seat put id w → Each scenario owner_seat put (set views id w)
+each_set : (scenario : Scenario) (owner_seat : ℕ) (put : List Region) (views : List View) (id : ℕ) (w : View) → ((j : ℕ) (u : View) → j ≢ id → get_elem? views j ≡ some u → IsRight scenario owner_seat put j u) → IsRight scenario owner_seat put id w → Each scenario owner_seat put (set views id w)
 each_set scenario owner_seat put views id w others mine j u e =
     ⊎_elim
     (λ (x : (j ≡ id) × (w ≡ u)). subst (λ (y : ℕ × View). IsRight scenario owner_seat put y.0 y.1) (λ i. (sym x.0 i, x.1 i)) mine)
@@ -55,24 +55,24 @@ begins = (
   one (suc k) v e = absurd (some-ne-none v (sym e))
 
 -- a task joins at the back, where all that is there is of its scenario
-put_in : (port : ℕ) (v : View) (t : Task) (tasks : List Task) (views : List View) (scenario : Scenario) (owner_seat : ℕ) (put : List Box) → IsKept scenario owner_seat put tasks views → get_elem? views port ≡ some v → v.owns ≡ true → t.number ≡ length v.put → All (IsOf t.branch.scenario) tasks → ((j : ℕ) (u : View) → j ≢ port → get_elem? views j ≡ some u → 0 < u.share → u.scenario ≡ t.branch.scenario) → Holds (tasks ++ t ∷ []) (set views port (after_put v t))
+put_in : (port : ℕ) (v : View) (t : Task) (tasks : List Task) (views : List View) (scenario : Scenario) (owner_seat : ℕ) (put : List Region) → IsKept scenario owner_seat put tasks views → get_elem? views port ≡ some v → v.owns ≡ true → t.number ≡ length v.put → All (IsOf t.branch.scenario) tasks → ((j : ℕ) (u : View) → j ≢ port → get_elem? views j ≡ some u → 0 < u.share → u.scenario ≡ t.branch.scenario) → Holds (tasks ++ t ∷ []) (set views port (after_put v t))
 put_in port v t tasks views scenario owner_seat put kept at owns is same others =
     let f = kept.each port v at in
     let mine = f.owner owns in
     let w = after_put v t in
-    let put' = put ++ t.branch.delay_box ∷ [] in
+    let put' = put ++ t.branch.region ∷ [] in
     let n : t.number ≡ length put = is ∙ ap length mine.1 in (
       t.branch.scenario,
       owner_seat,
       put',
       record {
-        once = λ x. let s = sum_set (λ u. tasks_at x u.taken) views port v w at in let p = kept.once x in let l = tasks_at-append x tasks (t ∷ []) in let m = once_more x t in let a = ap (once_below x) n in let b = ap (once_below x) (length-append put (t.branch.delay_box ∷ []) ∙ ap (λ k. k + 1) (sym n)) in omega arith;
-        right = All-push (IsPut put') tasks t (put_more put t.branch.delay_box tasks kept.right) (get_last put t.branch.delay_box t.number n);
+        once = λ x. let s = sum_set (λ u. tasks_at x u.taken) views port v w at in let p = kept.once x in let l = tasks_at-append x tasks (t ∷ []) in let m = once_more x t in let a = ap (once_below x) n in let b = ap (once_below x) (length-append put (t.branch.region ∷ []) ∙ ap (λ k. k + 1) (sym n)) in omega arith;
+        right = All-push (IsPut put') tasks t (put_more put t.branch.region tasks kept.right) (get_last put t.branch.region t.number n);
         of_scenario = All-push (IsOf t.branch.scenario) tasks t same refl;
         shares = let s = sum_set (λ u. u.share) views port v w at in let p = kept.shares in omega arith;
         each = each_set t.branch.scenario owner_seat put' views port w
-            (λ j u other e. let g = kept.each j u e in record { named = others j u other e; owner = λ o. absurd (other ((g.owner o).0 ∙ sym mine.0)); right = put_more put t.branch.delay_box u.taken g.right; empty = g.empty })
-            record { named = λ _. refl; owner = λ o. (mine.0, ap (λ l. l ++ t.branch.delay_box ∷ []) mine.1); right = put_more put t.branch.delay_box v.taken f.right; empty = f.empty };
+            (λ j u other e. let g = kept.each j u e in record { named = others j u other e; owner = λ o. absurd (other ((g.owner o).0 ∙ sym mine.0)); right = put_more put t.branch.region u.taken g.right; empty = g.empty })
+            record { named = λ _. refl; owner = λ o. (mine.0, ap (λ l. l ++ t.branch.region ∷ []) mine.1); right = put_more put t.branch.region v.taken f.right; empty = f.empty };
       },
     )
 
@@ -116,7 +116,7 @@ taken port v t tasks all views some_share count both held at =
         },
       ),
       named.0 ∙ sym (f.named some_share),
-      (λ (owns : v.owns ≡ true). subst (λ (p : List Box). IsPut p t) (sym (f.owner owns).1) right.0),
+      (λ (owns : v.owns ≡ true). subst (λ (p : List Region). IsPut p t) (sym (f.owner owns).1) right.0),
     )
 
 pub takes : (port : ℕ) (v : View) → 0 < v.share → Takes Holds port v 1 (HasTaken v)
@@ -183,4 +183,4 @@ finds port v views held at owns whole =
     let f = kept.each port v at in
     let put = (f.owner owns).1 in
     let one = λ (x : ℕ). all_of_one (λ u. tasks_at x u.taken) (λ u. u.share) views port v refl refl at (kept.shares ∙ sym whole) (λ k u e z. ap (tasks_at x) ((kept.each k u e).empty z)) in
-    subst (λ (l : List Box). AreAllTaken l v.taken) (sym put) record { once = λ x. let a = one x in let b = kept.once x in omega arith; right = f.right }
+    subst (λ (l : List Region). AreAllTaken l v.taken) (sym put) record { once = λ x. let a = one x in let b = kept.once x in omega arith; right = f.right }

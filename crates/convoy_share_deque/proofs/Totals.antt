@@ -10,7 +10,7 @@ use lib.ListN.{get_elem?}
 use Rattle.atomic_table.proofs.Lists.{set_else}
 use Rattle.convoy_shares.specs.Shares.{once_below}
 use Rattle.convoy_shares.proofs.Sums.{sum_set, part_le_sum, sum_of_one}
-use Rattle.convoy_intervals.specs.Boxes.{Box}
+use Rattle.convoy_regions.specs.Regions.{Region}
 use Rattle.convoy_share_deque.specs.declared.rule.View.{View}
 use Rattle.convoy_share_deque.specs.declared.task.Task.{Task}
 use Rattle.convoy_share_deque.specs.Tasks.{tasks_at, IsPut}
@@ -53,23 +53,23 @@ All-parts P (x ∷ xs) ys all =
     first zero d lt here others = here
     first (suc k) d lt here others = others k d (omega arith)
 
-get_front : (put : List Box) (b : Box) (k : ℕ) (c : Box) → slice_get put k ≡ Some c → slice_get (put ++ b ∷ []) k ≡ Some c
+get_front : (put : List Region) (b : Region) (k : ℕ) (c : Region) → slice_get put k ≡ Some c → slice_get (put ++ b ∷ []) k ≡ Some c
 get_front [] b k c e = absurd (cc)
 get_front (p ∷ ps) b zero c e = e
 get_front (p ∷ ps) b (suc k) c e = get_front ps b k c e
 
-pub get_last : (put : List Box) (b : Box) (n : ℕ) → n ≡ length put → slice_get (put ++ b ∷ []) n ≡ Some b
+pub get_last : (put : List Region) (b : Region) (n : ℕ) → n ≡ length put → slice_get (put ++ b ∷ []) n ≡ Some b
 get_last [] b zero e = refl
 get_last [] b (suc n) e = absurd (omega arith)
 get_last (p ∷ ps) b zero e = absurd (omega arith)
 get_last (p ∷ ps) b (suc n) e = get_last ps b n (omega arith)
 
 -- what was put stays put where more is
-pub put_more : (put : List Box) (b : Box) (tasks : List Task) → All (IsPut put) tasks → All (IsPut (put ++ b ∷ [])) tasks
-put_more put b tasks all = All-weaker (IsPut put) (IsPut (put ++ b ∷ [])) (λ task. get_front put b task.number task.branch.delay_box) tasks all
+pub put_more : (put : List Region) (b : Region) (tasks : List Task) → All (IsPut put) tasks → All (IsPut (put ++ b ∷ [])) tasks
+put_more put b tasks all = All-weaker (IsPut put) (IsPut (put ++ b ∷ [])) (λ task. get_front put b task.number task.branch.region) tasks all
 
 -- where nothing was put, no task is right
-pub none_put : (put : List Box) (tasks : List Task) → put ≡ [] → All (IsPut put) tasks → tasks ≡ []
+pub none_put : (put : List Region) (tasks : List Task) → put ≡ [] → All (IsPut put) tasks → tasks ≡ []
 none_put put [] empty all = refl
 none_put [] (task ∷ tasks) empty all = let here = all 0 task (omega arith) in absurd (cc)
 none_put (p ∷ ps) (task ∷ tasks) empty all = absurd (cc)

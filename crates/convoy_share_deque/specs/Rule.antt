@@ -6,7 +6,7 @@ use lib.ListN.{get_elem?}
 use Rattle.convoy_draft.specs.declared.time.Time.TheVariants.{Ticks}
 use Rattle.convoy_shares.specs.Shares.{once_below}
 use Rattle.convoy_scenario.specs.Scenario.{Scenario}
-use Rattle.convoy_intervals.specs.Boxes.{Box}
+use Rattle.convoy_regions.specs.Regions.{Region}
 use Rattle.convoy_share_deque.specs.declared.rule.View.{View}
 use Rattle.convoy_share_deque.specs.declared.task.Task.{Task}
 use Rattle.convoy_share_deque.specs.Tasks.{whole_share, tasks_at, AreAllTaken, IsOf, IsPut}
@@ -35,20 +35,20 @@ abbrev pub joined : View → View → View
 joined view other = record view { share = view.share + other.share; taken = view.taken ++ other.taken }
 
 abbrev pub after_put : View → Task → View
-after_put view task = record view { scenario = task.branch.scenario; put = view.put ++ task.branch.delay_box ∷ [] }
+after_put view task = record view { scenario = task.branch.scenario; put = view.put ++ task.branch.region ∷ [] }
 
 abbrev pub after_take : View → Task → View
 after_take view task = record view { taken = view.taken ++ task ∷ [] }
 
 -- of the view in a seat: it names the scenario, the owner is in its own seat and knows what was put, each task that was taken is right, and a view without a share has none
-pub record IsRight (scenario : Scenario) (owner_seat : ℕ) (put : List Box) (seat : ℕ) (view : View) : Type 0 where
+pub record IsRight (scenario : Scenario) (owner_seat : ℕ) (put : List Region) (seat : ℕ) (view : View) : Type 0 where
   pub named : 0 < view.share → view.scenario ≡ scenario
   pub owner : view.owns ≡ true → (seat ≡ owner_seat) × (view.put ≡ put)
   pub right : All (IsPut put) view.taken
   pub empty : view.share ≡ 0 → view.taken ≡ []
 
 -- each branch that was put stands among the tasks of the deque or was taken by one of the views, once, and the shares of all views are the whole
-pub record IsKept (scenario : Scenario) (owner_seat : ℕ) (put : List Box) (tasks : List Task) (views : List View) : Type 0 where
+pub record IsKept (scenario : Scenario) (owner_seat : ℕ) (put : List Region) (tasks : List Task) (views : List View) : Type 0 where
   pub once : (x : ℕ) → sum_by (λ view. tasks_at x view.taken) views + tasks_at x tasks ≡ once_below x (length put)
   pub right : All (IsPut put) tasks
   pub of_scenario : All (IsOf scenario) tasks
@@ -56,7 +56,7 @@ pub record IsKept (scenario : Scenario) (owner_seat : ℕ) (put : List Box) (tas
   pub each : (seat : ℕ) (view : View) → get_elem? views seat ≡ some view → IsRight scenario owner_seat put seat view
 
 abbrev pub Holds : List Task → List View → Type 0
-Holds tasks views = (scenario : Scenario) × (owner_seat : ℕ) × (put : List Box) × IsKept scenario owner_seat put tasks views
+Holds tasks views = (scenario : Scenario) × (owner_seat : ℕ) × (put : List Region) × IsKept scenario owner_seat put tasks views
 
 -- the branch was put
 abbrev pub HasPut : View → List Task → View → Type 0

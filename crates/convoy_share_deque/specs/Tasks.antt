@@ -5,7 +5,7 @@ use Rattle.std.specs.declared.alloc.Global.{Global}
 use Rattle.atomic_blocks.specs.Lent.{RowsId}
 use Rattle.convoy_shares.specs.Shares.{once_below}
 use Rattle.convoy_scenario.specs.Scenario.{Scenario}
-use Rattle.convoy_intervals.specs.Boxes.{Box}
+use Rattle.convoy_regions.specs.Regions.{Region}
 use Rattle.convoy_share_deque.specs.declared.rule.View.{View}
 use Rattle.convoy_share_deque.specs.declared.task.Task.{Task}
 
@@ -17,7 +17,7 @@ DequeId = RowsId × Global
 pub record OwnerEnd : Type 0 where
   pub deque : DequeId
   pub scenario : Scenario
-  pub put : List Box
+  pub put : List Region
   pub taken : List Task
   pub share : ℕ
 
@@ -40,8 +40,8 @@ owner_end deque view = record {
 abbrev pub thief_end : DequeId → View → ThiefEnd
 thief_end deque view = record { deque = deque; scenario = view.scenario; taken = view.taken }
 
-abbrev pub list_length : List Box → ℕ
-list_length boxes = length boxes
+abbrev pub list_length : List Region → ℕ
+list_length regions = length regions
 
 -- the share of an owner without thieves, and of an owner and all its thieves together
 abbrev pub whole_share : ℕ
@@ -52,14 +52,14 @@ abbrev pub IsOf : Scenario → Task → Type 0
 IsOf scenario task = task.branch.scenario ≡ scenario
 
 -- the task's branch is the one that was put under its number
-abbrev pub IsPut : List Box → Task → Type 0
-IsPut put task = slice_get put task.number ≡ Some task.branch.delay_box
+abbrev pub IsPut : List Region → Task → Type 0
+IsPut put task = slice_get put task.number ≡ Some task.branch.region
 
 -- how many of the tasks have that number
 abbrev pub tasks_at : ℕ → List Task → ℕ
 tasks_at x tasks = count_by (λ task. task.number == x) tasks
 
 -- each branch that was put was taken, once
-pub record AreAllTaken (put : List Box) (taken : List Task) : Type 0 where
+pub record AreAllTaken (put : List Region) (taken : List Task) : Type 0 where
   pub once : (x : ℕ) → tasks_at x taken ≡ once_below x (length put)
   pub right : All (IsPut put) taken

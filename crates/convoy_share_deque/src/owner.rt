@@ -7,7 +7,7 @@ ghost use Rattle.convoy_share_deque.specs.Tasks.{whole_share, AreAllTaken, IsOf,
 use super::rule::{Begin, Count, EachOnce, OneShare, Put, Take, View};
 use super::task::Task;
 use super::thief::Thief;
-use convoy_intervals::Tracked;
+use convoy_regions::Branch;
 use crossbeam_deque::Worker;
 use std::alloc::{AllocError, Global};
 use std::marker::Model;
@@ -43,11 +43,11 @@ impl Model for Owner {
 impl Owner {
     /// A deque that has one branch, the first one, under the number 0, and its owner, which has the
     /// whole share. Fails only where memory runs out.
-    pub fn open(alloc: Global, first: Tracked) -> Result<Owner, AllocError>
+    pub fn open(alloc: Global, first: Branch) -> Result<Owner, AllocError>
         ensures { IfOk result (λ owner. owner ≡ record {
           deque = owner.deque;
           scenario = first.scenario;
-          put = first.delay_box ∷ [];
+          put = first.region ∷ [];
           taken = [];
           share = whole_share;
         }) }
@@ -65,11 +65,11 @@ impl Owner {
 
     /// Puts a branch of the deque's scenario, and answers its number. Where the deque can't grow, as
     /// memory runs out, the branch comes back.
-    pub fn put(&mut self, branch: Tracked) -> Result<u64, Tracked>
+    pub fn put(&mut self, branch: Branch) -> Result<u64, Branch>
         requires { branch.scenario ≡ self.old.scenario }
         ensures { MatchResult result
             (λ number. (number ≡ length self.old.put)
-            × (self.new ≡ record self.old { put = self.old.put ++ branch.delay_box ∷ [] }))
+            × (self.new ≡ record self.old { put = self.old.put ++ branch.region ∷ [] }))
             (λ back. (back ≡ branch) × (self.new ≡ self.old)) }
     {
         let number = self.count;

@@ -3,9 +3,25 @@
 
 use super::task::Task;
 use convoy_intervals::DelayBox;
+use convoy_regions::Precedence;
 use convoy_scenario::Scenario;
 use crossbeam_deque::protocol::{Join, Lesson, Outcome, Protocol, Split};
 use std::collections::LinkedList;
+use std::marker::Model;
+
+/// The region of a branch, as the rule knows it. No value of it is made.
+pub struct Place {
+    delay_box: DelayBox,
+    before: Vec<Precedence>,
+}
+
+impl Model for Place {
+    ghost use Rattle.convoy_regions.specs.Regions.{Region};
+
+    ghost Value = { Region };
+
+    ghost view = { λ p. record { ranges = p.delay_box; before = p.before.items } };
+}
 
 /// What the rule knows of the owner, or of one thief. No value of it is made.
 pub struct View {
@@ -15,8 +31,8 @@ pub struct View {
     pub share: u64,
     /// Whether it is the owner.
     pub owns: bool,
-    /// The branches that the owner put, by number.
-    pub put: LinkedList<DelayBox>,
+    /// The regions of the branches that the owner put, by number.
+    pub put: LinkedList<Place>,
     /// The tasks that it took.
     pub taken: LinkedList<Task>,
 }

@@ -15,7 +15,7 @@ use Rattle.convoy_stamps.specs.declared.pair.Pair.{Pair}
 use Rattle.convoy_sure.specs.Windows.{LeadTables}
 use Rattle.convoy_sure.specs.SureLeads.{Sure, pair_count, is_earlier, may_be_earlier, sure_after, sure_later, lead_at, top_of}
 use Rattle.convoy_starts.specs.Starts.{Start, add_start, arrivals_since, arrives_by, capped, clock_alone, clock_from, clock_high, clock_since, covers, covers_all, lead_by, may_arrive, may_commit, may_have_come, may_start, raise_high, stamp_for, stamp_high, start_of, value_for, window, with_start}
-use Rattle.convoy_starts.specs.Changes.{IsCovered, IsSteady}
+use Rattle.convoy_starts.specs.Changes.{first_after, IsCovered, IsNotSkipped, IsSteady}
 
 -- ---- lists
 filter_same : (p q : ℕ → Bool) (zs : List ℕ) → All (λ z. p z ≡ q z) zs → filter p zs ≡ filter q zs
@@ -60,79 +60,152 @@ le_same a b x late past = elim (cases_lt a x) [
   late_is : (x a : ℕ) → a < x → nat_le x a ≡ false
   late_is x a l = grind (arith, nat_tests, l)
 
--- ---- the most of a stamp in real time, where no arrival and no start lies between two ticks
-module _ (scenario : Scenario) (real : scenario.time ≡ Real) (tables : Tables) (sure : Sure) (q h : ℕ) (a b : Tick) (late : a ≤ b)
-    (arrivals : All (λ z. a < tables.least_arrival z h → b < tables.least_arrival z h) (addressed_to scenario h)) where
-  after_same : sure_after scenario tables b q h ≡ sure_after scenario tables a q h
-  after_same =
-      filter_same (λ z. is_earlier scenario.time b q (tables.least_arrival z h) z) (λ z. is_earlier scenario.time a q (tables.least_arrival z h) z) (addressed_to scenario h)
-      (λ k d l. one (get_or (addressed_to scenario h) k d) (arrivals k d l)) where
-        one : (z : ℕ) → (a < tables.least_arrival z h → b < tables.least_arrival z h)
-            → is_earlier scenario.time b q (tables.least_arrival z h) z ≡ is_earlier scenario.time a q (tables.least_arrival z h) z
-        one z past =
-            ap (λ (t : Time). is_earlier t b q (tables.least_arrival z h) z) real
-            ∙ lt_same a b (tables.least_arrival z h) late past
-            ∙ sym (ap (λ (t : Time). is_earlier t a q (tables.least_arrival z h) z) real)
+-- a tick is on the same side of the greater of two where it is so of both
+lt_both : (a b x y : ℕ) → (a < x → b < x) → (a < y → b < y) → a < max x y → b < max x y
+lt_both a b x y first second l = elim (cases_lt a x) [
+  | inl m ↦ let n = first m in omega arith
+  | inr m ↦ let n = second (omega arith) in omega arith
+]
 
-  since_same : (since : Tick) → since ≤ a → arrivals_since scenario tables b q h since ≡ arrivals_since scenario tables a q h since
-  since_same since by =
-      filter_same (may_arrive scenario.time tables b q h since) (may_arrive scenario.time tables a q h since) (addressed_to scenario h)
-      (λ k d l. one (get_or (addressed_to scenario h) k d) (arrivals k d l)) where
-        one : (z : ℕ) → (a < tables.least_arrival z h → b < tables.least_arrival z h)
-            → may_arrive scenario.time tables b q h since z ≡ may_arrive scenario.time tables a q h since z
-        one z past =
-            let first : ℕ = max since (tables.least_arrival z h) in
-            ap (λ (m : Bool). not (z == q) && m && nat_le since (tables.greatest_arrival z h))
-            (ap (λ (t : Time). may_be_earlier t first z b q) real
-            ∙ le_same a b first late (λ l. let m = past (omega arith) in omega arith)
-            ∙ sym (ap (λ (t : Time). may_be_earlier t first z a q) real))
+-- ---- the first tick by which an arrival may follow another one
+-- it is that tick itself, or the next one, by the two messages
+after_is : (time : Time) (z q : ℕ) → ((t : Tick) → first_after time t z q ≡ t) ⊎ ((t : Tick) → first_after time t z q ≡ next_arrival time t)
+after_is time z q = elim (cases_Bool (nat_lt q z)) [
+  | inl e ↦ inr (λ t. cond-true (nat_lt q z) (next_arrival time t) t e)
+  | inr e ↦ inl (λ t. cond-false (nat_lt q z) (next_arrival time t) t e)
+]
 
-  module _ (x : ℕ) where
-    from_same : (start : Start) → (start.group ≡ h → a < start.at → b < start.at)
-        → clock_from scenario tables sure x q h b start ≡ clock_from scenario tables sure x q h a start
-    from_same start past = elim (cases_Bool (may_start scenario.time x q h a start)) [
-      | inl e ↦
-          let soon : start.at ≤ a = leb-true start.at a (sym (next_is start.at a) ∙ (and_parts (start.group == h) (nat_le (next_arrival scenario.time start.at) a) (inner a e)).1) in
-          ap (λ (m : Bool). cond m (clock_since scenario tables sure x q h b start) 0) test
-          ∙ ap (λ (zs : List ℕ). cond (may_start scenario.time x q h a start) (window sure.time (λ z. lead_at sure.leads z h) (filter (λ z. not (z == start.message)) zs) (value_for start x q)) 0)
-          (since_same (next_arrival scenario.time start.at) (subst (λ (n : ℕ). n ≤ a) (sym (at_is start.at)) soon))
-      | inr e ↦ cond-false (may_start scenario.time x q h b start) (clock_since scenario tables sure x q h b start) 0 (test ∙ e)
-          ∙ sym (cond-false (may_start scenario.time x q h a start) (clock_since scenario tables sure x q h a start) 0 e)
-    ] where
-      at_is : (t : Tick) → next_arrival scenario.time t ≡ t
-      at_is t = ap (λ (time : Time). next_arrival time t) real
+-- before it the arrival is surely earlier than the other one, ..
+earlier_is : (time : Time) (by q t z : ℕ) → is_earlier time by q t z ≡ nat_lt by (first_after time t z q)
+earlier_is Real by q t z = elim (after_is Real z q) [
+  | inl is ↦ sym (ap (nat_lt by) (is t))
+  | inr is ↦ sym (ap (nat_lt by) (is t))
+]
+earlier_is Ticks by q t z = elim (cases_lt q z) [
+  | inl l ↦ ap (λ (m : Bool). nat_lt by t || ((by == t) && m)) (lt-ltb q z l) ∙ no_later by t
+      ∙ sym (ap (nat_lt by) (cond-true (nat_lt q z) (t + 1) t (lt-ltb q z l)))
+  | inr l ↦ ap (λ (m : Bool). nat_lt by t || ((by == t) && m)) (le-ltb q z l) ∙ sooner by t
+      ∙ sym (ap (nat_lt by) (cond-false (nat_lt q z) (t + 1) t (le-ltb q z l)))
+] where
+  no_later : (by t : ℕ) → (nat_lt by t || ((by == t) && true)) ≡ nat_lt by (t + 1)
+  no_later by t = grind (arith, nat_tests)
 
-      next_is : (t by : Tick) → nat_le (next_arrival scenario.time t) by ≡ nat_le t by
-      next_is t by = ap (λ (n : ℕ). nat_le n by) (at_is t)
+  sooner : (by t : ℕ) → (nat_lt by t || ((by == t) && false)) ≡ nat_lt by t
+  sooner by t = grind (arith, nat_tests)
 
-      inner : (by : Tick) → may_start scenario.time x q h by start ≡ true → ((start.group == h) && nat_le (next_arrival scenario.time start.at) by) ≡ true
-      inner by e =
-          let here : Bool = (start.group == h) && nat_le (next_arrival scenario.time start.at) by in
-          (and_parts here (not (start.message == q)) (and_parts (here && not (start.message == q)) (not (start.message == x)) e).0).0
+-- .. and from it on it may be later
+may_be_is : (time : Time) (t z by q : ℕ) → (z == q) ≡ false → may_be_earlier time t z by q ≡ nat_le (first_after time t z q) by
+may_be_is Real t z by q other = elim (after_is Real z q) [
+  | inl is ↦ sym (ap (λ (n : ℕ). nat_le n by) (is t))
+  | inr is ↦ sym (ap (λ (n : ℕ). nat_le n by) (is t))
+]
+may_be_is Ticks t z by q other = elim (cases_lt q z) [
+  | inl l ↦ ap (λ (m : Bool). nat_lt t by || ((t == by) && m)) (le-ltb z q (omega arith)) ∙ sooner t by
+      ∙ sym (ap (λ (n : ℕ). nat_le n by) (cond-true (nat_lt q z) (t + 1) t (lt-ltb q z l)))
+  | inr l ↦
+      let less : z < q = elim (cases_lt z q) [
+        | inl m ↦ m
+        | inr m ↦ absurd (both_ways (z == q) other (eq-eqb z q (omega arith)))
+      ] in
+      ap (λ (m : Bool). nat_lt t by || ((t == by) && m)) (lt-ltb z q less) ∙ no_later t by
+      ∙ sym (ap (λ (n : ℕ). nat_le n by) (cond-false (nat_lt q z) (t + 1) t (le-ltb q z l)))
+] where
+  sooner : (t by : ℕ) → (nat_lt t by || ((t == by) && false)) ≡ nat_le (t + 1) by
+  sooner t by = grind (arith, nat_tests)
 
-      group_test : ((start.group == h) && nat_le start.at b) ≡ ((start.group == h) && nat_le start.at a)
-      group_test = elim (cases_Bool (start.group == h)) [
-        | inl e ↦ ap (λ (m : Bool). (start.group == h) && m) (le_same a b start.at late (past (eqb-true start.group h e)))
-        | inr e ↦ ap (λ (m : Bool). m && nat_le start.at b) e ∙ sym (ap (λ (m : Bool). m && nat_le start.at a) e)
-      ]
+  no_later : (t by : ℕ) → (nat_lt t by || ((t == by) && true)) ≡ nat_le t by
+  no_later t by = grind (arith, nat_tests)
 
-      test : may_start scenario.time x q h b start ≡ may_start scenario.time x q h a start
-      test =
-          ap (λ (m : Bool). m && not (start.message == q) && not (start.message == x))
-          (ap (λ (m : Bool). (start.group == h) && m) (next_is start.at b) ∙ group_test ∙ sym (ap (λ (m : Bool). (start.group == h) && m) (next_is start.at a)))
+-- ---- the most of a stamp, where by no tick between two the arrival may follow another one or a start for the first time
+module _ (scenario : Scenario) (tables : Tables) (sure : Sure) (q h : ℕ) (a b : Tick) (late : a ≤ b) where
+  -- no such tick lies between them
+  abbrev pub IsOutside : Tick → Type 0
+  IsOutside t = a < t → b < t
 
-    clock_same : (starts : List Start) → All (λ s. s.group ≡ h → a < s.at → b < s.at) starts
-        → clock_high scenario tables sure starts x q h b ≡ clock_high scenario tables sure starts x q h a
-    clock_same starts past =
-        ap₂ (λ (alone : ℕ) (rest : List ℕ). greatest (alone ∷ rest))
-        (ap (λ (zs : List ℕ). window sure.time (λ z. lead_at sure.leads z h) zs 0) (since_same 0 (omega arith)))
-        (map_same (clock_from scenario tables sure x q h b) (clock_from scenario tables sure x q h a) starts (λ k d l. from_same (get_or starts k d) (past k d l)))
+  abbrev pub after : ℕ → Tick → Tick
+  after z t = first_after scenario.time t z q
 
-    pub stamp_same : (starts : List Start) → All (λ s. s.group ≡ h → a < s.at → b < s.at) starts
-        → stamp_high scenario tables sure starts x q h b ≡ stamp_high scenario tables sure starts x q h a
-    stamp_same starts past =
-        ap₂ (λ (after : List ℕ) (clock : ℕ). min (pair_count scenario) (capped sure.time (max (lead_at sure.leads q h) (top_of (λ z. lead_at sure.leads z h) after)) (clock + 1)))
-        after_same (clock_same starts past)
+  module _ (arrivals : All (λ z. IsOutside (after z (tables.least_arrival z h))) (addressed_to scenario h)) where
+    after_same : sure_after scenario tables b q h ≡ sure_after scenario tables a q h
+    after_same =
+        filter_same (λ z. is_earlier scenario.time b q (tables.least_arrival z h) z) (λ z. is_earlier scenario.time a q (tables.least_arrival z h) z) (addressed_to scenario h)
+        (λ k d l. one (get_or (addressed_to scenario h) k d) (arrivals k d l)) where
+          one : (z : ℕ) → IsOutside (after z (tables.least_arrival z h))
+              → is_earlier scenario.time b q (tables.least_arrival z h) z ≡ is_earlier scenario.time a q (tables.least_arrival z h) z
+          one z past =
+              earlier_is scenario.time b q (tables.least_arrival z h) z
+              ∙ lt_same a b (after z (tables.least_arrival z h)) late past
+              ∙ sym (earlier_is scenario.time a q (tables.least_arrival z h) z)
+
+    since_same : (since : Tick) → ((z : ℕ) → IsOutside (after z (tables.least_arrival z h)) → IsOutside (after z (max since (tables.least_arrival z h))))
+        → arrivals_since scenario tables b q h since ≡ arrivals_since scenario tables a q h since
+    since_same since later =
+        filter_same (may_arrive scenario.time tables b q h since) (may_arrive scenario.time tables a q h since) (addressed_to scenario h)
+        (λ k d l. one (get_or (addressed_to scenario h) k d) (arrivals k d l)) where
+          one : (z : ℕ) → IsOutside (after z (tables.least_arrival z h))
+              → may_arrive scenario.time tables b q h since z ≡ may_arrive scenario.time tables a q h since z
+          one z past =
+              let first : ℕ = max since (tables.least_arrival z h) in
+              elim (cases_Bool (z == q)) [
+                | inl e ↦ ap (λ (m : Bool). not m && may_be_earlier scenario.time first z b q && nat_le since (tables.greatest_arrival z h)) e
+                    ∙ sym (ap (λ (m : Bool). not m && may_be_earlier scenario.time first z a q && nat_le since (tables.greatest_arrival z h)) e)
+                | inr e ↦ ap (λ (m : Bool). not (z == q) && m && nat_le since (tables.greatest_arrival z h))
+                    (may_be_is scenario.time first z b q e ∙ le_same a b (after z first) late (later z past) ∙ sym (may_be_is scenario.time first z a q e))
+              ]
+
+    -- of all messages, ..
+    all_same : arrivals_since scenario tables b q h 0 ≡ arrivals_since scenario tables a q h 0
+    all_same =
+        since_same 0 (λ z past. let first : tables.least_arrival z h ≡ max 0 (tables.least_arrival z h) = omega arith in
+        subst (λ (t : Tick). IsOutside (after z t)) first past)
+
+    -- .. and of those after a start
+    later_same : (since : Tick) → IsOutside since → IsOutside (next_arrival scenario.time since)
+        → arrivals_since scenario tables b q h since ≡ arrivals_since scenario tables a q h since
+    later_same since first second =
+        since_same since (λ z past. let least : Tick = tables.least_arrival z h in
+        elim (after_is scenario.time z q) [
+          | inl is ↦ subst IsOutside (sym (is (max since least))) (lt_both a b since least first (subst IsOutside (is least) past))
+          | inr is ↦ subst IsOutside (sym (is (max since least) ∙ next_of_both scenario.time since least))
+              (lt_both a b (next_arrival scenario.time since) (next_arrival scenario.time least) second (subst IsOutside (is least) past))
+        ]) where
+          next_of_both : (time : Time) (x y : Tick) → next_arrival time (max x y) ≡ max (next_arrival time x) (next_arrival time y)
+          next_of_both Ticks x y = omega arith
+          next_of_both Real x y = refl
+
+    module _ (x : ℕ) where
+      from_same : (start : Start) → (start.group ≡ h → IsOutside (next_arrival scenario.time start.at))
+          → (start.group ≡ h → IsOutside (next_arrival scenario.time (next_arrival scenario.time start.at)))
+          → clock_from scenario tables sure x q h b start ≡ clock_from scenario tables sure x q h a start
+      from_same start first second =
+          let since : Tick = next_arrival scenario.time start.at in
+          elim (cases_Bool (start.group == h)) [
+            | inl e ↦
+                let here : start.group ≡ h = eqb-true start.group h e in
+                ap₂ (λ (m : Bool) (zs : List ℕ). cond ((start.group == h) && m && not (start.message == q) && not (start.message == x))
+                (window sure.time (λ z. lead_at sure.leads z h) (filter (λ z. not (z == start.message)) zs) (value_for start x q)) 0)
+                (le_same a b since late (first here)) (later_same since (first here) (second here))
+            | inr e ↦ cond-false (may_start scenario.time x q h b start) (clock_since scenario tables sure x q h b start) 0 (none e b)
+                ∙ sym (cond-false (may_start scenario.time x q h a start) (clock_since scenario tables sure x q h a start) 0 (none e a))
+          ] where
+            none : (start.group == h) ≡ false → (by : Tick) → may_start scenario.time x q h by start ≡ false
+            none e by = ap (λ (m : Bool). m && nat_le (next_arrival scenario.time start.at) by && not (start.message == q) && not (start.message == x)) e
+
+      clock_same : (starts : List Start) → All (λ s. s.group ≡ h → IsOutside (next_arrival scenario.time s.at)) starts
+          → All (λ s. s.group ≡ h → IsOutside (next_arrival scenario.time (next_arrival scenario.time s.at))) starts
+          → clock_high scenario tables sure starts x q h b ≡ clock_high scenario tables sure starts x q h a
+      clock_same starts firsts seconds =
+          ap₂ (λ (alone : ℕ) (rest : List ℕ). greatest (alone ∷ rest))
+          (ap (λ (zs : List ℕ). window sure.time (λ z. lead_at sure.leads z h) zs 0) all_same)
+          (map_same (clock_from scenario tables sure x q h b) (clock_from scenario tables sure x q h a) starts
+          (λ k d l. from_same (get_or starts k d) (firsts k d l) (seconds k d l)))
+
+      pub stamp_same : (starts : List Start) → All (λ s. s.group ≡ h → IsOutside (next_arrival scenario.time s.at)) starts
+          → All (λ s. s.group ≡ h → IsOutside (next_arrival scenario.time (next_arrival scenario.time s.at))) starts
+          → stamp_high scenario tables sure starts x q h b ≡ stamp_high scenario tables sure starts x q h a
+      stamp_same starts firsts seconds =
+          ap₂ (λ (after : List ℕ) (clock : ℕ). min (pair_count scenario) (capped sure.time (max (lead_at sure.leads q h) (top_of (λ z. lead_at sure.leads z h) after)) (clock + 1)))
+          after_same (clock_same starts firsts seconds)
 
 -- ---- the start of a pair's commit
 module _ (scenario : Scenario) (tables : LeadTables) (sure : Sure) (pair : Pair) where
@@ -314,22 +387,25 @@ module _ (scenario : Scenario) (tables : LeadTables) (sure : Sure) (pair : Pair)
     none : (at : Tick) → stamp_for scenario tables sure starts at x pair.message pair.group f ≡ 0
     none at = ap (λ (m : Bool). cond (not m && nat_lt 0 at) (stamp_high scenario tables.times sure starts x pair.message f (arrives_by tables at pair.message pair.group f)) 0) (eq-eqb f pair.group same)
 
-  -- until the next arrival or start at another group has come by a proposal, its stamp is the same
-  pub stamp_for_same : scenario.time ≡ Real → (starts : List Start) (tick later : Tick) (x f next : ℕ) → 0 < tick → tick ≤ later
+  -- until what its arrival at another group may follow next has come by a proposal, its stamp is the same
+  pub stamp_for_same : (starts : List Start) (tick later : Tick) (x f next : ℕ) → 0 < tick → tick ≤ later
       → arrives_by tables tick pair.message pair.group f < next
-      → All (λ z. arrives_by tables tick pair.message pair.group f < tables.times.least_arrival z f → next ≤ tables.times.least_arrival z f) (addressed_to scenario f)
-      → All (λ s. s.group ≡ f → arrives_by tables tick pair.message pair.group f < s.at → next ≤ s.at) starts
+      → All (λ z. IsNotSkipped (arrives_by tables tick pair.message pair.group f) next (first_after scenario.time (tables.times.least_arrival z f) z pair.message)) (addressed_to scenario f)
+      → All (λ s. s.group ≡ f → IsNotSkipped (arrives_by tables tick pair.message pair.group f) next (next_arrival scenario.time s.at)) starts
+      → All (λ s. s.group ≡ f → IsNotSkipped (arrives_by tables tick pair.message pair.group f) next (next_arrival scenario.time (next_arrival scenario.time s.at))) starts
       → (tables.times.greatest_arrival pair.message f < next) ⊎ (later < next + max 1 (tables.least_proposal pair.message f pair.group))
       → stamp_for scenario tables sure starts later x pair.message pair.group f ≡ stamp_for scenario tables sure starts tick x pair.message pair.group f
-  stamp_for_same real starts tick later x f next some late past arrivals commits soon =
+  stamp_for_same starts tick later x f next some late past arrivals firsts seconds soon =
       let a : ℕ = arrives_by tables tick pair.message pair.group f in
       let b : ℕ = arrives_by tables later pair.message pair.group f in
       let before : b < next = elim soon [ inl l ↦ omega arith | inr l ↦ omega arith ] in
+      let outside : (t : Tick) → IsNotSkipped a next t → a < t → b < t = λ t met l. let m = met l in omega arith in
       ap₂ (λ (m : Bool) (stamp : ℕ). cond (not (f == pair.group) && m) stamp 0)
       (lt-ltb 0 later (omega arith) ∙ sym (lt-ltb 0 tick some))
-      (stamp_same scenario real tables.times sure pair.message f a b (omega arith)
-      (λ k d l m. let n = arrivals k d l m in omega arith) x starts
-      (λ k d l same m. let n = commits k d l same m in omega arith))
+      (stamp_same scenario tables.times sure pair.message f a b (omega arith)
+      (λ k d l. outside (first_after scenario.time (tables.times.least_arrival (get_or (addressed_to scenario f) k d) f) (get_or (addressed_to scenario f) k d) pair.message) (arrivals k d l)) x starts
+      (λ k d l same. outside (next_arrival scenario.time (get_or starts k d).at) (firsts k d l same))
+      (λ k d l same. outside (next_arrival scenario.time (next_arrival scenario.time (get_or starts k d).at)) (seconds k d l same)))
 
   -- so it raises the clock as before until one of these stamps changes, or a message surely arrives no later any more
   pub steady : (starts : List Start) (tick later : Tick) → tick ≤ later

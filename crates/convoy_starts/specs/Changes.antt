@@ -1,6 +1,7 @@
 -- Words of the program's own parts: of each pair the next tick at which its start may be one that no start covers.
-use Rattle.std.specs.Prelude.{ℕ, ◌≡◌, ◌≢◌, ◌<◌, ◌≤◌, Bool, true, List, length, slice_index, slice_index_or}
+use Rattle.std.specs.Prelude.{ℕ, ◌≡◌, ◌≢◌, ◌<◌, ◌≤◌, nat_lt, Bool, true, List, length, slice_index, slice_index_or, if◌then◌else◌}
 use Rattle.std.specs.List.{list_any}
+use Rattle.convoy_draft.specs.declared.time.Time.{Time}
 use Rattle.convoy_scenario.specs.Scenario.{Scenario}
 use Rattle.convoy_sim.specs.Times.{Tick}
 use Rattle.convoy_sim.specs.Moments.{next_arrival}
@@ -31,3 +32,11 @@ IsUnread scenario tables h tick later pair =
 abbrev pub IsSteady : Scenario → LeadTables → Sure → List Start → Tick → Tick → Pair → Type 0
 IsSteady scenario tables sure starts tick later pair =
     (x : ℕ) → raise_high scenario tables sure starts later x pair.message pair.group ≡ raise_high scenario tables sure starts tick x pair.message pair.group
+
+-- the first tick by which the arrival of message q may follow one of message z at that tick
+abbrev pub first_after : Time → Tick → ℕ → ℕ → Tick
+first_after time tick z q = if nat_lt q z then next_arrival time tick else tick
+
+-- from the first tick to the next one that tick is not passed over
+abbrev pub IsNotSkipped : Tick → Tick → Tick → Type 0
+IsNotSkipped by next tick = by < tick → next ≤ tick

@@ -1,11 +1,11 @@
 ghost use Rattle.std.specs.Prelude.{◌≡◌, ◌≢◌, ℕ, ◌<◌, ◌≤◌, length, slice_index, slice_index_or, All};
 ghost use Rattle.convoy_draft.specs.declared.limits.TheConstants.{MOST_GROUPS, MOST_MULTICASTS};
-ghost use Rattle.convoy_draft.specs.declared.time.Time.TheVariants.{Real};
+ghost use Rattle.convoy_sim.specs.Moments.{next_arrival};
 ghost use Rattle.convoy_sim.specs.Delivery.{addressed_to};
 ghost use Rattle.convoy_stamps.specs.declared.pair.Pair.{Pair};
 ghost use Rattle.convoy_sure.specs.Windows.{tables_by};
 ghost use Rattle.convoy_starts.specs.Starts.{stamp_for};
-ghost use Rattle.convoy_starts.specs.Changes.{IsCovered, IsSteady, IsUnread};
+ghost use Rattle.convoy_starts.specs.Changes.{first_after, IsCovered, IsNotSkipped, IsSteady, IsUnread};
 
 use super::setting::Setting;
 use super::start::Start;
@@ -18,33 +18,54 @@ use convoy_sure::destinations;
 fn if_past(tick: u32, by: u32) -> u32
     requires { by < u32.MAX }
     ensures past { by < result }
-    ensures first { by < tick → result ≤ tick }
+    ensures first { IsNotSkipped by result tick }
 {
     if by < tick { tick } else { u32::MAX }
 }
 
-/// The tick of a start, if it is of that group and past the tick, or else the greatest number.
-fn start_past(group: usize, by: u32, start: &Start) -> u32
-    requires { by < u32.MAX }
-    ensures past { by < result }
-    ensures first { start.now.group ≡ group → by < start.now.at → result ≤ start.now.at }
+/// The first tick by which the arrival of message `q` may follow one of message `z` at that tick.
+fn first_after(time: Time, tick: u32, z: usize, q: usize) -> u32
+    requires { tick < u32.MAX }
+    ensures { result ≡ first_after time tick z q }
 {
-    if start.group() == group {
-        if_past(start.at(), by)
+    if q < z {
+        next_arrival(time, tick)
     } else {
-        u32::MAX
+        tick
     }
 }
 
-/// The first tick past another one of which a start at a group is, or else the greatest number.
-fn next_start(starts: &[Start], group: usize, by: u32) -> u32
+/// The first tick past another one by which an arrival at a group may follow a start there for the
+/// first time, or a message that arrives no sooner than one that does; else the greatest number.
+fn follows_start(time: Time, group: usize, by: u32, start: &Start) -> u32
     requires { by < u32.MAX }
     ensures past { by < result }
-    ensures first { All (λ s. s.group ≡ group → by < s.at → result ≤ s.at) starts.now }
+    ensures first { start.now.group ≡ group → IsNotSkipped by result (next_arrival time start.now.at) }
+    ensures second { start.now.group ≡ group
+        → IsNotSkipped by result (next_arrival time (next_arrival time start.now.at)) }
+{
+    if start.group() != group {
+        return u32::MAX;
+    }
+    let since = next_arrival(time, start.at());
+    if by < since {
+        return since;
+    }
+    if_past(next_arrival(time, since), by)
+}
+
+/// The first of these ticks of some starts, or else the greatest number.
+fn next_start(time: Time, starts: &[Start], group: usize, by: u32) -> u32
+    requires { by < u32.MAX }
+    ensures past { by < result }
+    ensures first { All (λ s. s.group ≡ group
+        → IsNotSkipped by result (next_arrival time s.at)) starts.now }
+    ensures second { All (λ s. s.group ≡ group
+        → IsNotSkipped by result (next_arrival time (next_arrival time s.at))) starts.now }
 {
     let mut next = u32::MAX;
     for start in starts {
-        next = next.min(start_past(group, by, start));
+        next = next.min(follows_start(time, group, by, start));
     }
     next
 }
@@ -69,8 +90,8 @@ impl<'a> Setting<'a> {
         requires group { group < MOST_GROUPS }
         requires by { by < u32.MAX }
         ensures past { by < result }
-        ensures first { All (λ z. by < (tables_by self.now.windows.now).times.least_arrival z group
-            → result ≤ (tables_by self.now.windows.now).times.least_arrival z group)
+        ensures first { All (λ z. IsNotSkipped by result
+            ((tables_by self.now.windows.now).times.least_arrival z group))
             (addressed_to self.now.scenario.now group) }
     {
         let mut next = u32::MAX;
@@ -80,16 +101,33 @@ impl<'a> Setting<'a> {
         next
     }
 
-    /// In real time: the next tick past that one at which another stamp of group `from` may have come
-    /// for a pair's commit.
+    /// The first tick past another one by which the arrival of message `q` at a group may follow one of
+    /// some message for the first time, or else the greatest number.
+    fn next_follower(&self, q: usize, group: usize, by: u32) -> u32
+        requires group { group < MOST_GROUPS }
+        requires by { by < u32.MAX }
+        ensures past { by < result }
+        ensures first { All (λ z. IsNotSkipped by result (first_after self.now.scenario.now.time
+            ((tables_by self.now.windows.now).times.least_arrival z group) z q))
+            (addressed_to self.now.scenario.now group) }
+    {
+        let mut next = u32::MAX;
+        for z in self.addressed_to(group) {
+            let first = self.windows.least_arrival(*z, group);
+            next = next.min(if_past(first_after(self.time, first, *z, q), by));
+        }
+        next
+    }
+
+    /// The next tick past that one at which another stamp of group `from` may have come for a pair's
+    /// commit.
     fn next_change_by(&self, starts: &[Start], tick: u32, pair: Pair, from: usize) -> u32
         requires message { pair.message < MOST_MULTICASTS }
         requires group { pair.group < MOST_GROUPS }
         requires from { from < MOST_GROUPS }
         requires tick { tick < u32.MAX }
         ensures past { tick < result }
-        ensures same { self.now.scenario.now.time ≡ Real → 0 < tick
-            → (later x : ℕ) → tick ≤ later → later < result
+        ensures same { 0 < tick → (later x : ℕ) → tick ≤ later → later < result
             → stamp_for self.now.scenario.now (tables_by self.now.windows.now) self.now.sure.now
             starts.now later x pair.message pair.group from
             ≡ stamp_for self.now.scenario.now (tables_by self.now.windows.now) self.now.sure.now
@@ -101,23 +139,22 @@ impl<'a> Setting<'a> {
         }
         let by = self.arrives_by(tick, message, group, from);
         let next = self
-            .next_least_arrival(from, by)
-            .min(next_start(starts, from, by));
+            .next_follower(message, from, by)
+            .min(next_start(self.time, starts, from, by));
         if self.windows.greatest_arrival(message, from) < next {
             return u32::MAX;
         }
         next.saturating_add(self.windows.least_proposal(message, from, group).max(1))
     }
 
-    /// In real time: the next tick past that one at which a pair's commit may raise the clock higher.
+    /// The next tick past that one at which a pair's commit may raise the clock higher.
     fn next_change(&self, starts: &[Start], tick: u32, pair: Pair) -> u32
         requires message { pair.message < length self.now.scenario.now.multicasts }
         requires known { pair.message < MOST_MULTICASTS }
         requires group { pair.group < MOST_GROUPS }
         requires tick { tick < u32.MAX }
         ensures past { tick < result }
-        ensures same { self.now.scenario.now.time ≡ Real → 0 < tick
-            → (later : ℕ) → tick ≤ later → later < result
+        ensures same { 0 < tick → (later : ℕ) → tick ≤ later → later < result
             → IsSteady self.now.scenario.now (tables_by self.now.windows.now) self.now.sure.now
             starts.now tick later pair }
     {
@@ -145,11 +182,10 @@ impl<'a> Setting<'a> {
         if !self.may_commit(tick, pair) {
             return self.next_commit_of(pair, tick + 1, u32::MAX);
         }
-        match self.time {
-            Time::Ticks => tick + 1,
-            Time::Real if tick == 0 => 1,
-            Time::Real => self.next_change(starts, tick, pair),
+        if tick == 0 {
+            return 1;
         }
+        self.next_change(starts, tick, pair)
     }
 
     /// The next tick past that one at which a stamp may have come for a pair's commit that follows a

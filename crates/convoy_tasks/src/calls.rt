@@ -114,9 +114,8 @@ pub fn run_check<S: Source, K: Sink>(
 /// schedule has the stated latency, and no assignment of delays to the packets has a greater one. The
 /// command `check` accepts the text. At `Done::Open` boxes are left: the search spent all tickets that
 /// the options give it, both ways as many as [`plain_share`](convoy_commands::plain_share) and
-/// [`lead_share`](convoy_commands::lead_share) say, or in real time it left a point that its bounds do not close
-/// for the latency that it found. What was written is the line `open LEAST MOST`, where the greatest
-/// latency is at least LEAST ticks and at most MOST, and then the lines of a schedule that has the
+/// [`lead_share`](convoy_commands::lead_share) say. What was written is the line `open LEAST MOST`, where the
+/// greatest latency is at least LEAST ticks and at most MOST, and then the lines of a schedule that has the
 /// latency LEAST. Nobody watches this search, so seconds in the options do not stop it: for that there
 /// is [`run_task`](super::run_task).
 ///

@@ -3,5 +3,5 @@ use Rattle.convoy_checker.proofs.TreeLaws.{AreTrees-append}
 use Rattle.convoy_branch.proofs.front_laws.fronts_append.Goals as goal
 
 pub returns : goal.returns
-returns c bounds scenario best boxes others first rest fronts more =
-    AreTrees-append front_below (IsOfFront bounds scenario best) boxes others first rest fronts more
+returns c bounds scenario best regions others first rest fronts more =
+    AreTrees-append (front_below scenario) (IsOfFront bounds scenario best) regions others first rest fronts more

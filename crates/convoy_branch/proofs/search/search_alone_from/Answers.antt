@@ -1,4 +1,4 @@
-use Rattle.std.proofs.Common.{ℕ, ap, arith, inl, inr, refl}
+use Rattle.std.proofs.Common.{ℕ, ap, arith}
 use Rattle.convoy_sim.specs.Record.{Record}
 use Rattle.convoy_branch.specs.Outcomes.{IsOutcome}
 use Rattle.convoy_branch.specs.declared.outcome.Outcome.{Outcome}
@@ -20,19 +20,12 @@ loop-work-preserved-in-Continue-branch-2 g c = record {
   opened = c.loop-work.invariant.opened;
 }
 
-pub returns-in-Some-2-clause-value : goal.returns-in-Some-2-clause-value
-returns-in-Some-2-clause-value g c =
-    let stays = rw c.in-Some-2.is at c.in_ok-branch-in-Branch.ensures.stays in
-    let limit = c.args.limit in
-    let IsAnswer : ℕ → Outcome → Type 0 = IsOutcome c.args.bounds c.args.instance.now 1 in
-    returns_all c.into_open.result limit IsAnswer (c.into_open.ensures.value limit.tickets (record { few = omega (arith, c.loop-work.invariant.few, stays.same); all = inr stays.stays }))
-
 pub returns-in-Branch-2-clause-value : goal.returns-in-Branch-2-clause-value
 returns-in-Branch-2-clause-value g c =
     let spent = c.loop-work.search.tickets in
     let IsAnswer : ℕ → Outcome → Type 0 = IsOutcome c.args.bounds c.args.instance.now 1 in
     let over = c.allows.ensures.none c.if-allows.false in
-    returns_spent c.into_open-in-Branch-2.result c.args.limit IsAnswer spent c.loop-work.invariant.few over (c.into_open-in-Branch-2.ensures.value spent (record { few = omega arith; all = inl refl }))
+    returns_spent c.into_open.result c.args.limit IsAnswer spent c.loop-work.invariant.few over c.into_open.ensures.value
 
 pub returns-clause-value : goal.returns-clause-value
 returns-clause-value g c =

@@ -1,21 +1,21 @@
 use Rattle.convoy_branch.specs.Steps.{known_after}
 use Rattle.convoy_branch.proofs.Tries.{open_without, turn_of_leaf}
 use Rattle.convoy_branch.proofs.step.step_branch.Goals as goal
-use Rattle.convoy_branch.proofs.step.step_branch.Goals.{in-Some, in-None+in_ok-fate-in-None}
+use Rattle.convoy_branch.proofs.step.step_branch.Goals.{in-Some, in-None+in_ok-turn-in-None}
 
 pub returns-clause-value : goal.returns-clause-value
 returns-clause-value c =
     let bounds = c.args.bounds in
     let plan = c.args.instance.now in
-    let box = c.args.branch.delay_box in
+    let region = c.args.branch.region in
     let look = c.in-Ok.look in
     let shows = c.in-Ok.ensures.value in
     let known = known_after c.args.seen look.found in
-    let least = c.stamp_bound_at_most_plain.ensures plan box in
+    let least = c.stamp_bound_at_most_plain.ensures plan region.ranges in
     record {
       found = shows.found;
-      fate = elim c.match-leaf.branch [
-        | in-Some w ↦ rw w.fate-is (turn_of_leaf bounds plan box known look.asked.leaf w.in-Some.leaf shows.named least shows.asked.leaf w.in-Some.is)
-        | in-None+in_ok-fate-in-None w ↦ rw w.fate-is (w.in_ok-fate-in-None.ensures.value bounds known (record { not_closed = open_without bounds plan box known look.asked.leaf shows.named least shows.asked.leaf w.in-None.is; tried = shows.tried w.in-None.is }))
+      turn = elim c.match-leaf.branch [
+        | in-Some w ↦ rw w.turn-is (turn_of_leaf bounds plan region known look.asked.leaf w.in-Some.leaf shows.named least shows.asked.leaf w.in-Some.is)
+        | in-None+in_ok-turn-in-None w ↦ rw w.turn-is (w.in_ok-turn-in-None.ensures.value bounds known (record { not_closed = open_without bounds plan region known look.asked.leaf shows.named least shows.asked.leaf w.in-None.is; tried = shows.tried w.in-None.is }))
       ];
     }

@@ -1,5 +1,5 @@
 use Rattle.std.proofs.Common.{List, [], ◌∷◌, ◌+◌, ◌≤◌, ◌≡◌, length, reverse, ◌∙◌, ap, refl, sym, subst, ◌++◌}
-use Rattle.convoy_intervals.specs.Boxes.{Box}
+use Rattle.convoy_regions.specs.Regions.{Region}
 use Rattle.convoy_share_deque.specs.Tasks.{OwnerEnd}
 use Rattle.convoy_share.specs.Common.{common_of}
 use Rattle.convoy_share.specs.declared.workers.OwnerWorker.{OwnerWorker}
@@ -20,6 +20,6 @@ returns-in_ok-keep-in-Some g c =
     let end = ap (λ (o : OwnerEnd). record o { put = new.end.put }) (told.fixed ∙ ap (λ (o : OwnerEnd). record o { put = [] }) took.0) in
     let put : c.take.new.self.put ≡ old.end.put = ap (λ (o : OwnerEnd). o.put) took.0 in
     let pieces = reverse c.in_ok-pieces-in-Some.pieces.items in
-    let below = subst (λ (bs : List Box). task.number + 1 ≤ length bs) (sym put) (number_below old.end.put task took.2) in
-    let grown = subst (λ (bs : List Box). IsGrown shared.bounds shared.instance.now old.means new.means bs new.end.put (task.number + 1) (task.branch.delay_box ∷ []) pieces) put (told.grown (task.number + 1) below) in
+    let below = subst (λ (bs : List Region). task.number + 1 ≤ length bs) (sym put) (number_below old.end.put task took.2) in
+    let grown = subst (λ (bs : List Region). IsGrown shared.bounds shared.instance.now old.means new.means bs new.end.put (task.number + 1) (task.branch.region ∷ []) pieces) put (told.grown (task.number + 1) below) in
     owner_more c.fronts_better.ensures (common_of shared) old new task pieces c.requires end grown trees refl

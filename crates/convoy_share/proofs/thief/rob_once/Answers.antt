@@ -12,5 +12,5 @@ returns-in_ok-keep-in-Success g c =
     let old = c.args.worker.now in
     let trees = c.in_ok-keep-in-Success.ensures ∙ ap (λ (t : Subtree). old.trees.items ++ t ∷ []) c.of.ensures in
     let new : ThiefWorker = record { means = c.search_branch.new.means; end = c.steal.new.self; trees = c.keep.new.trees } in
-    let grown = IsGrown-kept shared.bounds shared.scenario old.means new.means (c.in-Success.task.number + 1) (c.in-Success.task.branch.delay_box ∷ []) (reverse c.in_ok-pieces-in-Success.pieces.items) (c.in_ok-pieces-in-Success.ensures.grown 0 (omega arith)) in
+    let grown = IsGrown-kept shared.bounds shared.scenario old.means new.means (c.in-Success.task.number + 1) (c.in-Success.task.branch.region ∷ []) (reverse c.in_ok-pieces-in-Success.pieces.items) (c.in_ok-pieces-in-Success.ensures.grown 0 (omega arith)) in
     thief_more c.fronts_better.ensures shared old.end.deque old.means.hand.share old.means.clerk.share old new c.in-Success.task (reverse c.in_ok-pieces-in-Success.pieces.items) c.requires c.in-Success.ensures.0 grown trees

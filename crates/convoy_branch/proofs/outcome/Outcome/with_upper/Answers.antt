@@ -1,4 +1,6 @@
-use Rattle.std.proofs.Common.{arith, inr}
+use Rattle.std.proofs.Common.{ℕ, arith, inr, subst}
+use Rattle.convoy_branch.specs.Fronts.{IsFront}
+use Rattle.convoy_branch.specs.declared.bounds.Bounds.TheVariants.{Lead, Plain}
 use Rattle.convoy_branch.proofs.outcome.Outcome.with_upper.Goals as goal
 
 pub returns-in-Open-clause-value : goal.returns-in-Open-clause-value
@@ -13,8 +15,8 @@ returns-in-Open-clause-value c scenario workers by_plain by_leads best tickets b
         plain_best = best.latency;
         plain_upper = c.args.upper;
         lead_upper = c.in-Open.by_leads;
-        by_plain = plain.front;
-        by_leads = lead.front;
+        by_plain = subst (λ (n : ℕ). IsFront Plain scenario best.latency c.args.upper n) plain.all plain.front;
+        by_leads = subst (λ (n : ℕ). IsFront Lead scenario c.in-Open.best.latency c.in-Open.by_leads n) lead.all lead.front;
         no_worse = above;
         lesser = c.min.ensures;
       };

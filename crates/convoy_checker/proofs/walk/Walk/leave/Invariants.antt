@@ -1,11 +1,10 @@
-use Rattle.std.proofs.Common.{◌≡◌, reverse, vec_len}
-use Rattle.convoy_certificate.specs.declared.node.Node.TheVariants.{Bound}
-use Rattle.convoy_checker.specs.Walks.{boxes_after, opened, IsWalk}
+use Rattle.std.proofs.Common.{◌≡◌, [], reverse, vec_len}
+use Rattle.convoy_checker.specs.Walks.{below_first, opened, IsWalk}
 use Rattle.convoy_checker.proofs.walk.Walk.leave.Given as goal
 
 abbrev pub invariant-loop-change : goal.invariant-loop-change
 invariant-loop-change l = record {
-  opens : opened l.self-inside.current (reverse l.self-inside.changes.items) ≡ boxes_after Bound l.fn.self;
+  opens : opened l.self-inside.current (reverse l.self-inside.changes.items) ≡ below_first (λ _. []) l.fn.self;
   lawful : IsWalk l.self-inside.stands l.self-inside.current l.self-inside.changes.items;
 }
 

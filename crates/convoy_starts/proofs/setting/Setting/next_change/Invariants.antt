@@ -1,5 +1,4 @@
 use Rattle.std.proofs.Common.{◌≡◌, ℕ, ◌<◌, ◌≤◌, get_or, All}
-use Rattle.convoy_draft.specs.declared.time.Time.TheVariants.{Real}
 use Rattle.convoy_sim.specs.Delivery.{addressed_to}
 use Rattle.convoy_sure.specs.Windows.{tables_by}
 use Rattle.convoy_starts.specs.Starts.{stamp_for}
@@ -12,6 +11,6 @@ invariant-loop-from l =
     record {
       past : l.tick < l.next;
       later : All (λ z. l.tick < tables.times.least_arrival z l.pair.group → l.next ≤ tables.times.least_arrival z l.pair.group) (addressed_to l.self.scenario.now l.pair.group);
-      same : l.self.scenario.now.time ≡ Real → 0 < l.tick → (k at x : ℕ) → k < l.from-index → l.tick ≤ at → at < l.next
+      same : 0 < l.tick → (k at x : ℕ) → k < l.from-index → l.tick ≤ at → at < l.next
           → stamp at x (get_or l.from-items k 0) ≡ stamp l.tick x (get_or l.from-items k 0);
     }

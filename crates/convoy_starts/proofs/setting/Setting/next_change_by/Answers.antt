@@ -5,21 +5,27 @@ use Rattle.convoy_starts.proofs.SteadyStarts.{stamp_for_same}
 use Rattle.convoy_starts.proofs.setting.Setting.next_change_by.Goals as goal
 
 pub returns-then-greatest_arrival-next-clause-same : goal.returns-then-greatest_arrival-next-clause-same
-returns-then-greatest_arrival-next-clause-same c real some later x late soon =
+returns-then-greatest_arrival-next-clause-same c some later x late soon =
     let by : c.arrives_by-by.result ≡ arrives_by (tables_by c.args.self.now.windows.now) c.args.tick c.args.pair.message c.args.pair.group c.args.from = c.arrives_by-by.ensures in
-    stamp_for_same c.args.self.now.scenario.now (tables_by c.args.self.now.windows.now) c.args.self.now.sure.now c.args.pair real c.args.starts.now c.args.tick later x c.args.from
+    let firsts = rw c.args.self.now.kind at c.next_start.ensures.first in
+    let seconds = rw c.args.self.now.kind at c.next_start.ensures.second in
+    stamp_for_same c.args.self.now.scenario.now (tables_by c.args.self.now.windows.now) c.args.self.now.sure.now c.args.pair c.args.starts.now c.args.tick later x c.args.from
     c.min-next.result some late
-    (omega (arith, by, c.next_least_arrival.ensures.past, c.next_start.ensures.past, c.min-next.ensures))
-    (λ k d l m. let n = c.next_least_arrival.ensures.first k d l (omega (arith, by, m)) in omega (arith, n, c.min-next.ensures))
-    (λ k d l same m. let n = c.next_start.ensures.first k d l same (omega (arith, by, m)) in omega (arith, n, c.min-next.ensures))
+    (omega (arith, by, c.next_follower.ensures.past, c.next_start.ensures.past, c.min-next.ensures))
+    (λ k d l m. let n = c.next_follower.ensures.first k d l (omega (arith, by, m)) in omega (arith, n, c.min-next.ensures))
+    (λ k d l same m. let n = firsts k d l same (omega (arith, by, m)) in omega (arith, n, c.min-next.ensures))
+    (λ k d l same m. let n = seconds k d l same (omega (arith, by, m)) in omega (arith, n, c.min-next.ensures))
     (inl (omega (arith, c.greatest_arrival.ensures.value, c.if-greatest_arrival-next.true)))
 
 pub returns-clause-same : goal.returns-clause-same
-returns-clause-same c real some later x late soon =
+returns-clause-same c some later x late soon =
     let by : c.arrives_by-by.result ≡ arrives_by (tables_by c.args.self.now.windows.now) c.args.tick c.args.pair.message c.args.pair.group c.args.from = c.arrives_by-by.ensures in
-    stamp_for_same c.args.self.now.scenario.now (tables_by c.args.self.now.windows.now) c.args.self.now.sure.now c.args.pair real c.args.starts.now c.args.tick later x c.args.from
+    let firsts = rw c.args.self.now.kind at c.next_start.ensures.first in
+    let seconds = rw c.args.self.now.kind at c.next_start.ensures.second in
+    stamp_for_same c.args.self.now.scenario.now (tables_by c.args.self.now.windows.now) c.args.self.now.sure.now c.args.pair c.args.starts.now c.args.tick later x c.args.from
     c.min-next.result some late
-    (omega (arith, by, c.next_least_arrival.ensures.past, c.next_start.ensures.past, c.min-next.ensures))
-    (λ k d l m. let n = c.next_least_arrival.ensures.first k d l (omega (arith, by, m)) in omega (arith, n, c.min-next.ensures))
-    (λ k d l same m. let n = c.next_start.ensures.first k d l same (omega (arith, by, m)) in omega (arith, n, c.min-next.ensures))
+    (omega (arith, by, c.next_follower.ensures.past, c.next_start.ensures.past, c.min-next.ensures))
+    (λ k d l m. let n = c.next_follower.ensures.first k d l (omega (arith, by, m)) in omega (arith, n, c.min-next.ensures))
+    (λ k d l same m. let n = firsts k d l same (omega (arith, by, m)) in omega (arith, n, c.min-next.ensures))
+    (λ k d l same m. let n = seconds k d l same (omega (arith, by, m)) in omega (arith, n, c.min-next.ensures))
     (inr (omega (arith, soon, c.saturating_add.ensures, c.max.ensures, c.least_proposal.ensures.value)))

@@ -1,0 +1,96 @@
+//! Options that people expect, and that the program has not.
+
+use std::alloc::{AllocError, Global};
+
+/// Such options, and what to write in their place.
+const OTHERS: [(&str, &str); 20] = [
+    ("--target", TARGET),
+    ("--message", TARGET),
+    ("--unit", UNIT),
+    ("--units", UNIT),
+    ("--ms", UNIT),
+    ("--output", OUTPUT),
+    ("--out", OUTPUT),
+    ("-o", OUTPUT),
+    ("--output-format", "'--format' names the format of a table"),
+    ("--threads", WORKERS),
+    ("--jobs", WORKERS),
+    ("-j", WORKERS),
+    ("--timeout", SECONDS),
+    ("--time-limit", SECONDS),
+    ("--max-time", SECONDS),
+    ("--verbose", PROGRESS),
+    ("-v", PROGRESS),
+    ("-q", QUIET),
+    ("--silent", QUIET),
+    ("--no-hints", QUIET),
+];
+
+const TARGET: &str =
+    "the table [target] of the scenario names it, and 'survey' asks for each message at each group";
+
+const UNIT: &str =
+    "where durations are written an answer stands in ticks and in the unit of the tick, which 'tick' in the scenario sets";
+
+const OUTPUT: &str = "the answer goes to standard output, as by '> FILE'";
+
+const WORKERS: &str = "'--workers' says how many threads share a search";
+
+const SECONDS: &str = "'--seconds' says after how long a search stops";
+
+const PROGRESS: &str = "'--progress' tells how far a search has come";
+
+const QUIET: &str = "'--quiet' leaves hints out";
+
+/// Keys of a scenario, which stand there and in no command line.
+const KEYS: [&str; 15] = [
+    "time",
+    "tick",
+    "delay",
+    "least",
+    "most",
+    "both",
+    "groups",
+    "link",
+    "multicast",
+    "from",
+    "to",
+    "at",
+    "until",
+    "schedule",
+    "order",
+];
+
+/// What to write in place of an option that the program has not, in one line `hint: ..`; None where that is not known.
+pub(crate) fn hint_for_strange(alloc: Global, option: &str) -> Result<Option<String>, AllocError> {
+    if let Some(advice) = advice_for(option) {
+        return format!(in alloc; "hint: '{option}' is no option: {advice}\n").map(Some);
+    }
+    match key_of(option) {
+        Some(key) => format!(in alloc;
+            "hint: '--{key}' is no option: '{key}' is a key of the scenario, and is written there\n"
+        ).map(Some),
+        None => Ok(None),
+    }
+}
+
+/// What to write in place of an option of another program; None where that is not known.
+fn advice_for(option: &str) -> Option<&'static str> {
+    for (name, advice) in OTHERS {
+        if name == option {
+            return Some(advice);
+        }
+    }
+    None
+}
+
+/// The key of a scenario that an option has for its name; None where it has none.
+fn key_of(option: &str) -> Option<&'static str> {
+    let name = option.strip_prefix("--")?;
+    for key in KEYS {
+        if key == name {
+            return Some(key);
+        }
+    }
+    None
+}

@@ -1,5 +1,0 @@
-use Rattle.convoy_branch.specs.Aims.{HasRisen}
-use Rattle.convoy_branch.proofs.above.Above.halve.Given as goal
-
-abbrev pub invariant-loop : goal.invariant-loop
-invariant-loop g l = HasRisen l.fn.self l.self

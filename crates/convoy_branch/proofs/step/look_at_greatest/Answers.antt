@@ -1,7 +1,0 @@
-use Rattle.std.proofs.Common.{◌∙◌, sym}
-use Rattle.convoy_branch.proofs.Tries.{look_closed}
-use Rattle.convoy_branch.proofs.step.look_at_greatest.Goals as goal
-
-pub returns-then-is_some : goal.returns-then-is_some
-returns-then-is_some c =
-    record { value = look_closed c.args.bounds c.args.instance.now c.args.branch.now.delay_box c.args.seen c.in_ok-asked.asked c.ranges.seen.fits (c.stamp_bound_at_most_plain.ensures c.args.instance.now c.args.branch.now.delay_box) c.in_ok-asked.ensures (sym c.is_some.ensures ∙ c.if-is_some.true) }

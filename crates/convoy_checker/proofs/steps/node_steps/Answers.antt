@@ -1,0 +1,9 @@
+use Rattle.convoy_checker.proofs.StepLimits.{point_steps_are}
+use Rattle.convoy_checker.proofs.steps.node_steps.Goals as goal
+
+pub returns-in_ok-ties-in-Point : goal.returns-in_ok-ties-in-Point
+returns-in_ok-ties-in-Point c =
+    rw c.in-Point.is (point_steps_are c.args.instance.now c.args.region.now _ _ _ c.before-in-Point.ensures (rw c.table.ensures.value at c.len.ensures.value) (c.in_ok-ties-in-Point.ensures.value c.args.region.now.ranges))
+
+pub returns-in-Lead : goal.returns-in-Lead
+returns-in-Lead c = rw c.in-Lead.is (rw c.delay_box.ensures at c.lead_steps.ensures)

@@ -1,0 +1,17 @@
+pub mod Lists
+pub mod MomentsOrder
+pub mod SameStamps
+pub mod SameLatency
+pub mod Folds
+pub mod KnownHolds
+pub mod StageLists
+pub mod OrderHalves
+pub mod RunRanks
+pub mod RunOrders
+pub mod RunTicks
+pub mod RunKeeps
+pub mod DecidedOrders
+pub mod DecidedLatency
+pub mod Tables
+pub mod Walks
+pub mod StageCounts
