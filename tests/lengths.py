@@ -5,12 +5,15 @@ This is written from docs/FORMATS.md, "Durations", and shares nothing with the p
 
 import functools
 import math
+import re
 
 # How many nanoseconds a unit has, from the greatest unit to the least.
 UNITS = {"s": 1_000_000_000, "ms": 1_000_000, "us": 1_000, "ns": 1}
 # The longest duration, in nanoseconds, and of how many of its unit a tick is at most.
 LONGEST = 10**15
 MOST_UNITS = 4_294_967_295
+# The delay of a scenario text where it is a duration.
+UNIT_OF_DELAY = re.compile(r'(?m)^delay = "[\d. ]*([a-z]+)"$')
 
 
 def unit_of(length):
@@ -24,10 +27,11 @@ def written(length):
     return f"{length // UNITS[unit]} {unit}"
 
 
-def measured(ticks, tick):
-    """So many ticks of this length, as (count, unit): in the unit in which the tick is written."""
-    unit = unit_of(tick)
-    return ticks * (tick // UNITS[unit]), unit
+def unit_of_times(text, delay, tick):
+    """The unit in which times of a scenario are told where none is asked for: that of its text's own delay, or else the
+    greatest of which D, so many ticks of this length, is a whole number."""
+    own = UNIT_OF_DELAY.search(text)
+    return own.group(1) if own else unit_of(delay * tick)
 
 
 def in_unit(length, unit):

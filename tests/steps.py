@@ -29,13 +29,13 @@ def ticks_of_pair(scenario, first, last, pair):
     return min(3 * len(first), ticks)
 
 
-def steps_of_leads(scenario, named, box):
-    """The steps of a lead leaf that names that latency."""
+def steps_of_leads(scenario, named, box, orders):
+    """The steps of a lead leaf that names that latency, below so many splits by order."""
     first, last = commits(scenario, box)
     _, groups, issue = scenario.messages[scenario.target]
     late = sum(last.get((message, scenario.at), 0) > issue + named for message, _ in first)
     test = sum(1 + ticks_of_pair(scenario, first, last, pair) for pair in first)
-    return 1 + len(first) + late * (2 + 2 * len(groups)) * test
+    return 1 + len(first) + orders + min(2, 1 + orders) * late * (2 + 2 * len(groups)) * test
 
 
 def steps_of_node(scenario, node, box, orders):
@@ -49,7 +49,7 @@ def steps_of_node(scenario, node, box, orders):
     if kind == "t":
         return 1 + len(scenario.messages[scenario.target][1]) * pairs
     if kind == "c":
-        return steps_of_leads(scenario, int(numbers[0]), box)
+        return steps_of_leads(scenario, int(numbers[0]), box, orders)
     return 1
 
 

@@ -1,12 +1,8 @@
-"""Targets of scenario texts, and the rows of tables in each format."""
+"""Scenario texts as a reader of TOML has them: their targets, and texts that are made of tables."""
 
-import csv
-import io
 import itertools
 import re
 import tomllib
-
-from support import need, want
 
 
 def may_wait(message):
@@ -51,27 +47,3 @@ def text_of(table):
 def with_length(text, chance):
     """A text in real time with a length of its ticks."""
     return text.replace('time = "real"\n', f'time = "real"\ntick = "{chance.choice([1, 50, 200])} {chance.choice(["us", "ms"])}"\n', 1)
-
-
-def rows_of_text(out):
-    """The rows of aligned columns."""
-    header, *lines = out.splitlines()
-    need(not any(line.endswith(" ") for line in out.splitlines()), "a line ends in a space")
-    names = header.split()
-    for line in lines:
-        cells = re.split(" {2,}", line.lstrip())
-        want(len(cells), len(names))
-        yield {name: None if cell == "-" else int(cell) if cell.isdecimal() else cell for name, cell in zip(names, cells)}
-
-
-def rows_of_csv(out):
-    """The rows of CSV. An apostrophe at the head of a cell is no part of it."""
-    for row in csv.DictReader(io.StringIO(out, newline=""), strict=True):
-        yield {name: None if cell == "" else int(cell) if cell.isdecimal() else cell.removeprefix("'") for name, cell in row.items()}
-
-
-def aligned(out):
-    """Whether each cell begins where its column does, or ends where its column does, in all lines of aligned columns."""
-    places = [[(cell.start(), cell.end()) for cell in re.finditer(r"\S+(?: \S+)*", line)] for line in out.splitlines()]
-    columns = [(min(start for start, _ in column), max(end for _, end in column), column) for column in zip(*places)]
-    return all(start == left or end == right for left, right, column in columns for start, end in column)

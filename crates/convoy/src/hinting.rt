@@ -11,11 +11,11 @@ use convoy_commands::{
 };
 use convoy_hints::{
     CheckedText, Hint, hint_for_batch, hint_for_both, hint_for_ceiling, hint_for_certificate,
-    hint_for_difference, hint_for_file_as_group, hint_for_first, hint_for_given_order,
-    hint_for_given_schedule, hint_for_greatest, hint_for_jobs, hint_for_leads, hint_for_length,
-    hint_for_limit, hint_for_named_group, hint_for_order_in_ticks, hint_for_plain_number,
-    hint_for_reading, hint_for_scenario, hint_for_seconds, hint_for_tickets, hint_for_unchecked,
-    hint_for_writing, hint_of_text, is_name_of_file, line_for_file,
+    hint_for_changes, hint_for_difference, hint_for_file_as_group, hint_for_first,
+    hint_for_given_order, hint_for_given_schedule, hint_for_greatest, hint_for_jobs,
+    hint_for_leads, hint_for_length, hint_for_limit, hint_for_named_group, hint_for_order_in_ticks,
+    hint_for_plain_number, hint_for_reading, hint_for_scenario, hint_for_seconds, hint_for_tickets,
+    hint_for_unchecked, hint_for_writing, hint_of_text, is_name_of_file, line_for_file,
 };
 use convoy_streams::KeptReader;
 use convoy_tasks::{MOST_JOBS, Task};
@@ -304,7 +304,9 @@ fn hint_for_open<R, W>(alloc: Global, run: &Finished<'_, R, W>) -> Hint {
 /// How many steps may be taken to check a certificate, where the command line asks for that.
 fn steps_of(verdict: &Verdict) -> Option<u64> {
     match task_of(verdict)? {
-        Task::Check { limit, .. } | Task::Explain { limit, .. } | Task::Draw { limit } => *limit,
+        Task::Check { limit, .. } | Task::Explain { limit, .. } | Task::Draw { limit, .. } => {
+            *limit
+        }
         _ => None,
     }
 }
@@ -312,7 +314,9 @@ fn steps_of(verdict: &Verdict) -> Option<u64> {
 /// By how many simulations at most traffic was sought, where the command line asks for ceilings.
 fn traffic_sought(verdict: &Verdict) -> Option<u64> {
     match task_of(verdict)? {
-        Task::Ceiling { simulations } | Task::Ceilings { simulations, .. } => Some(*simulations),
+        Task::Ceiling { simulations, .. } | Task::Ceilings { simulations, .. } => {
+            Some(*simulations)
+        }
         _ => None,
     }
 }
@@ -398,19 +402,28 @@ fn hint_for_kind_of_answer(alloc: Global, verdict: &Verdict, known: &Option<Know
             manner,
             ..
         } if !manner.names_command => Ok(Some(hint_for_first(alloc)?)),
-        Verdict::Ask {
-            task: Task::Analyse { .. } | Task::Latency { .. } | Task::Explain { .. },
+        Verdict::Ask { task, .. } => hint_for_task(alloc, task, known),
+        Verdict::Batch { .. } | Verdict::Text { .. } | Verdict::Memory => Ok(None),
+    }
+}
+
+/// The hint for the greatest latency that a task found, where that is the ceiling.
+fn hint_for_task(alloc: Global, task: &Task, known: &Option<Known>) -> Hint {
+    let Some(
+        Known {
+            scenario,
+            greatest: Some(greatest),
             ..
-        } => match known {
-            Some(
-                Known {
-                    scenario,
-                    greatest: Some(greatest),
-                    ..
-                },
-            ) => hint_for_greatest(alloc, scenario, *greatest),
-            _ => Ok(None),
         },
+    ) = known
+    else {
+        return Ok(None);
+    };
+    match task {
+        Task::Analyse { .. } | Task::Latency { .. } | Task::Explain { .. } => {
+            hint_for_greatest(alloc, scenario, *greatest)
+        }
+        Task::WhatIf { .. } => hint_for_changes(alloc, scenario, *greatest),
         _ => Ok(None),
     }
 }

@@ -1,8 +1,9 @@
 //! How far a long search has come, told on standard error, and when its time is over.
 
 use convoy_arguments::Verdict;
-use convoy_commands::{Bounds, Duration, Gate, Watch};
+use convoy_commands::{Bounds, Duration, Gate, TimeUnit, Watch};
 use convoy_tasks::Task;
+use convoy_times::Measure;
 use std::alloc::{AllocError, Global};
 use std::io::{Stderr, Write};
 use std::sync::atomic::{AtomicBool, AtomicU32, AtomicU64, Ordering};
@@ -73,6 +74,8 @@ pub struct Progress<'a, R> {
     limit: AtomicU64,
     /// How many nanoseconds a tick lasts, or 0 where that is not known.
     tick: AtomicU64,
+    /// How many nanoseconds the unit has in which times are told, or 0.
+    unit: AtomicU64,
     least: AtomicU32,
     /// The greatest number where no bound is known.
     most: AtomicU32,
@@ -98,6 +101,7 @@ impl<'a, R: Clock> Progress<'a, R> {
             spent: AtomicU64::new(0),
             limit: AtomicU64::new(0),
             tick: AtomicU64::new(0),
+            unit: AtomicU64::new(0),
             least: AtomicU32::new(0),
             most: AtomicU32::new(0),
             told: AtomicBool::new(false),
@@ -194,18 +198,41 @@ impl<'a, R: Clock> Progress<'a, R> {
         )
     }
 
-    /// What is told of so many ticks in their unit, in brackets; nothing where the length of a tick is
-    /// not known.
+    /// What is told of so many ticks as a time, in brackets; nothing where the length of a tick is not known.
     fn lasting(&self, word: &str, ticks: u32) -> Result<String, AllocError> {
-        match Duration::from_nanoseconds(self.tick.load(Ordering::Relaxed)) {
-            Some(tick) if tick.nanoseconds() > 0 => {
-                let count = u128::from(ticks) * u128::from(tick.count());
-                let unit = tick.unit().word();
-                format!(in self.alloc; " ({word}{count} {unit})")
-            }
-            _ => Ok(String::new(self.alloc)),
+        match self.measure() {
+            Some(known) => self.in_brackets(word, known, ticks),
+            None => Ok(String::new(self.alloc)),
         }
     }
+
+    /// So many ticks as a time, after a word, in brackets.
+    fn in_brackets(&self, word: &str, measure: Measure, ticks: u32) -> Result<String, AllocError> {
+        let unit = measure.unit.word();
+        let time = measure.text(self.alloc, ticks)?;
+        format!(in self.alloc; " ({word}{time} {unit})")
+    }
+
+    /// How times are told; None where the length of a tick is not known.
+    fn measure(&self) -> Option<Measure> {
+        let unit = unit_of(self.unit.load(Ordering::Relaxed))?;
+        let tick = Duration::from_nanoseconds(self.tick.load(Ordering::Relaxed))?;
+        Some(Measure { tick, unit })
+    }
+}
+
+/// The unit that has so many nanoseconds, if one has.
+fn unit_of(nanoseconds: u64) -> Option<TimeUnit> {
+    let units = [
+        TimeUnit::Seconds,
+        TimeUnit::Milliseconds,
+        TimeUnit::Microseconds,
+        TimeUnit::Nanoseconds,
+    ];
+    units
+        .iter()
+        .find(|unit| unit.nanoseconds() == nanoseconds)
+        .copied()
 }
 
 impl<'a, R: Clock> Gate for Progress<'a, R> {
@@ -248,17 +275,18 @@ impl<'a, R: Clock> Watch for Progress<'a, R> {
 
     fn begins(
         &self,
-        tick: Option<Duration>,
+        measure: Option<Measure>,
         bounds: Bounds,
         limit: u64,
         least: u32,
         most: Option<u32>,
     ) {
-        let nanoseconds = match tick {
-            Some(tick) => tick.nanoseconds(),
-            None => 0,
+        let (tick, unit) = match measure {
+            Some(measure) => (measure.tick.nanoseconds(), measure.unit.nanoseconds()),
+            None => (0, 0),
         };
-        self.tick.store(nanoseconds, Ordering::Relaxed);
+        self.tick.store(tick, Ordering::Relaxed);
+        self.unit.store(unit, Ordering::Relaxed);
         self.told.store(false, Ordering::Relaxed);
         self.start(bounds, limit, least, most.unwrap_or(u32::MAX));
     }

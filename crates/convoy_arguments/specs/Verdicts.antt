@@ -19,7 +19,7 @@ EndsAtOnce Memory = Unit {0}
 
 -- a scenario is wanted only where a certificate is checked: no other task has a second input
 abbrev pub WantsOnlyIfChecks : Task → Option Input → Type 0
-WantsOnlyIfChecks (Check tells limit) wanted = Unit {0}
+WantsOnlyIfChecks (Check tells unit limit) wanted = Unit {0}
 WantsOnlyIfChecks task wanted = wanted ≡ None
 
 -- a task on its inputs, a batch that may read as often as each task, or an end at once

@@ -9,7 +9,7 @@ const _: () = prove!(MOST_TICKETS == 4_000_000);
 
 const _: () = prove!(DEFAULT_LIMIT == 1_000_000);
 
-const _: () = prove!(PLAIN_TICKETS == 10_000);
+const _: () = prove!(PLAIN_TICKETS == 2_000);
 
 const _: () = prove!(MOST_SIMULATIONS == 1_000_000);
 
@@ -217,7 +217,7 @@ Reads a scenario, searches for the greatest latency of the target over all
 schedules, and writes one line: 'greatest N', in ticks.
   convoy latency scenario.toml
 Where a tick has a length, by the key `tick` or by times with units, the line
-goes on with the same in a unit of time, as in 'greatest 1630 163000 us'.
+goes on with the same in a unit of time, as in 'greatest 1630 163 ms'.
 The command `analyse` runs the same search, and writes why it is so.
 
 Where the search does not end, it writes 'open LEAST MOST', the least and the
@@ -247,6 +247,9 @@ that it goes to, and with `--group GROUP` for each message that goes to that gro
 but for messages with an issue window (`until`), which are no targets:
   message  group  ceiling  attained
   t        a           12        12
+  t        *           12        12
+The row `*` of a message is at all its groups, which is when a client that waits for
+all of them has its answer; with `--group` there is none.
 The exit status is then 1 where memory ran out for a row, else 3 where a ceiling
 was not attained. The text need not have a target for that.";
 
@@ -285,6 +288,9 @@ for each, in the order of the text, but for messages with an issue window (`unti
 which are no targets:
   message  group  answer    least  most  rival  tied  nodes
   t        a      greatest     12    12  y      x         1
+  t        *      greatest     12    12  y      x         -
+The row `*` of a message is at all its groups, which is when a client that waits for
+all of them has its answer.
 LEAST and MOST are in ticks, and once more in a unit of time where a tick has a
 length. Where the search did not end, the answer is 'open', and the greatest
 latency lies between the two; where memory ran out it is that fault. RIVAL is the
@@ -296,7 +302,8 @@ greatest latency. The text need not have a target.
 With `--without` the table is one of changes, and asks for the text's target alone,
 which has to be there: its greatest latency as the text is, without each other
 message, and with each link that packets travel at its least and at its most. What
-saves most comes first.
+saves most comes first, and one line stands for all changes that change nothing,
+unless `--all` is given.
   convoy survey --without scenario.toml
   change   message  from    to  answer    least  most  rival  tied  nodes
   nothing  -        -       -   greatest     12    12  y      x         1
@@ -306,6 +313,16 @@ The exit status is 1 where a row is a fault, else 3 where one is open.";
 pub(crate) const ABOUT_WITHOUT: &str = "\
 Tells the greatest latency of the target with each change of one thing: another
 message left out, or a link at its least or at its most";
+
+pub(crate) const ABOUT_ALL_CHANGES: &str = "\
+Tells each change that changes nothing in a row of its own, in place of one line for
+all of these";
+
+pub(crate) const ABOUT_UNIT: &str = "\
+In which unit times are told, where a tick has a length: `ns`, `us`, `ms` or `s`.
+Without this option it is the unit in which the scenario writes its `delay`, and
+of a certificate the greatest of which that delay is a whole number. Times are
+exact, with as many digits as they need";
 
 pub(crate) const ABOUT_FORMAT: &str = "\
 How the table is written: `text`, with aligned columns, as without this option;
@@ -341,7 +358,7 @@ How many schedules are simulated at most to find traffic of a great latency: fro
 pub(crate) const ABOUT_BOUNDS: &str = "\
 By what the search closes sets of schedules: `plain` bounds, `stamp` bounds,
 `lead`, which takes longest for each and mostly ends at once, or `best`: first
-plain bounds with at most 10000 tickets, and where that does not end, leads.
+plain bounds with at most 2000 tickets, and where that does not end, leads.
 That is also the way without this option and `--limit`. By leads at most 100000
 tickets are spent, and only by them may the certificate be of the form
 `convoy 3`; by plain bounds it is of the form `convoy 2` only where there are

@@ -5,7 +5,7 @@ use super::escaping::{are_shown, with_escapes};
 use super::input::{Input, Inputs};
 use super::limits::{HELP, REJECTED};
 use super::manner::Manner;
-use super::options::{format_of, options_of, simulations_of, steps_of};
+use super::options::{format_of, options_of, simulations_of, steps_of, unit_of};
 use super::parser::parser;
 use super::tips::without_tip;
 use super::verdict::Verdict;
@@ -217,28 +217,34 @@ fn certificate_task_for(name: &str, given: &ArgMatches<'_>) -> Task {
     match name {
         "check" => Task::Check {
             tells: given.get_flag("tell"),
+            unit: unit_of(given),
             limit,
         },
         "explain" => Task::Explain {
             with_ceiling: given.get_flag("ceiling"),
+            unit: unit_of(given),
             limit,
         },
-        _ => Task::Draw { limit },
+        _ => Task::Draw {
+            unit: unit_of(given),
+            limit,
+        },
     }
 }
 
 /// What `ceiling` asks for.
 fn ceiling_for(alloc: Global, given: &ArgMatches<'_>) -> Result<Task, AllocError> {
-    let simulations = simulations_of(given);
+    let (simulations, unit) = (simulations_of(given), unit_of(given));
     let group = match given.get_str("group") {
         Some(name) => Some(String::from_str(alloc, name)?),
         None if given.get_flag("all") => None,
-        None => return Ok(Task::Ceiling { simulations }),
+        None => return Ok(Task::Ceiling { simulations, unit }),
     };
     Ok(Task::Ceilings {
         format: format_of(given),
         group,
         simulations,
+        unit,
     })
 }
 
@@ -253,7 +259,11 @@ fn table_for(name: &str, given: &ArgMatches<'_>) -> Task {
         };
     }
     if given.get_flag("without") {
-        Task::WhatIf { format, options }
+        Task::WhatIf {
+            format,
+            shows_all: given.get_flag("all"),
+            options,
+        }
     } else {
         Task::Survey {
             format,

@@ -7,7 +7,7 @@ use super::limits::MOST_READS;
 use clap::ArgMatches;
 use convoy_commands::{
     Bounds, DEFAULT_LIMIT, DEFAULT_SIMULATIONS, DEFAULT_STEPS, MOST_SIMULATIONS, MOST_TICKETS,
-    MOST_WORKERS, Options, Ways,
+    MOST_WORKERS, Options, TimeUnit, Ways,
 };
 use convoy_tables::Format;
 
@@ -31,6 +31,12 @@ pub(crate) fn format_of(given: &ArgMatches<'_>) -> Format {
     }
 }
 
+/// The unit in which times are told, where one is given. `clap` rejects a word that names none.
+pub(crate) fn unit_of(given: &ArgMatches<'_>) -> Option<TimeUnit> {
+    let word = given.get_str("unit")?;
+    TimeUnit::named(word.as_bytes())
+}
+
 /// The options of a search: those that are given, or else the usual ones. `clap` rejects a word that
 /// is none of these, and a number out of range.
 pub(crate) fn options_of(given: &ArgMatches<'_>) -> Options
@@ -44,7 +50,10 @@ pub(crate) fn options_of(given: &ArgMatches<'_>) -> Options
         limit.clamp(1, MOST_TICKETS),
         MOST_READS,
     ) {
-        Some(options) => timed(options.seeking(simulations.min(MOST_SIMULATIONS)), given),
+        Some(options) => told(
+            timed(options.seeking(simulations.min(MOST_SIMULATIONS)), given),
+            given,
+        ),
         None => unreachable!(),
     };
     match ways_of(given) {
@@ -59,6 +68,16 @@ fn timed(options: Options, given: &ArgMatches<'_>) -> Options
 {
     match given.get_one("seconds") {
         Some(seconds) => options.stopping_after(seconds),
+        None => options,
+    }
+}
+
+/// The same options, where times are told in the unit that is given, if one is.
+fn told(options: Options, given: &ArgMatches<'_>) -> Options
+    ensures { result.most_reads ≡ options.most_reads }
+{
+    match unit_of(given) {
+        Some(unit) => options.telling_in(unit),
         None => options,
     }
 }

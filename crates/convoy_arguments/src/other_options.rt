@@ -3,10 +3,9 @@
 use std::alloc::{AllocError, Global};
 
 /// Such options, and what to write in their place.
-const OTHERS: [(&str, &str); 20] = [
+const OTHERS: [(&str, &str); 19] = [
     ("--target", TARGET),
     ("--message", TARGET),
-    ("--unit", UNIT),
     ("--units", UNIT),
     ("--ms", UNIT),
     ("--output", OUTPUT),
@@ -29,8 +28,7 @@ const OTHERS: [(&str, &str); 20] = [
 const TARGET: &str =
     "the table [target] of the scenario names it, and 'survey' asks for each message at each group";
 
-const UNIT: &str =
-    "where durations are written an answer stands in ticks and in the unit of the tick, which 'tick' in the scenario sets";
+const UNIT: &str = "'--unit' says in which unit times are told, as '--unit ms'";
 
 const OUTPUT: &str = "the answer goes to standard output, as by '> FILE'";
 

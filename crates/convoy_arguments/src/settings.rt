@@ -1,14 +1,14 @@
 //! The commands and their options, in the order in which help lists them.
 
 use super::help::{
-    ABOUT_ALL, ABOUT_ANALYSE, ABOUT_BATCH, ABOUT_BATCH_FORMAT, ABOUT_BESIDE, ABOUT_BOUNDS,
-    ABOUT_CEILING, ABOUT_CHECK, ABOUT_DRAW, ABOUT_EXPLAIN, ABOUT_FIRST, ABOUT_FORMAT, ABOUT_GROUP,
-    ABOUT_LATENCY, ABOUT_LIMIT, ABOUT_PACKETS, ABOUT_PROGRESS, ABOUT_SCENARIO, ABOUT_SECONDS,
-    ABOUT_SEEK, ABOUT_SEEK_TRAFFIC, ABOUT_SIMULATE, ABOUT_STATUS, ABOUT_STEPS, ABOUT_SURVEY,
-    ABOUT_TELL, ABOUT_TIMELINE, ABOUT_WANTED, ABOUT_WITHOUT, ABOUT_WORKERS, LONG_ABOUT_ANALYSE,
-    LONG_ABOUT_BATCH, LONG_ABOUT_CEILING, LONG_ABOUT_CHECK, LONG_ABOUT_DRAW, LONG_ABOUT_EXPLAIN,
-    LONG_ABOUT_FIRST, LONG_ABOUT_LATENCY, LONG_ABOUT_PACKETS, LONG_ABOUT_SCENARIO,
-    LONG_ABOUT_SIMULATE, LONG_ABOUT_SURVEY, LONG_ABOUT_TIMELINE,
+    ABOUT_ALL, ABOUT_ALL_CHANGES, ABOUT_ANALYSE, ABOUT_BATCH, ABOUT_BATCH_FORMAT, ABOUT_BESIDE,
+    ABOUT_BOUNDS, ABOUT_CEILING, ABOUT_CHECK, ABOUT_DRAW, ABOUT_EXPLAIN, ABOUT_FIRST, ABOUT_FORMAT,
+    ABOUT_GROUP, ABOUT_LATENCY, ABOUT_LIMIT, ABOUT_PACKETS, ABOUT_PROGRESS, ABOUT_SCENARIO,
+    ABOUT_SECONDS, ABOUT_SEEK, ABOUT_SEEK_TRAFFIC, ABOUT_SIMULATE, ABOUT_STATUS, ABOUT_STEPS,
+    ABOUT_SURVEY, ABOUT_TELL, ABOUT_TIMELINE, ABOUT_UNIT, ABOUT_WANTED, ABOUT_WITHOUT,
+    ABOUT_WORKERS, LONG_ABOUT_ANALYSE, LONG_ABOUT_BATCH, LONG_ABOUT_CEILING, LONG_ABOUT_CHECK,
+    LONG_ABOUT_DRAW, LONG_ABOUT_EXPLAIN, LONG_ABOUT_FIRST, LONG_ABOUT_LATENCY, LONG_ABOUT_PACKETS,
+    LONG_ABOUT_SCENARIO, LONG_ABOUT_SIMULATE, LONG_ABOUT_SURVEY, LONG_ABOUT_TIMELINE,
 };
 use super::limits::MOST_SECONDS;
 use clap::builder::ValueParser;
@@ -89,6 +89,9 @@ const TARGETS: &str = "targets";
 
 /// How a table may be written.
 const FORMATS: Value = Value::Given("FORMAT", ValueParser::Names(&["text", "csv", "json"]));
+
+/// The units in which times may be told.
+const UNITS: Value = Value::Given("UNIT", ValueParser::Names(&["ns", "us", "ms", "s"]));
 
 /// How many schedules may be simulated, and how many are where that is not said.
 const SIMULATIONS: Value = Value::Usual("N", ValueParser::Unsigned(0, MOST_SIMULATIONS), "20000");
@@ -229,6 +232,22 @@ const WITHOUT: Setting = Setting {
     company: Company::Without("ceiling"),
 };
 
+/// Whether a survey of changes has a row for each, also where nothing changes.
+const ALL_CHANGES: Setting = Setting {
+    name: "all",
+    about: ABOUT_ALL_CHANGES,
+    value: Value::Absent,
+    company: Company::With("without"),
+};
+
+/// In which unit times are told.
+const UNIT: Setting = Setting {
+    name: "unit",
+    about: ABOUT_UNIT,
+    value: UNITS,
+    company: Company::Any,
+};
+
 /// The scenario that a certificate is to be of.
 const SCENARIO: Setting = Setting {
     name: "scenario",
@@ -257,32 +276,44 @@ pub(crate) const COMMANDS: [Listed; 13] = [
         name: "explain",
         about: ABOUT_EXPLAIN,
         long_about: LONG_ABOUT_EXPLAIN,
-        settings: &[STEPS, CEILING],
+        settings: &[STEPS, UNIT, CEILING],
     },
     Listed {
         name: "draw",
         about: ABOUT_DRAW,
         long_about: LONG_ABOUT_DRAW,
-        settings: &[STEPS],
+        settings: &[STEPS, UNIT],
     },
     Listed {
         name: "latency",
         about: ABOUT_LATENCY,
         long_about: LONG_ABOUT_LATENCY,
-        settings: &[LIMIT, SECONDS, SEEK, BOUNDS, WORKERS, PROGRESS, CEILING],
+        settings: &[
+            LIMIT, SECONDS, SEEK, BOUNDS, WORKERS, PROGRESS, UNIT, CEILING,
+        ],
     },
     Listed {
         name: "ceiling",
         about: ABOUT_CEILING,
         long_about: LONG_ABOUT_CEILING,
-        settings: &[ALL, GROUP, CEILINGS_FORMAT, SEEK_TRAFFIC],
+        settings: &[ALL, GROUP, CEILINGS_FORMAT, UNIT, SEEK_TRAFFIC],
     },
     Listed {
         name: "survey",
         about: ABOUT_SURVEY,
         long_about: LONG_ABOUT_SURVEY,
         settings: &[
-            LIMIT, SECONDS, SEEK, BOUNDS, WORKERS, PROGRESS, FORMAT, CEILING, WITHOUT,
+            LIMIT,
+            SECONDS,
+            SEEK,
+            BOUNDS,
+            WORKERS,
+            PROGRESS,
+            FORMAT,
+            UNIT,
+            CEILING,
+            WITHOUT,
+            ALL_CHANGES,
         ],
     },
     Listed {
@@ -298,13 +329,14 @@ pub(crate) const COMMANDS: [Listed; 13] = [
             PROGRESS,
             STATUS,
             BATCH_FORMAT,
+            UNIT,
         ],
     },
     Listed {
         name: "check",
         about: ABOUT_CHECK,
         long_about: LONG_ABOUT_CHECK,
-        settings: &[STEPS, SCENARIO, TELL],
+        settings: &[STEPS, SCENARIO, TELL, UNIT],
     },
     Listed {
         name: "first",

@@ -9,14 +9,18 @@ use std::fmt;
 const WITH_TABLES: [&str; 3] = ["survey", "batch", "ceiling"];
 
 /// Options of a command or two, and these commands as they are told.
-const OF_SOME: [(&str, &str); 8] = [
-    ("all", "'ceiling'"),
+const OF_SOME: [(&str, &str); 9] = [
+    ("all", "'ceiling' and 'survey --without'"),
     ("group", "'ceiling'"),
     ("ceiling", "'latency', 'explain' and 'survey'"),
     ("without", "'survey'"),
     ("scenario", "'check'"),
     ("tell", "'check'"),
     ("status", "'batch'"),
+    (
+        "unit",
+        "'latency', 'survey', 'ceiling', 'batch', 'explain', 'draw' and 'check'",
+    ),
     ("format", "'survey', 'batch' and 'ceiling'"),
 ];
 

@@ -15,6 +15,7 @@ use Rattle.convoy_sim.specs.Times.{greatest}
 use Rattle.convoy_intervals.specs.Bounds.{plain_bound}
 use Rattle.convoy_intervals.specs.Boxes.{Box}
 use Rattle.convoy_leads.specs.Closing.{closes_by_leads}
+use Rattle.convoy_narrowing.proofs.RegionWindows.{closed_by_box}
 use Rattle.convoy_regions.specs.Regions.{root_region}
 use Rattle.convoy_checker.specs.TreeLaws.{TreesCover}
 use Rattle.convoy_sim.specs.Greatest.{IsUpper}
@@ -54,7 +55,7 @@ leaf_of_closed plan upper latency box true few is closes =
     let within : least_bound plan box ≤ latency = grind (arith, nat_tests, is) in
     leaf_within plan upper box (omega (arith, within, few))
 leaf_of_closed plan upper latency box false few is closes =
-    record { leaf = Lead latency; last = λ before. refl; right = λ before. (few, closes) }
+    record { leaf = Lead latency; last = λ before. refl; right = λ before. (few, closed_by_box plan (record { ranges = box; before = before }) latency closes) }
 
 closed_within : (plan : Scenario) (upper : ℕ) (box : Box) → IsClosedWithin plan upper box → HasLeaf plan upper box
 closed_within plan upper box closed =

@@ -16,6 +16,7 @@ use Rattle.convoy_intervals.specs.Boxes.{Box}
 use Rattle.convoy_regions.specs.Regions.{Region, run_of}
 use Rattle.convoy_stamps.specs.StampBounds.{stamp_bound}
 use Rattle.convoy_leads.specs.Closing.{closes_by_leads}
+use Rattle.convoy_narrowing.proofs.RegionWindows.{closed_by_box}
 use Rattle.convoy_branch.specs.Asked.{IsAsked}
 use Rattle.convoy_branch.specs.declared.asked.Asked.{Asked}
 use Rattle.convoy_branch.specs.Looks.{IsLook, IsLookAtRun}
@@ -83,7 +84,7 @@ module _ (plan : Scenario) (region : Region) (known : ℕ) (small : known < 2 ^ 
       (record { asked = lead_is_not_plain; plain = above; stamps = by_stamp_bound is above }, ap (λ (b : Bool). b || closes_by_leads plan region.ranges known) is)
   by_leads false true is closed above =
       let bound : known < least_bound plan region.ranges = grind (arith, nat_tests, is) in
-      ((refl, record { asked = refl; bound = bound; leads = closed; named = small }), ap (λ (b : Bool). b || closes_by_leads plan region.ranges known) is ∙ closed)
+      ((refl, record { asked = refl; bound = bound; leads = closed_by_box plan region known closed; named = small }), ap (λ (b : Bool). b || closes_by_leads plan region.ranges known) is ∙ closed)
   by_leads false false is closed above = ap (λ (b : Bool). b || closes_by_leads plan region.ranges known) is ∙ closed
 
   by_further : (bounds : Bounds) → known < plain_bound plan region.ranges → IsLeafFor bounds plan region known (further_leaf bounds plan region.ranges known)

@@ -22,7 +22,7 @@ abbrev pub first_bounds : Ways → Bounds
 first_bounds (One bounds) = bounds
 first_bounds Both = Plain
 
--- how many workers there are, how many tickets they spend at most, how many schedules are simulated before at most, how many reads of the input are made at most, and by which bounds of boxes, or by leads, the search goes, or both ways; and after how many seconds it stops, if it is to
+-- how many workers there are, how many tickets they spend at most, how many schedules are simulated before at most, how many reads of the input are made at most, and by which bounds of boxes, or by leads, the search goes, or both ways; after how many seconds it stops, if it is to; and in which unit times are told, where one is asked for
 abbrev pub Settings : Type 0
 Settings = options.Settings
 
@@ -35,6 +35,7 @@ both_ways_settings workers limit most_reads = record {
   most_reads = most_reads;
   ways = Both;
   seconds = None;
+  unit = None;
 }
 
 -- how far a search with these settings goes: it may be stopped where there are seconds to stop it after

@@ -94,6 +94,7 @@ impl Bounds {
 }
 
 /// Asks leads whether they close a box for a latency in ticks.
+#[tactic(auto, unfolding(convoy_leads::specs::Closing::closes_by_leads))]
 fn ask_leads<'a>(
     alloc: Global,
     instance: &'a Instance,
@@ -132,6 +133,7 @@ fn least_bound(alloc: Global, instance: &Instance, branch: &Tracked) -> Result<u
 
 /// What leads raise an upper bound to, in ticks, where a box is left whose bound is known: the ticks
 /// between the upper bound and that are halved until one is left.
+#[tactic(auto, unfolding(convoy_leads::specs::Closing::closes_by_leads))]
 fn raised_by_leads(
     alloc: Global,
     instance: &Instance,

@@ -6,6 +6,7 @@ ghost use Rattle.convoy_branch.specs.declared.options.Ways.TheVariants.{One};
 use super::bounds::Bounds;
 use super::limit::Limit;
 use convoy_certificate::MOST_NODES;
+use convoy_scenario::TimeUnit;
 use convoy_shares::MOST_WORKERS;
 use std::marker::Model;
 
@@ -52,13 +53,14 @@ pub struct Settings {
     pub most_reads: u64,
     pub ways: Ways,
     pub seconds: Option<u32>,
+    pub unit: Option<TimeUnit>,
 }
 
 /// How a search runs: its workers, from 1 to [`MOST_WORKERS`]; its limit of tickets, from 1 to
 /// [`MOST_TICKETS`], or by leads to as many as lead leaves are read; how many schedules are simulated
 /// at most to find a good one to start from, up to [`MOST_SIMULATIONS`]; how many reads of the input
-/// are made at most; by what it closes boxes, or that it goes both ways; and after how many seconds it
-/// stops, if it is to.
+/// are made at most; by what it closes boxes, or that it goes both ways; after how many seconds it stops, if it is to;
+/// and in which unit times are told of what it finds, where one is asked for.
 #[derive(Clone, Copy)]
 pub struct Options {
     settings: Settings,
@@ -95,6 +97,7 @@ impl Options {
             most_reads,
             ways: Ways::Both,
             seconds: None,
+            unit: None,
         };
         Some(Options { settings })
     }
@@ -131,6 +134,17 @@ impl Options {
     {
         let settings = Settings {
             seconds: Some(seconds),
+            ..self.settings
+        };
+        Options { settings }
+    }
+
+    /// The same options, where times are told in that unit.
+    pub fn telling_in(self, unit: TimeUnit) -> Options
+        ensures { result ≡ record self { unit = Some unit } }
+    {
+        let settings = Settings {
+            unit: Some(unit),
             ..self.settings
         };
         Options { settings }
@@ -179,6 +193,13 @@ impl Options {
         ensures { result ≡ self.now.seconds }
     {
         self.settings.seconds
+    }
+
+    /// In which unit times are told, where one is asked for.
+    pub fn unit(&self) -> Option<TimeUnit>
+        ensures { result ≡ self.now.unit }
+    {
+        self.settings.unit
     }
 
     /// How far the search goes: to its last ticket, or until its gate stops it where there are seconds to

@@ -22,7 +22,7 @@ use convoy_sim::Record;
 use std::alloc::{AllocError, Global};
 
 /// How many tickets a search both ways spends at most by plain bounds.
-pub const PLAIN_TICKETS: u64 = 10_000;
+pub const PLAIN_TICKETS: u64 = 2_000;
 
 /// How many of so many tickets a search both ways spends at most by plain bounds.
 pub fn plain_share(limit: u64) -> u64

@@ -12,7 +12,7 @@ use Rattle.convoy_sim.specs.Delivery.{latency_of}
 use Rattle.convoy_intervals.specs.Boxes.{CanSplit, can_split}
 use Rattle.convoy_intervals.specs.Bounds.{plain_bound}
 use Rattle.convoy_intervals.proofs.BoxTests.{Decides-can_split}
-use Rattle.convoy_leads.specs.Closing.{closes_by_leads}
+use Rattle.convoy_narrowing.specs.Narrowing.{closes_region}
 use Rattle.convoy_regions.specs.Regions.{Region, can_order, is_decided, root_region, run_of}
 use Rattle.convoy_stamps.specs.StampBounds.{stamp_bound}
 use Rattle.convoy_certificate.specs.Certificate.{Certificate}
@@ -65,7 +65,7 @@ node_none plan latency number Stamp region =
     (Decides-and (in_ticks plan.time) (nat_le bound latency) (Decides-in_ticks plan.time) (Decides-le bound latency))
 node_none plan latency number (Lead named) region =
     let low = nat_le named latency in
-    let closed = closes_by_leads plan region.ranges named in
+    let closed = closes_region plan region named in
     fault_unless_none (refused.LeadLeaf number) (low && closed) ((named ≤ latency) × ClosesByLeads plan named region) (Decides-and low closed (Decides-le named latency) (Decides-own closed))
 
 -- neither of two faults is there just where their first is not

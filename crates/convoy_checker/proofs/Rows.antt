@@ -18,6 +18,7 @@ use Rattle.convoy_regions.specs.Stages.{stages_of}
 use Rattle.convoy_sure.specs.SureLeads.{leads_of, sure_time}
 use Rattle.convoy_leads.specs.Leads.{is_led}
 use Rattle.convoy_leads.specs.Closing.{closes_by_leads}
+use Rattle.convoy_narrowing.specs.Narrowing.{closes_region}
 use Rattle.convoy_certificate.specs.Certificate.{Certificate}
 use Rattle.convoy_certificate.specs.declared.node.Node.{Node}
 use Rattle.convoy_certificate.specs.declared.node.Node.TheVariants.{Split, Order, Bound, Point, Lead}
@@ -70,28 +71,28 @@ unfolding base_with all_greatest message packets_of ranges_of delay_of arrive se
 no_split_of_a_point = refl
 
 one_lead : checked (all_greatest (base_with 3 6) 12 (Lead 12 ∷ [])) ≡ Ok 12
-unfolding base_with all_greatest message packets_of ranges_of delay_of arrive settle arrival_rank commit_rank no_order moments_of clocks_of local_stamp final_stamp holds_back deliver latency_at latency_of leads_of sure_time is_led closes_by_leads checked
+unfolding base_with all_greatest message packets_of ranges_of delay_of arrive settle arrival_rank commit_rank no_order moments_of clocks_of local_stamp final_stamp holds_back deliver latency_at latency_of leads_of sure_time is_led closes_by_leads closes_region checked
 one_lead = refl
 
 -- a lead leaf is judged by the latency that it names
 lead_for_less : checked (all_greatest (base_with 3 6) 12 (Lead 11 ∷ [])) ≡ Err (refused.LeadLeaf 0)
-unfolding base_with all_greatest message packets_of ranges_of delay_of arrive settle arrival_rank commit_rank no_order moments_of clocks_of local_stamp final_stamp holds_back deliver latency_at latency_of leads_of sure_time is_led closes_by_leads checked
+unfolding base_with all_greatest message packets_of ranges_of delay_of arrive settle arrival_rank commit_rank no_order moments_of clocks_of local_stamp final_stamp holds_back deliver latency_at latency_of leads_of sure_time is_led closes_by_leads closes_region checked
 lead_for_less = refl
 
 lead_for_more : checked (all_greatest (base_with 3 6) 12 (Lead 13 ∷ [])) ≡ Err (refused.LeadLeaf 0)
-unfolding base_with all_greatest message packets_of ranges_of delay_of arrive settle arrival_rank commit_rank no_order moments_of clocks_of local_stamp final_stamp holds_back deliver latency_at latency_of leads_of sure_time is_led closes_by_leads checked
+unfolding base_with all_greatest message packets_of ranges_of delay_of arrive settle arrival_rank commit_rank no_order moments_of clocks_of local_stamp final_stamp holds_back deliver latency_at latency_of leads_of sure_time is_led closes_by_leads closes_region checked
 lead_for_more = refl
 
 leads_of_halves : checked (all_greatest (base_with 3 6) 12 (Split 7 2 ∷ Lead 11 ∷ Lead 12 ∷ [])) ≡ Ok 12
-unfolding base_with all_greatest message packets_of ranges_of delay_of arrive settle arrival_rank commit_rank no_order moments_of clocks_of local_stamp final_stamp holds_back deliver latency_at latency_of leads_of sure_time is_led closes_by_leads checked
+unfolding base_with all_greatest message packets_of ranges_of delay_of arrive settle arrival_rank commit_rank no_order moments_of clocks_of local_stamp final_stamp holds_back deliver latency_at latency_of leads_of sure_time is_led closes_by_leads closes_region checked
 leads_of_halves = refl
 
 leads_turned : checked (all_greatest (base_with 3 6) 12 (Split 7 2 ∷ Lead 12 ∷ Lead 11 ∷ [])) ≡ Err (refused.LeadLeaf 2)
-unfolding base_with all_greatest message packets_of ranges_of delay_of arrive settle arrival_rank commit_rank no_order moments_of clocks_of local_stamp final_stamp holds_back deliver latency_at latency_of leads_of sure_time is_led closes_by_leads checked
+unfolding base_with all_greatest message packets_of ranges_of delay_of arrive settle arrival_rank commit_rank no_order moments_of clocks_of local_stamp final_stamp holds_back deliver latency_at latency_of leads_of sure_time is_led closes_by_leads closes_region checked
 leads_turned = refl
 
 lead_of_swapped : checked (all_greatest swapped 6 (Lead 6 ∷ [])) ≡ Ok 6
-unfolding swapped all_greatest message packets_of ranges_of delay_of arrive settle arrival_rank commit_rank no_order moments_of clocks_of local_stamp final_stamp holds_back deliver latency_at latency_of leads_of sure_time is_led closes_by_leads checked
+unfolding swapped all_greatest message packets_of ranges_of delay_of arrive settle arrival_rank commit_rank no_order moments_of clocks_of local_stamp final_stamp holds_back deliver latency_at latency_of leads_of sure_time is_led closes_by_leads closes_region checked
 lead_of_swapped = refl
 
 -- in real time the same, but that a point with a tie that is open, and the stamp bound, close no region
@@ -99,7 +100,7 @@ in_real_time : Scenario → Scenario
 in_real_time plan = record plan { time = Real }
 
 real_lead : checked (all_greatest (in_real_time (base_with 3 6)) 12 (Lead 12 ∷ [])) ≡ Ok 12
-unfolding in_real_time base_with all_greatest message packets_of ranges_of delay_of arrive settle arrival_rank commit_rank no_order moments_of clocks_of local_stamp final_stamp holds_back deliver latency_at latency_of leads_of sure_time is_led closes_by_leads checked
+unfolding in_real_time base_with all_greatest message packets_of ranges_of delay_of arrive settle arrival_rank commit_rank no_order moments_of clocks_of local_stamp final_stamp holds_back deliver latency_at latency_of leads_of sure_time is_led closes_by_leads closes_region checked
 real_lead = refl
 
 no_real_point : checked (all_greatest (in_real_time (base_with 1 2)) 4 (Point ∷ [])) ≡ Err (refused.PointLeaf 0)

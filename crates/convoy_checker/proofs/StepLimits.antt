@@ -11,14 +11,14 @@ use Rattle.convoy_certificate.specs.declared.node.Node.TheVariants as kinds
 use Rattle.convoy_packets.specs.Packets.{packets_of}
 use Rattle.convoy_intervals.specs.Boxes.{Box}
 use Rattle.convoy_regions.specs.Stages.{Precedence}
-use Rattle.convoy_regions.specs.Regions.{Region, any_order}
+use Rattle.convoy_regions.specs.Regions.{Region}
 use Rattle.convoy_checker.specs.declared.checking.Looked.{Looked}
 use Rattle.convoy_checker.specs.declared.checking.Looked.TheVariants.{All}
 use Rattle.convoy_checker.specs.declared.refused.Refused.{Refused}
 use Rattle.convoy_checker.specs.declared.refused.Refused.TheVariants.{TreeCount}
 use Rattle.convoy_checker.specs.Checks.{first_fault, node_fault}
 use Rattle.convoy_checker.specs.Looks.{left_after, looked_within}
-use Rattle.convoy_checker.specs.Steps.{allows, node_steps, steps_to_fault, test_count, test_steps, tie_steps}
+use Rattle.convoy_checker.specs.Steps.{allows, node_steps, steps_to_fault, test_count, test_steps, tie_steps, windows_asked}
 use Rattle.convoy_stamps.specs.Reach.{pairs_of}
 use Rattle.convoy_stamps.specs.declared.pair.Pair.{Pair}
 use Rattle.convoy_sure.specs.Windows.{Windows, tables_by, windows_of}
@@ -97,12 +97,12 @@ module _ (plan : Scenario) (latency number : ℕ) (regions : List Region) (regio
       rw (left, steps_are below first, fault_is below first, none) (sym (next limit _ _ _ enough))
 
 -- the steps of a lead leaf, from its parts
-pub lead_steps_are : (scenario : Scenario) (ranges : Box) (latency : ℕ) (pairs : List Pair) (windows : Windows) (count tests steps : ℕ) →
+pub lead_steps_are : (scenario : Scenario) (ranges : Box) (before : List Precedence) (latency : ℕ) (pairs : List Pair) (windows : Windows) (count asked tests steps : ℕ) →
     pairs ≡ pairs_of scenario → windows ≡ windows_of scenario ranges → count ≡ length pairs →
-    tests ≡ test_count scenario (tables_by windows).times latency → steps ≡ test_steps scenario (tables_by windows).times →
-    1 + count + tests * steps ≡ node_steps scenario (kinds.Lead latency) (any_order ranges)
-lead_steps_are scenario ranges latency pairs windows count tests steps are over counts tested stepped =
-    rw (tested, stepped, counts, are, over) refl
+    asked ≡ windows_asked before → tests ≡ test_count scenario (tables_by windows).times latency → steps ≡ test_steps scenario (tables_by windows).times →
+    1 + count + length before + asked * (tests * steps) ≡ node_steps scenario (kinds.Lead latency) (record { ranges = ranges; before = before })
+lead_steps_are scenario ranges before latency pairs windows count asked tests steps are over counts told tested stepped =
+    rw (tested, stepped, counts, told, are, over) refl
 
 -- the steps of a point leaf, from its parts
 pub point_steps_are : (scenario : Scenario) (region : Region) (before : List Precedence) (count ties : ℕ) →

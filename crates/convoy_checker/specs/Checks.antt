@@ -7,7 +7,7 @@ use Rattle.convoy_scenario.specs.Scenario.{Scenario}
 use Rattle.convoy_sim.specs.Delivery.{latency_of}
 use Rattle.convoy_intervals.specs.Boxes.{can_split}
 use Rattle.convoy_intervals.specs.Bounds.{plain_bound}
-use Rattle.convoy_leads.specs.Closing.{closes_by_leads}
+use Rattle.convoy_narrowing.specs.Narrowing.{closes_region}
 use Rattle.convoy_regions.specs.Regions.{Region, can_order, is_decided, root_region, run_of}
 use Rattle.convoy_stamps.specs.StampBounds.{stamp_bound}
 use Rattle.convoy_certificate.specs.Certificate.{Certificate}
@@ -39,7 +39,7 @@ node_fault scenario latency number Point region =
 node_fault scenario latency number Stamp region =
     let bound = stamp_bound scenario region.ranges in fault_unless (in_ticks scenario.time && nat_le bound latency) (refused.StampLeaf number bound)
 node_fault scenario latency number (Lead named) region =
-    fault_unless (nat_le named latency && closes_by_leads scenario region.ranges named) (refused.LeadLeaf number)
+    fault_unless (nat_le named latency && closes_region scenario region named) (refused.LeadLeaf number)
 
 -- The first fault of the nodes from that number on, over the regions that are left there, each for a node to come; after
 -- all nodes and regions, `TreeCount` if the one ended before the other.

@@ -7,7 +7,7 @@ use Rattle.convoy_certificate.specs.declared.node.Node.{Node}
 use Rattle.convoy_certificate.specs.declared.node.Node.TheVariants.{Split, Order, Bound, Point, Stamp, Lead}
 use Rattle.convoy_intervals.specs.Bounds.{plain_bound}
 use Rattle.convoy_intervals.specs.Boxes.{CanSplit}
-use Rattle.convoy_leads.specs.Closing.{closes_by_leads}
+use Rattle.convoy_narrowing.specs.Narrowing.{closes_region}
 use Rattle.convoy_regions.specs.Regions.{Region, can_order, is_decided, run_of}
 use Rattle.convoy_stamps.specs.StampBounds.{stamp_bound}
 
@@ -23,9 +23,9 @@ ClosesByPoint scenario latency region = IsTrue (is_decided scenario region) × (
 abbrev pub ClosesByStamps : Scenario → ℕ → Region → Type 0
 ClosesByStamps scenario latency region = (scenario.time ≡ Ticks) × (stamp_bound scenario region.ranges ≤ latency)
 
--- leads close the region's ranges for the latency
+-- leads close the region for the latency
 abbrev pub ClosesByLeads : Scenario → ℕ → Region → Type 0
-ClosesByLeads scenario latency region = IsTrue (closes_by_leads scenario region.ranges latency)
+ClosesByLeads scenario latency region = IsTrue (closes_region scenario region latency)
 
 -- the node is right over the region: the region can be split so, or the leaf closes it; a lead leaf does so for the latency
 -- that it names, which is at most the stated one

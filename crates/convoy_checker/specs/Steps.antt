@@ -9,6 +9,7 @@ use Rattle.convoy_scenario.specs.Scenario.{Scenario, message_at}
 use Rattle.convoy_packets.specs.Packets.{packets_of}
 use Rattle.convoy_sim.specs.Delivery.{latency_of}
 use Rattle.convoy_intervals.specs.Bounds.{Tables}
+use Rattle.convoy_regions.specs.Stages.{Precedence}
 use Rattle.convoy_regions.specs.Regions.{Region, root_region}
 use Rattle.convoy_stamps.specs.declared.pair.Pair.{Pair}
 use Rattle.convoy_stamps.specs.Reach.{pairs_of}
@@ -52,7 +53,11 @@ abbrev pub tie_steps : Time → Scenario → Region → ℕ
 tie_steps Ticks scenario region = 0
 tie_steps Real scenario region = pair_count scenario * pair_count scenario + length region.before
 
--- the steps of a node: one for any node, which is all for a split by a delay and for the plain bound; beside that for a split by an order one for each precedence; for a point one for each packet and each wait, and those of a test of ties; for the stamp bound one for each pair of the target with each pair; and for leads one for each pair, and then those of all tests
+-- of how many windows leads are asked: of those of the box, and where there is a precedence, of those of the region
+abbrev pub windows_asked : List Precedence → ℕ
+windows_asked before = min 2 (1 + length before)
+
+-- the steps of a node: one for any node, which is all for a split by a delay and for the plain bound; beside that for a split by an order one for each precedence; for a point one for each packet and each wait, and those of a test of ties; for the stamp bound one for each pair of the target with each pair; and for leads one for each pair and for each precedence, and then those of all tests, twice where there is a precedence
 abbrev pub node_steps : Scenario → Node → Region → ℕ
 node_steps scenario (Split packet at) region = 1
 node_steps scenario (Order first second) region = 1 + length region.before
@@ -61,7 +66,7 @@ node_steps scenario Point region = 1 + length (packets_of scenario) + tie_steps 
 node_steps scenario Stamp region = 1 + length (message_at scenario scenario.target_message).destinations * pair_count scenario
 node_steps scenario (Lead latency) region =
     let tables = (tables_by (windows_of scenario region.ranges)).times in
-    1 + pair_count scenario + test_count scenario tables latency * test_steps scenario tables
+    1 + pair_count scenario + length region.before + windows_asked region.before * (test_count scenario tables latency * test_steps scenario tables)
 
 -- the steps of the nodes from that number on, over the regions that are left there, up to the first that has a fault
 abbrev pub steps_to_fault : Scenario → ℕ → ℕ → List Region → List Node → ℕ

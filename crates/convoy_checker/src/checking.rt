@@ -19,7 +19,7 @@ use super::tree_laws::{checked_is_valid, valid_is_greatest};
 use super::walk::Walk;
 use convoy_certificate::{Certificate, Node};
 use convoy_intervals::{DelayBox, bound};
-use convoy_leads::closes_by_leads;
+use convoy_narrowing::closes_region;
 use convoy_packets::Instance;
 use convoy_regions::region_laws::halves_are_regions;
 use convoy_regions::{Precedence, can_order, is_decided, run_latency};
@@ -216,7 +216,7 @@ fn node_fault(
             )
         }
         Node::Lead { latency: named } => (
-            named <= latency && closes_by_leads(alloc, instance, delay_box, named)?,
+            named <= latency && closes_region(alloc, instance, delay_box, before, named)?,
             Refused::LeadLeaf(number),
         ),
     };

@@ -10,6 +10,7 @@ ghost use Rattle.convoy_stamps.specs.Reach.{pairs_of};
 ghost use Rattle.convoy_sure.specs.Windows.{tables_by};
 ghost use Rattle.convoy_intervals.specs.Boxes.{Box};
 ghost use Rattle.convoy_checker.specs.Steps.{is_late, node_steps, pair_steps, test_count, test_steps, ticks_seen, tie_steps};
+ghost use Rattle.convoy_checker.specs.Steps.{windows_asked};
 
 use super::open_region::OpenRegion;
 use convoy_certificate::Node;
@@ -46,7 +47,15 @@ pub(crate) fn node_steps(
             Ok(1 + instance.table().len() as u64 + ties)
         }
         Node::Stamp => stamp_steps(alloc, instance.scenario()),
-        Node::Lead { latency } => lead_steps(alloc, instance, latency, region.delay_box()),
+        Node::Lead { latency } => {
+            lead_steps(
+                alloc,
+                instance,
+                latency,
+                region.delay_box(),
+                region.before(),
+            )
+        }
     }
 }
 
@@ -74,23 +83,34 @@ fn stamp_steps(alloc: Global, scenario: &Scenario) -> AllocResult<u64>
     Ok(1 + target_destinations(scenario) * pairs.len() as u64)
 }
 
-/// How many steps a lead leaf that names that latency, in ticks, takes at most.
+/// How many steps a lead leaf that names that latency, in ticks, takes at most where there are these precedences.
 fn lead_steps(
     alloc: Global,
     instance: &Instance,
     latency: u32,
     delay_box: &DelayBox,
+    before: &[Precedence],
 ) -> AllocResult<u64>
     requires inside { IsBox instance.now delay_box.now }
-    ensures { IfOk result (λ steps. steps
-        ≡ node_steps instance.now (Node.Lead latency) (any_order delay_box.now)) }
+    ensures { IfOk result (λ steps. steps ≡ node_steps instance.now (Node.Lead latency)
+        (record { ranges = delay_box.now; before = before.now })) }
 {
     let scenario = instance.scenario();
     let pairs = list_pairs(alloc, scenario)?;
     let windows = Windows::of(alloc, instance, delay_box)?;
     let pairs = pairs.as_slice();
     let tests = test_count(scenario, &windows, pairs, latency);
-    Ok(1 + pairs.len() as u64 + tests * test_steps(scenario, &windows, pairs))
+    let steps = tests * test_steps(scenario, &windows, pairs);
+    let asked = windows_asked(before);
+    Ok(1 + pairs.len() as u64 + before.len() as u64 + asked * steps)
+}
+
+/// Of how many windows leads are asked where there are these precedences.
+fn windows_asked(before: &[Precedence]) -> u64
+    ensures value { result ≡ windows_asked before.now }
+    ensures few { result ≤ 2 }
+{
+    (1 + before.len() as u64).min(2)
 }
 
 /// To how many groups the target goes.

@@ -8,7 +8,7 @@ ghost use Rattle.convoy_checker.specs.TreeLaws.{SplitIsTwoTrees, ValidIsGreatest
 use convoy_intervals::box_laws::{
     halves_partition, members_are_assignments, plain_bound_holds, root_is_box,
 };
-use convoy_leads::lead_laws::leads_hold;
+use convoy_narrowing::narrowing_laws::closed_region_holds;
 use convoy_regions::region_laws::{
     decided_has_one_latency, halves_are_regions, orders_partition, root_holds_all,
 };
@@ -38,11 +38,11 @@ pub fn stamp_leaves_cover()
     stamp_bound_holds();
 }
 
-/// Where leads close a box for a latency, no member of it has a greater one.
+/// Where leads close a region for a latency, no member of it has a greater one.
 pub fn lead_leaves_cover()
     ensures { LeadLeavesCover }
 {
-    leads_hold();
+    closed_region_holds();
     members_are_assignments();
 }
 

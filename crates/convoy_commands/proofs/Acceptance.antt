@@ -25,6 +25,7 @@ use Rattle.convoy_branch.specs.declared.options.Ways.{Ways}
 use Rattle.convoy_branch.specs.declared.options.Ways.TheVariants.{One, Both}
 use Rattle.convoy_commands.specs.declared.done.Done.TheVariants.{Fine}
 use Rattle.convoy_commands.specs.Checks.{check_reply}
+use Rattle.convoy_commands.specs.Measured.{measure_of_text}
 use Rattle.convoy_commands.specs.ReplyLines.{accepted_line, greatest_line, open_line, schedule_text}
 use Rattle.convoy_commands.specs.Searches.{IsFrontBy, IsFrontTold, IsGreatestTold, IsOpenBetween, IsOpenProof, IsOutcomeBy, IsProof, IsSearchOf}
 
@@ -175,7 +176,7 @@ module _ (settings : Settings) (text out : List ℕ) (scenario : Scenario) where
   -- the latency of a proved outcome
   pub greatest_written : (certificate : Certificate) (tickets : ℕ) (by_worker : Vec ℕ Global) →
       IsSearchOf settings text scenario (Proved certificate tickets by_worker) → settings.limit ≤ highest_limit settings.ways →
-      out ≡ greatest_line scenario.tick certificate.latency → IsGreatestTold text out
+      out ≡ greatest_line (measure_of_text settings.unit text scenario) certificate.latency → IsGreatestTold settings text out
   greatest_written certificate tickets by_worker search few written =
       let ended = proved_end settings.ways scenario search.ended.workers (limit_of settings) certificate tickets by_worker search.ended.found few in
       record {
@@ -204,7 +205,7 @@ module _ (settings : Settings) (text out : List ℕ) (scenario : Scenario) where
   -- the bounds of an open outcome
   pub bounds_written : (best : Record) (upper tickets : ℕ) (by_worker : Vec ℕ Global) →
       IsSearchOf settings text scenario (Open best upper tickets by_worker) →
-      out ≡ open_line scenario.tick best.latency upper → IsFrontTold settings text out
+      out ≡ open_line (measure_of_text settings.unit text scenario) best.latency upper → IsFrontTold settings text out
   bounds_written best upper tickets by_worker search written = record {
     scenario = scenario;
     least = best.latency;

@@ -1,6 +1,7 @@
 -- What is answered with the ceiling below it.
 use Rattle.std.proofs.Common.{◌≡◌, inl, inr, refl, ℕ, Bool, true, false, List, Option, Ok, Err}
 use Rattle.convoy_branch.specs.Options.{Settings}
+use Rattle.convoy_draft.specs.declared.duration.TimeUnit.{TimeUnit}
 use Rattle.convoy_commands.specs.declared.asking.Asking.TheVariants.{Explain}
 use Rattle.convoy_commands.specs.declared.done.Done.{Done}
 use Rattle.convoy_commands.specs.declared.done.Done.TheVariants.{Fine, Open, Faulty, Refused, Differs, NotChecked}
@@ -24,19 +25,19 @@ latency_fault true settings text fault said = said
 latency_fault false settings text fault said = said
 
 -- an explanation
-pub explained_so : (limit : Option ℕ) (text answer out : List ℕ) →
-    SaysUnlessMemory (SaysWithin limit NotChecked (AskSays Explain)) text (Ok (Fine, answer)) →
-    (AskSays Explain text (Ok (Fine, answer)) → IsExplanationWithCeiling text out) →
-    SaysUnlessMemory (SaysWithin limit NotChecked ExplainWithCeilingSays) text (Ok (Fine, out))
-explained_so limit text answer out (inl said) next =
-    inl (asked_so limit NotChecked Fine text answer (AskSays Explain) ExplainWithCeilingSays (Ok (Fine, out)) (λ is. cc) said next)
-explained_so limit text answer out (inr none) next = absurd cc
+pub explained_so : (asked : Option TimeUnit) (limit : Option ℕ) (text answer out : List ℕ) →
+    SaysUnlessMemory (SaysWithin limit NotChecked (AskSays (Explain asked))) text (Ok (Fine, answer)) →
+    (AskSays (Explain asked) text (Ok (Fine, answer)) → IsExplanationWithCeiling asked text out) →
+    SaysUnlessMemory (SaysWithin limit NotChecked (ExplainWithCeilingSays asked)) text (Ok (Fine, out))
+explained_so asked limit text answer out (inl said) next =
+    inl (asked_so limit NotChecked Fine text answer (AskSays (Explain asked)) (ExplainWithCeilingSays asked) (Ok (Fine, out)) (λ is. cc) said next)
+explained_so asked limit text answer out (inr none) next = absurd cc
 
 -- what is no explanation is answered as by `explain`
-pub as_explained : AllowsOthers Explain ExplainWithCeilingSays
-as_explained text out Fine not says = absurd (not refl)
-as_explained text out Open not says = says
-as_explained text out Faulty not says = says
-as_explained text out (Refused refusal) not says = says
-as_explained text out (Differs part) not says = says
-as_explained text out NotChecked not says = says
+pub as_explained : (asked : Option TimeUnit) → AllowsOthers (Explain asked) (ExplainWithCeilingSays asked)
+as_explained asked text out Fine not says = absurd (not refl)
+as_explained asked text out Open not says = says
+as_explained asked text out Faulty not says = says
+as_explained asked text out (Refused refusal) not says = says
+as_explained asked text out (Differs part) not says = says
+as_explained asked text out NotChecked not says = says

@@ -14,8 +14,8 @@ use Rattle.convoy_commands.specs.Replies.{Reply, Rule}
 -- what is written where the checker accepts it: the yes, why its schedule has its latency, or an image of the schedule's run
 abbrev pub IsTextAsked : Asking → Certificate → ℕ → List ℕ → Type 0
 IsTextAsked Check certificate latency out = out ≡ accepted_line latency
-IsTextAsked Explain certificate latency out = out ≡ certificate_explained certificate
-IsTextAsked Draw certificate latency out = IsImageOf certificate out
+IsTextAsked (Explain asked) certificate latency out = out ≡ certificate_explained asked certificate
+IsTextAsked (Draw asked) certificate latency out = IsImageOf asked certificate out
 
 -- the reply, by what the checker said: that text, or the refusal
 abbrev pub RepliesTo : Asking → Certificate → Result ℕ Fault-of-check → Reply → Type 0
@@ -26,5 +26,5 @@ RepliesTo asking certificate (Err fault) reply = reply ≡ reply_of_check (Err f
 -- the rule of each of them
 abbrev pub AskSays : Asking → Rule
 AskSays Check = CheckSays
-AskSays Explain = ExplainSays
-AskSays Draw = DrawSays
+AskSays (Explain asked) = ExplainSays asked
+AskSays (Draw asked) = DrawSays asked

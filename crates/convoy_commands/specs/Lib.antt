@@ -5,6 +5,7 @@ pub use Rattle.convoy_scenario.specs.Naming
 pub use Rattle.convoy_scenario_lines.specs.ScenarioLines
 pub use Rattle.convoy_toml.specs.Reading
 pub use Rattle.convoy_draft.specs.Keys
+pub use Rattle.convoy_times.specs.Measures
 pub use Rattle.convoy_toml.specs.Shape
 pub use Rattle.convoy_scenario.specs.Memory
 pub use Rattle.convoy_streams.specs.Devices
@@ -43,6 +44,7 @@ pub use Rattle.convoy_branch.specs.Limits
 pub use Rattle.convoy_branch.specs.BothWays
 pub use Rattle.convoy_branch.specs.Options
 -- what a reader has to believe: which answers each command may give
+pub mod Measured
 pub mod ReplyLines
 pub mod Faults
 pub mod Refusals

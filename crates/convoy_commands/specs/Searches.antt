@@ -32,7 +32,9 @@ use Rattle.convoy_commands.specs.declared.limits.TheConstants.{LONGEST_CERTIFICA
 use Rattle.convoy_commands.specs.Checks.{check_reply}
 use Rattle.convoy_commands.specs.Faults.{told_of}
 use Rattle.convoy_commands.specs.ReplyLines.{accepted_line, greatest_line, open_line, schedule_text}
+use Rattle.convoy_commands.specs.Measured.{measure_of_text}
 use Rattle.convoy_commands.specs.Replies.{Rule}
+use Rattle.convoy_commands.specs.declared.search.Searched.{Searched}
 
 -- The text has this fault, where the target has to be written or not.
 pub record IsFaultyBy (key : TargetKey) (text : List ℕ) (fault : Fault) : Type 0 where
@@ -74,9 +76,10 @@ pub record IsSearchOf (settings : Settings) (text : List ℕ) (scenario : Scenar
   pub lawful : IsScenario scenario
   pub ended : IsEnd settings scenario outcome
 
--- what a search for the scenario of a text gives, with that scenario; or why there is no answer
-abbrev pub SearchGives : Settings → List ℕ → Result (Scenario × Outcome) Fault → Type 0
-SearchGives settings text (Ok (scenario, outcome)) = IsSearchOf settings text scenario outcome
+-- what a search for the scenario of a text gives, with that scenario and how its times are told; or why there is no answer
+abbrev pub SearchGives : Settings → List ℕ → Result Searched Fault → Type 0
+SearchGives settings text (Ok searched) =
+    IsSearchOf settings text searched.read searched.outcome × (searched.measure ≡ measure_of_text settings.unit text searched.read)
 SearchGives settings text (Err fault) = IsFaulty text fault ⊎ (fault ≡ Memory)
 
 -- THE HEADLINE. What is written is a certificate of the scenario that was read, with no more nodes than there are tickets; its schedule has the stated latency; no assignment has a greater one; and the checker accepts what is written.
@@ -121,13 +124,13 @@ AnalyseSays settings text (Ok (other, out)) = ⊥
 AnalyseSays settings text (Err fault) = IsFaulty text fault
 
 -- The greatest latency of the scenario that was read is written.
-pub record IsGreatestTold (text out : List ℕ) : Type 0 where
+pub record IsGreatestTold (settings : Settings) (text out : List ℕ) : Type 0 where
   pub scenario : Scenario
   pub latency : ℕ
   pub read : scenario_of_text text ≡ Ok scenario
   pub lawful : IsScenario scenario
   pub greatest : IsGreatest scenario latency
-  pub written : out ≡ greatest_line scenario.tick latency
+  pub written : out ≡ greatest_line (measure_of_text settings.unit text scenario) latency
 
 -- What is written is the least and the most that the greatest latency may be.
 pub record IsFrontTold (settings : Settings) (text out : List ℕ) : Type 0 where
@@ -135,11 +138,11 @@ pub record IsFrontTold (settings : Settings) (text out : List ℕ) : Type 0 wher
   pub least : ℕ
   pub most : ℕ
   pub between : IsOpenBetween settings text scenario least most
-  pub written : out ≡ open_line scenario.tick least most
+  pub written : out ≡ open_line (measure_of_text settings.unit text scenario) least most
 
 -- what `latency` may answer
 abbrev pub LatencySays : Settings → Rule
-LatencySays settings text (Ok (Fine, out)) = IsGreatestTold text out
+LatencySays settings text (Ok (Fine, out)) = IsGreatestTold settings text out
 LatencySays settings text (Ok (Open, out)) = IsFrontTold settings text out
 LatencySays settings text (Ok (other, out)) = ⊥
 LatencySays settings text (Err fault) = IsFaulty text fault

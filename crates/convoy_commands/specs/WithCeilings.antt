@@ -1,5 +1,6 @@
 -- An answer with the ceiling beside it: what more traffic could cost, besides what the messages at hand cost at worst.
-use Rattle.std.specs.Prelude.{◌≡◌, ℕ, Bool, true, false, List, ◌++◌, Ok, Err}
+use Rattle.std.specs.Prelude.{◌≡◌, ℕ, Bool, true, false, List, ◌++◌, Option, Ok, Err}
+use Rattle.convoy_draft.specs.declared.duration.TimeUnit.{TimeUnit}
 use Rattle.convoy_scenario.specs.Scenario.{Scenario}
 use Rattle.convoy_toml.specs.Reading.{scenario_of_text}
 use Rattle.convoy_ceiling.specs.Ceiling.{IsUpperInTraffic, ceiling_of}
@@ -11,13 +12,15 @@ use Rattle.convoy_commands.specs.declared.done.Done.{Done}
 use Rattle.convoy_commands.specs.declared.done.Done.TheVariants.{Fine}
 use Rattle.convoy_commands.specs.Asks.{AskSays}
 use Rattle.convoy_commands.specs.Ceilings.{ceiling_line}
+use Rattle.convoy_commands.specs.Measured.{measure_of, measure_of_text}
 use Rattle.convoy_commands.specs.Replies.{Rule}
+use Rattle.convoy_times.specs.declared.measure.Measure.{Measure}
 use Rattle.convoy_commands.specs.Searches.{LatencySays}
 
 -- below an answer stands the ceiling of the scenario that it is about, above which no latency is in any traffic of the scenario's kinds
-pub record HasCeilingBelow (scenario : Scenario) (answer out : List ℕ) : Type 0 where
+pub record HasCeilingBelow (measure : Option Measure) (scenario : Scenario) (answer out : List ℕ) : Type 0 where
   pub safe : IsUpperInTraffic scenario scenario.target_message scenario.target_group (ceiling_of scenario)
-  pub written : out ≡ answer ++ ceiling_line scenario.tick (ceiling_of scenario)
+  pub written : out ≡ answer ++ ceiling_line measure (ceiling_of scenario)
 
 -- what `latency` answers for the text of a scenario, and below it the scenario's ceiling
 pub record IsLatencyWithCeiling (settings : Settings) (text out : List ℕ) (done : Done) : Type 0 where
@@ -25,15 +28,15 @@ pub record IsLatencyWithCeiling (settings : Settings) (text out : List ℕ) (don
   pub answer : List ℕ
   pub read : scenario_of_text text ≡ Ok scenario
   pub answered : LatencySays settings text (Ok (done, answer))
-  pub ceiling : HasCeilingBelow scenario answer out
+  pub ceiling : HasCeilingBelow (measure_of_text settings.unit text scenario) scenario answer out
 
 -- what `explain` answers for the text of a certificate that is valid, and below it the ceiling of the certificate's scenario
-pub record IsExplanationWithCeiling (text out : List ℕ) : Type 0 where
+pub record IsExplanationWithCeiling (asked : Option TimeUnit) (text out : List ℕ) : Type 0 where
   pub certificate : Certificate
   pub answer : List ℕ
   pub read : certificate_of text ≡ Ok certificate
-  pub answered : AskSays Explain text (Ok (Fine, answer))
-  pub ceiling : HasCeilingBelow certificate.scenario answer out
+  pub answered : AskSays (Explain asked) text (Ok (Fine, answer))
+  pub ceiling : HasCeilingBelow (measure_of asked certificate.scenario) certificate.scenario answer out
 
 -- what may be answered for the text of a scenario: below a fault stands no ceiling
 abbrev pub LatencyWithCeilingSays : Settings → Rule
@@ -41,9 +44,9 @@ LatencyWithCeilingSays settings text (Ok (done, out)) = IsLatencyWithCeiling set
 LatencyWithCeilingSays settings text (Err fault) = LatencySays settings text (Err fault)
 
 -- what may be answered for the text of a certificate: below a refusal and a fault stands no ceiling
-abbrev pub ExplainWithCeilingSays : Rule
-ExplainWithCeilingSays text (Ok (Fine, out)) = IsExplanationWithCeiling text out
-ExplainWithCeilingSays text other = AskSays Explain text other
+abbrev pub ExplainWithCeilingSays : Option TimeUnit → Rule
+ExplainWithCeilingSays asked text (Ok (Fine, out)) = IsExplanationWithCeiling asked text out
+ExplainWithCeilingSays asked text other = AskSays (Explain asked) text other
 
 -- what `latency` may answer, by whether the ceiling is to stand below it
 abbrev pub latency_says : Bool → Settings → Rule
@@ -51,6 +54,6 @@ latency_says true settings = LatencyWithCeilingSays settings
 latency_says false settings = LatencySays settings
 
 -- what `explain` may answer, by the same
-abbrev pub explain_says : Bool → Rule
-explain_says true = ExplainWithCeilingSays
-explain_says false = AskSays Explain
+abbrev pub explain_says : Bool → Option TimeUnit → Rule
+explain_says true asked = ExplainWithCeilingSays asked
+explain_says false asked = AskSays (Explain asked)

@@ -7,7 +7,7 @@ use super::answer::{Answer, Known};
 use super::done::Done;
 use super::fault::Fault;
 use super::reply_lines::push_open;
-use super::search::search_text;
+use super::search::{Searched, search_text};
 use super::watch::Watch;
 use convoy_branch::{Options, Outcome};
 use convoy_certificate::certificate_laws::{texts_are_read, texts_are_short};
@@ -37,7 +37,7 @@ pub fn analyse_answer<R: Threads + Wait + Sync, W: Watch + Sync>(
     checked_is_valid();
     valid_is_greatest();
     let _limit = options.limit();
-    let (read, outcome) = search_text(rt, alloc, text, options, watch)?;
+    let Searched { read, outcome, .. } = search_text(rt, alloc, text, options, watch)?;
     match outcome {
         Outcome::Proved { certificate, .. } => Ok(Answer {
             done: Done::Fine,

@@ -22,8 +22,10 @@ use convoy_checker::{Accepted, Refusal, Refused, check_within};
 use convoy_draw::write_drawing;
 use convoy_lines::{push_further_word, push_number_line};
 use convoy_picture::Picture;
+use convoy_scenario::TimeUnit;
 use convoy_sim::simulate;
-use convoy_timeline::{explain, write_explanation};
+use convoy_timeline::{explain, explain_stamp, write_explanation};
+use convoy_times::Measure;
 use itoa::Buffer;
 use std::alloc::{AllocError, Global};
 
@@ -32,10 +34,10 @@ use std::alloc::{AllocError, Global};
 pub enum Asking {
     /// Whether it is valid.
     Check,
-    /// Why the latency of its schedule is what it is.
-    Explain,
-    /// The run of its schedule, as an image.
-    Draw,
+    /// Why the latency of its schedule is what it is, with times in the unit that is asked for.
+    Explain(Option<TimeUnit>),
+    /// The run of its schedule, as an image, with times in the unit that is asked for.
+    Draw(Option<TimeUnit>),
 }
 
 /// How a command that asks this ends for the text of a certificate, and what is written for it
@@ -166,8 +168,8 @@ fn text_asked(
 {
     match asking {
         Asking::Check => acceptance(alloc, latency),
-        Asking::Explain => explanation(alloc, certificate),
-        Asking::Draw => image(alloc, certificate),
+        Asking::Explain(unit) => explanation(alloc, unit, certificate),
+        Asking::Draw(unit) => image(alloc, unit, certificate),
     }
 }
 
@@ -181,16 +183,23 @@ fn acceptance(alloc: Global, latency: u32) -> Result<Vec<u8>, AllocError>
 }
 
 /// Why the certificate's schedule has its latency.
-fn explanation(alloc: Global, certificate: &Certificate) -> Result<Vec<u8>, AllocError>
-    ensures { IfOk result (λ text. text.items ≡ certificate_explained certificate.now) }
+fn explanation(
+    alloc: Global,
+    unit: Option<TimeUnit>,
+    certificate: &Certificate,
+) -> Result<Vec<u8>, AllocError>
+    ensures { IfOk result (λ text. text.items ≡ certificate_explained unit certificate.now) }
 {
     let (instance, schedule) = (certificate.instance(), certificate.schedule());
     let run = simulate(alloc, instance, schedule)?;
     let why = explain(instance, schedule, &run);
+    let rises = explain_stamp(alloc, instance, schedule, &run)?;
     let mut text = Vec::new(alloc);
     write_explanation(
         certificate.scenario(),
+        Measure::of(certificate.scenario(), unit, None),
         &why,
+        &rises,
         certificate.nodes().len(),
         &mut text,
     )?;
@@ -198,13 +207,18 @@ fn explanation(alloc: Global, certificate: &Certificate) -> Result<Vec<u8>, Allo
 }
 
 /// The image of the run of the certificate's schedule.
-fn image(alloc: Global, certificate: &Certificate) -> Result<Vec<u8>, AllocError>
-    ensures { IfOk result (λ text. IsImageOf certificate.now text.items) }
+fn image(
+    alloc: Global,
+    unit: Option<TimeUnit>,
+    certificate: &Certificate,
+) -> Result<Vec<u8>, AllocError>
+    ensures { IfOk result (λ text. IsImageOf unit certificate.now text.items) }
 {
     let (instance, schedule) = (certificate.instance(), certificate.schedule());
     let run = simulate(alloc, instance, schedule)?;
     let picture = Picture::of(alloc, instance, schedule, &run)?;
     let mut text = Vec::new(alloc);
-    write_drawing(certificate.scenario(), &picture, &mut text)?;
+    let measure = Measure::of(certificate.scenario(), unit, None);
+    write_drawing(certificate.scenario(), measure, &picture, &mut text)?;
     Ok(text)
 }

@@ -10,14 +10,14 @@ pub use convoy_branch::{
     NoGate, Options, Ways, lead_share, plain_share,
 };
 pub use convoy_packets::ListFault;
-pub use convoy_scenario::{Duration, ScenarioFault};
+pub use convoy_scenario::{Duration, ScenarioFault, TimeUnit};
 pub use convoy_streams::ReadFault;
 pub use done::Done;
 pub use fault::{Fault, FaultEnding, OrderFault, fault_line, fault_row};
 pub use first::first_answer;
 pub use latency::latency_answer;
 pub use limits::{DEFAULT_STEPS, LONGEST_CERTIFICATE, LONGEST_JOB, MOST_STEPS};
-pub use reply_lines::{push_ceiling, push_in_unit};
+pub use reply_lines::push_ceiling;
 pub use search::search_instance;
 pub use telling::{Telling, tell};
 pub use watch::Watch;

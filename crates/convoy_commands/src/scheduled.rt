@@ -53,6 +53,7 @@ impl Scheduled {
             schedule,
             order,
             plain,
+            ..
         } = read_toml(alloc, text)?;
         let instance = Instance::of(alloc, scenario)?;
         let mut schedule = choose_schedule(alloc, instance.table(), &schedule)?;

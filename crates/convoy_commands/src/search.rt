@@ -16,6 +16,7 @@ use convoy_packets::schedule_laws::fixed_order_is_order;
 use convoy_packets::{Instance, Schedule};
 use convoy_seek::seek;
 use convoy_sim::Record;
+use convoy_times::Measure;
 use convoy_toml::read_toml;
 use std::alloc::{AllocError, Global};
 use std::sync::Wait;
@@ -28,25 +29,41 @@ const FIRST_SIMULATIONS: u64 = 500;
 /// time than one such box.
 const MORE_SIMULATIONS: u64 = 2_000;
 
+/// What a search for the scenario of a text gives.
+#[derive(Drop)]
+pub(crate) struct Searched {
+    /// The scenario with its packets.
+    pub read: ReadInstance,
+    /// How its times are told.
+    pub measure: Option<Measure>,
+    /// How the search ended.
+    pub outcome: Outcome,
+}
+
 /// Searches for the greatest latency of the scenario that a text gives, by the options' limit of
-/// tickets, by their bounds or both ways, and with their number of workers: that scenario with its
-/// packets, and the outcome. The faults are those of [`read_toml`], and `Fault::Memory`.
+/// tickets, by their bounds or both ways, and with their number of workers. The faults are those of [`read_toml`],
+/// and `Fault::Memory`.
 pub(crate) fn search_text<R: Threads + Wait + Sync, W: Watch + Sync>(
     rt: &R,
     alloc: Global,
     text: &[u8],
     options: &Options,
     watch: &W,
-) -> Result<(ReadInstance, Outcome), Fault>
+) -> Result<Searched, Fault>
     ensures { SearchGives options.now text.now result }
 {
     let input = read_toml(alloc, text)?;
+    let measure = Measure::of(&input.scenario, options.unit(), input.unit);
     let read = ReadInstance {
         instance: Instance::of(alloc, input.scenario)?,
         plain: input.plain,
     };
     let outcome = search_instance(rt, alloc, &read.instance, options, watch)?;
-    Ok((read, outcome))
+    Ok(Searched {
+        read,
+        measure,
+        outcome,
+    })
 }
 
 /// Searches for the greatest latency of an instance as `latency` does: by the options' limit of tickets,
@@ -168,8 +185,8 @@ fn tell_begin<W: Watch>(
         Ways::One(_) => options.limit(),
         Ways::Both => plain_share(options.limit()),
     };
-    let tick = instance.scenario().tick();
-    watch.begins(tick, options.ways().first_bounds(), limit, least, most);
+    let measure = Measure::of(instance.scenario(), options.unit(), None);
+    watch.begins(measure, options.ways().first_bounds(), limit, least, most);
 }
 
 /// The search from an opening record of the scenario, by one worker or in several threads.

@@ -1,5 +1,5 @@
 use convoy_branch::{Bounds, Gate, NoGate};
-use convoy_scenario::Duration;
+use convoy_times::Measure;
 
 /// Who watches a search: besides what a gate is told, that it starts, how its boxes are begun, and that it has
 /// ended. Nothing that a search promises rests on it, but for how far it goes where it may be stopped.
@@ -8,11 +8,11 @@ pub trait Watch: Gate {
     fn starts(&self, seconds: Option<u32>);
 
     /// The search begins by those bounds, with so many tickets at most for them, and by what is known the
-    /// greatest latency is at least that, and at most that where a bound is known, in ticks of that
-    /// length.
+    /// greatest latency is at least that, and at most that where a bound is known, in ticks, which are told as
+    /// times by the measure.
     fn begins(
         &self,
-        tick: Option<Duration>,
+        measure: Option<Measure>,
         bounds: Bounds,
         limit: u64,
         least: u32,
@@ -28,7 +28,7 @@ impl Watch for NoGate {
 
     fn begins(
         &self,
-        _tick: Option<Duration>,
+        _measure: Option<Measure>,
         _bounds: Bounds,
         _limit: u64,
         _least: u32,

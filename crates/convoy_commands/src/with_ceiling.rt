@@ -4,6 +4,7 @@ ghost use Rattle.std.specs.Prelude.{◌≡◌, ℕ, List, Ok, IfOk, OnOk};
 ghost use Rattle.convoy_toml.specs.Reading.{scenario_of_text};
 ghost use Rattle.convoy_branch.specs.Options.{Settings};
 ghost use Rattle.convoy_commands.specs.declared.done.Done.TheVariants.{NotChecked};
+ghost use Rattle.convoy_commands.specs.Measured.{measure_of_text};
 ghost use Rattle.convoy_commands.specs.Replies.{SaysUnlessMemory, reply_of, told_of_answer};
 ghost use Rattle.convoy_commands.specs.Searches.{LatencySays};
 ghost use Rattle.convoy_commands.specs.WithCeilings.{ExplainWithCeilingSays, HasCeilingBelow, latency_says};
@@ -18,16 +19,19 @@ use convoy_ceiling::target_ceiling;
 use convoy_certificate::certificate_laws::texts_are_read;
 use convoy_certificate::{Certificate, read};
 use convoy_checker::tree_laws::checked_is_valid;
-use convoy_scenario::Scenario;
+use convoy_scenario::{Scenario, TimeUnit};
+use convoy_times::Measure;
 use std::alloc::{AllocError, Global};
 
 /// An answer of `latency` for a scenario, and below it the scenario's ceiling where that is asked for.
 pub(crate) fn put_ceiling(
     with_ceiling: bool,
     scenario: &Scenario,
+    measure: Option<Measure>,
     answer: Answer,
 ) -> Result<Answer, AllocError>
     ensures { (settings : Settings) (text : List ℕ) → scenario_of_text text ≡ Ok scenario.now
+        → measure ≡ measure_of_text settings.unit text scenario.now
         → LatencySays settings text (Ok (told_of_answer answer))
         → IfOk result (λ told. latency_says with_ceiling settings text (Ok (told_of_answer told))) }
 {
@@ -36,7 +40,7 @@ pub(crate) fn put_ceiling(
     }
     let Answer { done, text, .. } = answer;
     let mut text = text;
-    push_ceiling_of(scenario, &mut text)?;
+    push_ceiling_of(scenario, measure, &mut text)?;
     Ok(Answer {
         done,
         text,
@@ -47,15 +51,20 @@ pub(crate) fn put_ceiling(
 /// What `explain` answers for a text, and below it the ceiling of the certificate's scenario; where there is a
 /// limit, with so many steps at most to check the certificate (docs/FORMATS.md, "Steps"). Fails with `Fault::Memory`,
 /// and else never.
-pub fn explain_with_ceiling(alloc: Global, limit: Option<u64>, text: &[u8]) -> Result<Answer, Fault>
-    ensures { SaysUnlessMemory (SaysWithin limit NotChecked ExplainWithCeilingSays) text.now
+pub fn explain_with_ceiling(
+    alloc: Global,
+    unit: Option<TimeUnit>,
+    limit: Option<u64>,
+    text: &[u8],
+) -> Result<Answer, Fault>
+    ensures { SaysUnlessMemory (SaysWithin limit NotChecked (ExplainWithCeilingSays unit)) text.now
         (reply_of result) }
 {
     texts_are_read();
     checked_is_valid();
     match read(alloc, text) {
         Ok(certificate) => {
-            let told = explained_with_ceiling(alloc, limit, &certificate)?;
+            let told = explained_with_ceiling(alloc, unit, limit, &certificate)?;
             Ok(told.of_certificate(certificate))
         }
         Err(fault) => answer_to_fault(alloc, fault),
@@ -65,17 +74,20 @@ pub fn explain_with_ceiling(alloc: Global, limit: Option<u64>, text: &[u8]) -> R
 /// The explanation of a certificate, and below it the ceiling of its scenario.
 fn explained_with_ceiling(
     alloc: Global,
+    unit: Option<TimeUnit>,
     limit: Option<u64>,
     certificate: &Certificate,
 ) -> Result<Answer, Fault>
-    ensures { AnswersCertificate (SaysWithin limit NotChecked ExplainWithCeilingSays)
+    ensures { AnswersCertificate (SaysWithin limit NotChecked (ExplainWithCeilingSays unit))
         certificate.now (reply_of result) }
 {
-    let answer = ask_certificate(alloc, Asking::Explain, limit, certificate)?;
+    let answer = ask_certificate(alloc, Asking::Explain(unit), limit, certificate)?;
     match answer.done {
         Done::Fine => {
             let mut text = answer.text;
-            push_ceiling_of(certificate.scenario(), &mut text)?;
+            let scenario = certificate.scenario();
+            let measure = Measure::of(scenario, unit, None);
+            push_ceiling_of(scenario, measure, &mut text)?;
             Ok(Answer {
                 done: Done::Fine,
                 text,
@@ -87,8 +99,12 @@ fn explained_with_ceiling(
 }
 
 /// Appends the line of the ceiling of a scenario's target.
-fn push_ceiling_of(scenario: &Scenario, out: &mut Vec<u8>) -> Result<(), AllocError>
-    ensures { OnOk result (HasCeilingBelow scenario.now out.old.items out.new.items) }
+fn push_ceiling_of(
+    scenario: &Scenario,
+    measure: Option<Measure>,
+    out: &mut Vec<u8>,
+) -> Result<(), AllocError>
+    ensures { OnOk result (HasCeilingBelow measure scenario.now out.old.items out.new.items) }
 {
-    push_ceiling(scenario.tick(), target_ceiling(scenario), out)
+    push_ceiling(measure, target_ceiling(scenario), out)
 }

@@ -89,3 +89,8 @@ duration_of text =
     option_and_then (λ end.
     option_and_then (λ unit. number_in (unit_length unit) (take end text)) (unit_named (without_space (drop end text))))
     (position (λ c. not (is_number_byte c)) text)
+
+-- the unit in which a text tells a duration
+abbrev pub unit_of_text : List ℕ → Option TimeUnit
+unit_of_text text =
+    option_and_then (λ end. unit_named (without_space (drop end text))) (position (λ c. not (is_number_byte c)) text)

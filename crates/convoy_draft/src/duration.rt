@@ -1,5 +1,5 @@
 ghost use Rattle.std.specs.Prelude.{◌≡◌, ◌≤◌, ◌<◌, not, length, position, IfSome};
-ghost use Rattle.convoy_draft.specs.Durations.{after_point, count_of, digit_of, digits_after, digits_before, duration_of, is_number_byte, number_in, unit_length, unit_named, unit_of, unit_word, within_longest, without_space};
+ghost use Rattle.convoy_draft.specs.Durations.{after_point, count_of, digit_of, digits_after, digits_before, duration_of, is_number_byte, number_in, unit_length, unit_named, unit_of, unit_of_text, unit_word, within_longest, without_space};
 ghost use Rattle.convoy_draft.specs.declared.duration.TheConstants.{LONGEST_DURATION};
 
 use std::marker::Model;
@@ -31,6 +31,15 @@ impl TimeUnit {
             [b'n', b's'] => Some(TimeUnit::Nanoseconds),
             _ => None,
         }
+    }
+
+    /// The unit in which a text tells a duration, as `ms` where that is `1.5 ms`, if it names one after what may be a
+    /// number.
+    pub fn of_text(text: &[u8]) -> Option<TimeUnit>
+        ensures { result ≡ unit_of_text text.now }
+    {
+        let end = number_end(text)?;
+        TimeUnit::named(without_space(&text[end..]))
     }
 
     /// The word for the unit in a text: `s`, `ms`, `us` or `ns`.

@@ -1,9 +1,10 @@
 -- What texts and layers tell that are put together of parts.
-use Rattle.std.proofs.Common.{◌≡◌, ℕ, List, [], ◌∷◌, ◌++◌, IsTrue, append_assoc, refl, codes}
+use Rattle.std.proofs.Common.{◌≡◌, ℕ, Option, List, [], ◌∷◌, ◌++◌, IsTrue, append_assoc, refl, codes}
 use Rattle.std.proofs.lemmas.List.{append-nil}
 use Rattle.std.proofs.lemmas.List.Elements.{All-weaker}
 use Rattle.std.specs.List.{All}
 use Rattle.convoy_scenario.specs.Scenario.{Scenario}
+use Rattle.convoy_times.specs.declared.measure.Measure.{Measure}
 use Rattle.convoy_picture.specs.Pictures.{Picture}
 use Rattle.convoy_picture.specs.Words.{answer_text, entry_text, flight_text, reason_text}
 use Rattle.convoy_picture.specs.declared.role.Role.{Role}
@@ -105,16 +106,16 @@ joined_tells layers first second third text whole piece told =
     joined_tells_of layers first second third piece text whole told.role told.told
 
 -- an image shows and tells what its parts do
-pub drawing_tells : (scenario : Scenario) (picture : Picture) (start head ground windows packets signs labels legend text : List ℕ) (wordless : ℕ)
+pub drawing_tells : (measure : Option Measure) (scenario : Scenario) (picture : Picture) (start head ground windows packets signs labels legend text : List ℕ) (wordless : ℕ)
     → text ≡ start ++ (head ++ (ground ++ (windows ++ (packets ++ (signs ++ (labels ++ (legend ++ codes "</svg>\n")))))))
     → IsTrue (is_wordless start)
-    → head ≡ head_text scenario picture.why
+    → head ≡ head_text measure scenario picture.why
     → TellsWindows scenario windows
     → All (λ flight. Tells (flight_text scenario flight) packets) picture.flights
     → All (λ entry. Tells (entry_text scenario entry) signs) picture.entries
     → ShowsLines (legend_lines scenario picture.why wordless) legend
-    → IsDrawing scenario picture text
-drawing_tells scenario picture start head ground windows packets signs labels legend text wordless whole sized first waits flights entries lines = record {
+    → IsDrawing measure scenario picture text
+drawing_tells measure scenario picture start head ground windows packets signs labels legend text wordless whole sized first waits flights entries lines = record {
   shows = record {
     size = start;
     middle = ground ++ (windows ++ (packets ++ (signs ++ labels)));
@@ -125,7 +126,7 @@ drawing_tells scenario picture start head ground windows packets signs labels le
     lines = lines;
   };
   answer =
-      let answer = answer_text scenario picture.why in
+      let answer = answer_text measure scenario picture.why in
       let after = codes "\n" ++ (shown heading_style answer ++ shown reason_style (reason_text scenario picture.why)) in
       let told : Tells answer head = record { before = []; after = after; whole = first } in
       tells_within _ head start (ground ++ (windows ++ (packets ++ (signs ++ (labels ++ (legend ++ codes "</svg>\n")))))) text told whole;

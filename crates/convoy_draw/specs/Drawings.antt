@@ -1,7 +1,8 @@
 -- What the image of a picture tells in words: in its heading, its reason and its legend; and in titles, for readers that show no images and where the mouse rests on a line or a sign.
-use Rattle.std.specs.Prelude.{◌≡◌, ℕ, ◌<◌, List, ◌++◌, length, codes, IsTrue}
+use Rattle.std.specs.Prelude.{◌≡◌, ℕ, ◌<◌, List, ◌++◌, length, Option, codes, IsTrue}
 use Rattle.std.specs.List.{All}
 use Rattle.convoy_scenario.specs.Scenario.{Scenario, message_at, may_wait}
+use Rattle.convoy_times.specs.declared.measure.Measure.{Measure}
 use Rattle.convoy_timeline.specs.Explanations.{window_text}
 use Rattle.convoy_timeline.specs.declared.explanation.Explanation.{Explanation}
 use Rattle.convoy_picture.specs.Pictures.{Picture}
@@ -29,23 +30,23 @@ abbrev pub head_of : List ℕ → List ℕ → List ℕ
 head_of answer reason = titled answer ++ (codes "\n" ++ (shown heading_style answer ++ shown reason_style reason))
 
 -- the same of a scenario and an explanation
-abbrev pub head_text : Scenario → Explanation → List ℕ
-head_text scenario why = head_of (answer_text scenario why) (reason_text scenario why)
+abbrev pub head_text : Option Measure → Scenario → Explanation → List ℕ
+head_text measure scenario why = head_of (answer_text measure scenario why) (reason_text scenario why)
 
 -- a text shows the answer and the reason, after what says how large it is, and ends with the legend of an image with so many signs that have no words
-pub record Shows (scenario : Scenario) (why : Explanation) (text : List ℕ) : Type 0 where
+pub record Shows (measure : Option Measure) (scenario : Scenario) (why : Explanation) (text : List ℕ) : Type 0 where
   pub size : List ℕ
   pub middle : List ℕ
   pub legend : List ℕ
   pub wordless : ℕ
-  pub whole : text ≡ size ++ (head_text scenario why ++ (middle ++ (legend ++ codes "</svg>\n")))
+  pub whole : text ≡ size ++ (head_text measure scenario why ++ (middle ++ (legend ++ codes "</svg>\n")))
   pub sized : IsTrue (is_wordless size)
   pub lines : ShowsLines (legend_lines scenario why wordless) legend
 
 -- the text of an image is that of a picture: it shows the answer, the reason and the legend, and has the answer, when messages may be issued, each packet and all that happens as titles
-pub record IsDrawing (scenario : Scenario) (picture : Picture) (text : List ℕ) : Type 0 where
-  pub shows : Shows scenario picture.why text
-  pub answer : Tells (answer_text scenario picture.why) text
+pub record IsDrawing (measure : Option Measure) (scenario : Scenario) (picture : Picture) (text : List ℕ) : Type 0 where
+  pub shows : Shows measure scenario picture.why text
+  pub answer : Tells (answer_text measure scenario picture.why) text
   pub windows : TellsWindows scenario text
   pub flights : All (λ flight. Tells (flight_text scenario flight) text) picture.flights
   pub entries : All (λ entry. Tells (entry_text scenario entry) text) picture.entries

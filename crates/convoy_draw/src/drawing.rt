@@ -12,6 +12,7 @@ use super::windows::windows;
 use convoy_picture::{MARGIN, Picture, Sheet, WIDTH, answer_words, reason_words};
 use convoy_scenario::Scenario;
 use convoy_timeline::Explanation;
+use convoy_times::Measure;
 use std::alloc::{AllocError, Global};
 
 /// How large the heading is.
@@ -29,30 +30,37 @@ const REASON_SIZE: &str = r#" font-size="130""#;
 /// are drawn without a name.
 pub fn write_drawing(
     scenario: &Scenario,
+    measure: Option<Measure>,
     picture: &Picture,
     out: &mut Vec<u8>,
 ) -> Result<(), AllocError>
-    ensures ok { OnOk result ((text : List ℕ) × IsDrawing scenario.now picture.now text
+    ensures ok { OnOk result ((text : List ℕ) × IsDrawing measure scenario.now picture.now text
         × (out.new.items ≡ out.old.items ++ text)) }
     ensures err { OnErr result (out.new.items ≡ out.old.items) }
 {
-    let text = drawing(*out.allocator(), scenario, picture)?;
+    let text = drawing(*out.allocator(), scenario, &measure, picture)?;
     out.extend_from_slice(text.as_bytes())
 }
 
 /// The text of the image.
-fn drawing(alloc: Global, scenario: &Scenario, picture: &Picture) -> Result<String, AllocError>
-    ensures { IfOk result (λ text. IsDrawing scenario.now picture.now (string_bytes text)) }
+fn drawing(
+    alloc: Global,
+    scenario: &Scenario,
+    measure: &Option<Measure>,
+    picture: &Picture,
+) -> Result<String, AllocError>
+    ensures { IfOk result (λ text. IsDrawing measure.now scenario.now picture.now (string_bytes text)) }
 {
-    let sheet = Sheet::of(alloc, scenario, picture)?;
+    let sheet = Sheet::of(alloc, scenario, picture, measure)?;
     let scene = Scene {
         alloc,
         scenario,
+        measure,
         picture,
         sheet: &sheet,
     };
     let start = start(alloc, WIDTH, sheet.height())?;
-    let head = head(alloc, scenario, picture.why())?;
+    let head = head(alloc, scenario, measure, picture.why())?;
     let ground = ground(&scene)?;
     let windows = windows(&scene)?;
     let packets = packets(&scene)?;
@@ -81,10 +89,15 @@ fn white_ground(alloc: Global, wide: u32, high: u32) -> Result<String, AllocErro
 }
 
 /// What an image tells first: the answer as its title and as its heading, and why the target is so late.
-fn head(alloc: Global, scenario: &Scenario, why: &Explanation) -> Result<String, AllocError>
-    ensures { IfOk result (λ text. string_bytes text ≡ head_text scenario.now why.now) }
+fn head(
+    alloc: Global,
+    scenario: &Scenario,
+    measure: &Option<Measure>,
+    why: &Explanation,
+) -> Result<String, AllocError>
+    ensures { IfOk result (λ text. string_bytes text ≡ head_text measure.now scenario.now why.now) }
 {
-    let answer = answer_words(alloc, scenario, why)?;
+    let answer = answer_words(alloc, scenario, measure, why)?;
     let reason = reason_words(alloc, scenario, why)?;
     head_of(alloc, &answer, &reason)
 }

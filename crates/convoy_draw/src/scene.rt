@@ -1,5 +1,6 @@
 use convoy_picture::{Picture, Role, Sheet};
 use convoy_scenario::Scenario;
+use convoy_times::Measure;
 use std::alloc::Global;
 
 /// What is drawn: the picture of a run of a scenario, where all of it stands on the sheet, and what memory comes from.
@@ -7,6 +8,8 @@ use std::alloc::Global;
 pub(crate) struct Scene<'a> {
     pub alloc: Global,
     pub scenario: &'a Scenario,
+    /// How times are told.
+    pub measure: &'a Option<Measure>,
     pub picture: &'a Picture,
     pub sheet: &'a Sheet,
 }

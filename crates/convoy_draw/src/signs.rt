@@ -159,7 +159,7 @@ fn push_wait_label(layers: &mut Layers, scene: &Scene) -> Result<(), AllocError>
     let Some(mark) = wait_mark(scene.scenario, scene.picture) else {
         return Ok(());
     };
-    let label = wait_label(scene.alloc, scene.scenario, scene.picture)?;
+    let label = wait_label(scene.alloc, scene.scenario, scene.measure, scene.picture)?;
     let words = words_at(scene, &mark, scene.sheet.wait_row(), &label)?;
     layers.push(Role::Target, &words)
 }

@@ -39,6 +39,20 @@ pub fn hint_for_greatest(alloc: Global, scenario: &Scenario, greatest: u32) -> H
     Ok(Some(hint))
 }
 
+/// What a table of changes says of a scenario whose greatest latency is the ceiling of messages of these kinds at the
+/// target's group, in one line `hint: ..`: little, since its times of issue are tuned to that. None where it is below the
+/// ceiling.
+pub fn hint_for_changes(alloc: Global, scenario: &Scenario, greatest: u32) -> Hint {
+    if greatest < target_ceiling(scenario) {
+        return Ok(None);
+    }
+    let hint = String::from_str(
+        alloc,
+        "hint: these messages attain the ceiling, so almost any change saves something here, while other traffic of the same kinds attains it still: 'ceiling' tells what a change is worth\n",
+    )?;
+    Ok(Some(hint))
+}
+
 /// What to do where a search by plain or stamp bounds alone, or both ways with no ticket for leads, did not
 /// end with that many tickets, in one line `hint: ..`: to go by leads.
 pub fn hint_for_leads(alloc: Global, tickets: u64) -> Result<String, AllocError> {

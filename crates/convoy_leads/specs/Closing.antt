@@ -40,6 +40,11 @@ is_behind_late scenario windows tick n =
     || list_all (λ k. is_behind_after scenario windows n k (tick - (tables_by windows).greatest_proposal n k scenario.target_group))
     (message_at scenario n).destinations
 
+-- windows of a scenario, of which leads are asked
+pub record Tested : Type 0 where
+  pub scenario : Scenario
+  pub windows : Windows
+
 -- the target and each rival that is committed at its group after that latency is behind it
 abbrev pub closes_over : Scenario → Windows → ℕ → Bool
 closes_over scenario windows latency =

@@ -1,9 +1,9 @@
 ghost use Rattle.std.specs.Prelude.{◌≡◌, ◌+◌, All, IfOk, IfSome};
 ghost use Rattle.convoy_scenario.specs.Scenario.{message_at};
 ghost use Rattle.convoy_intervals.specs.Boxes.{IsBox};
-ghost use Rattle.convoy_intervals.specs.Tracked.{tracked_of};
+ghost use Rattle.convoy_sure.specs.Windows.{windows_of};
 ghost use Rattle.convoy_starts.specs.Links.{IsLink};
-ghost use Rattle.convoy_leads.specs.Closing.{closes_by_leads, closes_over};
+ghost use Rattle.convoy_leads.specs.Closing.{closes_over};
 ghost use Rattle.convoy_leads.specs.Openings.{IsOpenCase, IsOpening, IsShown, is_closed};
 
 use super::facts::Facts;
@@ -12,65 +12,75 @@ use super::opening::Opening;
 use super::shown::Shown;
 use convoy_intervals::DelayBox;
 use convoy_packets::Instance;
-use convoy_sim::Tag;
 use convoy_starts::{Link, Scratch};
 use convoy_sure::{Windows, target_group};
 use std::alloc::{AllocError, Global};
 use std::marker::Model;
 
-/// The test of one box by leads (docs/LEADS.md): all that it knows of the box, for any latency.
+/// The test of windows by leads (docs/LEADS.md): all that it knows of them, for any latency.
 #[derive(Drop)]
 pub struct LeadTest<'a> {
     alloc: Global,
     facts: Facts<'a>,
     windows: Windows,
-    delay_box: Tag<DelayBox>,
 }
 
 impl<'a> Model for LeadTest<'a> {
-    ghost use Rattle.std.specs.Prelude.{◌≡◌};
-    ghost use Rattle.convoy_intervals.specs.Tracked.{Tracked};
-    ghost use Rattle.convoy_sure.specs.Windows.{windows_of};
+    ghost use Rattle.convoy_leads.specs.Closing.{Tested};
 
-    ghost Value = { Tracked };
+    ghost Value = { Tested };
 
-    ghost view = { λ t. record { scenario = t.facts.scenario.now; delay_box = t.delay_box.value } };
-
-    ghost invariant = { λ t. t.windows ≡ windows_of t.facts.scenario.now t.delay_box.value };
+    ghost view = { λ t. record { scenario = t.facts.scenario.now; windows = t.windows } };
 }
 
 impl<'a> LeadTest<'a> {
-    /// The test of a box of the instance. The error is that memory ran out.
+    /// The test of the windows of a box of the instance. The error is that memory ran out.
     pub fn of(
         alloc: Global,
         instance: &'a Instance,
         delay_box: &DelayBox,
     ) -> Result<LeadTest<'a>, AllocError>
         requires inside { IsBox instance.now delay_box.now }
-        ensures { IfOk result (λ test. test ≡ tracked_of instance.now delay_box.now) }
+        ensures { IfOk result (λ test. test ≡ record {
+          scenario = instance.now;
+          windows = windows_of instance.now delay_box.now;
+        }) }
+    {
+        let windows = Windows::of(alloc, instance, delay_box)?;
+        LeadTest::over(alloc, instance, windows)
+    }
+
+    /// The test of windows of the instance. The error is that memory ran out.
+    pub fn over(
+        alloc: Global,
+        instance: &'a Instance,
+        windows: Windows,
+    ) -> Result<LeadTest<'a>, AllocError>
+        ensures { IfOk result (λ test. test ≡ record {
+          scenario = instance.now;
+          windows = windows;
+        }) }
     {
         let facts = Facts::of(alloc, instance.scenario())?;
-        let windows = Windows::of(alloc, instance, delay_box)?;
         Ok(LeadTest {
             alloc,
             facts,
             windows,
-            delay_box: Tag::of(delay_box),
         })
     }
 
-    /// What leads show of the box for a latency in ticks. The error is that memory ran out.
+    /// What leads show of the windows for a latency in ticks. The error is that memory ran out.
     pub fn shows(&self, latency: u32) -> Result<Shown, AllocError>
         ensures closed { IfOk result (λ shown. is_closed shown
-            ≡ closes_by_leads self.now.scenario self.now.delay_box latency) }
+            ≡ closes_over self.now.scenario self.now.windows latency) }
         ensures case { IfOk result (IsShown self.now.scenario) }
     {
         let mut scratch = Scratch::new(self.alloc);
         self.facts.shown(&self.windows, latency, &mut scratch)
     }
 
-    /// What keeps the box open for a latency in ticks, for which leads show that of it: a case, and the
-    /// chain of links of it. None where there is no case: leads close the box, or the target alone may
+    /// What keeps the windows open for a latency in ticks, for which leads show that of them: a case, and the
+    /// chain of links of it. None where there is no case: leads close the windows, or the target alone may
     /// be late. The error is that memory ran out.
     pub fn opening(&self, shown: Shown, latency: u32) -> Result<Option<Opening>, AllocError>
         requires { IsShown self.now.scenario shown }
@@ -86,7 +96,7 @@ impl<'a> LeadTest<'a> {
         Ok(Some(Opening { case, links }))
     }
 
-    /// The chain of links of an open case of the box, where each message in turn is told to be committed
+    /// The chain of links of an open case of the windows, where each message in turn is told to be committed
     /// nowhere before: no two links of it go to and fro between the same two stamps, and so there are more
     /// often runs that do all that it wants than of the chain of the case's [`opening`](LeadTest::opening).
     /// The error is that memory ran out.

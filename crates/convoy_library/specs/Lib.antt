@@ -10,6 +10,8 @@ pub use Rattle.convoy_toml.specs.Reading
 pub use Rattle.convoy_toml_writer.specs.Text as ScenarioText
 pub use Rattle.convoy_draft.specs.declared.fault.ScenarioFault
 pub use Rattle.convoy_draft.specs.declared.time.Time
+-- how times are told
+pub use Rattle.convoy_times.specs.Measures
 -- the lines of a scenario in a certificate
 pub use Rattle.convoy_scenario_lines.specs.ScenarioLines
 pub use Rattle.convoy_scenario_lines.specs.LineReading

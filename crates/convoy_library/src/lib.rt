@@ -19,5 +19,6 @@ pub use convoy_share as share;
 pub use convoy_sim as sim;
 pub use convoy_stamps as stamps;
 pub use convoy_timeline as timeline;
+pub use convoy_times as times;
 pub use convoy_toml as scenario_toml;
 pub use convoy_toml_writer as scenario_text;

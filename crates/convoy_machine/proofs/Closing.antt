@@ -1,7 +1,7 @@
 -- The leaves that close a box: in one test, and that no member of the box has a greater latency.
 use Rattle.std.specs.Prelude.{◌≡◌, ℕ, ◌≤◌, nat_le, Bool, true, false, ◌&&◌, ◌||◌, IsTrue, [], Option, Some, None}
 use Rattle.std.specs.Option.{is_none}
-use Rattle.std.proofs.Common.{arith, refl, ap, ◌∙◌, inl, inr}
+use Rattle.std.proofs.Common.{arith, refl, ap, sym, subst, ◌∙◌, inl, inr}
 use Rattle.std.proofs.lemmas.Bool.{false≢true, or_cases, le-leb}
 use Rattle.std.proofs.lemmas.List.Elements.{All-nil}
 use Rattle.convoy_scenario.specs.Scenario.{Scenario}
@@ -16,6 +16,8 @@ use Rattle.convoy_regions.specs.Stages.{IsPrecedence, Precedence, comes_before}
 use Rattle.convoy_regions.specs.Regions.{IsMember, IsRegion, Region, any_order, is_decided, run_of}
 use Rattle.convoy_stamps.specs.StampBounds.{stamp_bound}
 use Rattle.convoy_leads.specs.Closing.{closes_by_leads}
+use Rattle.convoy_narrowing.specs.Narrowing.{closes_region}
+use Rattle.convoy_narrowing.proofs.RegionWindows.{closed_as_box}
 use Rattle.convoy_certificate.specs.declared.node.Node.{Node}
 use Rattle.convoy_certificate.specs.declared.node.Node.TheVariants.{Split, Order, Bound, Point, Stamp, Lead}
 use Rattle.convoy_checker.specs.declared.refused.Refused.{Refused}
@@ -45,9 +47,10 @@ closes_is plan latency box =
     let low = nat_le bound latency in
     let point = is_decided plan region && nat_le (latency_of plan (run_of plan region)) latency in
     let stamp = in_ticks plan.time && nat_le (stamp_bound plan box) latency in
-    let lead = closes_by_leads plan box latency in
+    let lead = closes_region plan region latency in
     four_tests low point stamp (nat_le latency latency && lead) (refused.BoundLeaf 0 bound) (refused.PointLeaf 0) (refused.StampLeaf 0 (stamp_bound plan box)) (refused.LeadLeaf 0)
     ∙ ap (λ (itself : Bool). low || (point || (stamp || (itself && lead)))) (le-leb latency latency (omega arith))
+    ∙ ap (λ (closed : Bool). low || (point || (stamp || closed))) (closed_as_box plan box latency)
 
 -- what rests on the kinds of leaves: a law for each
 pub record LeafGrounds : Type 0 where
@@ -123,5 +126,7 @@ right_closes more plan latency leaf box lawful inside below right = by_leaf leaf
   by_leaf Point below right = second_of (fits Bound) (fits Point) (fits Stamp || (fits (Lead latency) || false)) (fitting Point right)
   by_leaf Stamp below right = third_of (fits Bound) (fits Point) (fits Stamp) (fits (Lead latency) || false) (fitting Stamp right)
   by_leaf (Lead named) below right =
-      let closed : ClosesByLeads plan latency (any_order box) = more plan box named latency lawful (AreRanges-box (ranges_of plan) box inside) right.0 right.1 in
+      let named_closed : IsTrue (closes_by_leads plan box named) = subst IsTrue (closed_as_box plan box named) right.1 in
+      let box_closed = more plan box named latency lawful (AreRanges-box (ranges_of plan) box inside) right.0 named_closed in
+      let closed : ClosesByLeads plan latency (any_order box) = subst IsTrue (sym (closed_as_box plan box latency)) box_closed in
       fourth_of (fits Bound) (fits Point) (fits Stamp) (fits (Lead latency)) false (fitting (Lead latency) (omega arith, closed))

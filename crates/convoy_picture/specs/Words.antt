@@ -4,6 +4,7 @@ use Rattle.convoy_scenario.specs.Scenario.{Scenario, group_name_at, message_at}
 use Rattle.convoy_packets.specs.Assignment.{receiver_of}
 use Rattle.convoy_packets.specs.declared.packet.Packet.{Packet}
 use Rattle.convoy_packets.specs.declared.packet.Packet.TheVariants.{Wait, Multicast, Propose as Proposal}
+use Rattle.convoy_times.specs.declared.measure.Measure.{Measure}
 use Rattle.convoy_timeline.specs.declared.entry.Entry.{Entry}
 use Rattle.convoy_timeline.specs.declared.entry.EntryKind.{EntryKind}
 use Rattle.convoy_timeline.specs.declared.entry.EntryKind.TheVariants.{Propose, Commit, Deliver}
@@ -12,12 +13,12 @@ use Rattle.convoy_timeline.specs.declared.explanation.Explanation.{Explanation}
 use Rattle.convoy_timeline.specs.declared.explanation.Holder.{Holder}
 use Rattle.convoy_picture.specs.declared.flight.Flight.{Flight}
 
--- how late the target is at worst, and in the unit of a tick where its length is known
-unfoldable pub answer_text : Scenario → Explanation → List ℕ
-answer_text scenario why =
+-- how late the target is at worst, in ticks and as a time where there is a measure
+unfoldable pub answer_text : Option Measure → Scenario → Explanation → List ℕ
+answer_text measure scenario why =
     message_name_at scenario scenario.target_message
     ++ (codes " at " ++ (group_name_at scenario scenario.target_group
-    ++ (codes ": at worst " ++ ticks_text scenario.tick why.latency)))
+    ++ (codes ": at worst " ++ ticks_text measure why.latency)))
 
 -- when the target is committed and delivered, and what it waits for between the two
 abbrev pub outcome_text : Scenario → Explanation → Option Holder → List ℕ

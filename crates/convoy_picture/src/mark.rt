@@ -3,7 +3,8 @@ use crate::Picture;
 use convoy_scenario::lookup::sender_of;
 use convoy_scenario::naming::message_name;
 use convoy_scenario::{Scenario, Sender};
-use convoy_timeline::{Entry, EntryKind, stamp_text, tick_word};
+use convoy_timeline::{Entry, EntryKind, stamp_text, ticks_text};
+use convoy_times::Measure;
 use std::alloc::{AllocError, Global};
 
 /// What a mark on a lane stands for.
@@ -110,16 +111,17 @@ pub fn entry_label(
     }
 }
 
-/// The words beside the mark from which on the target waits.
+/// The words beside the mark from which on the target waits, with that time where there is a measure.
 pub fn wait_label(
     alloc: Global,
     scenario: &Scenario,
+    measure: &Option<Measure>,
     picture: &Picture,
 ) -> Result<String, AllocError> {
     let why = picture.why();
     let name = message_name(scenario, scenario.target_message());
     let awaited = message_name(scenario, why.last.message);
     let ticks = why.delivered.saturating_sub(why.committed);
-    let word = tick_word(ticks);
-    format!(in alloc; "{name} waits {ticks} {word} for {awaited}")
+    let long = ticks_text(alloc, *measure, ticks)?;
+    format!(in alloc; "{name} waits {long} for {awaited}")
 }

@@ -97,6 +97,23 @@ impl Scale {
         part_of(self.width, ticks, self.ticks)
     }
 
+    /// How wide so long a time is, of which a tick has that many parts.
+    pub(crate) fn width_of_part(&self, long: u64, tick: u64) -> u32 {
+        let (tick, width) = (tick.max(1), u64::from(self.width));
+        let whole = width.saturating_mul(long / tick);
+        let rest = width.saturating_mul(long % tick) / tick;
+        let wide = whole.saturating_add(rest) / u64::from(self.ticks.max(1));
+        u32::try_from(wide).unwrap_or(u32::MAX)
+    }
+
+    /// The last tick of all; 0 where there is none.
+    pub(crate) fn last(&self) -> u32 {
+        match self.stretches.last() {
+            Some(stretch) => stretch.last,
+            None => 0,
+        }
+    }
+
     /// Where a stretch ends.
     pub fn right_of(&self, stretch: &Stretch) -> u32 {
         self.after(stretch, stretch.last)

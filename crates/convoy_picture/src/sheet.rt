@@ -1,3 +1,4 @@
+use super::axis::Axis;
 use super::mark::{
     Mark, MarkKind, entry_label, entry_mark, issue_label, issue_mark, wait_label, wait_mark,
 };
@@ -6,6 +7,7 @@ use super::scale::Scale;
 use super::widths::width_of;
 use crate::{Picture, Role};
 use convoy_scenario::{AllocResult, Scenario, Sender};
+use convoy_times::Measure;
 use std::alloc::Global;
 
 // All lengths on the sheet are in tenths of a pixel.
@@ -31,7 +33,7 @@ pub const GAP: u32 = 70;
 /// How high a row of words is.
 const ROW: u32 = 140;
 
-/// Where the numbers of ticks stand, from above.
+/// Where the numbers of the axis stand, from above.
 pub const AXIS: u32 = 950;
 
 /// How many rows all lanes together have on each side, about, for messages that are not in focus.
@@ -40,6 +42,8 @@ const MOST_ROWS: usize = 24;
 /// A lane of the sheet: that of the clients, or of a group.
 #[derive(Drop)]
 struct Lane {
+    /// Whether anything happens there: else it is not drawn.
+    is_used: bool,
     /// Where its line is, from above.
     y: u32,
     above: Rows,
@@ -50,6 +54,7 @@ struct Lane {
 #[derive(Drop)]
 pub struct Sheet {
     pub scale: Scale,
+    pub axis: Axis,
     lanes: Vec<Lane>,
     /// Where the lanes end, from above.
     pub bottom: u32,
@@ -59,23 +64,49 @@ pub struct Sheet {
 }
 
 impl Sheet {
-    /// The sheet of a picture of a run of the scenario.
-    pub fn of(alloc: Global, scenario: &Scenario, picture: &Picture) -> AllocResult<Sheet> {
+    /// The sheet of a picture of a run of the scenario, with an axis that tells times in that measure, or ticks
+    /// where there is none.
+    pub fn of(
+        alloc: Global,
+        scenario: &Scenario,
+        picture: &Picture,
+        measure: &Option<Measure>,
+    ) -> AllocResult<Sheet> {
+        let scale = Scale::of(alloc, scenario, picture)?;
         let mut sheet = Sheet {
-            scale: Scale::of(alloc, scenario, picture)?,
+            axis: Axis::of(alloc, &scale, *measure)?,
+            scale,
             lanes: list_lanes(alloc, scenario)?,
             bottom: 0,
             issue_rows: no_rows(alloc, scenario.message_count())?,
             entry_rows: no_rows(alloc, picture.entries().len())?,
             wait_row: None,
         };
+        sheet.use_lanes(scenario, picture);
         for is_focus in [true, false] {
             sheet.put_issues(alloc, scenario, picture, is_focus)?;
-            sheet.put_entries(alloc, scenario, picture, is_focus)?;
+            sheet.put_entries(alloc, scenario, measure, picture, is_focus)?;
             sheet.close_rows();
         }
         sheet.lay_lanes();
         Ok(sheet)
+    }
+
+    /// Notes the lanes on which something happens.
+    fn use_lanes(&mut self, scenario: &Scenario, picture: &Picture) {
+        for message in 0..scenario.message_count() {
+            self.use_lane(issue_mark(scenario, picture, message).lane);
+        }
+        for entry in picture.entries() {
+            self.use_lane(entry_mark(entry).lane);
+        }
+    }
+
+    /// Notes that something happens on a lane.
+    fn use_lane(&mut self, lane: usize) {
+        if let Some(lane) = self.lanes.get_mut(lane) {
+            lane.is_used = true;
+        }
     }
 
     /// Puts the words on issues into rows: those of messages in focus, or those of the others.
@@ -102,6 +133,7 @@ impl Sheet {
         &mut self,
         alloc: Global,
         scenario: &Scenario,
+        measure: &Option<Measure>,
         picture: &Picture,
         is_focus: bool,
     ) -> AllocResult<()> {
@@ -115,7 +147,7 @@ impl Sheet {
                 if let Some(wait) = wait
                     && is_begun(&wait, &mark)
                 {
-                    let label = wait_label(alloc, scenario, picture)?;
+                    let label = wait_label(alloc, scenario, measure, picture)?;
                     self.wait_row = self.put(&wait, &label)?;
                 }
             }
@@ -135,22 +167,29 @@ impl Sheet {
 
     /// Closes the rows there are beside all lanes, and leaves each lane some more.
     fn close_rows(&mut self) {
-        let more = MOST_ROWS / self.lanes.len().max(1);
+        let more = MOST_ROWS / self.used_lanes().max(1);
         for lane in &mut self.lanes {
             lane.above.close(more);
             lane.below.close(more);
         }
     }
 
-    /// Gives each lane its place, one below the other.
+    /// How many lanes there are on which something happens.
+    fn used_lanes(&self) -> usize {
+        self.lanes.iter().filter(|lane| lane.is_used).count()
+    }
+
+    /// Gives each lane on which something happens its place, one below the other.
     fn lay_lanes(&mut self) {
-        let count = u32::try_from(self.lanes.len()).unwrap_or(u32::MAX);
+        let count = u32::try_from(self.used_lanes()).unwrap_or(u32::MAX);
         let space = (2_400 / count.max(1)).clamp(250, 600);
         let mut top = AXIS.saturating_add(MARGIN);
         for lane in &mut self.lanes {
-            lane.y = top.saturating_add(height(&lane.above));
-            self.bottom = lane.y.saturating_add(height(&lane.below));
-            top = self.bottom.saturating_add(space);
+            if lane.is_used {
+                lane.y = top.saturating_add(height(&lane.above));
+                self.bottom = lane.y.saturating_add(height(&lane.below));
+                top = self.bottom.saturating_add(space);
+            }
         }
     }
 
@@ -159,9 +198,17 @@ impl Sheet {
         self.bottom.saturating_add(1_220)
     }
 
-    /// How many lanes there are.
+    /// How many lanes there are, drawn or not.
     pub fn lane_count(&self) -> usize {
         self.lanes.len()
+    }
+
+    /// Whether a lane is drawn: something happens on it.
+    pub fn has_lane(&self, lane: usize) -> bool {
+        match self.lanes.get(lane) {
+            Some(lane) => lane.is_used,
+            None => false,
+        }
     }
 
     /// Where the line of a lane is, from above; at the top where there is no such lane.
@@ -248,6 +295,7 @@ fn list_lanes(alloc: Global, scenario: &Scenario) -> AllocResult<Vec<Lane>> {
     let mut lanes = Vec::new(alloc);
     for _ in 0..lane_of(Sender::Group(scenario.group_count())) {
         lanes.push(Lane {
+            is_used: false,
             y: 0,
             above: Rows::new(alloc),
             below: Rows::new(alloc),

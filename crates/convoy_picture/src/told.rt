@@ -8,17 +8,22 @@ use convoy_scenario::lookup::{first_tick, sender_of};
 use convoy_scenario::naming::{group_name, message_name};
 use convoy_scenario::{AllocResult, Scenario};
 use convoy_timeline::{Entry, EntryKind, Explanation, sender_name, stamp_text, ticks_text};
+use convoy_times::Measure;
 use std::alloc::Global;
 
-/// The answer: how late the target of the scenario is at worst, in ticks, and in their unit where the
-/// length of a tick is known, by the explanation of a run (docs/FORMATS.md, "What `draw` writes"). Fails where memory runs out, and else never.
+/// The answer: how late the target of the scenario is at worst, in ticks, and as a time where there is a measure, by the explanation of a run (docs/FORMATS.md, "What `draw` writes"). Fails where memory runs out, and else never.
 #[tactic(auto, unfolding(crate::specs::Words::answer_text))]
-pub fn answer_words(alloc: Global, scenario: &Scenario, why: &Explanation) -> AllocResult<String>
-    ensures { IfOk result (λ words. string_bytes words ≡ answer_text scenario.now why.now) }
+pub fn answer_words(
+    alloc: Global,
+    scenario: &Scenario,
+    measure: &Option<Measure>,
+    why: &Explanation,
+) -> AllocResult<String>
+    ensures { IfOk result (λ words. string_bytes words ≡ answer_text measure.now scenario.now why.now) }
 {
     let message = message_name(scenario, scenario.target_message());
     let group = group_name(scenario, scenario.target_group());
-    let latency = ticks_text(alloc, scenario, why.latency)?;
+    let latency = ticks_text(alloc, *measure, why.latency)?;
     format!(in alloc; "{message} at {group}: at worst {latency}")
 }
 

@@ -2,6 +2,7 @@ pub mod Times
 pub mod Tops
 pub mod SureLaws
 pub mod WindowLaws
+pub mod CutLaws
 pub mod MemberDelays
 pub mod PairLists
 pub mod Loops

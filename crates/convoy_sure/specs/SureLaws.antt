@@ -7,7 +7,7 @@ use Rattle.convoy_sim.specs.Times.{Tick, arrive, settle}
 use Rattle.convoy_sim.specs.Stamps.{local_stamp}
 use Rattle.convoy_intervals.specs.Boxes.{Box, IsIn}
 use Rattle.convoy_intervals.specs.Bounds.{Tables, Encloses, tables_of}
-use Rattle.convoy_sure.specs.Windows.{EnclosesAll, Windows, tables_by, windows_of, with_arrival}
+use Rattle.convoy_sure.specs.Windows.{EnclosesAll, Windows, tables_by, windows_of, with_arrival, with_arrival_by, with_commit, with_commit_by}
 use Rattle.convoy_sure.specs.SureLeads.{Sure, is_earlier, lead_at, leads_of, sure_after, sure_later, sure_of, sure_time, top_of}
 
 -- ---- windows
@@ -37,6 +37,30 @@ CutsEnclose =
     → EnclosesAll scenario schedule (tables_by windows)
     → GoesTo scenario m k → tick ≤ arrive scenario schedule m k
     → EnclosesAll scenario schedule (tables_by (with_arrival scenario windows m k tick))
+
+-- the same of those that are cut for an arrival by a tick, ..
+abbrev pub CutsByArrivalEnclose : Type 0
+CutsByArrivalEnclose =
+    (scenario : Scenario) (schedule : Schedule) (windows : Windows) (m k : ℕ) (tick : Tick) → IsScenario scenario
+    → EnclosesAll scenario schedule (tables_by windows)
+    → GoesTo scenario m k → arrive scenario schedule m k ≤ tick
+    → EnclosesAll scenario schedule (tables_by (with_arrival_by scenario windows m k tick))
+
+-- .. for a commit at a tick or later, ..
+abbrev pub CutsForCommitEnclose : Type 0
+CutsForCommitEnclose =
+    (scenario : Scenario) (schedule : Schedule) (windows : Windows) (m k : ℕ) (tick : Tick) → IsScenario scenario
+    → EnclosesAll scenario schedule (tables_by windows)
+    → GoesTo scenario m k → tick ≤ settle scenario schedule m k
+    → EnclosesAll scenario schedule (tables_by (with_commit windows m k tick))
+
+-- .. and for a commit by a tick
+abbrev pub CutsByCommitEnclose : Type 0
+CutsByCommitEnclose =
+    (scenario : Scenario) (schedule : Schedule) (windows : Windows) (m k : ℕ) (tick : Tick) → IsScenario scenario
+    → EnclosesAll scenario schedule (tables_by windows)
+    → GoesTo scenario m k → settle scenario schedule m k ≤ tick
+    → EnclosesAll scenario schedule (tables_by (with_commit_by scenario windows m k tick))
 
 -- ---- what is sure
 -- of what surely arrives at a group after message q does, if that arrives there by a tick, the stamp there is of greater time

@@ -127,6 +127,39 @@ with_arrival scenario windows m k tick = record {
   greatest_proposals = windows.greatest_proposals;
 }
 
+-- ---- cuts from above
+-- the entries, of which that for message m at group g is at most so much
+abbrev pub lowered : List ℕ → ℕ → ℕ → ℕ → List ℕ
+lowered entries m g most = slice_set entries (place m g) (min most (entry_at entries m g))
+
+-- the greatest arrivals, where message m is issued by that tick: it arrives at group g no later than after the greatest delay from its issue
+abbrev pub with_issue_by : Windows → ℕ → Tick → List ℕ → ℕ → List ℕ
+with_issue_by windows m tick entries g = lowered entries m g (tick + (tables_by windows).greatest_multicast m g)
+
+-- the greatest arrivals, where message m arrives at group k by that tick: it is issued no later than the least delay to there before that
+abbrev pub arrivals_by : Scenario → Windows → ℕ → ℕ → Tick → List ℕ → List ℕ
+arrivals_by scenario windows m k tick entries =
+    lowered (fold (with_issue_by windows m (tick - (tables_by windows).least_multicast m k)) entries (message_at scenario m).destinations) m k tick
+
+-- the greatest arrivals, where message m is committed at group k by that tick: it arrives at group h in time for its stamp of h to come from there
+abbrev pub arrivals_before : Scenario → Windows → ℕ → ℕ → Tick → List ℕ → ℕ → List ℕ
+arrivals_before scenario windows m k tick entries h = arrivals_by scenario windows m h (tick - (tables_by windows).least_proposal m h k) entries
+
+-- the windows cut: message m arrives at group k, one of its destinations, by that tick
+abbrev pub with_arrival_by : Scenario → Windows → ℕ → ℕ → Tick → Windows
+with_arrival_by scenario windows m k tick = record windows { greatest_arrivals = arrivals_by scenario windows m k tick windows.greatest_arrivals }
+
+-- the windows cut: message m is committed at group k, one of its destinations, at that tick or later
+abbrev pub with_commit : Windows → ℕ → ℕ → Tick → Windows
+with_commit windows m k tick = record windows { least_settlings = raised windows.least_settlings m k tick }
+
+-- the windows cut: message m is committed at group k, one of its destinations, by that tick
+abbrev pub with_commit_by : Scenario → Windows → ℕ → ℕ → Tick → Windows
+with_commit_by scenario windows m k tick = record windows {
+  greatest_arrivals = fold (arrivals_before scenario windows m k tick) windows.greatest_arrivals (message_at scenario m).destinations;
+  greatest_settlings = lowered windows.greatest_settlings m k tick;
+}
+
 -- no arrival, settling or delay is later or longer than any of a scenario
 pub record AreWithinLimits (windows : Windows) : Type 0 where
   pub least_arrivals : All (λ tick. tick ≤ GREATEST_UNTIL + 65535) windows.least_arrivals

@@ -11,7 +11,7 @@ use std::alloc::{AllocError, Global};
 
 /// Raises the entry for a message at a group to a number, if it is less.
 #[tactic(auto, using(std::proofs::lemmas::List::set_past, crate::proofs::Cut::all_raised))]
-fn raise_entry(entries: &mut [u32], message: usize, group: usize, least: u32)
+pub(crate) fn raise_entry(entries: &mut [u32], message: usize, group: usize, least: u32)
     requires message { message < MOST_MULTICASTS }
     requires group { group < MOST_GROUPS }
     ensures value { entries.new ≡ raised entries.old message group least }

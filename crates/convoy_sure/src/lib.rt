@@ -13,6 +13,7 @@ pub use windows::{LAST_ARRIVAL, LAST_SETTLING, Windows};
 mod cuts;
 mod ends;
 mod filling;
+mod later_cuts;
 mod messages;
 mod pairs;
 mod ranks;

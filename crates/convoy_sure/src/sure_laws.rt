@@ -3,6 +3,7 @@
 
 ghost use Rattle.convoy_sure.specs.Below.{LawsBelow};
 ghost use Rattle.convoy_sure.specs.SureLaws.{WindowsAreTables, WindowsEncloseMembers, CutsEnclose};
+ghost use Rattle.convoy_sure.specs.SureLaws.{CutsByArrivalEnclose, CutsByCommitEnclose, CutsForCommitEnclose};
 ghost use Rattle.convoy_sure.specs.SureLaws.{SureArrivalsRise, WhatIsSureHolds, SureLeadsHold};
 
 use convoy_intervals::box_laws::members_are_enclosed;
@@ -37,6 +38,24 @@ pub fn windows_enclose_members()
 #[tactic(auto, using(crate::proofs::WindowLaws::cuts_enclose))]
 pub fn cuts_enclose()
     ensures { CutsEnclose }
+{}
+
+/// The same of windows that are cut for an arrival by a tick.
+#[tactic(auto, using(crate::proofs::CutLaws::cuts_by_arrival_enclose))]
+pub fn cuts_by_arrival_enclose()
+    ensures { CutsByArrivalEnclose }
+{}
+
+/// The same of windows that are cut for a commit at a tick or later.
+#[tactic(auto, using(crate::proofs::CutLaws::cuts_for_commit_enclose))]
+pub fn cuts_for_commit_enclose()
+    ensures { CutsForCommitEnclose }
+{}
+
+/// The same of windows that are cut for a commit by a tick.
+#[tactic(auto, using(crate::proofs::CutLaws::cuts_by_commit_enclose))]
+pub fn cuts_by_commit_enclose()
+    ensures { CutsByCommitEnclose }
 {}
 
 /// What surely arrives at a group after a message has a stamp of greater time there.

@@ -1,4 +1,7 @@
 pub mod Numbers
 pub mod Opens
-pub mod KnownMessages
+pub mod Greatest
+pub mod OneMessage
+pub mod AtAlls
 pub mod CeilingRows
+pub mod Numerals

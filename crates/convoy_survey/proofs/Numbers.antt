@@ -8,6 +8,7 @@ use Rattle.convoy_sim.specs.Greatest.{IsGreatest}
 use Rattle.convoy_toml.specs.Reading.{scenario_of_text}
 use Rattle.convoy_branch.specs.Options.{Settings}
 use Rattle.convoy_commands.specs.declared.done.Done.TheVariants.{Fine}
+use Rattle.convoy_commands.specs.Measured.{measure_of_text}
 use Rattle.convoy_commands.specs.ReplyLines.{greatest_line}
 use Rattle.convoy_commands.specs.Searches.{LatencySays}
 use Rattle.convoy_survey.specs.declared.finding.Finding.{Finding}
@@ -31,11 +32,11 @@ same_scenario a b is = cc
 
 -- what `latency` answers for a text is the greatest latency of the text's scenario
 pub latency_told : (settings : Settings) (scenario : Scenario) (latency : ℕ) (text out : List ℕ) → IsGreatest scenario latency → scenario_of_text text ≡ Ok scenario →
-    LatencySays settings text (Ok (Fine, out)) → out ≡ greatest_line scenario.tick latency
+    LatencySays settings text (Ok (Fine, out)) → out ≡ greatest_line (measure_of_text settings.unit text scenario) latency
 latency_told settings scenario latency text out greatest read told =
     let same : told.scenario ≡ scenario = same_scenario told.scenario scenario (sym told.read ∙ read) in
     let number : told.latency ≡ latency = same_greatest scenario told.latency latency (rw same at told.greatest) greatest in
-    rw (← number) (told.written ∙ ap (λ (s : Scenario). greatest_line s.tick told.latency) same)
+    rw (← number) (told.written ∙ ap (λ (s : Scenario). greatest_line (measure_of_text settings.unit text s) told.latency) same)
 
 pub rows_are_latencies : RowsAreLatencies
 rows_are_latencies settings other scenario m g latency nodes cause text out found read told =

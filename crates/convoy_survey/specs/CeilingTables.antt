@@ -1,51 +1,91 @@
 -- What is written of a scenario's ceilings.
-use Rattle.std.specs.Prelude.{◌≡◌, ◌⊎◌, ℕ, IsTrue, IsFalse, List, ◌++◌, map, Option, Some, Ok, Err, codes}
-use Rattle.std.specs.List.{list_any}
+use Rattle.std.specs.Prelude.{◌≡◌, ◌⊎◌, ℕ, ◌==◌, max, IsTrue, IsFalse, Bool, true, false, List, [], ◌∷◌, ◌++◌, filter, fold, map, Option, Some, is_none, Ok, Err, codes}
+use Rattle.std.specs.List.{flat_map, list_any}
+use Rattle.convoy_draft.specs.declared.duration.TimeUnit.{TimeUnit}
 use Rattle.convoy_draft.specs.declared.fault.ScenarioFault.TheVariants.{UnknownGroup}
-use Rattle.convoy_scenario.specs.Scenario.{Scenario}
+use Rattle.convoy_scenario.specs.Scenario.{Scenario, message_numbers}
 use Rattle.convoy_scenario.specs.WellFormed.{IsScenario}
 use Rattle.convoy_toml.specs.declared.target.TargetKey.TheVariants.{Optional}
 use Rattle.convoy_toml.specs.Reading.{scenario_of_text_by}
 use Rattle.convoy_tables.specs.declared.format.Format.{Format}
 use Rattle.convoy_tables.specs.Formats.{table_text}
-use Rattle.convoy_tables.specs.Tables.{Cell, Table}
+use Rattle.convoy_tables.specs.Tables.{Cell, Table, number, word}
 use Rattle.convoy_commands.specs.declared.fault.Fault.{Fault}
 use Rattle.convoy_commands.specs.declared.fault.Fault.TheVariants as faults
 use Rattle.convoy_commands.specs.declared.done.Done.{Done}
+use Rattle.convoy_commands.specs.Measured.{measure_of_text}
 use Rattle.convoy_commands.specs.Replies.{Rule}
 use Rattle.convoy_commands.specs.Ends.{end_by}
 use Rattle.convoy_commands.specs.Searches.{IsFaultyBy}
 use Rattle.convoy_survey.specs.declared.ceiled.Ceiled.{Ceiled}
-use Rattle.convoy_survey.specs.Cells.{duration_cells, duration_columns, target_cells, target_columns}
+use Rattle.convoy_survey.specs.declared.times.Times.{Times}
+use Rattle.convoy_survey.specs.AtAll.{greatest_known}
+use Rattle.convoy_survey.specs.Cells.{at_all_target_cells, count_cell, target_cells, target_columns}
 use Rattle.convoy_survey.specs.Ceilings.{AreCeiled, falls_short, has_group, is_unsought}
+use Rattle.convoy_survey.specs.Times.{time_pair, times_of, where_told}
 
 -- the names of the columns
-abbrev pub ceiling_columns : Option ℕ → List Cell
-ceiling_columns tick = target_columns ++ (duration_columns (codes "ceiling") tick ++ duration_columns (codes "attained") tick)
+abbrev pub ceiling_columns : Times → List Cell
+ceiling_columns times =
+    target_columns ++ (word (codes "ceiling") ∷ word (codes "attained") ∷ []
+    ++ where_told times (word (codes "ceiling_time") ∷ word (codes "attained_time") ∷ word (codes "unit") ∷ []))
+
+-- a ceiling and the greatest latency that traffic was found to attain, in ticks and as times
+abbrev pub numbers_cells : Times → ℕ → Option ℕ → List Cell
+numbers_cells times ceiling attained = number ceiling ∷ count_cell attained ∷ time_pair times (Some ceiling) attained
 
 -- the cells of a row
-abbrev pub ceiling_cells : Scenario → Ceiled → List Cell
-ceiling_cells scenario row =
-    target_cells scenario row.message row.group
-    ++ (duration_cells scenario.tick (Some row.ceiling) ++ duration_cells scenario.tick row.attained)
+abbrev pub ceiling_cells : Times → Scenario → Ceiled → List Cell
+ceiling_cells times scenario row = target_cells scenario row.message row.group ++ numbers_cells times row.ceiling row.attained
 
--- the table of these rows
-abbrev pub table_of_ceilings : Scenario → List Ceiled → Table
-table_of_ceilings scenario rows = record { columns = ceiling_columns scenario.tick; rows = map (ceiling_cells scenario) rows }
+-- the rows of a message
+abbrev pub ceiled_of : ℕ → List Ceiled → List Ceiled
+ceiled_of m rows = filter (λ row. row.message == m) rows
+
+-- the greatest ceiling of a message's rows
+abbrev pub greatest_ceiling : List Ceiled → ℕ
+greatest_ceiling rows = fold max 0 (map (λ row. row.ceiling) rows)
+
+-- the greatest latency that traffic was found to attain at one of its groups, where it was sought at all of them
+abbrev pub greatest_attained : List Ceiled → Option ℕ
+greatest_attained rows = greatest_known (map (λ row. row.attained) rows)
+
+-- the cells of the row of a message at all the groups that it goes to, of which these are its rows
+abbrev pub ceiling_at_all_cells : Times → Scenario → ℕ → List Ceiled → List Cell
+ceiling_at_all_cells times scenario m rows =
+    at_all_target_cells scenario m ++ numbers_cells times (greatest_ceiling rows) (greatest_attained rows)
+
+-- the rows of the table for the rows of a message, if it has any: each of them, and below them the message at all its groups
+abbrev pub ceiled_lines : Times → Scenario → List Ceiled → List (List Cell)
+ceiled_lines times scenario [] = []
+ceiled_lines times scenario (row ∷ rows) =
+    map (ceiling_cells times scenario) (row ∷ rows) ++ ceiling_at_all_cells times scenario row.message (row ∷ rows) ∷ []
+
+-- the rows of the table: those of one message after those of another, where they are at all groups, else each row alone
+abbrev pub ceiling_lines : Bool → Times → Scenario → List Ceiled → List (List Cell)
+ceiling_lines true times scenario rows = flat_map (λ m. ceiled_lines times scenario (ceiled_of m rows)) (message_numbers scenario)
+ceiling_lines false times scenario rows = map (ceiling_cells times scenario) rows
+
+-- the table of these rows, which are at all groups or at one
+abbrev pub table_of_ceilings : Bool → Times → Scenario → List Ceiled → Table
+table_of_ceilings at_all_groups times scenario rows = record {
+  columns = ceiling_columns times;
+  rows = ceiling_lines at_all_groups times scenario rows;
+}
 
 -- how the telling of these rows ends: a row for which memory ran out comes before one of which the ceiling is not attained
 abbrev pub end_of_ceilings : List Ceiled → Done
 end_of_ceilings rows = end_by (list_any is_unsought rows) (list_any falls_short rows)
 
--- THE HEADLINE. What is written is the table, in this format, of the ceilings of all targets of the scenario that was read, or of those at the group that is named, and the end is told by its rows. The text may leave out its own target.
-pub record IsCeilingTable (format : Format) (group : Option (List ℕ)) (text : List ℕ) (end : Done) (out : List ℕ) : Type 0 where
+-- THE HEADLINE. What is written is the table, in this format and with times in this unit where it is asked for, of the ceilings of all targets of the scenario that was read, and of each message at all its groups, or of those at the group that is named, and the end is told by its rows. The text may leave out its own target.
+pub record IsCeilingTable (format : Format) (unit : Option TimeUnit) (group : Option (List ℕ)) (text : List ℕ) (end : Done) (out : List ℕ) : Type 0 where
   pub scenario : Scenario
   pub rows : List Ceiled
   pub read : scenario_of_text_by Optional text ≡ Ok scenario
   pub lawful : IsScenario scenario
   pub named : IsTrue (has_group scenario group)
   pub ceiled : AreCeiled scenario group rows
-  pub written : out ≡ table_text format (table_of_ceilings scenario rows)
+  pub written : out ≡ table_text format (table_of_ceilings (is_none group) (times_of format (measure_of_text unit text scenario)) scenario rows)
   pub ends : end ≡ end_of_ceilings rows
 
 -- The scenario was read, and none of its groups has the name of the one that is asked for.
@@ -56,6 +96,6 @@ pub record IsGroupUnknown (group : Option (List ℕ)) (text : List ℕ) (fault :
   pub told : fault ≡ faults.Scenario UnknownGroup
 
 -- what may be answered for a text where the ceilings of all targets are asked for, or of those at one group
-abbrev pub CeilingsSay : Format → Option (List ℕ) → Rule
-CeilingsSay format group text (Ok (end, out)) = IsCeilingTable format group text end out
-CeilingsSay format group text (Err fault) = IsFaultyBy Optional text fault ⊎ IsGroupUnknown group text fault
+abbrev pub CeilingsSay : Format → Option TimeUnit → Option (List ℕ) → Rule
+CeilingsSay format unit group text (Ok (end, out)) = IsCeilingTable format unit group text end out
+CeilingsSay format unit group text (Err fault) = IsFaultyBy Optional text fault ⊎ IsGroupUnknown group text fault

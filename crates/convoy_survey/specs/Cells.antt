@@ -1,13 +1,17 @@
 -- The table of a survey.
-use Rattle.std.specs.Prelude.{ℕ, ◌*◌, Bool, true, false, List, [], ◌∷◌, ◌++◌, map, Option, Some, None, codes}
-use Rattle.std.specs.Option.{option_map, option_and_then}
-use Rattle.convoy_draft.specs.Durations.{count_of, unit_of, unit_word}
-use Rattle.convoy_scenario.specs.Scenario.{Scenario, group_name_at, message_at}
+use Rattle.std.specs.Prelude.{ℕ, Bool, true, false, List, [], ◌∷◌, ◌++◌, map, Option, Some, None, codes}
+use Rattle.std.specs.List.{flat_map}
+use Rattle.convoy_scenario.specs.Scenario.{Scenario, group_name_at, message_at, message_numbers}
 use Rattle.convoy_ceiling.specs.Ceiling.{ceiling_at}
 use Rattle.convoy_tables.specs.Tables.{Cell, Table, nothing, number, word}
+use Rattle.convoy_survey.specs.declared.at_all.AtAll.{AtAll}
+use Rattle.convoy_survey.specs.declared.finding.Cause.{Cause}
 use Rattle.convoy_survey.specs.declared.finding.Finding.{Finding}
 use Rattle.convoy_survey.specs.declared.finding.Surveyed.{Surveyed}
-use Rattle.convoy_survey.specs.Findings.{answer_word, cause_of, least_of, most_of, nodes_of}
+use Rattle.convoy_survey.specs.declared.times.Times.{Times}
+use Rattle.convoy_survey.specs.AtAll.{answer_at_all, at_all, ceiling_at_all, rows_of}
+use Rattle.convoy_survey.specs.Findings.{answer_word, cause_of, least_of, most_of, nodes_of, rival_in, tied_in}
+use Rattle.convoy_survey.specs.Times.{time_cell, time_pair, where_told}
 
 -- a number that may not be known
 abbrev pub count_cell : Option ℕ → Cell
@@ -19,23 +23,18 @@ abbrev pub name_cell : Scenario → Option ℕ → Cell
 name_cell scenario None = nothing
 name_cell scenario (Some m) = word (message_at scenario m).name
 
--- ticks of a length in their unit
-abbrev pub time_cell : ℕ → Option ℕ → Cell
-time_cell length ticks = count_cell (option_map (λ n. n * count_of length) ticks)
-
--- ticks in the unit of a tick, where its length is known
-abbrev pub unit_cells : Option ℕ → Option ℕ → List Cell
-unit_cells None ticks = []
-unit_cells (Some length) ticks = time_cell length ticks ∷ []
-
--- ticks, and after them the same in the unit of a tick
-abbrev pub duration_cells : Option ℕ → Option ℕ → List Cell
-duration_cells tick ticks = count_cell ticks ∷ unit_cells tick ticks
+abbrev pub message_cell : Scenario → ℕ → Cell
+message_cell scenario m = word (message_at scenario m).name
 
 -- the message and the group
 abbrev pub target_cells : Scenario → ℕ → ℕ → List Cell
-target_cells scenario m g = word (message_at scenario m).name ∷ word (group_name_at scenario g) ∷ []
+target_cells scenario m g = message_cell scenario m ∷ word (group_name_at scenario g) ∷ []
 
+-- the message at all the groups that it goes to
+abbrev pub at_all_target_cells : Scenario → ℕ → List Cell
+at_all_target_cells scenario m = message_cell scenario m ∷ word (codes "*") ∷ []
+
+-- WHAT WAS FOUND
 -- what is known
 abbrev pub answer_cells : Finding → List Cell
 answer_cells finding = word (answer_word finding) ∷ []
@@ -44,73 +43,98 @@ answer_cells finding = word (answer_word finding) ∷ []
 abbrev pub tick_cells : Finding → List Cell
 tick_cells finding = count_cell (least_of finding) ∷ count_cell (most_of finding) ∷ []
 
--- the same in the unit of a tick, where its length is known
-abbrev pub time_cells : Option ℕ → Finding → List Cell
-time_cells None finding = []
-time_cells (Some length) finding = time_cell length (least_of finding) ∷ time_cell length (most_of finding) ∷ []
+-- the same as times, and their unit, where times are told
+abbrev pub time_cells : Times → Finding → List Cell
+time_cells times finding = time_pair times (least_of finding) (most_of finding)
 
--- the message that holds the target back, the one after which it gets its stamp in a tie, and how many nodes show it
+-- the message that holds the target back, and the one after which it gets its stamp in a tie
+abbrev pub rival_cells : Scenario → Option Cause → List Cell
+rival_cells scenario cause = name_cell scenario (rival_in cause) ∷ name_cell scenario (tied_in cause) ∷ []
+
+-- how many nodes show what was found
+abbrev pub node_cells : Finding → List Cell
+node_cells finding = count_cell (nodes_of finding) ∷ []
+
+-- why it is so late, and how many nodes show it
 abbrev pub cause_cells : Scenario → Finding → List Cell
-cause_cells scenario finding =
-    name_cell scenario (option_and_then (λ cause. cause.rival) (cause_of finding))
-    ∷ name_cell scenario (option_and_then (λ cause. cause.tied) (cause_of finding))
-    ∷ count_cell (nodes_of finding) ∷ []
+cause_cells scenario finding = rival_cells scenario (cause_of finding) ++ node_cells finding
 
 -- the cells that tell what was found, where messages are those of the scenario
-abbrev pub finding_cells : Scenario → Finding → List Cell
-finding_cells scenario finding =
-    answer_cells finding ++ (tick_cells finding ++ (time_cells scenario.tick finding ++ cause_cells scenario finding))
+abbrev pub finding_cells : Times → Scenario → Finding → List Cell
+finding_cells times scenario finding =
+    answer_cells finding ++ (tick_cells finding ++ (time_cells times finding ++ cause_cells scenario finding))
 
--- the ceiling of message m at group g, where ceilings are asked for
-abbrev pub ceiling_cells_if : Bool → Scenario → ℕ → ℕ → List Cell
-ceiling_cells_if false scenario m g = []
-ceiling_cells_if true scenario m g = duration_cells scenario.tick (Some (ceiling_at scenario m g))
+-- the cells that tell what is known of a message at all its groups: no nodes show it
+abbrev pub known_cells : Times → Scenario → AtAll → List Cell
+known_cells times scenario known =
+    word (answer_at_all known.least known.most) ∷ count_cell known.least ∷ count_cell known.most
+    ∷ (time_pair times known.least known.most ++ (rival_cells scenario known.cause ++ nothing ∷ []))
+
+-- ROWS
+-- a ceiling that stands beside what was found, in ticks and as a time
+abbrev pub beside_cells : Times → ℕ → List Cell
+beside_cells times ceiling = number ceiling ∷ where_told times (time_cell times.measure (Some ceiling) ∷ [])
+
+-- the same where ceilings are asked for
+abbrev pub ceiling_cells_if : Bool → Times → ℕ → List Cell
+ceiling_cells_if false times ceiling = []
+ceiling_cells_if true times ceiling = beside_cells times ceiling
 
 -- the cells of a row, whatever was found, with the ceiling of its message at its group where ceilings are asked for
-abbrev pub cells_of : Bool → Scenario → Surveyed → List Cell
-cells_of with_ceilings scenario row =
+abbrev pub cells_of : Bool → Times → Scenario → Surveyed → List Cell
+cells_of with_ceilings times scenario row =
     target_cells scenario row.message row.group
-    ++ (finding_cells scenario row.finding ++ ceiling_cells_if with_ceilings scenario row.message row.group)
+    ++ (finding_cells times scenario row.finding
+    ++ ceiling_cells_if with_ceilings times (ceiling_at scenario row.message row.group))
 
--- the names of the two columns in the unit of a tick
-abbrev pub time_columns : Option ℕ → List Cell
-time_columns None = []
-time_columns (Some length) = word (codes "least_" ++ unit_word (unit_of length)) ∷ word (codes "most_" ++ unit_word (unit_of length)) ∷ []
+-- the cells of the row of a message at all its groups, of which these are its rows
+abbrev pub at_all_cells : Bool → Times → Scenario → ℕ → List Surveyed → List Cell
+at_all_cells with_ceilings times scenario m rows =
+    at_all_target_cells scenario m
+    ++ (known_cells times scenario (at_all rows) ++ ceiling_cells_if with_ceilings times (ceiling_at_all scenario rows))
 
--- the name of a column in the unit of a tick, after that of the one in ticks
-abbrev pub unit_columns : List ℕ → Option ℕ → List Cell
-unit_columns name None = []
-unit_columns name (Some length) = word (name ++ (codes "_" ++ unit_word (unit_of length))) ∷ []
+-- the rows of the table for the rows of a message, if it has any: each of them, and below them the message at all its groups
+abbrev pub message_lines : Bool → Times → Scenario → List Surveyed → List (List Cell)
+message_lines with_ceilings times scenario [] = []
+message_lines with_ceilings times scenario (row ∷ rows) =
+    map (cells_of with_ceilings times scenario) (row ∷ rows)
+    ++ at_all_cells with_ceilings times scenario row.message (row ∷ rows) ∷ []
 
--- the names of the columns of a duration: of that in ticks, and of that in the unit of a tick
-abbrev pub duration_columns : List ℕ → Option ℕ → List Cell
-duration_columns name tick = word name ∷ unit_columns name tick
-
+-- COLUMNS
 abbrev pub target_columns : List Cell
 target_columns = word (codes "message") ∷ word (codes "group") ∷ []
 
 abbrev pub answer_columns : List Cell
 answer_columns = word (codes "answer") ∷ word (codes "least") ∷ word (codes "most") ∷ []
 
+-- the names of the columns of times, where times are told
+abbrev pub time_columns : Times → List Cell
+time_columns times = where_told times (word (codes "least_time") ∷ word (codes "most_time") ∷ word (codes "unit") ∷ [])
+
 abbrev pub cause_columns : List Cell
 cause_columns = word (codes "rival") ∷ word (codes "tied") ∷ word (codes "nodes") ∷ []
 
 -- the names of the columns that tell what was found
-abbrev pub finding_columns : Option ℕ → List Cell
-finding_columns tick = answer_columns ++ (time_columns tick ++ cause_columns)
+abbrev pub finding_columns : Times → List Cell
+finding_columns times = answer_columns ++ (time_columns times ++ cause_columns)
 
--- the names of the columns of the ceiling, where ceilings are asked for
-abbrev pub ceiling_columns_if : Bool → Option ℕ → List Cell
-ceiling_columns_if false tick = []
-ceiling_columns_if true tick = duration_columns (codes "ceiling") tick
+-- the names of the columns of a ceiling that stands beside what was found
+abbrev pub beside_columns : Times → List Cell
+beside_columns times = word (codes "ceiling") ∷ where_told times (word (codes "ceiling_time") ∷ [])
+
+-- the same where ceilings are asked for
+abbrev pub ceiling_columns_if : Bool → Times → List Cell
+ceiling_columns_if false times = []
+ceiling_columns_if true times = beside_columns times
 
 -- the names of the columns
-abbrev pub columns_of : Bool → Option ℕ → List Cell
-columns_of with_ceilings tick = target_columns ++ (finding_columns tick ++ ceiling_columns_if with_ceilings tick)
+abbrev pub columns_of : Bool → Times → List Cell
+columns_of with_ceilings times = target_columns ++ (finding_columns times ++ ceiling_columns_if with_ceilings times)
 
--- the table of these rows
-abbrev pub table_of : Bool → Scenario → List Surveyed → Table
-table_of with_ceilings scenario rows = record {
-  columns = columns_of with_ceilings scenario.tick;
-  rows = map (cells_of with_ceilings scenario) rows;
+-- THE TABLE
+-- of these rows, those of one message after those of another
+abbrev pub table_of : Bool → Times → Scenario → List Surveyed → Table
+table_of with_ceilings times scenario rows = record {
+  columns = columns_of with_ceilings times;
+  rows = flat_map (λ m. message_lines with_ceilings times scenario (rows_of m rows)) (message_numbers scenario);
 }

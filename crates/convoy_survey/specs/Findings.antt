@@ -1,6 +1,6 @@
 -- What a survey finds of the latency of one message at one group, and what it tells where memory runs out.
 use Rattle.std.specs.Prelude.{◌≡◌, ℕ, ◌≤◌, Bool, true, false, List, length, Option, Some, None, IfSome, Result, Ok, Err, IfOk, codes}
-use Rattle.std.specs.Option.{option_map}
+use Rattle.std.specs.Option.{option_and_then, option_map}
 use Rattle.std.specs.declared.alloc.AllocError.{AllocError}
 use Rattle.convoy_scenario.specs.Scenario.{Scenario}
 use Rattle.convoy_scenario.specs.Targets.{with_target}
@@ -92,6 +92,19 @@ abbrev pub cause_of : Finding → Option Cause
 cause_of (Greatest latency cause nodes) = Some cause
 cause_of (Open least most cause) = Some cause
 cause_of OutOfMemory = None
+
+-- the messages of a cause that may not be known
+abbrev pub rival_in : Option Cause → Option ℕ
+rival_in cause = option_and_then (λ why. why.rival) cause
+
+abbrev pub tied_in : Option Cause → Option ℕ
+tied_in cause = option_and_then (λ why. why.tied) cause
+
+abbrev pub rival_of : Finding → Option ℕ
+rival_of finding = rival_in (cause_of finding)
+
+abbrev pub tied_of : Finding → Option ℕ
+tied_of finding = tied_in (cause_of finding)
 
 abbrev pub nodes_of : Finding → Option ℕ
 nodes_of (Greatest latency cause nodes) = Some nodes

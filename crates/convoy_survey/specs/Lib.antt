@@ -7,11 +7,14 @@ pub use Rattle.convoy_ceiling.specs.Ceiling
 pub use Rattle.convoy_ceiling.specs.Targets as CeilingTargets
 pub use Rattle.convoy_ceiling.specs.Finding as Traffic
 pub use Rattle.convoy_branch.specs.Options
+pub use Rattle.convoy_times.specs.Measures
 pub use Rattle.convoy_tables.specs.Tables
 pub use Rattle.convoy_tables.specs.Formats
 pub use Rattle.convoy_commands.specs.Searches
 -- what a reader has to believe: what a survey finds, and the table that it writes
 pub mod Findings
+pub mod AtAll
+pub mod Times
 pub mod Cells
 pub mod Surveys
 -- the same of the ceilings of all targets

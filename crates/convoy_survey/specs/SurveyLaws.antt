@@ -1,19 +1,25 @@
 -- What is proved of the rows of a survey, and of those of ceilings. Each is the one clause of the function of its name in the crate's module `survey_laws`.
-use Rattle.std.specs.Prelude.{◌≡◌, ℕ, ◌≤◌, List, Option, IfSome, Ok}
-use Rattle.convoy_scenario.specs.Scenario.{Scenario}
+use Rattle.std.specs.Prelude.{◌≡◌, ℕ, ◌<◌, ◌≤◌, List, length, Option, None, IfSome, Ok}
+use Rattle.std.specs.List.{All, Contains}
+use Rattle.convoy_scenario.specs.Scenario.{Scenario, message_at}
 use Rattle.convoy_scenario.specs.Targets.{with_target}
+use Rattle.convoy_sim.specs.Greatest.{IsReached, IsUpper}
 use Rattle.convoy_ceiling.specs.Ceiling.{IsUpperInTraffic}
 use Rattle.convoy_toml.specs.Reading.{scenario_of_text}
 use Rattle.convoy_branch.specs.Options.{Settings}
 use Rattle.convoy_commands.specs.declared.done.Done.TheVariants.{Fine}
+use Rattle.convoy_commands.specs.Measured.{measure_of_text}
 use Rattle.convoy_commands.specs.ReplyLines.{greatest_line}
 use Rattle.convoy_commands.specs.Searches.{LatencySays}
 use Rattle.convoy_survey.specs.declared.ceiled.Ceiled.{Ceiled}
 use Rattle.convoy_survey.specs.declared.finding.Cause.{Cause}
 use Rattle.convoy_survey.specs.declared.finding.Finding.TheVariants.{Greatest}
 use Rattle.convoy_survey.specs.declared.finding.Surveyed.{Surveyed}
-use Rattle.convoy_survey.specs.Ceilings.{IsAttainedInTraffic, IsCeiled}
+use Rattle.convoy_survey.specs.AtAll.{least_at_all, most_at_all, rows_of}
+use Rattle.convoy_survey.specs.Ceilings.{AreCeiled, IsAttainedInTraffic, IsCeiled}
+use Rattle.convoy_survey.specs.CeilingTables.{ceiled_of, greatest_attained, greatest_ceiling}
 use Rattle.convoy_survey.specs.Findings.{Encloses, IsFinding, IsSurveyed, least_of, most_of}
+use Rattle.convoy_survey.specs.Surveys.{AreSurveyed}
 
 -- Of a text of the same scenario with a row's message and group as its target, `latency` answers the row's number, by whatever settings and whoever asked.
 abbrev pub RowsAreLatencies : Type 0
@@ -21,13 +27,35 @@ RowsAreLatencies =
     (settings other : Settings) (scenario : Scenario) (m g latency nodes : ℕ) (cause : Cause) (text out : List ℕ) →
     IsFinding settings (with_target scenario m g) (Greatest latency cause nodes) →
     scenario_of_text text ≡ Ok (with_target scenario m g) → LatencySays other text (Ok (Fine, out)) →
-    out ≡ greatest_line scenario.tick latency
+    out ≡ greatest_line (measure_of_text other.unit text (with_target scenario m g)) latency
 
 -- The two numbers of a row, `least` and `most`, enclose the greatest latency of its target, whether or not the search ended.
 abbrev pub RowsEnclose : Type 0
 RowsEnclose =
     (settings : Settings) (scenario : Scenario) (row : Surveyed) → IsSurveyed settings scenario row →
     Encloses (with_target scenario row.message row.group) (least_of row.finding) (most_of row.finding)
+
+-- It holds of a message at one of the groups that it goes to.
+pub record IsAtOne (scenario : Scenario) (m : ℕ) (holds_at : ℕ → Type 0) : Type 0 where
+  pub group : ℕ
+  pub among : Contains (message_at scenario m).destinations group
+  pub holds : holds_at group
+
+-- it holds of a message at each of the groups that it goes to
+abbrev pub IsAtEach : Scenario → ℕ → (ℕ → Type 0) → Type 0
+IsAtEach scenario m holds_at = All holds_at (message_at scenario m).destinations
+
+-- Of a message at all the groups that it goes to: some schedule has the least at one of them, and none has a latency above the most at any. Of one that is not known nothing is said.
+pub record EnclosesAtAll (scenario : Scenario) (m : ℕ) (least most : Option ℕ) : Type 0 where
+  pub reached : IfSome least (λ n. IsAtOne scenario m (λ g. IsReached (with_target scenario m g) n))
+  pub upper : IfSome most (λ n. IsAtEach scenario m (λ g. IsUpper (with_target scenario m g) n))
+
+-- The two numbers of the row of a message at all groups, of which a survey has rows, enclose the greatest latency at its groups: when a client that waits for all of them has its answer.
+abbrev pub RowsAtAllEnclose : Type 0
+RowsAtAllEnclose =
+    (settings : Settings) (scenario : Scenario) (m : ℕ) (rows : List Surveyed) →
+    AreSurveyed settings scenario rows → 0 < length (rows_of m rows) →
+    EnclosesAtAll scenario m (least_at_all (rows_of m rows)) (most_at_all (rows_of m rows))
 
 -- Of a message at a group: in no traffic of the scenario's kinds is a latency of its kind there above the most; traffic in which it is asked for attains the least, which is no greater. Of a least that is not known nothing is said.
 pub record EnclosesInTraffic (scenario : Scenario) (m g : ℕ) (least : Option ℕ) (most : ℕ) : Type 0 where
@@ -39,3 +67,16 @@ pub record EnclosesInTraffic (scenario : Scenario) (m g : ℕ) (least : Option �
 abbrev pub CeilingRowsEnclose : Type 0
 CeilingRowsEnclose =
     (scenario : Scenario) (row : Ceiled) → IsCeiled scenario row → EnclosesInTraffic scenario row.message row.group row.attained row.ceiling
+
+-- Of a message at all the groups that it goes to: in no traffic of the scenario's kinds is a latency of its kind above the most at any of them; traffic in which it is asked for at one of them attains the least, which is no greater. Of a least that is not known nothing is said.
+pub record EnclosesInTrafficAtAll (scenario : Scenario) (m : ℕ) (least : Option ℕ) (most : ℕ) : Type 0 where
+  pub reached : IfSome least (λ n. IsAtOne scenario m (λ g. IsAttainedInTraffic (with_target scenario m g) n))
+  pub upper : IsAtEach scenario m (λ g. IsUpperInTraffic scenario m g most)
+  pub within : IfSome least (λ n. n ≤ most)
+
+-- The two numbers of the row of a message at all groups, of which a table of ceilings has rows, enclose what traffic may cost it at its groups.
+abbrev pub CeilingRowsAtAllEnclose : Type 0
+CeilingRowsAtAllEnclose =
+    (scenario : Scenario) (m : ℕ) (rows : List Ceiled) →
+    AreCeiled scenario None rows → 0 < length (ceiled_of m rows) →
+    EnclosesInTrafficAtAll scenario m (greatest_attained (ceiled_of m rows)) (greatest_ceiling (ceiled_of m rows))

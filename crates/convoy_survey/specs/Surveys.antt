@@ -11,6 +11,7 @@ use Rattle.convoy_branch.specs.Options.{Settings}
 use Rattle.convoy_tables.specs.declared.format.Format.{Format}
 use Rattle.convoy_tables.specs.Formats.{table_text}
 use Rattle.convoy_commands.specs.declared.done.Done.{Done}
+use Rattle.convoy_commands.specs.Measured.{measure_of_text}
 use Rattle.convoy_commands.specs.Replies.{Rule}
 use Rattle.convoy_commands.specs.Ends.{end_by}
 use Rattle.convoy_commands.specs.Searches.{IsFaultyBy}
@@ -18,6 +19,7 @@ use Rattle.convoy_survey.specs.declared.finding.Finding.{Finding}
 use Rattle.convoy_survey.specs.declared.finding.Surveyed.{Surveyed}
 use Rattle.convoy_survey.specs.Cells.{table_of}
 use Rattle.convoy_survey.specs.Findings.{IsRowBy, MayAnswer, is_fault, is_open, target_of}
+use Rattle.convoy_survey.specs.Times.{times_of}
 
 -- the message may be the target of the scenario at the group: it goes there, and does not wait
 pub record IsTarget (scenario : Scenario) (message group : ℕ) : Type 0 where
@@ -43,14 +45,14 @@ AreSurveyed settings scenario rows = AreRowsBy scenario (MayAnswer settings scen
 abbrev pub end_of : List Surveyed → Done
 end_of rows = end_by (list_any (λ row. is_fault row.finding) rows) (list_any (λ row. is_open row.finding) rows)
 
--- THE HEADLINE. What is written is the table of these rows of the scenario that was read, where the target may be left out, in this format and with the ceilings where they are asked for, and the end is told by them. What a ceiling is worth the law `CeilingHolds` says.
+-- THE HEADLINE. What is written is the table of these rows of the scenario that was read, and of each of its messages at all groups, where the target may be left out, in this format and with the ceilings where they are asked for, and the end is told by the rows. What a ceiling is worth the law `CeilingHolds` says.
 pub record IsSurvey (format : Format) (with_ceilings : Bool) (settings : Settings) (text : List ℕ) (end : Done) (out : List ℕ) : Type 0 where
   pub scenario : Scenario
   pub rows : List Surveyed
   pub read : scenario_of_text_by Optional text ≡ Ok scenario
   pub lawful : IsScenario scenario
   pub surveyed : AreSurveyed settings scenario rows
-  pub written : out ≡ table_text format (table_of with_ceilings scenario rows)
+  pub written : out ≡ table_text format (table_of with_ceilings (times_of format (measure_of_text settings.unit text scenario)) scenario rows)
   pub ends : end ≡ end_of rows
 
 -- what a survey may answer for a text

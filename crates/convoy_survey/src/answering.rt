@@ -7,10 +7,12 @@ ghost use Rattle.convoy_survey.specs.Surveys.{SurveySays, end_of};
 use super::finding::Surveyed;
 use super::rows::survey;
 use super::table::survey_text;
+use super::times::Times;
 use convoy_branch::Options;
 use convoy_commands::{Answer, Done, Fault, Watch};
 use convoy_tables::Format;
-use convoy_toml::{Input, read_toml_any_target};
+use convoy_times::Measure;
+use convoy_toml::read_toml_any_target;
 use std::alloc::Global;
 use std::sync::Wait;
 use std::thread::Threads;
@@ -19,8 +21,10 @@ use std::thread::Threads;
 /// (docs/FORMATS.md, "What `survey` writes"); what is asked in the text does not matter, and may be left out. The
 /// numbers of a row are those that [`latency_answer`](convoy_commands::latency_answer) tells of the scenario with
 /// that target. With ceilings, a row ends with the [`ceiling`](convoy_ceiling::ceiling) of its message at its
-/// group, in ticks and in the unit of a tick. Each search is watched, by [`NoGate`](convoy_branch::NoGate)
-/// where nobody watches.
+/// group. Below the rows of a message stands one for it at all its groups, with the greatest of their numbers: when a
+/// client that waits for all of them has its answer. Numbers are in ticks, and where times are told ([`Times::of`]) in
+/// the unit that the options ask for or else the text writes, too. Each search is watched, by
+/// [`NoGate`](convoy_branch::NoGate) where nobody watches.
 ///
 /// A row for which memory runs out has that fault in place of numbers, with its ceiling all the same, and the survey
 /// goes on. Faults of the whole are `Fault::Scenario`, where the text is that of no scenario, and `Fault::Memory`.
@@ -36,16 +40,14 @@ pub fn survey_answer<R: Threads + Wait + Sync, W: Watch + Sync>(
     ensures { SaysUnlessMemory (SurveySays format with_ceilings options.now) text.now
         (reply_of result) }
 {
-    let Input {
-        scenario,
-        plain,
-        ..
-    } = read_toml_any_target(alloc, text)?;
+    let input = read_toml_any_target(alloc, text)?;
+    let scenario = input.scenario;
     // A scenario is well formed.
     let _count = scenario.message_count();
     let rows = survey(rt, alloc, &scenario, options, watch)?;
-    let text = survey_text(alloc, format, with_ceilings, &scenario, &rows)?;
-    Ok(Answer::about(end_of(&rows), text, scenario, plain))
+    let times = Times::of(format, Measure::of(&scenario, options.unit(), input.unit));
+    let text = survey_text(alloc, format, with_ceilings, &times, &scenario, &rows)?;
+    Ok(Answer::about(end_of(&rows), text, scenario, input.plain))
 }
 
 /// How a survey with these rows ends.

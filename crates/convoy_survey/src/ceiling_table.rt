@@ -1,60 +1,184 @@
-ghost use Rattle.std.specs.Prelude.{◌≡◌, IfOk};
+ghost use Rattle.std.specs.Prelude.{◌≡◌, ◌++◌, map, true, IfOk, OnOk};
 ghost use Rattle.convoy_tables.specs.Formats.{table_text};
-ghost use Rattle.convoy_survey.specs.CeilingTables.{ceiling_cells, ceiling_columns, table_of_ceilings};
+ghost use Rattle.convoy_survey.specs.CeilingTables.{ceiled_lines, ceiled_of, ceiling_at_all_cells, ceiling_cells, ceiling_columns, ceiling_lines, greatest_attained, greatest_ceiling, numbers_cells, table_of_ceilings};
 
+use super::at_all::greater;
 use super::ceiled::Ceiled;
-use super::cells::{push_duration, push_target};
-use super::table::push_duration_columns;
+use super::cells::{push_count, push_target, push_target_at_all};
+use super::time_cells::{push_columns_if_told, push_time_pair};
+use super::times::Times;
 use convoy_scenario::Scenario;
 use convoy_tables::{Format, Row, Table, table_text};
 use std::alloc::{AllocError, Global};
 
-/// The table of ceilings as it is written in a format.
+/// The table of ceilings as it is written in a format: at all groups with a row for each message at all of them, too.
 pub(crate) fn ceilings_text(
     alloc: Global,
     format: Format,
+    at_all_groups: bool,
+    times: &Times,
     scenario: &Scenario,
     rows: &[Ceiled],
 ) -> Result<Vec<u8>, AllocError>
-    ensures { IfOk result (λ text. text.items ≡ table_text format (table_of_ceilings scenario.now rows.now)) }
+    ensures { IfOk result (λ text. text.items ≡ table_text format (table_of_ceilings at_all_groups times.now scenario.now rows.now)) }
 {
-    let table = table_of_ceilings(alloc, scenario, rows)?;
+    let mut table = Table::new(alloc, columns_of(alloc, times)?);
+    if at_all_groups {
+        push_messages(alloc, times, scenario, rows, &mut table)?;
+    } else {
+        push_rows(alloc, times, scenario, rows, &mut table)?;
+    }
     table_text(alloc, &table, format)
 }
 
-/// The table of ceilings.
-fn table_of_ceilings(
+/// Puts the rows of each message at the end of a table, and below them that of the message at all groups.
+fn push_messages(
     alloc: Global,
+    times: &Times,
     scenario: &Scenario,
     rows: &[Ceiled],
-) -> Result<Table, AllocError>
-    ensures { IfOk result (λ table. table ≡ table_of_ceilings scenario.now rows.now) }
+    table: &mut Table,
+) -> Result<(), AllocError>
+    ensures { OnOk result (table.new ≡ record table.old {
+      rows = table.old.rows ++ ceiling_lines true times.now scenario.now rows.now;
+    }) }
 {
-    let mut table = Table::new(alloc, columns_of(alloc, scenario)?);
-    for row in rows {
-        table.push(cells_of(alloc, scenario, row)?)?;
+    for message in 0..scenario.message_count() {
+        let of_message = ceiled_of(alloc, message, rows)?;
+        push_message(alloc, times, scenario, &of_message, table)?;
     }
-    Ok(table)
+    Ok(())
+}
+
+/// Puts the rows of a message, if it has any, at the end of a table, and below them that of the message at all groups.
+fn push_message(
+    alloc: Global,
+    times: &Times,
+    scenario: &Scenario,
+    rows: &[Ceiled],
+    table: &mut Table,
+) -> Result<(), AllocError>
+    ensures { OnOk result (table.new ≡ record table.old {
+      rows = table.old.rows ++ ceiled_lines times.now scenario.now rows.now;
+    }) }
+{
+    let [first, ..] = rows else {
+        return Ok(());
+    };
+    push_rows(alloc, times, scenario, rows, table)?;
+    table.push(at_all_cells(alloc, times, scenario, first.message, rows)?)
+}
+
+/// Puts each of these rows at the end of a table.
+fn push_rows(
+    alloc: Global,
+    times: &Times,
+    scenario: &Scenario,
+    rows: &[Ceiled],
+    table: &mut Table,
+) -> Result<(), AllocError>
+    ensures { OnOk result (table.new ≡ record table.old {
+      rows = table.old.rows ++ map (ceiling_cells times.now scenario.now) rows.now;
+    }) }
+{
+    for row in rows {
+        table.push(cells_of(alloc, times, scenario, row)?)?;
+    }
+    Ok(())
 }
 
 /// The names of the columns.
-fn columns_of(alloc: Global, scenario: &Scenario) -> Result<Row, AllocError>
-    ensures { IfOk result (λ columns. columns ≡ ceiling_columns scenario.now.tick) }
+fn columns_of(alloc: Global, times: &Times) -> Result<Row, AllocError>
+    ensures { IfOk result (λ columns. columns ≡ ceiling_columns times.now) }
 {
     let mut columns = Row::new(alloc);
-    columns.push_words(&["message", "group"])?;
-    push_duration_columns(alloc, scenario, "ceiling", &mut columns)?;
-    push_duration_columns(alloc, scenario, "attained", &mut columns)?;
+    columns.push_words(&["message", "group", "ceiling", "attained"])?;
+    push_columns_if_told(
+        times,
+        &["ceiling_time", "attained_time", "unit"],
+        &mut columns,
+    )?;
     Ok(columns)
 }
 
 /// The cells of a row.
-fn cells_of(alloc: Global, scenario: &Scenario, row: &Ceiled) -> Result<Row, AllocError>
-    ensures { IfOk result (λ cells. cells ≡ ceiling_cells scenario.now row.now) }
+fn cells_of(
+    alloc: Global,
+    times: &Times,
+    scenario: &Scenario,
+    row: &Ceiled,
+) -> Result<Row, AllocError>
+    ensures { IfOk result (λ cells. cells ≡ ceiling_cells times.now scenario.now row.now) }
 {
     let mut cells = Row::new(alloc);
     push_target(scenario, row.message, row.group, &mut cells)?;
-    push_duration(scenario, Some(row.ceiling), &mut cells)?;
-    push_duration(scenario, row.attained, &mut cells)?;
+    push_numbers(alloc, times, row.ceiling, row.attained, &mut cells)?;
     Ok(cells)
+}
+
+/// The cells of the row of a message at all the groups that it goes to, of which these are its rows.
+fn at_all_cells(
+    alloc: Global,
+    times: &Times,
+    scenario: &Scenario,
+    message: usize,
+    rows: &[Ceiled],
+) -> Result<Row, AllocError>
+    ensures { IfOk result (λ cells. cells ≡ ceiling_at_all_cells times.now scenario.now message rows.now) }
+{
+    let mut cells = Row::new(alloc);
+    push_target_at_all(scenario, message, &mut cells)?;
+    let (ceiling, attained) = (greatest_ceiling(rows), greatest_attained(rows));
+    push_numbers(alloc, times, ceiling, attained, &mut cells)?;
+    Ok(cells)
+}
+
+/// Puts a ceiling and the greatest latency that traffic was found to attain at the end of a row, in ticks and as times.
+fn push_numbers(
+    alloc: Global,
+    times: &Times,
+    ceiling: u32,
+    attained: Option<u32>,
+    cells: &mut Row,
+) -> Result<(), AllocError>
+    ensures { OnOk result (cells.new ≡ cells.old ++ numbers_cells times.now ceiling attained) }
+{
+    cells.push_number(u64::from(ceiling))?;
+    push_count(attained, cells)?;
+    push_time_pair(alloc, times, Some(ceiling), attained, cells)
+}
+
+/// The rows of a message. Fails where memory runs out, and else never.
+fn ceiled_of(alloc: Global, message: usize, rows: &[Ceiled]) -> Result<Vec<Ceiled>, AllocError>
+    ensures { IfOk result (λ kept. kept.items ≡ ceiled_of message rows.now) }
+{
+    let mut kept = Vec::new(alloc);
+    for row in rows {
+        if row.message == message {
+            kept.push(*row)?;
+        }
+    }
+    Ok(kept)
+}
+
+/// The greatest ceiling of some rows, in ticks.
+fn greatest_ceiling(rows: &[Ceiled]) -> u32
+    ensures { result ≡ greatest_ceiling rows.now }
+{
+    let mut greatest: u32 = 0;
+    for row in rows {
+        greatest = greatest.max(row.ceiling);
+    }
+    greatest
+}
+
+/// The greatest latency, in ticks, that traffic was found to attain by one of some rows, where all of them tell one.
+fn greatest_attained(rows: &[Ceiled]) -> Option<u32>
+    ensures { result ≡ greatest_attained rows.now }
+{
+    let mut greatest = Some(0);
+    for row in rows {
+        greatest = greater(greatest, row.attained);
+    }
+    greatest
 }

@@ -1,5 +1,5 @@
 ghost use Rattle.std.specs.Prelude.{◌≡◌};
-ghost use Rattle.convoy_survey.specs.Findings.{answer_word, cause_of, is_fault, is_open, least_of, most_of, nodes_of, told_finding};
+ghost use Rattle.convoy_survey.specs.Findings.{answer_word, cause_of, is_fault, is_open, least_of, most_of, nodes_of, rival_in, rival_of, tied_in, tied_of, told_finding};
 
 use std::alloc::AllocError;
 
@@ -97,6 +97,20 @@ impl Finding {
         }
     }
 
+    /// The message that holds the target back, by number, if there is one and it is known.
+    pub fn rival(self) -> Option<usize>
+        ensures { result ≡ rival_of self }
+    {
+        rival_in(self.cause())
+    }
+
+    /// The message after which the target gets its stamp in a tie, by number, if there is one and it is known.
+    pub fn tied(self) -> Option<usize>
+        ensures { result ≡ tied_of self }
+    {
+        tied_in(self.cause())
+    }
+
     /// How many nodes the tree has that shows the greatest latency, where there is one.
     pub fn nodes(self) -> Option<usize>
         ensures { result ≡ nodes_of self }
@@ -125,5 +139,25 @@ impl Finding {
             Finding::OutOfMemory => true,
             Finding::Greatest { .. } | Finding::Open { .. } => false,
         }
+    }
+}
+
+/// The message that holds the target back by a cause that may not be known.
+pub(crate) fn rival_in(cause: Option<Cause>) -> Option<usize>
+    ensures { result ≡ rival_in cause }
+{
+    match cause {
+        Some(cause) => cause.rival,
+        None => None,
+    }
+}
+
+/// The message after which the target gets its stamp in a tie, by a cause that may not be known.
+pub(crate) fn tied_in(cause: Option<Cause>) -> Option<usize>
+    ensures { result ≡ tied_in cause }
+{
+    match cause {
+        Some(cause) => cause.tied,
+        None => None,
     }
 }

@@ -1,7 +1,7 @@
 //! The laws of surveys and of tables of ceilings. Each is the one clause of a function that does nothing; a
 //! caller that needs the law calls the function.
 
-ghost use Rattle.convoy_survey.specs.SurveyLaws.{CeilingRowsEnclose, RowsAreLatencies, RowsEnclose};
+ghost use Rattle.convoy_survey.specs.SurveyLaws.{CeilingRowsAtAllEnclose, CeilingRowsEnclose, RowsAreLatencies, RowsAtAllEnclose, RowsEnclose};
 
 /// The number of a row is that which `latency` answers for the scenario with that target.
 pub fn rows_are_latencies()
@@ -14,8 +14,20 @@ pub fn rows_enclose()
     ensures { RowsEnclose }
 {}
 
+/// The two numbers of the row of a message at all groups enclose the greatest latency at its groups: some schedule has the
+/// least at one of them, and none has a latency above the most at any.
+pub fn rows_at_all_enclose()
+    ensures { RowsAtAllEnclose }
+{}
+
 /// The two numbers of a row of ceilings enclose what traffic of the scenario's kinds may cost: some traffic has the
 /// latency that is told, and none has one above the ceiling.
 pub fn ceiling_rows_enclose()
     ensures { CeilingRowsEnclose }
+{}
+
+/// The two numbers of the row of a message at all groups enclose what such traffic may cost it there: some traffic has the
+/// latency that is told at one of them, and none has one above the ceiling at any.
+pub fn ceiling_rows_at_all_enclose()
+    ensures { CeilingRowsAtAllEnclose }
 {}

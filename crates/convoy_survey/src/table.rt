@@ -1,13 +1,13 @@
-ghost use Rattle.std.specs.Prelude.{◌≡◌, ◌<◌, ◌∷◌, [], ◌++◌, codes, length, OnOk, IfOk};
-ghost use Rattle.std.specs.List.{All};
-ghost use Rattle.convoy_draft.specs.Durations.{unit_word};
-ghost use Rattle.convoy_survey.specs.Cells.{ceiling_columns_if, columns_of, duration_columns, finding_columns, table_of, time_columns};
+ghost use Rattle.std.specs.Prelude.{◌≡◌, ◌<◌, ◌++◌, length, All, OnOk, IfOk};
+ghost use Rattle.convoy_survey.specs.Cells.{beside_columns, ceiling_columns_if, columns_of, finding_columns, message_lines, table_of, time_columns};
 ghost use Rattle.convoy_tables.specs.Formats.{table_text};
-ghost use Rattle.convoy_tables.specs.Tables.{word};
 
-use super::cells::cells_of;
+use super::at_all::rows_of;
+use super::cells::{at_all_cells, cells_of};
 use super::finding::Surveyed;
-use convoy_scenario::{Scenario, TimeUnit};
+use super::time_cells::push_columns_if_told;
+use super::times::Times;
+use convoy_scenario::Scenario;
 use convoy_tables::{Format, Row, Table, table_text};
 use std::alloc::{AllocError, Global};
 
@@ -16,13 +16,13 @@ pub(crate) fn survey_text(
     alloc: Global,
     format: Format,
     with_ceilings: bool,
+    times: &Times,
     scenario: &Scenario,
     rows: &[Surveyed],
 ) -> Result<Vec<u8>, AllocError>
-    requires { All (λ row. row.message < length scenario.now.multicasts) rows.now }
-    ensures { IfOk result (λ text. text.items ≡ table_text format (table_of with_ceilings scenario.now rows.now)) }
+    ensures { IfOk result (λ text. text.items ≡ table_text format (table_of with_ceilings times.now scenario.now rows.now)) }
 {
-    let table = table_of(alloc, with_ceilings, scenario, rows)?;
+    let table = table_of(alloc, with_ceilings, times, scenario, rows)?;
     table_text(alloc, &table, format)
 }
 
@@ -30,105 +30,98 @@ pub(crate) fn survey_text(
 fn table_of(
     alloc: Global,
     with_ceilings: bool,
+    times: &Times,
     scenario: &Scenario,
     rows: &[Surveyed],
 ) -> Result<Table, AllocError>
-    requires { All (λ row. row.message < length scenario.now.multicasts) rows.now }
-    ensures { IfOk result (λ table. table ≡ table_of with_ceilings scenario.now rows.now) }
+    ensures { IfOk result (λ table. table ≡ table_of with_ceilings times.now scenario.now rows.now) }
 {
-    let mut table = Table::new(alloc, columns_of(alloc, with_ceilings, scenario)?);
-    for row in rows {
-        table.push(cells_of(alloc, with_ceilings, scenario, row)?)?;
+    let mut table = Table::new(alloc, columns_of(alloc, with_ceilings, times)?);
+    for message in 0..scenario.message_count() {
+        let of_message = rows_of(alloc, message, rows)?;
+        push_message(
+            alloc,
+            with_ceilings,
+            times,
+            scenario,
+            &of_message,
+            &mut table,
+        )?;
     }
     Ok(table)
 }
 
+/// Puts the rows of a message, if it has any, at the end of a table, and below them that of the message at all groups.
+fn push_message(
+    alloc: Global,
+    with_ceilings: bool,
+    times: &Times,
+    scenario: &Scenario,
+    rows: &[Surveyed],
+    table: &mut Table,
+) -> Result<(), AllocError>
+    requires { All (λ row. row.message < length scenario.now.multicasts) rows.now }
+    ensures { OnOk result (table.new ≡ record table.old {
+      rows = table.old.rows ++ message_lines with_ceilings times.now scenario.now rows.now;
+    }) }
+{
+    let [first, ..] = rows else {
+        return Ok(());
+    };
+    for row in rows {
+        table.push(cells_of(alloc, with_ceilings, times, scenario, row)?)?;
+    }
+    table.push(at_all_cells(alloc, with_ceilings, times, scenario, first.message, rows)?)
+}
+
 /// The names of the columns.
-fn columns_of(alloc: Global, with_ceilings: bool, scenario: &Scenario) -> Result<Row, AllocError>
-    ensures { IfOk result (λ columns. columns ≡ columns_of with_ceilings scenario.now.tick) }
+fn columns_of(alloc: Global, with_ceilings: bool, times: &Times) -> Result<Row, AllocError>
+    ensures { IfOk result (λ columns. columns ≡ columns_of with_ceilings times.now) }
 {
     let mut columns = Row::new(alloc);
     columns.push_words(&["message", "group"])?;
-    push_finding_columns(alloc, scenario, &mut columns)?;
-    push_ceiling_columns(alloc, with_ceilings, scenario, &mut columns)?;
+    push_finding_columns(times, &mut columns)?;
+    push_ceiling_columns_if(with_ceilings, times, &mut columns)?;
     Ok(columns)
 }
 
 /// Puts the names of the columns of the ceiling at the end of a row, where it is asked for.
-fn push_ceiling_columns(
-    alloc: Global,
+fn push_ceiling_columns_if(
     with_ceilings: bool,
-    scenario: &Scenario,
+    times: &Times,
     columns: &mut Row,
 ) -> Result<(), AllocError>
-    ensures { OnOk result
-        (columns.new ≡ columns.old ++ ceiling_columns_if with_ceilings scenario.now.tick) }
+    ensures { OnOk result (columns.new ≡ columns.old ++ ceiling_columns_if with_ceilings times.now) }
 {
     if with_ceilings {
-        push_duration_columns(alloc, scenario, "ceiling", columns)
+        push_ceiling_columns(times, columns)
     } else {
         Ok(())
     }
 }
 
+/// Puts the names of the columns of the ceiling at the end of a row.
+fn push_ceiling_columns(times: &Times, columns: &mut Row) -> Result<(), AllocError>
+    ensures { OnOk result (columns.new ≡ columns.old ++ beside_columns times.now) }
+{
+    columns.push_word("ceiling")?;
+    push_columns_if_told(times, &["ceiling_time"], columns)
+}
+
 /// Puts the names of the columns that tell what was found at the end of a row. Fails where memory runs out,
 /// and else never.
-pub fn push_finding_columns(
-    alloc: Global,
-    scenario: &Scenario,
-    columns: &mut Row,
-) -> Result<(), AllocError>
-    ensures { OnOk result (columns.new ≡ columns.old ++ finding_columns scenario.now.tick) }
+pub fn push_finding_columns(times: &Times, columns: &mut Row) -> Result<(), AllocError>
+    ensures { OnOk result (columns.new ≡ columns.old ++ finding_columns times.now) }
 {
     columns.push_words(&["answer", "least", "most"])?;
-    push_time_columns(alloc, scenario, columns)?;
+    push_time_columns(times, columns)?;
     columns.push_words(&["rival", "tied", "nodes"])
 }
 
-/// Puts the names of the columns for the unit of a tick, where its length is known, at the end of a row.
-fn push_time_columns(
-    alloc: Global,
-    scenario: &Scenario,
-    columns: &mut Row,
-) -> Result<(), AllocError>
-    ensures { OnOk result (columns.new ≡ columns.old ++ time_columns scenario.now.tick) }
+/// Puts the names of the columns of the times of what was found at the end of a row, where times are told. Fails where
+/// memory runs out, and else never.
+pub fn push_time_columns(times: &Times, columns: &mut Row) -> Result<(), AllocError>
+    ensures { OnOk result (columns.new ≡ columns.old ++ time_columns times.now) }
 {
-    let Some(tick) = scenario.tick() else {
-        return Ok(());
-    };
-    push_column_in(alloc, tick.unit(), "least", columns)?;
-    push_column_in(alloc, tick.unit(), "most", columns)
-}
-
-/// Puts the name of a column in ticks at the end of a row, and after it that of the same in the unit of a
-/// tick, where its length is known.
-pub(crate) fn push_duration_columns(
-    alloc: Global,
-    scenario: &Scenario,
-    name: &str,
-    columns: &mut Row,
-) -> Result<(), AllocError>
-    ensures { OnOk result
-        (columns.new ≡ columns.old ++ duration_columns name.now scenario.now.tick) }
-{
-    columns.push_word(name)?;
-    match scenario.tick() {
-        Some(tick) => push_column_in(alloc, tick.unit(), name, columns),
-        None => Ok(()),
-    }
-}
-
-/// Puts the name of a column in this unit at the end of a row.
-fn push_column_in(
-    alloc: Global,
-    unit: TimeUnit,
-    name: &str,
-    columns: &mut Row,
-) -> Result<(), AllocError>
-    ensures { OnOk result (columns.new
-        ≡ columns.old ++ word (name.now ++ (codes "_" ++ unit_word unit)) ∷ []) }
-{
-    let unit = unit.word();
-    let column = format!(in alloc; "{name}_{unit}")?;
-    columns.push_word(&column)
+    push_columns_if_told(times, &["least_time", "most_time", "unit"], columns)
 }

@@ -1,6 +1,9 @@
 -- How a table is written, in each of the three formats.
-use Rattle.std.specs.Prelude.{ℕ, ◌+◌, ◌-◌, ◌/◌, ◌%◌, ◌==◌, nat_lt, max, Bool, false, ◌||◌, if◌then◌else◌, List, [], ◌∷◌, ◌++◌, length, map, codes, replicate, slice_index_or}
-use Rattle.std.specs.List.{enumerate_from, flat_map, fold, list_any, range_with_len}
+use Rattle.std.specs.Prelude.{ℕ, ◌+◌, ◌-◌, ◌==◌, max, Bool, false, ◌||◌, if◌then◌else◌, List, [], ◌∷◌, ◌++◌, length, map, codes, replicate, slice_index_or}
+use Rattle.std.specs.List.{enumerate_from, flat_map, fold, range_with_len}
+use Rattle.csv.specs.Writing.{default_writer, row_text}
+use Rattle.json.specs.Print.{print}
+use Rattle.json.specs.Token.{Token}
 use Rattle.convoy_tables.specs.declared.cell.Kind.{Kind}
 use Rattle.convoy_tables.specs.declared.cell.Kind.TheVariants.{Word, Number, Nothing}
 use Rattle.convoy_tables.specs.declared.format.Format.{Format}
@@ -38,11 +41,23 @@ aligned width is_last cell =
     if is_number cell.kind then filling width cell ++ shown cell
     else shown cell ++ (if is_last then [] else filling width cell)
 
--- CSV
--- a byte for which a field is put in quotes: a quote, a comma, or the end of a line
-abbrev pub needs_quotes : ℕ → Bool
-needs_quotes c = c == 34 || c == 44 || c == 10 || c == 13
+-- a cell in a column, of a row with so many cells, in a table whose columns are so wide
+abbrev pub column_text : List ℕ → ℕ → ℕ → Cell → List ℕ
+column_text widths count column cell = aligned (slice_index_or widths column 0) (column + 1 == count) cell
 
+-- the cells of a row, with two spaces between them
+abbrev pub columns_text : List ℕ → List Cell → List ℕ
+columns_text widths cells = joined (codes "  ") (column_text widths (length cells)) cells
+
+-- a row as a line
+abbrev pub line_text : List ℕ → List Cell → List ℕ
+line_text widths cells = columns_text widths cells ++ 10 ∷ []
+
+-- the names of the columns and the rows, each in a line
+abbrev pub lines_text : List ℕ → Table → List ℕ
+lines_text widths table = line_text widths table.columns ++ flat_map (line_text widths) table.rows
+
+-- CSV
 -- a byte that, at the head of a field, has a spreadsheet take it for a formula (`=`, `+`, `-`, `@`, a tab, a carriage
 -- return), or the apostrophe that keeps it from that
 abbrev pub is_telling : ℕ → Bool
@@ -53,80 +68,48 @@ abbrev pub begins_telling : List ℕ → Bool
 begins_telling [] = false
 begins_telling (c ∷ others) = is_telling c
 
--- a quote in a field is doubled
-abbrev pub csv_byte : ℕ → List ℕ
-csv_byte c = if c == 34 then 34 ∷ 34 ∷ [] else c ∷ []
+-- the field of a cell: its text, after an apostrophe where a spreadsheet would take it for a formula
+abbrev pub csv_field : Cell → List ℕ
+csv_field cell = if begins_telling cell.text then 39 ∷ cell.text else cell.text
 
--- a text between quotes
-abbrev pub csv_quoted : List ℕ → List ℕ
-csv_quoted text = 34 ∷ (flat_map csv_byte text ++ 34 ∷ [])
+-- a row as a record, which is quoted and ended as the crate `csv` does it by its defaults
+abbrev pub record_text : List Cell → List ℕ
+record_text cells = row_text default_writer (map csv_field cells)
 
--- the text of a cell: after an apostrophe, in quotes, where a spreadsheet would take it for a formula
-abbrev pub csv_field : List ℕ → List ℕ
-csv_field text =
-    if begins_telling text then csv_quoted (39 ∷ text)
-    else if list_any needs_quotes text then csv_quoted text
-    else text
+-- the names of the columns and the rows, each a record
+abbrev pub records_text : Table → List ℕ
+records_text table = record_text table.columns ++ flat_map record_text table.rows
 
 -- JSON
-abbrev pub hex_digit : ℕ → ℕ
-hex_digit n = if nat_lt n 10 then 48 + n else 87 + n
+-- the value of a cell
+abbrev pub json_value : Kind → List ℕ → Token
+json_value Word text = Token.string text
+json_value Number text = Token.number text
+json_value Nothing text = Token.null
 
--- quotes, backslashes and bytes below 32 are escaped in a string
-abbrev pub json_byte : ℕ → List ℕ
-json_byte c =
-    if c == 34 || c == 92 then 92 ∷ c ∷ []
-    else if nat_lt c 32 then codes "\\u00" ++ hex_digit (c / 16) ∷ hex_digit (c % 16) ∷ []
-    else c ∷ []
-
-abbrev pub json_string : List ℕ → List ℕ
-json_string text = 34 ∷ (flat_map json_byte text ++ 34 ∷ [])
-
-abbrev pub json_value : Kind → List ℕ → List ℕ
-json_value Word text = json_string text
-json_value Number text = text
-json_value Nothing text = codes "null"
-
--- a cell with the name of its column
-abbrev pub json_member : Cell → Cell → List ℕ
-json_member name cell = json_string name.text ++ (codes ": " ++ json_value cell.kind cell.text)
-
--- ROWS AND TABLES
--- what stands between two cells of a row
-abbrev pub between_cells : Format → List ℕ
-between_cells Text = codes "  "
-between_cells Csv = codes ","
-between_cells Json = codes ", "
-
--- a cell in a column, of a row with so many cells, in a table with these names of columns, which are so wide
-abbrev pub cell_text : Format → List Cell → List ℕ → ℕ → ℕ → Cell → List ℕ
-cell_text Text names widths count column cell = aligned (slice_index_or widths column 0) (column + 1 == count) cell
-cell_text Csv names widths count column cell = csv_field cell.text
-cell_text Json names widths count column cell = json_member (cell_at names column) cell
-
--- the cells of a row
-abbrev pub row_text : Format → List Cell → List ℕ → List Cell → List ℕ
-row_text format names widths cells = joined (between_cells format) (cell_text format names widths (length cells)) cells
-
--- a row as a line
-abbrev pub line_text : Format → List Cell → List ℕ → List Cell → List ℕ
-line_text format names widths cells = row_text format names widths cells ++ 10 ∷ []
-
--- the names of the columns and the rows, each in a line
-abbrev pub lines_text : Format → List ℕ → Table → List ℕ
-lines_text format widths table =
-    line_text format table.columns widths table.columns ++ flat_map (line_text format table.columns widths) table.rows
+-- a cell after the name of its column
+abbrev pub json_member : List Cell → ℕ × Cell → List Token
+json_member names p = Token.key (cell_at names p.0).text ∷ json_value p.1.kind p.1.text ∷ []
 
 -- a row as an object
-abbrev pub object_text : List Cell → ℕ → List Cell → List ℕ
-object_text names i cells = codes "\n  {" ++ (row_text Json names [] cells ++ codes "}")
+abbrev pub json_object : List Cell → List Cell → List Token
+json_object names cells = Token.begin_object ∷ (flat_map (json_member names) (enumerate_from 0 cells) ++ Token.end_object ∷ [])
 
 -- the rows as an array
+abbrev pub json_array : Table → List Token
+json_array table = Token.begin_array ∷ (flat_map (json_object table.columns) table.rows ++ Token.end_array ∷ [])
+
+-- a row in a line of its own, as the crate `json` writes an object
+abbrev pub object_text : List Cell → ℕ → List Cell → List ℕ
+object_text names i cells = codes "\n  " ++ print (json_object names cells)
+
+-- the array, a line for each row
 abbrev pub array_text : Table → List ℕ
 array_text table = 91 ∷ (joined (codes ",") (object_text table.columns) table.rows ++ codes "\n]\n")
 
+-- TABLES
 -- the table as it is written
 abbrev pub table_text : Format → Table → List ℕ
-table_text Text table = lines_text Text (widths_of table) table
-table_text Csv table = lines_text Csv [] table
+table_text Text table = lines_text (widths_of table) table
+table_text Csv table = records_text table
 table_text Json table = array_text table

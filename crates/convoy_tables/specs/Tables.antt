@@ -1,5 +1,6 @@
 -- A table, as plain data.
-use Rattle.std.specs.Prelude.{ℕ, Bool, true, false, List, [], codes, decimal, slice_index_or}
+use Rattle.std.specs.Prelude.{ℕ, Bool, true, false, ⊤, List, [], codes, decimal, slice_index_or}
+pub use Rattle.json.specs.Print.{IsNumber}
 use Rattle.convoy_tables.specs.declared.cell.Kind.{Kind}
 use Rattle.convoy_tables.specs.declared.cell.Kind.TheVariants.{Word, Number, Nothing}
 
@@ -16,11 +17,21 @@ pub record Table : Type 0 where
 abbrev pub word : List ℕ → Cell
 word text = record { kind = Word; text = text }
 
+-- a number, as its text has it
+abbrev pub numeral : List ℕ → Cell
+numeral text = record { kind = Number; text = text }
+
 abbrev pub number : ℕ → Cell
-number n = record { kind = Number; text = decimal n }
+number n = numeral (decimal n)
 
 abbrev pub nothing : Cell
 nothing = record { kind = Nothing; text = [] }
+
+-- what a cell of that kind may have as its text: the text of a number is a number of JSON
+abbrev pub IsTextOf : Kind → List ℕ → Type 0
+IsTextOf Word text = ⊤
+IsTextOf Number text = IsNumber text
+IsTextOf Nothing text = ⊤
 
 -- the cell of a row in a column, or where it has none nothing
 abbrev pub cell_at : List Cell → ℕ → Cell

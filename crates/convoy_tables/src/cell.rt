@@ -1,5 +1,5 @@
 ghost use Rattle.std.specs.Prelude.{◌≡◌, IfOk, string_bytes};
-ghost use Rattle.convoy_tables.specs.Tables.{nothing, number, shown, word, Cell};
+ghost use Rattle.convoy_tables.specs.Tables.{nothing, number, numeral, shown, word, Cell, IsNumber, IsTextOf};
 
 use std::alloc::{AllocError, Global};
 use std::marker::Model;
@@ -23,6 +23,8 @@ impl Model for Cell {
     ghost Value = { Cell };
 
     ghost view = { λ c. record { kind = c.kind; text = string_bytes c.text } };
+
+    ghost invariant = { λ c. IsTextOf c.kind (string_bytes c.text) };
 }
 
 impl Cell {
@@ -48,6 +50,19 @@ impl Cell {
         })
     }
 
+    /// A cell with a number that its text tells exactly, as `193.5`: digits, with at most one point, between
+    /// digits, and no needless zero at their head. Fails where memory runs out, and else never.
+    pub fn decimal(alloc: Global, text: &str) -> Result<Cell, AllocError>
+        requires { IsNumber text.now }
+        ensures { IfOk result (λ cell. cell ≡ numeral text.now) }
+    {
+        let text = String::from_str(alloc, text)?;
+        Ok(Cell {
+            kind: Kind::Number,
+            text,
+        })
+    }
+
     /// A cell with nothing in it.
     pub fn nothing(alloc: Global) -> Cell
         ensures { result ≡ nothing }
@@ -67,7 +82,8 @@ impl Cell {
 
     /// Its word, or its number in digits; no text where it has nothing.
     pub fn text(&self) -> &str
-        ensures { result.now ≡ self.now.text }
+        ensures text { result.now ≡ self.now.text }
+        ensures lawful { IsTextOf self.now.kind self.now.text }
     {
         self.text.as_str()
     }

@@ -7,9 +7,12 @@ pub use table::{Row, Table};
 pub use writing::table_text;
 
 mod aligning;
+mod between;
 mod cell;
-mod csv;
 mod format;
-mod json;
+mod lines;
+mod objects;
+mod records;
 mod table;
+pub mod table_laws;
 mod writing;

@@ -19,7 +19,7 @@ impl Model for Row {
 
 impl Row {
     ghost use Rattle.std.specs.Prelude.{◌≡◌, ◌∷◌, [], ◌++◌, map, OnOk};
-    ghost use Rattle.convoy_tables.specs.Tables.{nothing, number, word};
+    ghost use Rattle.convoy_tables.specs.Tables.{nothing, number, numeral, word, IsNumber};
 
     /// A row without cells yet.
     pub fn new(alloc: Global) -> Row
@@ -61,6 +61,17 @@ impl Row {
         ensures { OnOk result (self.new ≡ self.old ++ number value ∷ []) }
     {
         let cell = Cell::number(*self.cells.allocator(), value)?;
+        self.push(cell)
+    }
+
+    /// Puts a cell with a number that its text tells exactly, as `193.5`, at the end of the row: digits, with at
+    /// most one point, between digits, and no needless zero at their head. Fails where memory runs out, and else
+    /// never.
+    pub fn push_decimal(&mut self, text: &str) -> Result<(), AllocError>
+        requires { IsNumber text.now }
+        ensures { OnOk result (self.new ≡ self.old ++ numeral text.now ∷ []) }
+    {
+        let cell = Cell::decimal(*self.cells.allocator(), text)?;
         self.push(cell)
     }
 

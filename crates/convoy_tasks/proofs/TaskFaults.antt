@@ -2,6 +2,7 @@
 use Rattle.std.proofs.Common.{◌≡◌, inl, inr, ℕ, Bool, true, false, cond, nat_le, List, Option, Some, None, Result, Ok, Err, length, string_bytes}
 use Rattle.std.specs.Option.{option_map}
 use Rattle.convoy_streams.specs.declared.reading.ReadFault.TheVariants.{TooLong}
+use Rattle.convoy_draft.specs.declared.duration.TimeUnit.{TimeUnit}
 use Rattle.convoy_scenario.specs.Scenario.{Scenario}
 use Rattle.convoy_toml.specs.declared.target.TargetKey.{TargetKey}
 use Rattle.convoy_toml.specs.declared.target.TargetKey.TheVariants.{Optional}
@@ -74,43 +75,44 @@ search_no_device : (text : List ℕ) (fault : Fault) → IsFaulty text fault →
 search_no_device text fault faulty = rw faulty.told (no_device_in_scenario faulty.cause)
 
 -- what the command line names, or leaves out, in the rule of `check`
-about_no_device : (wanted : Option Scenario) (tells : Bool) (text : List ℕ) (fault : Fault) → check_says wanted tells text (Err fault) → IsNoDevice fault
-about_no_device None false text fault says = check_no_device text fault says
-about_no_device None true text fault says = check_no_device text fault says
-about_no_device (Some scenario) tells text fault says = check_no_device text fault says
+about_no_device : (wanted : Option Scenario) (tells : Bool) (unit : Option TimeUnit) (text : List ℕ) (fault : Fault) → check_says wanted tells unit text (Err fault) → IsNoDevice fault
+about_no_device None false unit text fault says = check_no_device text fault says
+about_no_device None true unit text fault says = check_no_device text fault says
+about_no_device (Some scenario) tells unit text fault says = check_no_device text fault says
 
-explained_no_device : (with_ceiling : Bool) (text : List ℕ) (fault : Fault) → explain_says with_ceiling text (Err fault) → IsNoDevice fault
-explained_no_device true text fault says = explain_no_device text fault says
-explained_no_device false text fault says = explain_no_device text fault says
+explained_no_device : (with_ceiling : Bool) (unit : Option TimeUnit) (text : List ℕ) (fault : Fault) → explain_says with_ceiling unit text (Err fault) → IsNoDevice fault
+explained_no_device true unit text fault says = explain_no_device unit text fault says
+explained_no_device false unit text fault says = explain_no_device unit text fault says
 
 -- the fault of a text in which the target may be left out
 any_target_no_device : (key : TargetKey) (text : List ℕ) (fault : Fault) → IsFaultyBy key text fault → IsNoDevice fault
 any_target_no_device key text fault faulty = rw faulty.told (no_device_in_scenario faulty.cause)
 
-ceilings_no_device : (format : Format) (group : Option (List ℕ)) (text : List ℕ) (fault : Fault) → CeilingsSay format group text (Err fault) → IsNoDevice fault
-ceilings_no_device format group text fault (inl faulty) = any_target_no_device Optional text fault faulty
-ceilings_no_device format group text fault (inr unknown) = rw unknown.told tt
+ceilings_no_device : (format : Format) (unit : Option TimeUnit) (group : Option (List ℕ)) (text : List ℕ) (fault : Fault) → CeilingsSay format unit group text (Err fault) → IsNoDevice fault
+ceilings_no_device format unit group text fault (inl faulty) = any_target_no_device Optional text fault faulty
+ceilings_no_device format unit group text fault (inr unknown) = rw unknown.told tt
 
 latency_no_device : (with_ceiling : Bool) (settings : Settings) (text : List ℕ) (fault : Fault) → latency_says with_ceiling settings text (Err fault) → IsNoDevice fault
 latency_no_device true settings text fault says = search_no_device text fault says
 latency_no_device false settings text fault says = search_no_device text fault says
 
-what_if_no_device : (format : Format) (settings : Settings) (text : List ℕ) (fault : Fault) → WhatIfSays format settings text (Err fault) → IsNoDevice fault
-what_if_no_device format settings text fault (inl faulty) = search_no_device text fault faulty
-what_if_no_device format settings text fault (inr is) = rw is.broken.makes_none.told tt
+what_if_no_device : (format : Format) (shows_all : Bool) (settings : Settings) (text : List ℕ) (fault : Fault) → WhatIfSays format shows_all settings text (Err fault) → IsNoDevice fault
+what_if_no_device format shows_all settings text fault (inl faulty) = search_no_device text fault faulty
+what_if_no_device format shows_all settings text fault (inr is) = rw is.broken.makes_none.told tt
 
 pub says_no_device : (task : Task) (wanted : Option Scenario) (text : List ℕ) (fault : Fault) → task_says task wanted text (Err fault) → IsNoDevice fault
 says_no_device First wanted text fault says = first_no_device text fault (fault_of_fine (first_text text) fault says)
 says_no_device (Tell telling) wanted text fault says = tell_no_device telling text fault says
-says_no_device (Check tells limit) wanted text fault says =
-    about_no_device wanted tells text fault (fault_within limit NotChecked (check_says wanted tells) text fault says)
-says_no_device (Explain with_ceiling limit) wanted text fault says =
-    explained_no_device with_ceiling text fault (fault_within limit NotChecked (explain_says with_ceiling) text fault says)
-says_no_device (Draw limit) wanted text fault says = draw_no_device text fault (fault_within limit NotChecked (AskSays askings.Draw) text fault says)
-says_no_device (Ceiling simulations) wanted text fault says = search_no_device text fault says
-says_no_device (Ceilings format group simulations) wanted text fault says = ceilings_no_device format (option_map string_bytes group) text fault says
+says_no_device (Check tells unit limit) wanted text fault says =
+    about_no_device wanted tells unit text fault (fault_within limit NotChecked (check_says wanted tells unit) text fault says)
+says_no_device (Explain with_ceiling unit limit) wanted text fault says =
+    explained_no_device with_ceiling unit text fault (fault_within limit NotChecked (explain_says with_ceiling unit) text fault says)
+says_no_device (Draw unit limit) wanted text fault says =
+    draw_no_device unit text fault (fault_within limit NotChecked (AskSays (askings.Draw unit)) text fault says)
+says_no_device (Ceiling simulations unit) wanted text fault says = search_no_device text fault says
+says_no_device (Ceilings format group simulations unit) wanted text fault says = ceilings_no_device format unit (option_map string_bytes group) text fault says
 says_no_device (Analyse options) wanted text fault says = search_no_device text fault says
 says_no_device (Latency with_ceiling options) wanted text fault says = latency_no_device with_ceiling options text fault says
 says_no_device (Survey format with_ceilings options) wanted text fault says = any_target_no_device Optional text fault says
-says_no_device (WhatIf format options) wanted text fault says = what_if_no_device format options text fault says
+says_no_device (WhatIf format shows_all options) wanted text fault says = what_if_no_device format shows_all options text fault says
 says_no_device (BatchTable format options tells_status) wanted text fault says = rw says.0 tt

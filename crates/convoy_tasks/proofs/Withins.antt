@@ -1,5 +1,6 @@
 -- What is answered for a scenario where the steps of a check are limited.
 use Rattle.std.proofs.Common.{◌≡◌, ap, inl, inr, refl, sym, ◌∙◌, ℕ, Bool, List, Option, Result, Ok, Err}
+use Rattle.convoy_draft.specs.declared.duration.TimeUnit.{TimeUnit}
 use Rattle.convoy_scenario.specs.Scenario.{Scenario}
 use Rattle.convoy_scenario.specs.declared.part.Part.{Part}
 use Rattle.convoy_certificate.specs.Certificate.{Certificate, IsCertificate}
@@ -28,12 +29,12 @@ yes_within limit text line (inl said) = (says_within limit NotChecked Fine text 
 yes_within limit text line (inr none) = absurd cc
 
 -- what is answered to it
-pub about_within : (limit : Option ℕ) (wanted : Option Scenario) (tells : Bool) (text line : List ℕ) (reply : Reply) →
-    SaysUnlessMemory (SaysWithin limit NotChecked (AskSays Check)) text (Ok (Fine, line)) → CheckAboutSays wanted tells text reply →
-    SaysUnlessMemory (SaysWithin limit NotChecked (CheckAboutSays wanted tells)) text reply
-about_within limit wanted tells text line reply (inl said) about =
-    inl (asked_so limit NotChecked Fine text line (AskSays Check) (CheckAboutSays wanted tells) reply (λ is. cc) said (λ says. about))
-about_within limit wanted tells text line reply (inr none) about = absurd cc
+pub about_within : (limit : Option ℕ) (wanted : Option Scenario) (tells : Bool) (unit : Option TimeUnit) (text line : List ℕ) (reply : Reply) →
+    SaysUnlessMemory (SaysWithin limit NotChecked (AskSays Check)) text (Ok (Fine, line)) → CheckAboutSays wanted tells unit text reply →
+    SaysUnlessMemory (SaysWithin limit NotChecked (CheckAboutSays wanted tells unit)) text reply
+about_within limit wanted tells unit text line reply (inl said) about =
+    inl (asked_so limit NotChecked Fine text line (AskSays Check) (CheckAboutSays wanted tells unit) reply (λ is. cc) said (λ says. about))
+about_within limit wanted tells unit text line reply (inr none) about = absurd cc
 
 -- the end of a reply
 pub end_is : (done other : Done) (out line : List ℕ) → ◌≡◌ {A = Reply} (Ok (done, out)) (Ok (other, line)) → done ≡ other
@@ -56,35 +57,35 @@ unfolding check_reply
 never_differs text out part says = never_read (certificate_of text) part out says.exact
 
 -- what is answered to the certificate of that text, where it is accepted
-pub answered_within : TextsDiffer → (limit : Option ℕ) (wanted : Option Scenario) (tells : Bool) (text line : List ℕ) (certificate : Certificate) (reply : Reply) →
+pub answered_within : TextsDiffer → (limit : Option ℕ) (wanted : Option Scenario) (tells : Bool) (unit : Option TimeUnit) (text line : List ℕ) (certificate : Certificate) (reply : Reply) →
     IsCertificate certificate → IsTextOf certificate text →
     SaysUnlessMemory (SaysWithin limit NotChecked (AskSays Check)) text (Ok (Fine, line)) →
-    (IsAcceptedAs certificate text line → CheckAboutSays wanted tells text reply) →
-    SaysUnlessMemory (SaysWithin limit NotChecked (CheckAboutSays wanted tells)) text reply
-answered_within differ limit wanted tells text line certificate reply is spelled said about =
+    (IsAcceptedAs certificate text line → CheckAboutSays wanted tells unit text reply) →
+    SaysUnlessMemory (SaysWithin limit NotChecked (CheckAboutSays wanted tells unit)) text reply
+answered_within differ limit wanted tells unit text line certificate reply is spelled said about =
     let accepted = yes_within limit text line said in
-    about_within limit wanted tells text line reply said
+    about_within limit wanted tells unit text line reply said
     (about (accepted, differ accepted.certificate certificate accepted.lawful is (sym accepted.written.0 ∙ spelled.0)))
 
 -- what is neither a yes nor another scenario's is answered as by `check`
-as_check : (wanted : Option Scenario) (tells : Bool) → AllowsOthers Check (CheckAboutSays wanted tells)
-as_check wanted tells text out Fine not says = absurd (not refl)
-as_check wanted tells text out Open not says = says
-as_check wanted tells text out Faulty not says = says
-as_check wanted tells text out (Refused refusal) not says = says
-as_check wanted tells text out (Differs part) not says = absurd (never_differs text out part says)
-as_check wanted tells text out NotChecked not says = says
+as_check : (wanted : Option Scenario) (tells : Bool) (unit : Option TimeUnit) → AllowsOthers Check (CheckAboutSays wanted tells unit)
+as_check wanted tells unit text out Fine not says = absurd (not refl)
+as_check wanted tells unit text out Open not says = says
+as_check wanted tells unit text out Faulty not says = says
+as_check wanted tells unit text out (Refused refusal) not says = says
+as_check wanted tells unit text out (Differs part) not says = absurd (never_differs text out part says)
+as_check wanted tells unit text out NotChecked not says = says
 
-pub others_within : (limit : Option ℕ) (wanted : Option Scenario) (tells : Bool) (text out : List ℕ) (done : Done) → (done ≡ Fine → ⊥) →
+pub others_within : (limit : Option ℕ) (wanted : Option Scenario) (tells : Bool) (unit : Option TimeUnit) (text out : List ℕ) (done : Done) → (done ≡ Fine → ⊥) →
     SaysUnlessMemory (SaysWithin limit NotChecked (AskSays Check)) text (Ok (done, out)) →
-    SaysUnlessMemory (SaysWithin limit NotChecked (CheckAboutSays wanted tells)) text (Ok (done, out))
-others_within limit wanted tells text out done not said =
-    others_as_asked limit Check (CheckAboutSays wanted tells) text out done (as_check wanted tells) not said
+    SaysUnlessMemory (SaysWithin limit NotChecked (CheckAboutSays wanted tells unit)) text (Ok (done, out))
+others_within limit wanted tells unit text out done not said =
+    others_as_asked limit Check (CheckAboutSays wanted tells unit) text out done (as_check wanted tells unit) not said
 
 -- and so is a text of no certificate
-pub refused_about : (limit : Option ℕ) (wanted : Option Scenario) (tells : Bool) (text : List ℕ) (fault : TextFault) (reply : Reply) →
+pub refused_about : (limit : Option ℕ) (wanted : Option Scenario) (tells : Bool) (unit : Option TimeUnit) (text : List ℕ) (fault : TextFault) (reply : Reply) →
     IsReply (reply_of_text (Err fault)) reply →
     SaysUnlessMemory (SaysWithin limit NotChecked (AskSays Check)) text reply →
-    SaysUnlessMemory (SaysWithin limit NotChecked (CheckAboutSays wanted tells)) text reply
-refused_about limit wanted tells text fault reply told said =
-    refused_as_asked limit Check (CheckAboutSays wanted tells) text fault reply (as_check wanted tells) told said
+    SaysUnlessMemory (SaysWithin limit NotChecked (CheckAboutSays wanted tells unit)) text reply
+refused_about limit wanted tells unit text fault reply told said =
+    refused_as_asked limit Check (CheckAboutSays wanted tells unit) text fault reply (as_check wanted tells unit) told said

@@ -11,16 +11,16 @@ use Rattle.convoy_tasks.specs.JobTables.{column_names, found_cells, label_cell, 
 
 names : column_names ≡
     word (codes "job") ∷ word (codes "label") ∷ word (codes "answer") ∷ word (codes "least") ∷ word (codes "most")
-    ∷ word (codes "tick") ∷ word (codes "rival") ∷ word (codes "tied") ∷ word (codes "nodes") ∷ []
+    ∷ word (codes "least_time") ∷ word (codes "most_time") ∷ word (codes "unit") ∷ word (codes "tick") ∷ word (codes "rival") ∷ word (codes "tied") ∷ word (codes "nodes") ∷ []
 names = refl
 
 no_group : found_cells (Err (Scenario UnknownGroup)) ≡
-    word (codes "fault 6 unknown group") ∷ nothing ∷ nothing ∷ nothing ∷ nothing ∷ nothing ∷ nothing ∷ []
+    word (codes "fault 6 unknown group") ∷ nothing ∷ nothing ∷ nothing ∷ nothing ∷ nothing ∷ nothing ∷ nothing ∷ nothing ∷ nothing ∷ []
 unfolding fault_line_of digits
 no_group = refl
 
 too_long : found_cells (Err (Reading (TooLong LONGEST_JOB))) ≡
-    word (codes "fault 42 job too long") ∷ nothing ∷ nothing ∷ nothing ∷ nothing ∷ nothing ∷ nothing ∷ []
+    word (codes "fault 42 job too long") ∷ nothing ∷ nothing ∷ nothing ∷ nothing ∷ nothing ∷ nothing ∷ nothing ∷ nothing ∷ nothing ∷ []
 unfolding fault_line_of digits
 too_long = refl
 

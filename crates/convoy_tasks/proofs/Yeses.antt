@@ -7,6 +7,7 @@ use Rattle.convoy_lines.specs.Texts.{number_line}
 use Rattle.convoy_lines.proofs.LabelLemmas.{number_line_again}
 use Rattle.convoy_lines.proofs.Spelling.{decimal_word, line_lacks}
 use Rattle.convoy_lines.proofs.Splitting.{lines_after}
+use Rattle.convoy_draft.specs.declared.duration.TimeUnit.{TimeUnit}
 use Rattle.convoy_scenario.specs.Scenario.{Scenario}
 use Rattle.convoy_certificate.specs.Certificate.{Certificate, IsCertificate}
 use Rattle.convoy_certificate.specs.CertificateLaws.{TextsDiffer}
@@ -34,11 +35,16 @@ same_certificate differ text line certificate is spelled accepted =
     differ accepted.certificate certificate accepted.lawful is (sym accepted.written.0 ∙ spelled.0)
 
 -- a yes, where the scenario of the certificate is the one that is wanted
-pub yes_about : (wanted : Option Scenario) (tells : Bool) (text line out : List ℕ) (certificate : Certificate) →
-    IsAcceptedAs certificate text line → IsWanted wanted certificate.scenario → out ≡ line ++ told_if tells certificate →
-    IsAcceptedAbout wanted tells text out
-yes_about wanted tells text line out certificate shown same written =
-    record { line = line; accepted = shown.0; of_wanted = rw shown.1 same; written = rw shown.1 written }
+pub yes_about : (wanted : Option Scenario) (tells : Bool) (unit : Option TimeUnit) (text line out : List ℕ) (certificate : Certificate) →
+    IsAcceptedAs certificate text line → IsWanted wanted certificate.scenario → out ≡ line ++ told_if tells unit certificate →
+    IsAcceptedAbout wanted tells unit text out
+yes_about wanted tells unit text line out certificate shown same written =
+    record {
+      line = line;
+      accepted = shown.0;
+      of_wanted = rw shown.1 same;
+      written = written ∙ ap (λ (c : Certificate). line ++ told_if tells unit c) (sym shown.1);
+    }
 
 -- that it is another
 pub other_about : (wanted : Option Scenario) (part : Part) (text line out : List ℕ) (certificate : Certificate) →
@@ -80,12 +86,12 @@ same_number a b below more a_fits b_fits is =
 -- ---- the laws
 
 pub yes_is_greatest : YesIsGreatest
-yes_is_greatest scenario latency tells text below fits said =
+yes_is_greatest scenario latency tells unit text below fits said =
     let certificate : Certificate = said.accepted.certificate in
-    let begins : accepted_line latency ++ below ≡ accepted_line certificate.latency ++ told_if tells certificate =
-    said.written ∙ ap (λ (line : List ℕ). line ++ told_if tells certificate) said.accepted.told in
+    let begins : accepted_line latency ++ below ≡ accepted_line certificate.latency ++ told_if tells unit certificate =
+    said.written ∙ ap (λ (line : List ℕ). line ++ told_if tells unit certificate) said.accepted.told in
     let number : latency ≡ certificate.latency =
-    same_number latency certificate.latency below (told_if tells certificate) fits said.accepted.lawful.latency begins in
+    same_number latency certificate.latency below (told_if tells unit certificate) fits said.accepted.lawful.latency begins in
     rw (← number, said.of_wanted) at said.accepted.greatest
 
 -- a scenario agrees with itself in each part
@@ -104,17 +110,20 @@ no_yes : (certificate : Certificate) (text out : List ℕ) (done : Done) → (do
 no_yes certificate text out done not is spelled valid said = not (end_is done Fine out _ (said.yes_given certificate is spelled valid))
 
 pub yes_is_given : TextsDiffer → YesIsGiven
-yes_is_given differ certificate tells text Fine out is spelled valid said =
-    let same = same_certificate differ text said.line certificate is spelled said.accepted in
-    (refl, rw same at (said.written ∙ ap (λ (line : List ℕ). line ++ told_if tells said.accepted.certificate) said.accepted.told))
-yes_is_given differ certificate tells text Open out is spelled valid said =
+yes_is_given differ certificate tells unit text Fine out is spelled valid said =
+    let same = same_certificate differ text said.line certificate is spelled said.accepted in (
+      refl,
+      said.written ∙ ap (λ (line : List ℕ). line ++ told_if tells unit said.accepted.certificate) said.accepted.told
+          ∙ ap (λ (c : Certificate). accepted_line c.latency ++ told_if tells unit c) same,
+    )
+yes_is_given differ certificate tells unit text Open out is spelled valid said =
     absurd (no_yes certificate text out Open (λ is. cc) is spelled valid said)
-yes_is_given differ certificate tells text Faulty out is spelled valid said =
+yes_is_given differ certificate tells unit text Faulty out is spelled valid said =
     absurd (no_yes certificate text out Faulty (λ is. cc) is spelled valid said)
-yes_is_given differ certificate tells text (Refused refusal) out is spelled valid said =
+yes_is_given differ certificate tells unit text (Refused refusal) out is spelled valid said =
     absurd (no_yes certificate text out (Refused refusal) (λ is. cc) is spelled valid said)
-yes_is_given differ certificate tells text NotChecked out is spelled valid said =
+yes_is_given differ certificate tells unit text NotChecked out is spelled valid said =
     absurd (no_yes certificate text out NotChecked (λ is. cc) is spelled valid said)
-yes_is_given differ certificate tells text (Differs part) out is spelled valid said =
+yes_is_given differ certificate tells unit text (Differs part) out is spelled valid said =
     let same = same_certificate differ text said.line certificate is spelled said.accepted in
     absurd ((rw same at said.unwanted).differ (agree_with_itself certificate.scenario part))

@@ -4,6 +4,7 @@ use Rattle.std.specs.List.{FoldsTo}
 use Rattle.convoy_streams.specs.declared.reading.ReadFault.TheVariants as reading
 use Rattle.convoy_streams.specs.Devices.{Answer}
 use Rattle.convoy_streams.specs.Reads.{ReadsText, StopsReading}
+use Rattle.convoy_draft.specs.declared.duration.TimeUnit.{TimeUnit}
 use Rattle.convoy_scenario.specs.Scenario.{Scenario}
 use Rattle.convoy_toml.specs.Reading.{scenario_of_text}
 use Rattle.convoy_certificate.specs.Certificate.{Certificate}
@@ -29,12 +30,12 @@ IsWanted wanted scenario = IfSome wanted (λ asked. scenario ≡ asked)
 abbrev pub IsUnwanted : Option Scenario → Scenario → Part → Type 0
 IsUnwanted wanted scenario part = IsSomeAnd wanted (λ asked. IsFirstDifference asked scenario part)
 
--- THE HEADLINE. `check` accepts the text with this line, which is that of a valid certificate: its latency is the greatest of its scenario, and that scenario is the one that is wanted, if one is. What is written is the yes, and below it what was accepted, where that is to be told.
-pub record IsAcceptedAbout (wanted : Option Scenario) (tells : Bool) (text out : List ℕ) : Type 0 where
+-- THE HEADLINE. `check` accepts the text with this line, which is that of a valid certificate: its latency is the greatest of its scenario, and that scenario is the one that is wanted, if one is. What is written is the yes, and below it what was accepted, where that is to be told, with times in the unit that is asked for.
+pub record IsAcceptedAbout (wanted : Option Scenario) (tells : Bool) (unit : Option TimeUnit) (text out : List ℕ) : Type 0 where
   pub line : List ℕ
   pub accepted : IsAccepted text line
   pub of_wanted : IsWanted wanted accepted.certificate.scenario
-  pub written : out ≡ line ++ told_if tells accepted.certificate
+  pub written : out ≡ line ++ told_if tells unit accepted.certificate
 
 -- `check` accepts the text, but its certificate is that of another scenario than the one that is wanted. What is written is that refusal, with the first part that differs.
 pub record IsOfAnother (wanted : Option Scenario) (part : Part) (text out : List ℕ) : Type 0 where
@@ -44,16 +45,16 @@ pub record IsOfAnother (wanted : Option Scenario) (part : Part) (text out : List
   pub written : out ≡ differs_line part
 
 -- What may be answered for a text: a yes, or that it is of another scenario; whatever is neither is answered as `check` does.
-abbrev pub CheckAboutSays : Option Scenario → Bool → Rule
-CheckAboutSays wanted tells text (Ok (Fine, out)) = IsAcceptedAbout wanted tells text out
-CheckAboutSays wanted tells text (Ok (Differs part, out)) = IsOfAnother wanted part text out
-CheckAboutSays wanted tells text other = AskSays Check text other
+abbrev pub CheckAboutSays : Option Scenario → Bool → Option TimeUnit → Rule
+CheckAboutSays wanted tells unit text (Ok (Fine, out)) = IsAcceptedAbout wanted tells unit text out
+CheckAboutSays wanted tells unit text (Ok (Differs part, out)) = IsOfAnother wanted part text out
+CheckAboutSays wanted tells unit text other = AskSays Check text other
 
--- The rule of `check`, by the scenario that is wanted, if one is, and by whether what is accepted is to be told.
-abbrev pub check_says : Option Scenario → Bool → Rule
-check_says None false = CheckSays
-check_says None true = CheckAboutSays None true
-check_says (Some scenario) tells = CheckAboutSays (Some scenario) tells
+-- The rule of `check`, by the scenario that is wanted, if one is, by whether what is accepted is to be told, and by the unit that is asked for.
+abbrev pub check_says : Option Scenario → Bool → Option TimeUnit → Rule
+check_says None false unit = CheckSays
+check_says None true unit = CheckAboutSays None true unit
+check_says (Some scenario) tells unit = CheckAboutSays (Some scenario) tells unit
 
 -- the certificate is the one that `check` accepts with this line
 abbrev pub IsAcceptedAs : Certificate → List ℕ → List ℕ → Type 0

@@ -1,9 +1,12 @@
 -- The lines that tell what was accepted, and the refusal of the certificate of another scenario.
-use Rattle.std.specs.Prelude.{ℕ, Bool, if◌then◌else◌, List, [], ◌∷◌, ◌++◌, length, codes, decimal}
+use Rattle.std.specs.Prelude.{ℕ, Bool, if◌then◌else◌, List, [], ◌∷◌, ◌++◌, length, Option, codes, decimal}
 use Rattle.convoy_lines.specs.Texts.{ended, line_of, number_line}
 use Rattle.convoy_scenario.specs.Scenario.{Scenario, group_name_at, message_at}
 use Rattle.convoy_certificate.specs.Certificate.{Certificate}
-use Rattle.convoy_commands.specs.ReplyLines.{in_unit}
+use Rattle.convoy_commands.specs.Measured.{measure_of}
+use Rattle.convoy_draft.specs.declared.duration.TimeUnit.{TimeUnit}
+use Rattle.convoy_times.specs.Measures.{told_in_unit}
+use Rattle.convoy_times.specs.declared.measure.Measure.{Measure}
 use Rattle.convoy_commands.specs.Refusals.{refused_line}
 use Rattle.convoy_scenario.specs.declared.part.Part.{Part}
 use Rattle.convoy_scenario.specs.Differences.{part_word}
@@ -13,9 +16,10 @@ abbrev pub target_line : Scenario → List ℕ
 target_line scenario =
     ended (line_of (codes "target") ((message_at scenario scenario.target_message).name ∷ group_name_at scenario scenario.target_group ∷ []))
 
--- D, in ticks and in the unit of a tick
-abbrev pub delay_line : Scenario → List ℕ
-delay_line scenario = ended (line_of (codes "delay") (decimal scenario.delay ∷ in_unit scenario.tick (scenario.delay ∷ [])))
+-- D, in ticks and in the unit of a measure
+abbrev pub delay_line : Option Measure → Scenario → List ℕ
+delay_line measure scenario =
+    ended (line_of (codes "delay") (decimal scenario.delay ∷ told_in_unit measure (scenario.delay ∷ [])))
 
 -- how many there are of what a word names
 abbrev pub count_line : List ℕ → ℕ → List ℕ
@@ -28,16 +32,17 @@ counts_told scenario =
     ++ (count_line (codes "messages") (length scenario.multicasts) ++ count_line (codes "links") (length scenario.links))
 
 -- what is told of a scenario
-abbrev pub scenario_told : Scenario → List ℕ
-scenario_told scenario = target_line scenario ++ (delay_line scenario ++ counts_told scenario)
+abbrev pub scenario_told : Option Measure → Scenario → List ℕ
+scenario_told measure scenario = target_line scenario ++ (delay_line measure scenario ++ counts_told scenario)
 
--- what is told of an accepted certificate: its scenario, and how many nodes its tree has
-abbrev pub certificate_told : Certificate → List ℕ
-certificate_told certificate = scenario_told certificate.scenario ++ count_line (codes "nodes") (length certificate.nodes)
+-- what is told of an accepted certificate, with times in the unit that is asked for: its scenario, and how many nodes its tree has
+abbrev pub certificate_told : Option TimeUnit → Certificate → List ℕ
+certificate_told asked certificate =
+    scenario_told (measure_of asked certificate.scenario) certificate.scenario ++ count_line (codes "nodes") (length certificate.nodes)
 
 -- the same, where it is to be told, and else nothing
-abbrev pub told_if : Bool → Certificate → List ℕ
-told_if tells certificate = if tells then certificate_told certificate else []
+abbrev pub told_if : Bool → Option TimeUnit → Certificate → List ℕ
+told_if tells asked certificate = if tells then certificate_told asked certificate else []
 
 -- the number and the text of the refusal of a certificate whose scenario differs in this part
 abbrev pub row_of_difference : Part → ℕ × List ℕ

@@ -6,6 +6,7 @@ use Rattle.convoy_commands.specs.declared.done.Done.{Done}
 use Rattle.convoy_commands.specs.declared.done.Done.TheVariants.{Fine}
 use Rattle.convoy_commands.specs.declared.fault.Fault.{Fault}
 use Rattle.convoy_commands.specs.CommandLaws.{TellsFailures}
+use Rattle.convoy_commands.specs.Measured.{measure_of_text}
 use Rattle.convoy_commands.specs.ReplyLines.{greatest_line}
 use Rattle.convoy_commands.specs.Searches.{LatencySays}
 use Rattle.convoy_survey.specs.declared.finding.Cause.{Cause}
@@ -26,7 +27,7 @@ abbrev pub JobRowsAreLatencies : Type 0
 JobRowsAreLatencies =
     (settings other : Settings) (text out : List ℕ) (found : JobFinding) (latency nodes : ℕ) (cause : Cause) →
     IsSearched settings text found → found.finding ≡ Greatest latency cause nodes → LatencySays other text (Ok (Fine, out)) →
-    out ≡ greatest_line found.instance.tick latency
+    out ≡ greatest_line (measure_of_text other.unit text found.instance) latency
 
 -- The two numbers of a job's row, `least` and `most`, enclose the greatest latency of the job's scenario, whether or not the search ended.
 abbrev pub JobRowsEnclose : Type 0

@@ -8,14 +8,16 @@ use Rattle.convoy_branch.specs.Options.{Settings}
 use Rattle.convoy_commands.specs.declared.fault.Fault.{Fault}
 use Rattle.convoy_commands.specs.declared.fault.Fault.TheVariants.{Memory, Reading}
 use Rattle.convoy_commands.specs.declared.limits.TheConstants.{LONGEST_JOB}
+use Rattle.convoy_commands.specs.Measured.{measure_of_text}
 use Rattle.convoy_commands.specs.Searches.{IsFaulty}
 use Rattle.convoy_survey.specs.Findings.{IsFinding, is_open}
 use Rattle.convoy_tasks.specs.declared.job_row.JobFinding.{JobFinding}
 use Rattle.convoy_tasks.specs.declared.job_row.JobRow.{JobRow}
 
--- A search for the scenario of a text found that of the latency that is asked there.
+-- A search for the scenario of a text found that of the latency that is asked there; and times are told as `latency` tells them of the text.
 pub record IsSearched (settings : Settings) (text : List ℕ) (found : JobFinding) : Type 0 where
   pub read : scenario_of_text text ≡ Ok found.instance
+  pub measured : found.measure ≡ measure_of_text settings.unit text found.instance
   pub finding : IsFinding settings found.instance found.finding
 
 -- what may be found for a text: by a search, or the fault of the text; or, as with each command, that memory ran out

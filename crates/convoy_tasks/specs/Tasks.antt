@@ -26,30 +26,30 @@ use Rattle.convoy_tasks.specs.Abouts.{check_says}
 abbrev pub task_says : Task → Option Scenario → Rule
 task_says First wanted = FirstSays
 task_says (Tell telling) wanted = TellSays telling
-task_says (Check tells limit) wanted = SaysWithin limit NotChecked (check_says wanted tells)
-task_says (Explain with_ceiling limit) wanted = SaysWithin limit NotChecked (explain_says with_ceiling)
-task_says (Draw limit) wanted = SaysWithin limit NotChecked (AskSays askings.Draw)
-task_says (Ceiling simulations) wanted = CeilingSays
-task_says (Ceilings format group simulations) wanted = CeilingsSay format (option_map string_bytes group)
+task_says (Check tells unit limit) wanted = SaysWithin limit NotChecked (check_says wanted tells unit)
+task_says (Explain with_ceiling unit limit) wanted = SaysWithin limit NotChecked (explain_says with_ceiling unit)
+task_says (Draw unit limit) wanted = SaysWithin limit NotChecked (AskSays (askings.Draw unit))
+task_says (Ceiling simulations unit) wanted = CeilingSays unit
+task_says (Ceilings format group simulations unit) wanted = CeilingsSay format unit (option_map string_bytes group)
 task_says (Analyse options) wanted = AnalyseSays options
 task_says (Latency with_ceiling options) wanted = latency_says with_ceiling options
 task_says (Survey format with_ceilings options) wanted = SurveySays format with_ceilings options
-task_says (WhatIf format options) wanted = WhatIfSays format options
+task_says (WhatIf format shows_all options) wanted = WhatIfSays format shows_all options
 task_says (BatchTable format options tells_status) wanted = BatchTableSays format options
 
 -- HOW LONG ITS TEXT MAY BE, in bytes: as long as a certificate's where it may be one, and as long as a job's else
 abbrev pub longest_for : Task → ℕ
 longest_for First = LONGEST_JOB
 longest_for (Tell telling) = LONGEST_CERTIFICATE
-longest_for (Check tells limit) = LONGEST_CERTIFICATE
-longest_for (Explain with_ceiling limit) = LONGEST_CERTIFICATE
-longest_for (Draw limit) = LONGEST_CERTIFICATE
-longest_for (Ceiling simulations) = LONGEST_JOB
-longest_for (Ceilings format group simulations) = LONGEST_JOB
+longest_for (Check tells unit limit) = LONGEST_CERTIFICATE
+longest_for (Explain with_ceiling unit limit) = LONGEST_CERTIFICATE
+longest_for (Draw unit limit) = LONGEST_CERTIFICATE
+longest_for (Ceiling simulations unit) = LONGEST_JOB
+longest_for (Ceilings format group simulations unit) = LONGEST_JOB
 longest_for (Analyse options) = LONGEST_JOB
 longest_for (Latency with_ceiling options) = LONGEST_JOB
 longest_for (Survey format with_ceilings options) = LONGEST_JOB
-longest_for (WhatIf format options) = LONGEST_JOB
+longest_for (WhatIf format shows_all options) = LONGEST_JOB
 longest_for (BatchTable format options tells_status) = LONGEST_BATCH
 
 -- the task is done without a search for the greatest latency
@@ -57,6 +57,6 @@ abbrev pub NeedsNoSearch : Task → Type 0
 NeedsNoSearch (Analyse options) = ⊥
 NeedsNoSearch (Latency with_ceiling options) = ⊥
 NeedsNoSearch (Survey format with_ceilings options) = ⊥
-NeedsNoSearch (WhatIf format options) = ⊥
+NeedsNoSearch (WhatIf format shows_all options) = ⊥
 NeedsNoSearch (BatchTable format options tells_status) = ⊥
 NeedsNoSearch other = Unit {0}

@@ -5,10 +5,10 @@ ghost use Rattle.convoy_scenario.specs.Scenario.{group_name_at, message_at};
 ghost use Rattle.convoy_tasks.specs.AcceptedLines.{certificate_told, count_line, counts_told, delay_line, differs_line, scenario_told, target_line};
 
 use convoy_certificate::Certificate;
-use convoy_commands::push_in_unit;
 use convoy_lines::{push_further_word, push_number};
 use convoy_scenario::scenario_laws::targets_are_groups;
-use convoy_scenario::{Part, Scenario};
+use convoy_scenario::{Part, Scenario, TimeUnit};
+use convoy_times::{Measure, push_told};
 use itoa::Buffer;
 use std::alloc::{AllocError, Global};
 
@@ -23,24 +23,30 @@ pub(crate) fn differs_line(alloc: Global, part: Part) -> Result<Vec<u8>, AllocEr
     Ok(line)
 }
 
-/// Appends what is told of an accepted certificate.
+/// Appends what is told of an accepted certificate, with times in the unit that is asked for.
 pub(crate) fn push_certificate(
     certificate: &Certificate,
+    unit: Option<TimeUnit>,
     out: &mut Vec<u8>,
 ) -> Result<(), AllocError>
-    ensures { OnOk result (out.new.items ≡ out.old.items ++ certificate_told certificate.now) }
+    ensures { OnOk result (out.new.items ≡ out.old.items ++ certificate_told unit certificate.now) }
 {
-    push_scenario(certificate.scenario(), out)?;
+    let scenario = certificate.scenario();
+    push_scenario(scenario, Measure::of(scenario, unit, None), out)?;
     push_count_line(out, "nodes", certificate.nodes().len())
 }
 
 /// Appends what is told of a scenario.
 #[tactic(auto, using(std::proofs::lemmas::List::append_assoc))]
-fn push_scenario(scenario: &Scenario, out: &mut Vec<u8>) -> Result<(), AllocError>
-    ensures { OnOk result (out.new.items ≡ out.old.items ++ scenario_told scenario.now) }
+fn push_scenario(
+    scenario: &Scenario,
+    measure: Option<Measure>,
+    out: &mut Vec<u8>,
+) -> Result<(), AllocError>
+    ensures { OnOk result (out.new.items ≡ out.old.items ++ scenario_told measure scenario.now) }
 {
     push_target_line(scenario, out)?;
-    push_delay_line(scenario, out)?;
+    push_delay_line(scenario, measure, out)?;
     push_counts(scenario, out)
 }
 
@@ -79,14 +85,18 @@ fn target_group_name(scenario: &Scenario) -> &str
     scenario.group_name(scenario.target_group())
 }
 
-/// Appends the line of D, in ticks and, where the length of a tick is known, in its unit.
-fn push_delay_line(scenario: &Scenario, out: &mut Vec<u8>) -> Result<(), AllocError>
-    ensures { OnOk result (out.new.items ≡ out.old.items ++ delay_line scenario.now) }
+/// Appends the line of D, in ticks and, where there is a measure, in its unit.
+fn push_delay_line(
+    scenario: &Scenario,
+    measure: Option<Measure>,
+    out: &mut Vec<u8>,
+) -> Result<(), AllocError>
+    ensures { OnOk result (out.new.items ≡ out.old.items ++ delay_line measure scenario.now) }
 {
     let delay = u32::from(scenario.delay());
     out.extend_from_slice(b"delay ")?;
     push_number(out, delay)?;
-    push_in_unit(scenario.tick(), delay, out)?;
+    push_told(measure, &[delay], out)?;
     out.push(b'\n')?;
     Ok(())
 }

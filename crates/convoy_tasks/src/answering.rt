@@ -14,7 +14,7 @@ use convoy_commands::{
     Answer, Asking, Fault, LONGEST_CERTIFICATE, LONGEST_JOB, Watch, analyse_answer, ask,
     ceiling_answer, explain_with_ceiling, first_answer, latency_answer, tell,
 };
-use convoy_scenario::Scenario;
+use convoy_scenario::{Scenario, TimeUnit};
 use convoy_survey::{ceilings_answer, survey_answer};
 use convoy_tables::Format;
 use convoy_what_if::what_if_answer;
@@ -52,9 +52,11 @@ pub fn answer<R: Threads + Wait + Sync, W: Watch + Sync>(
             with_ceilings,
             options,
         } => survey_answer(rt, alloc, *format, *with_ceilings, options, text, watch),
-        Task::WhatIf { format, options } => {
-            what_if_answer(rt, alloc, *format, options, text, watch)
-        }
+        Task::WhatIf {
+            format,
+            shows_all,
+            options,
+        } => what_if_answer(rt, alloc, *format, *shows_all, options, text, watch),
         Task::BatchTable {
             format,
             options,
@@ -84,18 +86,22 @@ pub(crate) fn answer_at_once(
     match task {
         Task::First => first_answer(alloc, text),
         Task::Tell(telling) => tell(alloc, *telling, text),
-        Task::Check { tells, limit } => check_answer(alloc, wanted, *tells, *limit, text),
+        Task::Check { tells, unit, limit } => {
+            check_answer(alloc, wanted, *tells, *unit, *limit, text)
+        }
         Task::Explain {
             with_ceiling,
+            unit,
             limit,
-        } => answer_explain(alloc, *with_ceiling, *limit, text),
-        Task::Draw { limit } => ask(alloc, Asking::Draw, *limit, text),
-        Task::Ceiling { simulations } => ceiling_answer(alloc, *simulations, text),
+        } => answer_explain(alloc, *with_ceiling, *unit, *limit, text),
+        Task::Draw { unit, limit } => ask(alloc, Asking::Draw(*unit), *limit, text),
+        Task::Ceiling { simulations, unit } => ceiling_answer(alloc, *simulations, *unit, text),
         Task::Ceilings {
             format,
             group,
             simulations,
-        } => answer_ceilings(alloc, *format, group, *simulations, text),
+            unit,
+        } => answer_ceilings(alloc, *format, *unit, group, *simulations, text),
         Task::Analyse { .. }
         | Task::Latency { .. }
         | Task::Survey { .. }
@@ -108,16 +114,17 @@ pub(crate) fn answer_at_once(
 fn answer_explain(
     alloc: Global,
     with_ceiling: bool,
+    unit: Option<TimeUnit>,
     limit: Option<u64>,
     text: &[u8],
 ) -> Result<Answer, Fault>
-    ensures { SaysUnlessMemory (SaysWithin limit NotChecked (explain_says with_ceiling)) text.now
+    ensures { SaysUnlessMemory (SaysWithin limit NotChecked (explain_says with_ceiling unit)) text.now
         (reply_of result) }
 {
     if with_ceiling {
-        explain_with_ceiling(alloc, limit, text)
+        explain_with_ceiling(alloc, unit, limit, text)
     } else {
-        ask(alloc, Asking::Explain, limit, text)
+        ask(alloc, Asking::Explain(unit), limit, text)
     }
 }
 
@@ -125,16 +132,17 @@ fn answer_explain(
 fn answer_ceilings(
     alloc: Global,
     format: Format,
+    unit: Option<TimeUnit>,
     group: &Option<String>,
     simulations: u64,
     text: &[u8],
 ) -> Result<Answer, Fault>
-    ensures { SaysUnlessMemory (CeilingsSay format (option_map string_bytes group.now)) text.now
+    ensures { SaysUnlessMemory (CeilingsSay format unit (option_map string_bytes group.now)) text.now
         (reply_of result) }
 {
     match group {
-        Some(name) => ceilings_answer(alloc, format, Some(name.as_str()), simulations, text),
-        None => ceilings_answer(alloc, format, None, simulations, text),
+        Some(name) => ceilings_answer(alloc, format, unit, Some(name.as_str()), simulations, text),
+        None => ceilings_answer(alloc, format, unit, None, simulations, text),
     }
 }
 

@@ -18,9 +18,10 @@ use std::thread::Threads;
 /// How many bytes the input of a batch that is answered as a table has at most: as many as a certificate's text.
 pub const LONGEST_BATCH: usize = LONGEST_CERTIFICATE;
 
-/// The jobs of a text as a table with a row for each (docs/FORMATS.md, "Batch"). The numbers of a row are in ticks,
-/// and are those that [`latency_answer`](convoy_commands::latency_answer) tells of the job's own text. It ends as the
-/// worst of all jobs, which is `Done::Fine` where each has the greatest latency. Each search is watched, by
+/// The jobs of a text as a table with a row for each (docs/FORMATS.md, "Batch"). The numbers of a row are in ticks, and
+/// as times in a unit of its own where the length of a tick is known, and are those that
+/// [`latency_answer`](convoy_commands::latency_answer) tells of the job's own text. It ends as the worst of all jobs,
+/// which is `Done::Fine` where each has the greatest latency. Each search is watched, by
 /// [`NoGate`](convoy_branch::NoGate) where nobody watches; where the options have seconds each job has them for
 /// itself, and the watch counts them.
 ///

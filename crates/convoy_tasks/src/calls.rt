@@ -102,6 +102,7 @@ pub fn run_check<S: Source, K: Sink>(
 {
     let task = Task::Check {
         tells: false,
+        unit: None,
         limit,
     };
     Ok(run_at_once(alloc, &task, source, sink, most_reads)?.done)
@@ -143,7 +144,7 @@ pub fn run_analyse<R: Threads + Wait + Sync, S: Source, K: Sink>(
 /// has the latency of N ticks, and none has a greater one. At `Done::Open` boxes are left, as told of
 /// [`run_analyse`]: what was written is the line `open LEAST MOST`, where the greatest latency is at
 /// least LEAST ticks and at most MOST. Where the length of a tick is known, both lines go on with the
-/// same numbers in the unit of a tick, and the unit.
+/// same as times and their unit: that of the options, or else that in which the scenario tells D.
 ///
 /// At most `options.most_reads()` reads are made. Nothing is written before the answer is known. The
 /// faults are those of [`run_first`](super::run_first).

@@ -11,15 +11,17 @@ use convoy_commands::{Fault, LONGEST_JOB, Watch};
 use convoy_packets::Instance;
 use convoy_streams::{JobFault, ReadFault, Splitter};
 use convoy_survey::{Finding, find};
+use convoy_times::Measure;
 use convoy_toml::read_toml;
 use std::alloc::{AllocError, Global};
 use std::sync::Wait;
 use std::thread::Threads;
 
-/// The scenario of a job, and what a search found of the latency that is asked there.
+/// The scenario of a job, how its times are told, and what a search found of the latency that is asked there.
 #[derive(Drop)]
 pub(crate) struct JobFinding {
     pub(crate) instance: Instance,
+    pub(crate) measure: Option<Measure>,
     pub(crate) finding: Finding,
 }
 
@@ -102,8 +104,13 @@ fn find_text<R: Threads + Wait + Sync, W: Watch + Sync>(
 ) -> Result<JobFinding, Fault>
     ensures { JobFinds options.now text.now result }
 {
-    let scenario = read_toml(alloc, text)?.scenario;
-    let instance = Instance::of(alloc, scenario)?;
+    let input = read_toml(alloc, text)?;
+    let measure = Measure::of(&input.scenario, options.unit(), input.unit);
+    let instance = Instance::of(alloc, input.scenario)?;
     let finding = find(rt, alloc, &instance, options, watch)?;
-    Ok(JobFinding { instance, finding })
+    Ok(JobFinding {
+        instance,
+        measure,
+        finding,
+    })
 }

@@ -4,13 +4,14 @@ ghost use Rattle.std.specs.Prelude.{◌≡◌, ◌∷◌, [], ◌++◌, OnOk, If
 ghost use Rattle.std.specs.List.{All};
 ghost use Rattle.std.specs.Str.{IsUtf8};
 ghost use Rattle.convoy_tables.specs.Formats.{table_text};
-ghost use Rattle.convoy_tasks.specs.JobTables.{cells_of, column_names, fault_cells, fault_words, found_cells, label_cell, searched_cells, table_of, tick_cell, tick_words};
+ghost use Rattle.convoy_tasks.specs.JobTables.{cells_of, column_names, fault_cells, fault_words, found_cells, label_cell, searched_cells, table_of, tick_cell, tick_words, times_by};
 
 use super::job_row::{JobFinding, JobRow};
 use convoy_commands::{Fault, FaultEnding, fault_row};
 use convoy_scenario::Duration;
-use convoy_survey::{push_cause, push_ticks};
+use convoy_survey::{Times, push_cause, push_ticks, push_times};
 use convoy_tables::{Format, Row, Table, table_text};
+use convoy_times::Measure;
 use std::alloc::{AllocError, Global};
 
 /// The table of the rows of jobs, whose labels are texts, as it is written in a format.
@@ -40,7 +41,18 @@ fn column_names(alloc: Global) -> Result<Row, AllocError>
 {
     let mut names = Row::new(alloc);
     names.push_words(&[
-        "job", "label", "answer", "least", "most", "tick", "rival", "tied", "nodes",
+        "job",
+        "label",
+        "answer",
+        "least",
+        "most",
+        "least_time",
+        "most_time",
+        "unit",
+        "tick",
+        "rival",
+        "tied",
+        "nodes",
     ])?;
     Ok(names)
 }
@@ -89,8 +101,19 @@ fn push_searched(alloc: Global, found: &JobFinding, cells: &mut Row) -> Result<(
     let scenario = found.instance.scenario();
     cells.push_word(found.finding.answer())?;
     push_ticks(found.finding, cells)?;
+    push_times(alloc, &times_by(found.measure), found.finding, cells)?;
     push_tick(alloc, scenario.tick(), cells)?;
     push_cause(scenario, found.finding, cells)
+}
+
+/// How a row tells times: in any case, so that the names of the columns are always the same.
+fn times_by(measure: Option<Measure>) -> Times
+    ensures { result ≡ times_by measure }
+{
+    Times {
+        are_told: true,
+        measure,
+    }
 }
 
 /// Puts the length of a tick at the end of a row, or nothing where it is not known.
@@ -116,7 +139,7 @@ fn push_fault(alloc: Global, fault: &Fault, cells: &mut Row) -> Result<(), Alloc
     ensures { OnOk result (cells.new ≡ cells.old ++ fault_cells fault.now) }
 {
     cells.push_word(&fault_words(alloc, fault)?)?;
-    for _ in 0..6_usize {
+    for _ in 0..9_usize {
         cells.push_nothing()?;
     }
     Ok(())

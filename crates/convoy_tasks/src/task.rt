@@ -1,7 +1,8 @@
-use convoy_commands::{Options, Telling};
+use convoy_commands::{Options, Telling, TimeUnit};
 use convoy_tables::Format;
 
-/// What a run is asked for, with all options that what it answers rests on (docs/FORMATS.md, "Commands").
+/// What a run is asked for, with all options that what it answers rests on (docs/FORMATS.md, "Commands"). Times are told
+/// in the `unit`, where one is asked for, also of the options.
 #[derive(Drop)]
 pub enum Task {
     /// The latency that the schedule of least delays attains.
@@ -12,21 +13,26 @@ pub enum Task {
     /// below the yes; and how many steps are taken at most to check it, where they are limited.
     Check {
         tells: bool,
+        unit: Option<TimeUnit>,
         limit: Option<u64>,
     },
     /// Why the latency of a certificate's schedule is what it is, and whether the ceiling of its scenario is told below
     /// it; the certificate is checked with that many steps at most, where they are limited.
     Explain {
         with_ceiling: bool,
+        unit: Option<TimeUnit>,
         limit: Option<u64>,
     },
-    /// The run of a certificate's schedule as an image; the certificate is checked so.
+    /// The run of a certificate's schedule as an image, with times in the unit that is asked for; the certificate is
+    /// checked so.
     Draw {
+        unit: Option<TimeUnit>,
         limit: Option<u64>,
     },
     /// The ceiling of a scenario, and traffic that is sought by so many simulations at most.
     Ceiling {
         simulations: u64,
+        unit: Option<TimeUnit>,
     },
     /// The ceiling of each message at each group, or at the group of that name alone, as a table in that format;
     /// traffic that attains it is sought by so many simulations at most.
@@ -34,6 +40,7 @@ pub enum Task {
         format: Format,
         group: Option<String>,
         simulations: u64,
+        unit: Option<TimeUnit>,
     },
     /// A certificate of the greatest latency.
     Analyse {
@@ -51,9 +58,11 @@ pub enum Task {
         with_ceilings: bool,
         options: Options,
     },
-    /// The greatest latency of the target with each change of one thing, as a table in that format.
+    /// The greatest latency of the target with each change of one thing, as a table in that format, and whether each
+    /// change that changes nothing has a row of its own.
     WhatIf {
         format: Format,
+        shows_all: bool,
         options: Options,
     },
     /// A table in that format, with a row for each scenario of a batch. Whether the exit status of a program is to tell

@@ -1,10 +1,14 @@
 -- Where a run tells the truth, it explains what happens as the definitions do.
-use Rattle.std.proofs.Common.{◌≡◌, ℕ, ◌<◌, ◌==◌, true, false, Bool, ◌&&◌, List, [], ◌∷◌, length, Option, Some, None, find, unwrap_or, cond, inl, inr, refl, ap, ap₂, ◌∙◌, sym}
+use Rattle.std.proofs.Common.{◌≡◌, ℕ, ◌<◌, ◌==◌, true, false, Bool, ◌&&◌, List, [], ◌∷◌, ◌++◌, length, map, Option, Some, None, find, unwrap_or, cond, inl, inr, refl, ap, ap₂, ◌∙◌, sym, subst}
+use Rattle.std.specs.List.{fold, flat_map}
 use Rattle.std.specs.Option.{option_map}
 use Rattle.convoy_scenario.specs.Scenario.{Scenario, GoesTo, message_at, message_numbers, is_addressed}
 use Rattle.convoy_scenario.specs.WellFormed.{IsScenario}
 use Rattle.convoy_packets.specs.Packets.{packets_of}
 use Rattle.convoy_packets.specs.Assignment.{Schedule, delay_of}
+use Rattle.convoy_sim.specs.declared.moment.Moment.{Moment}
+use Rattle.convoy_sim.specs.declared.run.Proposal.{Proposal}
+use Rattle.convoy_sim.specs.Moments.{arrival_of, commit_of, commit_rank, insert_moment, moments_at, moments_of, rank_then}
 use Rattle.convoy_sim.specs.Run.{Run, IsRunOf}
 use Rattle.convoy_sim.specs.Stamps.{is_less, final_stamp, local_stamp}
 use Rattle.convoy_sim.specs.Times.{arrive, settle, propose_arrive}
@@ -12,9 +16,13 @@ use Rattle.convoy_sim.specs.Delivery.{deliver}
 use Rattle.convoy_sim.specs.ProtocolLaws.{FinalStampIsLocal, LocalStampNamesGroup}
 use Rattle.convoy_sim.proofs.Membership.{IsIn}
 use Rattle.convoy_sim.proofs.Addressed.{goes_from_in, number_of_goes}
-use Rattle.convoy_timeline.specs.Causes.{awaited, explanation_of, holder_of, holder_with, is_last_ahead, is_tied_before, last_proposer, proposal_of, stamped_of, tied_before}
+use Rattle.convoy_sim.proofs.ScenarioMoments.{moment_cases}
+use Rattle.convoy_timeline.specs.Causes.{awaited, explanation_of, holder_of, holder_with, is_last_ahead, is_tied_before, last_proposer, moments_stamped, proposal_of, rise_at, rises_of, stamped_of, tied_before}
 use Rattle.convoy_timeline.specs.ExplanationLaws.{HoldersHold, IsRightHolder, LastProposalsCommit}
-use Rattle.convoy_timeline.specs.ExplanationWords.{committed_told, delivered_told, explanation_told, final_told, holder_told, is_last_ahead_told, is_tied_before_told, last_proposer_told, proposal_told, propose_told, stamped_told, tied_before_told}
+use Rattle.convoy_timeline.specs.ExplanationWords.{explanation_told, holder_told, is_last_ahead_told, is_tied_before_told, last_proposer_told, propose_told, tied_before_told}
+use Rattle.convoy_timeline.specs.RiseWords.{commit_rank_told, moments_told, moments_told_at, rank_told_then, rise_told, rises_told}
+use Rattle.convoy_timeline.specs.RunWords.{committed_told, delivered_told, final_told, proposal_told, stamped_told}
+use Rattle.convoy_timeline.specs.declared.explanation.Rise.{Rise}
 
 -- two tests that agree on a list's elements find the same there
 find_same : {X : Type 0} (p q : X → Bool) (xs : List X) → ((x : X) → IsIn x xs → p x ≡ q x) → find p xs ≡ find q xs
@@ -27,8 +35,18 @@ guarded : (b x y u v : Bool) → (b ≡ true → (x ≡ u) × (y ≡ v)) → b &
 guarded true x y u v same = let r = same refl in ap₂ (λ s t. s && t) r.0 r.1
 guarded false x y u v same = refl
 
+-- two functions that agree on a list's elements make the same of each ..
+map_same : {X Y : Type 0} (f h : X → Y) (xs : List X) → ((x : X) → IsIn x xs → f x ≡ h x) → map f xs ≡ map h xs
+map_same f h [] same = refl
+map_same f h (x ∷ xs) same = ap₂ (λ y ys. y ∷ ys) (same x (inl refl)) (map_same f h xs (λ y i. same y (inr i)))
+
+-- .. and lead to the same lists
+flat_map_same : {X Y : Type 0} (f h : X → List Y) (xs : List X) → ((x : X) → IsIn x xs → f x ≡ h x) → flat_map f xs ≡ flat_map h xs
+flat_map_same f h [] same = refl
+flat_map_same f h (x ∷ xs) same = ap₂ (λ ys zs. ys ++ zs) (same x (inl refl)) (flat_map_same f h xs (λ y i. same y (inr i)))
+
 -- the group of a message's final stamp is one of its destinations
-stamp_goes : (plan : Scenario) (schedule : Schedule) → FinalStampIsLocal → LocalStampNamesGroup → IsScenario plan → (m g : ℕ) → GoesTo plan m g
+pub stamp_goes : (plan : Scenario) (schedule : Schedule) → FinalStampIsLocal → LocalStampNamesGroup → IsScenario plan → (m g : ℕ) → GoesTo plan m g
     → GoesTo plan m (final_stamp plan schedule m).group
 stamp_goes plan schedule is_local names well m g goes =
     let known = number_of_goes plan m g goes in
@@ -102,6 +120,52 @@ module _ (plan : Scenario) (schedule : Schedule) (run : Run) (told : IsRunOf pla
       let known = number_of_goes plan m g goes in
       let there = stamp_goes plan schedule is_local names well m g goes in
       rw (final-true m known, proposal-true m (final_stamp plan schedule m).group there) refl
+
+  -- ---- moments
+  commit_rank-true : (m g : ℕ) → GoesTo plan m g → commit_rank_told plan schedule run m g ≡ commit_rank plan schedule m g
+  unfolding commit_rank
+  commit_rank-true m g goes =
+      rw (
+        committed-true m g goes,
+        map_same (rank_told_then plan schedule run m (settle plan schedule m g)) (rank_then plan schedule m (settle plan schedule m g)) (message_at plan m).destinations
+            (λ h i. rw (proposal-true m h (goes_from_in plan m h i)) refl),
+      ) refl
+
+  moments_at-true : (m g : ℕ) → GoesTo plan m g → moments_told_at plan schedule run m g ≡ moments_at plan schedule m g
+  moments_at-true m g goes = rw (proposal-true m g goes, commit_rank-true m g goes, committed-true m g goes) refl
+
+  moments-true : moments_told plan schedule run ≡ moments_of plan schedule
+  unfolding moments_told moments_of
+  moments-true =
+      ap (λ moments. fold insert_moment [] moments)
+      (flat_map_same (λ m. flat_map (moments_told_at plan schedule run m) (message_at plan m).destinations)
+      (λ m. flat_map (moments_at plan schedule m) (message_at plan m).destinations) (message_numbers plan)
+      (λ m i. flat_map_same (moments_told_at plan schedule run m) (moments_at plan schedule m) (message_at plan m).destinations
+      (λ g j. moments_at-true m g (goes_from_in plan m g j))))
+
+  rise-true : FinalStampIsLocal → LocalStampNamesGroup → IsScenario plan → (c : Moment) → IsIn c (moments_of plan schedule)
+      → rise_told run c ≡ rise_at plan schedule c
+  rise-true is_local names well c i =
+      let r = moment_cases plan schedule c i in
+      elim r.3 [
+        | inl e ↦ subst (λ d. rise_told run d ≡ rise_at plan schedule d) e
+            (ap (with_stamp (arrival_of plan schedule r.0 r.1)) (proposal-true r.0 r.1 r.2))
+        | inr e ↦ subst (λ d. rise_told run d ≡ rise_at plan schedule d) e
+            (ap (with_stamp (commit_of plan schedule r.0 r.1)) (stamped-true is_local names well r.0 r.1 r.2))
+      ]
+    where
+      with_stamp : Moment → Proposal → Rise
+      with_stamp moment stamped = record { moment = moment; stamped = stamped }
+
+  pub rises-true : FinalStampIsLocal → LocalStampNamesGroup → IsScenario plan → (m : ℕ) → m < length plan.multicasts
+      → rises_told plan schedule run m ≡ rises_of plan schedule m
+  unfolding rises_told moments_stamped
+  rises-true is_local names well m known =
+      rw (
+        final-true m known,
+        moments-true,
+        map_same (rise_told run) (rise_at plan schedule) (moments_of plan schedule) (rise-true is_local names well),
+      ) refl
 
 -- the message that is awaited goes to the group
 awaited_goes : (plan : Scenario) (schedule : Schedule) (m g : ℕ) → GoesTo plan m g → (found : Option ℕ)

@@ -6,3 +6,4 @@ pub mod Holders
 pub mod PacketLines
 pub mod ExplanationRows
 pub mod ExplanationTruth
+pub mod ClockRises

@@ -1,5 +1,5 @@
--- Why the target of a scenario is delivered when it is: what holds it back up to then, and the last proposal for that.
-use Rattle.std.specs.Prelude.{ℕ, ◌==◌, Bool, true, false, ◌&&◌, List, Option, None, find, unwrap_or, slice_index, if◌then◌else◌}
+-- Why the target of a scenario is delivered when it is: what holds it back up to then, the last proposal for that, and what raised clocks to the time of its stamp.
+use Rattle.std.specs.Prelude.{ℕ, zero, suc, ◌==◌, Bool, true, false, ◌&&◌, List, [], ◌∷◌, map, Option, None, Some, find, unwrap_or, slice_index, if◌then◌else◌}
 use Rattle.std.specs.Option.{option_map}
 use Rattle.convoy_scenario.specs.Scenario.{Scenario, message_at, message_numbers, is_addressed}
 use Rattle.convoy_draft.specs.declared.time.Time.{Time}
@@ -8,7 +8,11 @@ use Rattle.convoy_packets.specs.declared.packet.Packet.{Packet}
 use Rattle.convoy_packets.specs.declared.packet.Packet.TheVariants.{Multicast, Propose}
 use Rattle.convoy_packets.specs.Packets.{packets_of, place_of}
 use Rattle.convoy_packets.specs.Assignment.{Schedule}
+use Rattle.convoy_sim.specs.declared.moment.Moment.{Moment}
+use Rattle.convoy_sim.specs.declared.moment.MomentKind.{MomentKind}
+use Rattle.convoy_sim.specs.declared.moment.MomentKind.TheVariants.{Arrival, Commit}
 use Rattle.convoy_sim.specs.declared.run.Proposal.{Proposal}
+use Rattle.convoy_sim.specs.Moments.{moments_of}
 use Rattle.convoy_sim.specs.Times.{issue, arrive, settle, propose_arrive}
 use Rattle.convoy_sim.specs.Stamps.{is_less, local_stamp, final_stamp}
 use Rattle.convoy_sim.specs.Delivery.{deliver, latency_of}
@@ -16,6 +20,7 @@ use Rattle.convoy_timeline.specs.declared.explanation.Explanation.{Explanation}
 use Rattle.convoy_timeline.specs.declared.explanation.Flight.{Flight}
 use Rattle.convoy_timeline.specs.declared.explanation.Holder.{Holder}
 use Rattle.convoy_timeline.specs.declared.explanation.LastProposal.{LastProposal}
+use Rattle.convoy_timeline.specs.declared.explanation.Rise.{Rise}
 
 -- time is real
 abbrev pub is_real : Time → Bool
@@ -113,3 +118,45 @@ explanation_at scenario schedule m g = record {
 -- why the target of the scenario is delivered when it is
 unfoldable pub explanation_of : Scenario → Schedule → Explanation
 explanation_of scenario schedule = explanation_at scenario schedule scenario.target_message scenario.target_group
+
+-- the stamp of message m as it comes to group g, or as it is committed there, and the tick at which it was given
+abbrev pub stamped_at : Scenario → Schedule → MomentKind → ℕ → ℕ → Proposal
+stamped_at scenario schedule Arrival m g = proposal_of scenario schedule m g
+stamped_at scenario schedule Commit m g = stamped_of scenario schedule m
+
+-- a moment with its stamp
+abbrev pub rise_at : Scenario → Schedule → Moment → Rise
+rise_at scenario schedule moment =
+    record { moment = moment; stamped = stamped_at scenario schedule moment.kind moment.message moment.group }
+
+-- all moments with their stamps, in their order
+unfoldable pub moments_stamped : Scenario → Schedule → List Rise
+moments_stamped scenario schedule = map (rise_at scenario schedule) (moments_of scenario schedule)
+
+-- a moment at group g with a stamp of that time
+abbrev pub is_rise_to : ℕ → ℕ → Rise → Bool
+is_rise_to time g rise = (rise.moment.group == g) && (rise.stamped.stamp.time == time)
+
+-- what raised the clock of group g to that time: the first of these moments that is there with a stamp of that time
+abbrev pub rise_to : List Rise → ℕ → ℕ → Option Rise
+rise_to rises time g = find (is_rise_to time g) rises
+
+-- a rise, if there is one, and those before its stamp
+abbrev pub rise_and : (ℕ → List Rise) → Option Rise → List Rise
+rise_and before None = []
+rise_and before (Some rise) = rise ∷ before rise.stamped.stamp.group
+
+-- why a stamp of group g has that time, latest first: what raised the clock of g to the time before that, and why the stamp of that one has its time
+abbrev pub rises_before : List Rise → ℕ → ℕ → List Rise
+rises_before rises zero g = []
+rises_before rises (suc time) g = rise_and (rises_before rises time) (rise_to rises time g)
+
+-- why the final stamp of message m has its time
+abbrev pub rises_of : Scenario → Schedule → ℕ → List Rise
+rises_of scenario schedule m =
+    let final = final_stamp scenario schedule m in
+    rises_before (moments_stamped scenario schedule) final.time final.group
+
+-- why the final stamp of the target has its time
+unfoldable pub stamp_explained : Scenario → Schedule → List Rise
+stamp_explained scenario schedule = rises_of scenario schedule scenario.target_message

@@ -5,30 +5,13 @@ use Rattle.convoy_scenario.specs.Scenario.{Scenario, message_at, message_numbers
 use Rattle.convoy_packets.specs.declared.packet.Packet.{Packet}
 use Rattle.convoy_packets.specs.declared.packet.Packet.TheVariants.{Wait, Multicast, Propose}
 use Rattle.convoy_packets.specs.Assignment.{Schedule, delay_in}
-use Rattle.convoy_sim.specs.declared.run.Proposal.{Proposal}
-use Rattle.convoy_sim.specs.declared.timestamp.Timestamp.{Timestamp}
-use Rattle.convoy_sim.specs.Run.{Run, proposed_of, committed_of, delivered_of, final_stamp_of}
-use Rattle.convoy_sim.specs.Stamps.{is_less, no_stamp}
+use Rattle.convoy_sim.specs.Run.{Run}
+use Rattle.convoy_sim.specs.Stamps.{is_less}
 use Rattle.convoy_timeline.specs.Causes.{flight_in, holder_with}
+use Rattle.convoy_timeline.specs.RunWords.{committed_told, delivered_told, final_told, proposal_told, stamped_told}
 use Rattle.convoy_timeline.specs.declared.explanation.Explanation.{Explanation}
 use Rattle.convoy_timeline.specs.declared.explanation.Holder.{Holder}
 use Rattle.convoy_timeline.specs.declared.explanation.LastProposal.{LastProposal}
-
--- what stands for a proposal where none is told
-abbrev pub no_proposal : Proposal
-no_proposal = record { tick = 0; stamp = no_stamp }
-
-abbrev pub proposal_told : Run → ℕ → ℕ → Proposal
-proposal_told run m g = unwrap_or (proposed_of run m g) no_proposal
-
-abbrev pub committed_told : Run → ℕ → ℕ → ℕ
-committed_told run m g = unwrap_or (committed_of run m g) 0
-
-abbrev pub delivered_told : Run → ℕ → ℕ → ℕ
-delivered_told run m g = unwrap_or (delivered_of run m g) 0
-
-abbrev pub final_told : Run → ℕ → Timestamp
-final_told run m = unwrap_or (final_stamp_of run m) no_stamp
 
 -- message n is ahead of message m at group g, and is committed there as m is delivered
 abbrev pub is_last_ahead_told : Scenario → Run → ℕ → ℕ → ℕ → Bool
@@ -74,12 +57,6 @@ last_proposal_told scenario packets schedule run n g =
 abbrev pub holder_told_at : Scenario → Run → ℕ → ℕ → Option Holder
 holder_told_at scenario run m g =
     option_map (λ n. holder_with n (proposal_told run n g)) (holder_told scenario run m g)
-
--- the final stamp of message m, and the tick at which its group gave it
-abbrev pub stamped_told : Run → ℕ → Proposal
-stamped_told run m =
-    let stamp = final_told run m in
-    record { tick = (proposal_told run m stamp.group).tick; stamp = stamp }
 
 -- message n comes to group g in the tick in which message m does, and before it
 abbrev pub is_tied_before_told : Scenario → Run → ℕ → ℕ → ℕ → Bool

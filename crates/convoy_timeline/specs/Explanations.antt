@@ -1,15 +1,22 @@
 -- The text of an explanation: why a schedule has its latency, of which a certificate shows that it is the greatest.
-use Rattle.std.specs.Prelude.{ℕ, ◌*◌, ◌==◌, ◌&&◌, nat_lt, List, [], ◌∷◌, ◌++◌, Option, Some, None, codes, decimal, if◌then◌else◌}
+use Rattle.std.specs.Prelude.{ℕ, ◌==◌, ◌&&◌, nat_lt, List, [], ◌∷◌, ◌++◌, Option, Some, None, codes, decimal, if◌then◌else◌}
+use Rattle.std.specs.List.{flat_map}
 use Rattle.convoy_scenario.specs.declared.sender.Sender.{Sender}
 use Rattle.convoy_scenario.specs.declared.sender.Sender.TheVariants.{Client, Group}
 use Rattle.convoy_scenario.specs.Scenario.{Scenario, message_at, may_wait, window_of, group_name_at}
-use Rattle.convoy_draft.specs.Durations.{count_of, unit_of, unit_word}
+use Rattle.convoy_draft.specs.Durations.{unit_word}
+use Rattle.convoy_times.specs.Measures.{told_ticks}
+use Rattle.convoy_times.specs.declared.measure.Measure.{Measure}
 use Rattle.convoy_sim.specs.declared.timestamp.Timestamp.{Timestamp}
+use Rattle.convoy_sim.specs.declared.moment.MomentKind.{MomentKind}
+use Rattle.convoy_sim.specs.declared.moment.MomentKind.TheVariants.{Arrival, Commit}
+use Rattle.convoy_sim.specs.declared.run.Proposal.{Proposal}
 use Rattle.convoy_timeline.specs.Causes.{is_real}
 use Rattle.convoy_timeline.specs.declared.explanation.Explanation.{Explanation}
 use Rattle.convoy_timeline.specs.declared.explanation.Flight.{Flight}
 use Rattle.convoy_timeline.specs.declared.explanation.Holder.{Holder}
 use Rattle.convoy_timeline.specs.declared.explanation.LastProposal.{LastProposal}
+use Rattle.convoy_timeline.specs.declared.explanation.Rise.{Rise}
 
 -- one tick, and several of them
 abbrev pub tick_word : ℕ → List ℕ
@@ -47,21 +54,21 @@ unfoldable pub flight_text : Flight → List ℕ
 flight_text flight = codes ", packet " ++ (decimal flight.packet ++ (codes ", " ++ (decimal flight.delay ++ 32 ∷ tick_word flight.delay)))
 
 -- what follows a number of ticks, where the length of a tick is known: the same in the unit in which that is told
-unfoldable pub in_unit_text : Option ℕ → ℕ → List ℕ
+unfoldable pub in_unit_text : Option Measure → ℕ → List ℕ
 in_unit_text None ticks = []
-in_unit_text (Some length) ticks =
-    codes " (" ++ (decimal (ticks * count_of length) ++ 32 ∷ (unit_word (unit_of length) ++ codes ")"))
+in_unit_text (Some measure) ticks =
+    codes " (" ++ (told_ticks measure ticks ++ 32 ∷ (unit_word measure.unit ++ codes ")"))
 
 -- a number of ticks, and the same in their unit where that is known: `12 ticks (600 us)`
-unfoldable pub ticks_text : Option ℕ → ℕ → List ℕ
-ticks_text length ticks = decimal ticks ++ 32 ∷ (tick_word ticks ++ in_unit_text length ticks)
+unfoldable pub ticks_text : Option Measure → ℕ → List ℕ
+ticks_text measure ticks = decimal ticks ++ 32 ∷ (tick_word ticks ++ in_unit_text measure ticks)
 
 -- how late the target is, and when
-unfoldable pub latency_text : Scenario → Explanation → List ℕ
-latency_text scenario why =
+unfoldable pub latency_text : Option Measure → Scenario → Explanation → List ℕ
+latency_text measure scenario why =
     message_name_at scenario scenario.target_message
     ++ (codes " at " ++ (group_name_at scenario scenario.target_group
-    ++ (codes ": at worst " ++ (ticks_text scenario.tick why.latency
+    ++ (codes ": at worst " ++ (ticks_text measure why.latency
     ++ (codes ", from its issue at tick " ++ (decimal (message_at scenario scenario.target_message).at
     ++ (codes " to its delivery at tick " ++ (decimal why.delivered ++ 10 ∷ []))))))))
 
@@ -79,6 +86,31 @@ commit_text scenario why =
     ++ (codes ", given by " ++ (group_name_at scenario why.stamped.stamp.group
     ++ (codes " at tick " ++ (decimal why.stamped.tick
     ++ (tied_text scenario why.tied ++ 10 ∷ []))))))))))
+
+-- what a message does at a group as the clock there rises
+abbrev pub doing_word : MomentKind → List ℕ
+doing_word Arrival = codes "comes to"
+doing_word Commit = codes "is committed at"
+
+-- the stamp to whose time a clock rises: that of a message that comes to the group is of that time and that group
+unfoldable pub with_stamp_text : Scenario → MomentKind → Proposal → List ℕ
+with_stamp_text scenario Arrival stamped = []
+with_stamp_text scenario Commit stamped =
+    codes ", with stamp " ++ (stamp_text scenario stamped.stamp
+    ++ (codes ", given by " ++ (group_name_at scenario stamped.stamp.group ++ (codes " at tick " ++ decimal stamped.tick))))
+
+-- what raised a clock, and to which time
+unfoldable pub rise_line : Scenario → Rise → List ℕ
+rise_line scenario rise =
+    codes "  tick " ++ (decimal rise.moment.tick ++ (gap_after rise.moment.tick
+    ++ (message_name_at scenario rise.moment.message ++ 32 ∷ (doing_word rise.moment.kind
+    ++ 32 ∷ (group_name_at scenario rise.moment.group
+    ++ (codes ", whose clock rises to " ++ (decimal rise.stamped.stamp.time
+    ++ (with_stamp_text scenario rise.moment.kind rise.stamped ++ 10 ∷ []))))))))
+
+-- what raised clocks to the time of the target's final stamp, latest first
+abbrev pub rises_text : Scenario → List Rise → List ℕ
+rises_text scenario rises = flat_map (rise_line scenario) rises
 
 -- that the order of a tie lets a message hold the target back: it came to the target's group in the tick in which the target is committed there, and before that
 abbrev pub tie_won_text : Scenario → Explanation → Holder → List ℕ
@@ -143,13 +175,18 @@ unfoldable pub worst_text : ℕ → List ℕ
 worst_text nodes =
     codes "no schedule is worse: " ++ (decimal nodes ++ 32 ∷ (node_word nodes ++ (codes ", checked" ++ 10 ∷ [])))
 
--- the text of an explanation, of a certificate with so many nodes
-unfoldable pub text_of : Scenario → Explanation → ℕ → List ℕ
-text_of scenario why nodes =
-    latency_text scenario why
+-- how the last proposal for the awaited message comes
+unfoldable pub last_text : Scenario → LastProposal → List ℕ
+last_text scenario last =
+    wait_text scenario last
+    ++ (awaited_text scenario last
+    ++ (sent_text scenario last last.sent ++ answered_text scenario last last.answered))
+
+-- the text of an explanation, and of that of the target's stamp, of a certificate with so many nodes
+unfoldable pub text_of : Option Measure → Scenario → Explanation → List Rise → ℕ → List ℕ
+text_of measure scenario why rises nodes =
+    latency_text measure scenario why
     ++ (commit_text scenario why
+    ++ (rises_text scenario rises
     ++ (holder_text scenario why why.holder
-    ++ (wait_text scenario why.last
-    ++ (awaited_text scenario why.last
-    ++ (sent_text scenario why.last why.last.sent
-    ++ (answered_text scenario why.last why.last.answered ++ worst_text nodes))))))
+    ++ (last_text scenario why.last ++ worst_text nodes))))

@@ -13,4 +13,6 @@ pub mod Causes
 pub mod Explanations
 pub mod PacketLists
 pub mod ExplanationLaws
+pub mod RunWords
+pub mod RiseWords
 pub mod ExplanationWords

@@ -5,23 +5,18 @@ ghost use Rattle.convoy_packets.specs.declared.packet.Packet.TheVariants.{Multic
 ghost use Rattle.convoy_scenario.specs.Scenario.{message_at, is_addressed};
 ghost use Rattle.convoy_sim.specs.Run.{IsRunOf};
 ghost use Rattle.convoy_timeline.specs.Causes.{explanation_of, flight_in};
-ghost use Rattle.convoy_timeline.specs.ExplanationWords.{committed_told, delivered_told, explanation_told, final_told};
-ghost use Rattle.convoy_timeline.specs.ExplanationWords.{holder_told, holder_told_at, is_last_ahead_told, issue_told};
-ghost use Rattle.convoy_timeline.specs.ExplanationWords.{last_proposal_told, last_proposer_told, propose_told};
-ghost use Rattle.convoy_timeline.specs.ExplanationWords.{proposal_told, stamped_told, is_tied_before_told, tied_before_told};
+ghost use Rattle.convoy_timeline.specs.ExplanationWords.{explanation_told, holder_told, holder_told_at, is_last_ahead_told};
+ghost use Rattle.convoy_timeline.specs.ExplanationWords.{issue_told, last_proposal_told, last_proposer_told, propose_told};
+ghost use Rattle.convoy_timeline.specs.ExplanationWords.{is_tied_before_told, tied_before_told};
+ghost use Rattle.convoy_timeline.specs.RunWords.{committed_told, delivered_told, final_told, proposal_told, stamped_told};
 
 use super::explanation::{Explanation, Flight, Holder, LastProposal};
 use super::explanation_laws::{holders_hold, last_proposals_commit};
+use super::told::{committed, delivered, final_stamp, proposal, stamped};
 use convoy_packets::{Instance, PacketTable, Schedule};
 use convoy_scenario::Scenario;
+use convoy_sim::Run;
 use convoy_sim::protocol_laws::{final_stamp_is_local, local_stamp_names_group};
-use convoy_sim::{Proposal, Run, Timestamp};
-
-/// What stands for a proposal where none is told.
-const NO_PROPOSAL: Proposal = Proposal {
-    tick: 0,
-    stamp: Timestamp::NONE,
-};
 
 /// Why the target of an instance is delivered when it is, in its run under a schedule
 /// (docs/PROTOCOL.md).
@@ -222,41 +217,4 @@ fn answered(
     let packet = table.propose(message, from, to)?;
     let delay = table.propose_delay(schedule, message, from, to);
     Some(Flight { packet, delay })
-}
-
-/// The final stamp of a message, and the tick at which its group gave it.
-fn stamped(run: &Run, message: usize) -> Proposal
-    ensures { result ≡ stamped_told run.now message }
-{
-    let stamp = final_stamp(run, message);
-    let tick = proposal(run, message, stamp.group).tick;
-    Proposal { tick, stamp }
-}
-
-/// What a group proposes for a message, and when.
-fn proposal(run: &Run, message: usize, group: usize) -> Proposal
-    ensures { result ≡ proposal_told run.now message group }
-{
-    run.proposed(message, group).unwrap_or(NO_PROPOSAL)
-}
-
-/// The tick at which a group commits a message.
-fn committed(run: &Run, message: usize, group: usize) -> u32
-    ensures { result ≡ committed_told run.now message group }
-{
-    run.committed(message, group).unwrap_or(0)
-}
-
-/// The tick at which a group delivers a message.
-fn delivered(run: &Run, message: usize, group: usize) -> u32
-    ensures { result ≡ delivered_told run.now message group }
-{
-    run.delivered(message, group).unwrap_or(0)
-}
-
-/// The final stamp of a message.
-fn final_stamp(run: &Run, message: usize) -> Timestamp
-    ensures { result ≡ final_told run.now message }
-{
-    run.final_stamp(message).unwrap_or(Timestamp::NONE)
 }

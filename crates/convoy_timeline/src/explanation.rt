@@ -1,4 +1,4 @@
-use convoy_sim::Proposal;
+use convoy_sim::{Moment, Proposal};
 
 /// A packet of a run, on its way from one place to another.
 #[derive(Clone, Copy)]
@@ -35,6 +35,16 @@ pub struct LastProposal {
     pub answered: Option<Flight>,
     /// The tick at which the target's group commits the message.
     pub committed: u32,
+}
+
+/// A moment, and the stamp to whose time it raises the clock of its group, where that is less.
+#[derive(Clone, Copy)]
+pub struct Rise {
+    /// A message comes to the group or is committed there.
+    pub moment: Moment,
+    /// The local stamp of the message that comes, or the final one of the message that is committed, and the
+    /// tick at which the group that the stamp names gave it.
+    pub stamped: Proposal,
 }
 
 /// Why the target of a scenario is delivered at its group when it is, in one run. Ticks are counted

@@ -1,24 +1,29 @@
 ghost use Rattle.std.specs.Prelude.{◌≡◌, ◌++◌, OnErr, OnOk, IfOk, string_bytes};
+ghost use Rattle.std.specs.List.{flat_map};
 ghost use Rattle.convoy_timeline.specs.Explanations.{answered_text, awaited_text, commit_text, flight_text};
-ghost use Rattle.convoy_timeline.specs.Explanations.{gap_after, holder_text, latency_text};
-ghost use Rattle.convoy_timeline.specs.Explanations.{node_word, sent_text, text_of};
+ghost use Rattle.convoy_timeline.specs.Explanations.{doing_word, gap_after, holder_text, last_text, latency_text};
+ghost use Rattle.convoy_timeline.specs.Explanations.{node_word, rise_line, rises_text, sent_text, text_of, with_stamp_text};
 ghost use Rattle.convoy_timeline.specs.Explanations.{in_unit_text, issue_text, ticks_text, tie_won_text};
 ghost use Rattle.convoy_timeline.specs.Explanations.{tied_text, wait_text, way_text, window_text, worst_text};
 
-use super::explanation::{Explanation, Flight, Holder, LastProposal};
+use super::explanation::{Explanation, Flight, Holder, LastProposal, Rise};
 use super::words::{sender_name, stamp_text, tick_word};
 use convoy_scenario::lookup::{may_wait, sender_of, window};
 use convoy_scenario::naming::{group_name, message_name};
 use convoy_scenario::{AllocResult, Scenario, Time};
+use convoy_sim::{MomentKind, Proposal};
+use convoy_times::Measure;
 use std::alloc::Global;
 
-/// Appends the text of an explanation of the schedule of a valid certificate, which has so many nodes,
-/// for a reader who asks why the greatest latency is what it is (docs/FORMATS.md, "What `explain`
-/// writes"):
+/// Appends the text of an explanation of the schedule of a valid certificate, which has so many nodes, and of
+/// the rises of clocks that explain its stamp, for a reader who asks why the greatest latency is what it is
+/// (docs/FORMATS.md, "What `explain` writes"):
 ///
 /// ```text
 /// MESSAGE at GROUP: at worst N ticks, from its issue at tick N to its delivery at tick N
 /// committed at GROUP at tick N with stamp TIME.GROUP, given by GROUP at tick N
+///   tick N   MESSAGE is committed at GROUP, whose clock rises to TIME, with stamp TIME.GROUP, given by GROUP at tick N
+///   tick N   MESSAGE comes to GROUP, whose clock rises to TIME
 /// held back by MESSAGE, which came to GROUP at tick N with stamp TIME.GROUP, before TIME.GROUP
 /// MESSAGE may be issued from tick N to N: here SENDER issues it at tick N
 /// MESSAGE is committed at GROUP at tick N, when the last proposal comes:
@@ -27,51 +32,64 @@ use std::alloc::Global;
 /// no schedule is worse: N nodes, checked
 /// ```
 ///
-/// The fourth line is there where the message that it names may wait before its issue.
+/// The two lines below the second say why the stamp has its time, latest first, in any number and order: each
+/// tells what raised the clock of the group that gave the stamp before it, to one less than the time of that
+/// stamp. The line of a window is there where the message that it names may wait before its issue.
 ///
-/// Where the length of a tick is known, the greatest latency is told in its unit, too, as `N ticks (N
-/// UNIT)`. Where time is real and the order of a tie gave the target its stamp, or lets the message hold
+/// Where there is a measure, the greatest latency is told in its unit, too, as `N ticks (TIME UNIT)`. Where time is real and the order of a tie gave the target its stamp, or lets the message hold
 /// it back, the line ends with that: `after MESSAGE in a tie`, `and before that commit in a tie`.
 ///
 /// The text says that no schedule is worse, which the certificate has to show: it is for a certificate
 /// that was checked. Where memory runs out the vector is as it was.
 pub fn write_explanation(
     scenario: &Scenario,
+    measure: Option<Measure>,
     why: &Explanation,
+    rises: &[Rise],
     nodes: usize,
     out: &mut Vec<u8>,
 ) -> AllocResult<()>
-    ensures ok { OnOk result (out.new.items ≡ out.old.items ++ text_of scenario.now why.now nodes) }
+    ensures ok { OnOk result (out.new.items ≡ out.old.items ++ text_of measure scenario.now why.now rises.now nodes) }
     ensures err { OnErr result (out.new.items ≡ out.old.items) }
 {
-    let text = text(*out.allocator(), scenario, why, nodes)?;
+    let text = text(*out.allocator(), scenario, measure, why, rises, nodes)?;
     out.extend_from_slice(&text)
 }
 
 /// The lines of an explanation.
 #[tactic(auto, unfolding(crate::specs::Explanations::text_of))]
-fn text(alloc: Global, scenario: &Scenario, why: &Explanation, nodes: usize) -> AllocResult<Vec<u8>>
-    ensures { IfOk result (λ text. text.items ≡ text_of scenario.now why.now nodes) }
+fn text(
+    alloc: Global,
+    scenario: &Scenario,
+    measure: Option<Measure>,
+    why: &Explanation,
+    rises: &[Rise],
+    nodes: usize,
+) -> AllocResult<Vec<u8>>
+    ensures { IfOk result (λ text. text.items ≡ text_of measure scenario.now why.now rises.now nodes) }
 {
     let mut text = Vec::new(alloc);
-    text.extend_from_slice(latency_line(alloc, scenario, why)?.as_bytes())?;
+    text.extend_from_slice(latency_line(alloc, scenario, measure, why)?.as_bytes())?;
     text.extend_from_slice(commit_line(alloc, scenario, why)?.as_bytes())?;
+    text.extend_from_slice(rise_lines(alloc, scenario, rises)?.as_bytes())?;
     text.extend_from_slice(holder_line(alloc, scenario, why)?.as_bytes())?;
-    text.extend_from_slice(wait_line(alloc, scenario, &why.last)?.as_bytes())?;
-    text.extend_from_slice(awaited_line(alloc, scenario, &why.last)?.as_bytes())?;
-    text.extend_from_slice(sent_line(alloc, scenario, &why.last)?.as_bytes())?;
-    text.extend_from_slice(answered_line(alloc, scenario, &why.last)?.as_bytes())?;
+    text.extend_from_slice(&last_lines(alloc, scenario, &why.last)?)?;
     text.extend_from_slice(worst_line(alloc, nodes)?.as_bytes())?;
     Ok(text)
 }
 
 /// How late the target is, and when.
-fn latency_line(alloc: Global, scenario: &Scenario, why: &Explanation) -> AllocResult<String>
-    ensures { IfOk result (λ line. string_bytes line ≡ latency_text scenario.now why.now) }
+fn latency_line(
+    alloc: Global,
+    scenario: &Scenario,
+    measure: Option<Measure>,
+    why: &Explanation,
+) -> AllocResult<String>
+    ensures { IfOk result (λ line. string_bytes line ≡ latency_text measure scenario.now why.now) }
 {
     let message = message_name(scenario, scenario.target_message());
     let group = group_name(scenario, scenario.target_group());
-    let latency = ticks_text(alloc, scenario, why.latency)?;
+    let latency = ticks_text(alloc, measure, why.latency)?;
     let issue = scenario.issue_tick(scenario.target_message());
     format!(in alloc;
         "{message} at {group}: at worst {latency}, from its issue at tick {issue} to its delivery at tick {}\n",
@@ -91,6 +109,67 @@ fn commit_line(alloc: Global, scenario: &Scenario, why: &Explanation) -> AllocRe
         "committed at {group} at tick {} with stamp {stamp}, given by {giver} at tick {}{tied}\n",
         why.committed, why.stamped.tick,
     )
+}
+
+/// What raised clocks to the time of the target's final stamp.
+fn rise_lines(alloc: Global, scenario: &Scenario, rises: &[Rise]) -> AllocResult<String>
+    ensures { IfOk result (λ lines. string_bytes lines ≡ rises_text scenario.now rises.now) }
+{
+    let mut lines = String::new(alloc);
+    for rise in rises {
+        let line = rise_line(alloc, scenario, rise)?;
+        lines.push_str(&line)?;
+    }
+    Ok(lines)
+}
+
+/// What raised a clock, and to which time.
+fn rise_line(alloc: Global, scenario: &Scenario, rise: &Rise) -> AllocResult<String>
+    ensures { IfOk result (λ line. string_bytes line ≡ rise_line scenario.now rise.now) }
+{
+    let (moment, time) = (&rise.moment, rise.stamped.stamp.time);
+    let gap = gap_after(moment.tick);
+    let message = message_name(scenario, moment.message);
+    let doing = doing_word(moment.kind);
+    let group = group_name(scenario, moment.group);
+    let stamp = with_stamp_text(alloc, scenario, moment.kind, &rise.stamped)?;
+    format!(in alloc;
+        "  tick {}{gap}{message} {doing} {group}, whose clock rises to {time}{stamp}\n",
+        moment.tick,
+    )
+}
+
+/// What a message does at a group as the clock there rises.
+fn doing_word(kind: MomentKind) -> &'static str
+    ensures { result.now ≡ doing_word kind }
+{
+    match kind {
+        MomentKind::Arrival => "comes to",
+        MomentKind::Commit => "is committed at",
+    }
+}
+
+/// The stamp of a message that is committed at a group, to whose time the clock there rises.
+#[tactic(auto, unfolding(crate::specs::Explanations::with_stamp_text))]
+fn with_stamp_text(
+    alloc: Global,
+    scenario: &Scenario,
+    kind: MomentKind,
+    stamped: &Proposal,
+) -> AllocResult<String>
+    ensures { IfOk result (λ text. string_bytes text ≡ with_stamp_text scenario.now kind stamped.now) }
+{
+    match kind {
+        MomentKind::Arrival => Ok(String::new(alloc)),
+        MomentKind::Commit => {
+            let stamp = stamp_text(alloc, scenario, stamped.stamp)?;
+            let giver = group_name(scenario, stamped.stamp.group);
+            format!(in alloc;
+                ", with stamp {stamp}, given by {giver} at tick {}",
+                stamped.tick
+            )
+        }
+    }
 }
 
 /// What holds the target back.
@@ -124,6 +203,19 @@ fn held_line(
         "held back by {message}, which came to {group} at tick {} with stamp {stamp}, before {last}{won}\n",
         holder.proposal.tick,
     )
+}
+
+/// How the last proposal for the awaited message comes.
+#[tactic(auto, unfolding(crate::specs::Explanations::last_text))]
+fn last_lines(alloc: Global, scenario: &Scenario, last: &LastProposal) -> AllocResult<Vec<u8>>
+    ensures { IfOk result (λ text. text.items ≡ last_text scenario.now last.now) }
+{
+    let mut text = Vec::new(alloc);
+    text.extend_from_slice(wait_line(alloc, scenario, last)?.as_bytes())?;
+    text.extend_from_slice(awaited_line(alloc, scenario, last)?.as_bytes())?;
+    text.extend_from_slice(sent_line(alloc, scenario, last)?.as_bytes())?;
+    text.extend_from_slice(answered_line(alloc, scenario, last)?.as_bytes())?;
+    Ok(text)
 }
 
 /// When the awaited message is issued, where it may wait before.
@@ -235,30 +327,35 @@ fn worst_line(alloc: Global, nodes: usize) -> AllocResult<String>
     format!(in alloc; "no schedule is worse: {nodes} {word}, checked\n")
 }
 
-/// A number of ticks, and where the length of a tick is known the same in the unit in which that is told, as
-/// `12 ticks (600 us)`. Fails where memory runs out, and else never.
+/// A number of ticks, and where there is a measure the same in its unit, as `12 ticks (0.6 ms)`. Fails where memory runs out, and else never.
 #[tactic(auto, unfolding(crate::specs::Explanations::ticks_text))]
-pub fn ticks_text(alloc: Global, scenario: &Scenario, ticks: u32) -> AllocResult<String>
-    ensures { IfOk result (λ text. string_bytes text ≡ ticks_text scenario.now.tick ticks) }
+pub fn ticks_text(alloc: Global, measure: Option<Measure>, ticks: u32) -> AllocResult<String>
+    ensures { IfOk result (λ text. string_bytes text ≡ ticks_text measure ticks) }
 {
     let word = tick_word(ticks);
-    let in_unit = in_unit_text(alloc, scenario, ticks)?;
+    let in_unit = in_unit_text(alloc, measure, ticks)?;
     format!(in alloc; "{ticks} {word}{in_unit}")
 }
 
-/// What follows a number of ticks, where the length of a tick is known.
+/// What follows a number of ticks, where there is a measure.
 #[tactic(auto, unfolding(crate::specs::Explanations::in_unit_text))]
-fn in_unit_text(alloc: Global, scenario: &Scenario, ticks: u32) -> AllocResult<String>
-    ensures { IfOk result (λ text. string_bytes text ≡ in_unit_text scenario.now.tick ticks) }
+fn in_unit_text(alloc: Global, measure: Option<Measure>, ticks: u32) -> AllocResult<String>
+    ensures { IfOk result (λ text. string_bytes text ≡ in_unit_text measure ticks) }
 {
-    match scenario.tick() {
-        Some(tick) => {
-            let count = u64::from(ticks) * tick.count();
-            let unit = tick.unit().word();
-            format!(in alloc; " ({count} {unit})")
-        }
+    match measure {
+        Some(known) => in_brackets(alloc, known, ticks),
         None => Ok(String::new(alloc)),
     }
+}
+
+/// A number of ticks as a time, in brackets after a space.
+#[tactic(auto, unfolding(crate::specs::Explanations::in_unit_text))]
+fn in_brackets(alloc: Global, measure: Measure, ticks: u32) -> AllocResult<String>
+    ensures { IfOk result (λ text. string_bytes text ≡ in_unit_text (Some measure) ticks) }
+{
+    let unit = measure.unit.word();
+    let told = measure.text(alloc, ticks)?;
+    format!(in alloc; " ({told} {unit})")
 }
 
 /// That another message came to the group of the target's stamp in the same tick, and before it.

@@ -1,5 +1,5 @@
 -- The scenario of a TOML table, and of a text, with the schedule and the order of its ties that are given beside it.
-use Rattle.std.specs.Prelude.{ℕ, ℤ, Bool, if◌then◌else◌, List, Option, option_map, is_some, ok_or, Result, Ok, Err}
+use Rattle.std.specs.Prelude.{ℕ, ℤ, Bool, if◌then◌else◌, List, Option, None, option_map, is_some, ok_or, Result, Ok, Err}
 use Rattle.std.specs.Result.{result_map_both}
 use Rattle.std.specs.Str.{is_utf8}
 use Rattle.toml.specs.Data.{Members}
@@ -10,10 +10,11 @@ use Rattle.convoy_toml.specs.declared.target.TargetKey.{TargetKey}
 use Rattle.convoy_toml.specs.declared.target.TargetKey.TheVariants.{Required, Optional}
 use Rattle.convoy_draft.specs.declared.fault.ScenarioFault.TheVariants.{NotToml, NoRange}
 use Rattle.convoy_draft.specs.Draft.{Draft}
+use Rattle.convoy_draft.specs.declared.duration.TimeUnit.{TimeUnit}
 use Rattle.convoy_scenario.specs.Scenario.{Scenario}
 use Rattle.convoy_scenario.specs.Numbering.{scenario_of_draft}
 use Rattle.convoy_lines.specs.Results.{◌>>=◌}
-use Rattle.convoy_toml.specs.Shape.{Written, written_of_table}
+use Rattle.convoy_toml.specs.Shape.{Written, unit_of_table, written_of_table}
 use Rattle.convoy_toml.specs.Times.{draft_of_written}
 use Rattle.convoy_toml.specs.Ways.{has_ranges}
 
@@ -72,3 +73,10 @@ input_read (Err fault) = Err fault
 abbrev pub scenario_read : Result Input ScenarioFault → Result Scenario ScenarioFault
 scenario_read (Ok input) = Ok input.scenario
 scenario_read (Err fault) = Err fault
+
+-- the unit in which a text writes D, where it writes that as a duration
+abbrev pub unit_written : List ℕ → Option TimeUnit
+unit_written text = of_reading (table_of_text text) where
+  of_reading : Result Members ScenarioFault → Option TimeUnit
+  of_reading (Ok table) = unit_of_table table
+  of_reading (Err fault) = None

@@ -16,7 +16,8 @@ use Rattle.convoy_draft.specs.declared.fault.ScenarioFault.{ScenarioFault}
 use Rattle.convoy_draft.specs.declared.fault.ScenarioFault.TheVariants.{Shape}
 use Rattle.convoy_draft.specs.declared.time.Time.{Time as AnyTime}
 use Rattle.convoy_draft.specs.declared.time.Time.TheVariants.{Ticks, Real}
-use Rattle.convoy_draft.specs.Durations.{duration_of}
+use Rattle.convoy_draft.specs.Durations.{duration_of, unit_of_text}
+use Rattle.convoy_draft.specs.declared.duration.TimeUnit.{TimeUnit}
 use Rattle.convoy_draft.specs.Keys.{key_word, time_named}
 use Rattle.convoy_toml.specs.declared.target.TargetKey.{TargetKey}
 use Rattle.convoy_toml.specs.declared.target.TargetKey.TheVariants.{Required, Optional}
@@ -253,6 +254,14 @@ written_of_table key table = do
   order ← wish_all Order as_integer table
   _ ← need_only (Time ∷ Tick ∷ Delay ∷ Least ∷ Groups ∷ Multicast ∷ Target ∷ Link ∷ Schedule ∷ Order ∷ []) table
   Ok (record { scenario = scenario; schedule = schedule; order = order })
+
+-- the unit in which a value tells a duration
+abbrev pub unit_in : Data → Option TimeUnit
+unit_in value = option_and_then unit_of_text (as_str value)
+
+-- the unit in which a table writes D, where it writes that as a duration
+abbrev pub unit_of_table : Members → Option TimeUnit
+unit_of_table table = option_and_then unit_in (get_member (key_word Delay) table)
 
 -- how a call's answer is seen: a vector as the list that it holds
 abbrev pub listed : {A : Type 0} → Result (Vec A Global) ScenarioFault → Result (List A) ScenarioFault

@@ -1,5 +1,5 @@
 use super::plain::PlainNumber;
-use convoy_scenario::Scenario;
+use convoy_scenario::{Scenario, TimeUnit};
 
 /// What a scenario text holds.
 #[derive(Drop)]
@@ -9,6 +9,8 @@ pub struct Input {
     pub schedule: Option<Vec<i64>>,
     /// The ranks of the moments of that run, where the text gives them.
     pub order: Option<Vec<i64>>,
+    /// The unit in which the text writes D, where it writes that as a duration.
+    pub unit: Option<TimeUnit>,
     /// The first of its times that is a plain number beside durations, for who wants to say what that counts: no
     /// contract speaks of it.
     pub plain: Option<PlainNumber>,

@@ -4,12 +4,12 @@ ghost use Rattle.toml.specs.View.{table_view};
 ghost use Rattle.convoy_draft.specs.declared.fault.ScenarioFault.TheVariants.{Memory};
 ghost use Rattle.convoy_scenario.specs.Memory.{IsUnlessMemory};
 ghost use Rattle.convoy_toml.specs.declared.target.TargetKey.TheVariants.{Optional};
-ghost use Rattle.convoy_toml.specs.Reading.{table_of_text, input_of_text, input_of_text_by, input_read, scenario_of_text, scenario_of_text_by, scenario_read};
+ghost use Rattle.convoy_toml.specs.Reading.{table_of_text, input_of_text, input_of_text_by, input_read, scenario_of_text, scenario_of_text_by, scenario_read, unit_written};
 
 use super::input::Input;
 use super::placed::Placed;
 use super::plain::plain_number;
-use super::shape::written_of_table;
+use super::shape::{unit_of_table, written_of_table};
 use super::target::TargetKey;
 use super::times::draft_of_written;
 use super::ways::has_ranges;
@@ -29,6 +29,7 @@ pub fn read_toml(alloc: Global, text: &[u8]) -> Result<Input, ScenarioFault>
     ensures scenario { IsUnlessMemory Memory (scenario_of_text text.now) (scenario_read result) }
     ensures input { IsUnlessMemory Memory (input_of_text text.now) (input_read result) }
     ensures read { IfOk result (λ input. scenario_of_text text.now ≡ Ok input.scenario) }
+    ensures unit { IfOk result (λ input. input.unit ≡ unit_written text.now) }
     ensures given { IfOk result (λ input. input_of_text text.now
         ≡ Ok (record { scenario = input.scenario; schedule = option_map (λ delays. delays.items) input.schedule; order = option_map (λ ranks. ranks.items) input.order })) }
 {
@@ -44,6 +45,7 @@ pub fn read_toml_any_target(alloc: Global, text: &[u8]) -> Result<Input, Scenari
     ensures scenario { IsUnlessMemory Memory (scenario_of_text_by Optional text.now) (scenario_read result) }
     ensures input { IsUnlessMemory Memory (input_of_text_by Optional text.now) (input_read result) }
     ensures read { IfOk result (λ input. scenario_of_text_by Optional text.now ≡ Ok input.scenario) }
+    ensures unit { IfOk result (λ input. input.unit ≡ unit_written text.now) }
     ensures given { IfOk result (λ input. input_of_text_by Optional text.now
         ≡ Ok (record { scenario = input.scenario; schedule = option_map (λ delays. delays.items) input.schedule; order = option_map (λ ranks. ranks.items) input.order })) }
 {
@@ -57,10 +59,12 @@ pub fn read_toml_placed(alloc: Global, text: &[u8], target: TargetKey) -> Result
     ensures scenario { IsUnlessMemory Memory (scenario_of_text_by target text.now) (scenario_read result) }
     ensures input { IsUnlessMemory Memory (input_of_text_by target text.now) (input_read result) }
     ensures read { IfOk result (λ input. scenario_of_text_by target text.now ≡ Ok input.scenario) }
+    ensures unit { IfOk result (λ input. input.unit ≡ unit_written text.now) }
     ensures given { IfOk result (λ input. input_of_text_by target text.now
         ≡ Ok (record { scenario = input.scenario; schedule = option_map (λ delays. delays.items) input.schedule; order = option_map (λ ranks. ranks.items) input.order })) }
 {
     let table = read_table(alloc, text)?;
+    let unit = unit_of_table(&table);
     let written = written_of_table(alloc, &table, target)?;
     let WrittenInput {
         scenario,
@@ -79,6 +83,7 @@ pub fn read_toml_placed(alloc: Global, text: &[u8], target: TargetKey) -> Result
         scenario,
         schedule,
         order,
+        unit,
         plain,
     })
 }

@@ -6,7 +6,7 @@ ghost use Rattle.toml.specs.Data.{as_integer, as_str, as_array, as_table, get_me
 ghost use Rattle.toml.specs.View.{view, array_view, table_view};
 ghost use Rattle.convoy_draft.specs.Keys.{key_word};
 ghost use Rattle.convoy_scenario.specs.Memory.{IsUnlessMemory};
-ghost use Rattle.convoy_toml.specs.Shape.{all_of, as_duration, as_when, as_tick, as_least, needs_delay, delay_of_table, need, need_all, wish, wish_all, names_in, as_names, as_both, both_of_table, ends_of_table, has_only, need_only, time_of_table, message_of_table, messages_of, link_of_table, links_of, links_of_table, written_target, target_of_table, scenario_of_table, written_of_table, listed, listed_if_there, tables_listed};
+ghost use Rattle.convoy_toml.specs.Shape.{all_of, as_duration, as_when, as_tick, as_least, needs_delay, delay_of_table, need, need_all, wish, wish_all, names_in, as_names, as_both, both_of_table, ends_of_table, has_only, need_only, time_of_table, message_of_table, messages_of, link_of_table, links_of, links_of_table, written_target, target_of_table, scenario_of_table, written_of_table, listed, listed_if_there, tables_listed, unit_in, unit_of_table};
 
 use super::placed::{Placed, ScenarioTable, in_table};
 use super::target::{TargetKey, first_target};
@@ -14,7 +14,7 @@ use super::written::{
     LinkEnds, WrittenInput, WrittenLink, WrittenMulticast, WrittenScenario, WrittenTarget,
     WrittenTime,
 };
-use convoy_scenario::{Duration, Key, Name, ScenarioFault, Time};
+use convoy_scenario::{Duration, Key, Name, ScenarioFault, Time, TimeUnit};
 use std::alloc::Global;
 use toml::value::Array;
 use toml::{Table, Value};
@@ -184,6 +184,23 @@ fn when_written(table: &Table, key: Key, time: Time) -> Result<Option<WrittenTim
     };
     let when = time_written(value, time).ok_or(ScenarioFault::Shape(key))?;
     Ok(Some(when))
+}
+
+/// The unit in which a value tells a duration.
+fn unit_in(value: &Value) -> Option<TimeUnit>
+    ensures { result ≡ unit_in (view value.now) }
+{
+    TimeUnit::of_text(value.as_str()?.as_bytes())
+}
+
+/// The unit in which a table writes D, where it writes that as a duration.
+pub fn unit_of_table(table: &Table) -> Option<TimeUnit>
+    ensures { result ≡ unit_of_table (table_view table.now) }
+{
+    match value_at(table, Key::Delay) {
+        Some(value) => unit_in(value),
+        None => None,
+    }
 }
 
 /// The length of a tick: a duration above 0, where time is real.

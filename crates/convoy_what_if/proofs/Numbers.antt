@@ -27,7 +27,7 @@ rows_are_in_order settings scenario changes rows are =
 
 -- where a greatest latency was found, it is that of the scenario that the change makes
 greatest_of : (settings : Settings) (scenario another : Scenario) (row : Tried) (latency nodes : ℕ) (cause : Cause) (answer : Result Searched ScenarioFault) →
-    MayAnswer settings scenario row.change answer → TellsAnswer scenario row answer → row.finding ≡ Greatest latency cause nodes →
+    MayAnswer settings scenario row.change answer → TellsAnswer row answer → row.finding ≡ Greatest latency cause nodes →
     changed scenario row.change ≡ Ok another → IsGreatest another latency
 greatest_of settings scenario another row latency nodes cause (Ok searched) given told finding made =
     let same : searched.instance ≡ another = same_scenario searched.instance another (sym given.made ∙ made) in
@@ -45,7 +45,7 @@ rows_are_latencies settings other scenario another row latency nodes cause text 
 
 -- what is told encloses the greatest latency of that scenario
 answer_encloses : (settings : Settings) (scenario another : Scenario) (row : Tried) (answer : Result Searched ScenarioFault) →
-    MayAnswer settings scenario row.change answer → TellsAnswer scenario row answer → changed scenario row.change ≡ Ok another →
+    MayAnswer settings scenario row.change answer → TellsAnswer row answer → changed scenario row.change ≡ Ok another →
     Encloses another (least_of row.finding) (most_of row.finding)
 answer_encloses settings scenario another row (Ok searched) given told made =
     let same : searched.instance ≡ another = same_scenario searched.instance another (sym given.made ∙ made) in

@@ -17,17 +17,17 @@ use Rattle.convoy_what_if.specs.Orders.{AreTriedBy, place_row}
 use Rattle.convoy_what_if.specs.Tries.{HasBroken, HasRefusedBy, IsRefusedBy, IsTriedBy, MayAnswer}
 
 -- the rows with that of the next change
-pub one_more_tried : (scenario : Scenario) (may_answer : Change → Result Searched ScenarioFault → Type 0) (changes : List Change) (i : ℕ) (d : Change)
+pub one_more_tried : (may_answer : Change → Result Searched ScenarioFault → Type 0) (changes : List Change) (i : ℕ) (d : Change)
     (rows : List Tried) (row : Tried) →
-    i < length changes → AreTriedBy scenario may_answer (take i changes) rows → row.change ≡ get_or changes i d → IsTriedBy scenario may_answer row →
-    AreTriedBy scenario may_answer (take (i + 1) changes) (place_row rows row)
-one_more_tried scenario may_answer changes i d rows row within so_far same is = record {
+    i < length changes → AreTriedBy may_answer (take i changes) rows → row.change ≡ get_or changes i d → IsTriedBy may_answer row →
+    AreTriedBy may_answer (take (i + 1) changes) (place_row rows row)
+one_more_tried may_answer changes i d rows row within so_far same is = record {
   tried = so_far.tried ++ row ∷ [];
   each = map-append (λ (r : Tried). r.change) so_far.tried (row ∷ [])
       ∙ ap (λ (cs : List Change). cs ++ row.change ∷ []) so_far.each
       ∙ ap (λ (c : Change). take i changes ++ c ∷ []) same
       ∙ sym (take_more changes i d within);
-  all_tried = All-push (IsTriedBy scenario may_answer) so_far.tried row so_far.all_tried is;
+  all_tried = All-push (IsTriedBy may_answer) so_far.tried row so_far.all_tried is;
   placed = ap (λ (rs : List Tried). place_row rs row) so_far.placed ∙ sym (fold-append place_row [] so_far.tried (row ∷ []));
 }
 

@@ -1,14 +1,18 @@
 -- The table of the changes that were tried.
-use Rattle.std.specs.Prelude.{ℕ, List, [], ◌∷◌, ◌++◌, map, Option, Some, None, codes}
+use Rattle.std.specs.Prelude.{ℕ, ◌==◌, Bool, true, false, not, ◌&&◌, List, [], ◌∷◌, ◌++◌, filter, length, Option, Some, None, codes, decimal, if◌then◌else◌}
+use Rattle.std.specs.List.{flat_map}
 use Rattle.convoy_scenario.specs.Naming.{sender_word}
 use Rattle.convoy_scenario.specs.Scenario.{Scenario, group_name_at}
 use Rattle.convoy_tables.specs.Tables.{Cell, Table, nothing, word}
 use Rattle.convoy_survey.specs.declared.finding.Finding.{Finding}
-use Rattle.convoy_survey.specs.Cells.{finding_columns, finding_cells, name_cell}
+use Rattle.convoy_survey.specs.declared.finding.Finding.TheVariants.{Greatest, Open, OutOfMemory}
+use Rattle.convoy_survey.specs.declared.times.Times.{Times}
+use Rattle.convoy_survey.specs.Cells.{answer_cells, finding_columns, name_cell, node_cells, tick_cells, time_cells}
 use Rattle.convoy_what_if.specs.declared.kinds.Change.{Change}
 use Rattle.convoy_what_if.specs.declared.kinds.Change.TheVariants.{Nothing, Without, AtLeast, AtMost}
 use Rattle.convoy_what_if.specs.declared.tried.Tried.{Tried}
 
+-- THE ROW OF A CHANGE
 -- the word for what is changed
 abbrev pub change_word : Change → List ℕ
 change_word Nothing = codes "nothing"
@@ -35,17 +39,88 @@ abbrev pub change_cells : Scenario → Change → List Cell
 change_cells scenario change =
     (word (change_word change) ∷ name_cell scenario (left_out change) ∷ []) ++ link_cells scenario change
 
--- the cells of a row: the change by the names of the scenario, and what was found by the names of the other one
-abbrev pub row_cells : Scenario → Change → Scenario → Finding → List Cell
-row_cells scenario change other finding = change_cells scenario change ++ finding_cells other finding
+-- a name, where there is one
+abbrev pub text_cell : Option (List ℕ) → Cell
+text_cell None = nothing
+text_cell (Some name) = word name
 
+-- what is known, and its numbers in ticks and as times
+abbrev pub number_cells : Times → Finding → List Cell
+number_cells times finding = answer_cells finding ++ (tick_cells finding ++ time_cells times finding)
+
+-- the cells of a row: the change by the names of the scenario, and what was found
+abbrev pub row_cells : Times → Scenario → Tried → List Cell
+row_cells times scenario row =
+    change_cells scenario row.change ++ (number_cells times row.finding
+    ++ (text_cell row.rival ∷ text_cell row.tied ∷ node_cells row.finding))
+
+-- CHANGES THAT CHANGE NOTHING
+abbrev pub is_nothing : Change → Bool
+is_nothing Nothing = true
+is_nothing (Without m) = false
+is_nothing (AtLeast sender to) = false
+is_nothing (AtMost sender to) = false
+
+-- the greatest latency, where it was found
+abbrev pub latency_of : Finding → Option ℕ
+latency_of (Greatest latency cause nodes) = Some latency
+latency_of (Open least most cause) = None
+latency_of OutOfMemory = None
+
+-- the greatest latency of the scenario as it is, where the row of no change tells it
+abbrev pub unchanged_latency : List Tried → Option ℕ
+unchanged_latency [] = None
+unchanged_latency (row ∷ rows) = if is_nothing row.change then latency_of row.finding else unchanged_latency rows
+
+-- both are known, and the same
+abbrev pub is_same : Option ℕ → Option ℕ → Bool
+is_same None other = false
+is_same (Some n) None = false
+is_same (Some n) (Some other) = n == other
+
+-- the row is that of a change which leaves the greatest latency as it is, at this number
+abbrev pub leaves_latency : Option ℕ → Tried → Bool
+leaves_latency unchanged row = not (is_nothing row.change) && is_same (latency_of row.finding) unchanged
+
+-- the words for so many other changes
+abbrev pub others_words : ℕ → List ℕ
+others_words count = decimal count ++ (if count == 1 then codes " other" else codes " others")
+
+-- the cells of the line that stands for so many other changes, which leave what was found with no change as it is
+abbrev pub others_cells : Times → ℕ → Finding → List Cell
+others_cells times count finding =
+    word (others_words count) ∷ nothing ∷ nothing ∷ nothing ∷ (number_cells times finding ++ nothing ∷ nothing ∷ nothing ∷ [])
+
+-- that line, if there is any of them
+abbrev pub others_lines : Times → ℕ → Finding → List (List Cell)
+others_lines times count finding = if count == 0 then [] else others_cells times count finding ∷ []
+
+-- the lines for a row, where those that leave the latency at this number are folded, so many of them: of no change its cells, and below them the line for the others; of such a row none; of each else its cells
+abbrev pub row_lines : Times → Scenario → Option ℕ → ℕ → Tried → List (List Cell)
+row_lines times scenario unchanged count row =
+    if is_nothing row.change then row_cells times scenario row ∷ others_lines times count row.finding
+    else if leaves_latency unchanged row then [] else row_cells times scenario row ∷ []
+
+-- the number at which those that leave it are folded: none where all rows are asked for
+abbrev pub folded_latency : Bool → List Tried → Option ℕ
+folded_latency shows_all rows = if shows_all then None else unchanged_latency rows
+
+-- THE TABLE
 abbrev pub change_columns : List Cell
 change_columns = word (codes "change") ∷ word (codes "message") ∷ word (codes "from") ∷ word (codes "to") ∷ []
 
 -- the names of the columns
-abbrev pub columns_of : Option ℕ → List Cell
-columns_of tick = change_columns ++ finding_columns tick
+abbrev pub columns_of : Times → List Cell
+columns_of times = change_columns ++ finding_columns times
 
--- the table of these rows
-abbrev pub table_of : Scenario → List Tried → Table
-table_of scenario rows = record { columns = columns_of scenario.tick; rows = map (λ row. row.cells) rows }
+-- the lines for these rows, where those that leave the latency at this number are folded
+abbrev pub lines_of : Times → Scenario → Option ℕ → List Tried → List (List Cell)
+lines_of times scenario unchanged rows =
+    flat_map (row_lines times scenario unchanged (length (filter (leaves_latency unchanged) rows))) rows
+
+-- the table of these rows: all of them, or without those that change nothing
+abbrev pub table_of : Times → Bool → Scenario → List Tried → Table
+table_of times shows_all scenario rows = record {
+  columns = columns_of times;
+  rows = lines_of times scenario (folded_latency shows_all rows) rows;
+}

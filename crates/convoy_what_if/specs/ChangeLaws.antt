@@ -5,6 +5,7 @@ use Rattle.std.specs.List.Sorted.{IsPermutation}
 use Rattle.convoy_scenario.specs.Scenario.{Scenario}
 use Rattle.convoy_toml.specs.Reading.{scenario_of_text}
 use Rattle.convoy_branch.specs.Options.{Settings}
+use Rattle.convoy_commands.specs.Measured.{measure_of_text}
 use Rattle.convoy_commands.specs.declared.done.Done.TheVariants.{Fine}
 use Rattle.convoy_commands.specs.ReplyLines.{greatest_line}
 use Rattle.convoy_commands.specs.Searches.{LatencySays}
@@ -34,7 +35,7 @@ abbrev pub RowsAreLatencies : Type 0
 RowsAreLatencies =
     (settings other : Settings) (scenario another : Scenario) (row : Tried) (latency nodes : ℕ) (cause : Cause) (text out : List ℕ) →
     IsTried settings scenario row → row.finding ≡ Greatest latency cause nodes → changed scenario row.change ≡ Ok another →
-    scenario_of_text text ≡ Ok another → LatencySays other text (Ok (Fine, out)) → out ≡ greatest_line another.tick latency
+    scenario_of_text text ≡ Ok another → LatencySays other text (Ok (Fine, out)) → out ≡ greatest_line (measure_of_text other.unit text another) latency
 
 -- The two numbers of a row, `least` and `most`, enclose the greatest latency of the scenario that its change makes, whether or not the search ended.
 abbrev pub RowsEnclose : Type 0

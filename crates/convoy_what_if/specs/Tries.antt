@@ -1,40 +1,45 @@
 -- What is tried of a scenario: a change, and a search of the scenario that it makes.
-use Rattle.std.specs.Prelude.{◌≡◌, ◌≢◌, ◌⊎◌, Ok, Err, List, Result}
+use Rattle.std.specs.Prelude.{◌≡◌, ◌≢◌, ◌⊎◌, ℕ, Ok, Err, List, Option, None, option_map, Result}
 use Rattle.std.specs.List.{Contains}
 use Rattle.convoy_draft.specs.declared.fault.ScenarioFault.{ScenarioFault}
 use Rattle.convoy_draft.specs.declared.fault.ScenarioFault.TheVariants.{Memory}
-use Rattle.convoy_scenario.specs.Scenario.{Scenario}
+use Rattle.convoy_scenario.specs.Scenario.{Scenario, message_at}
 use Rattle.convoy_branch.specs.Options.{Settings}
 use Rattle.convoy_commands.specs.declared.fault.Fault.{Fault}
 use Rattle.convoy_commands.specs.declared.fault.Fault.TheVariants as faults
 use Rattle.convoy_survey.specs.declared.finding.Finding.TheVariants.{OutOfMemory}
-use Rattle.convoy_survey.specs.Findings.{IsFinding}
+use Rattle.convoy_survey.specs.Findings.{IsFinding, rival_of, tied_of}
 use Rattle.convoy_what_if.specs.declared.kinds.Change.{Change}
 use Rattle.convoy_what_if.specs.Changes.{changed}
 use Rattle.convoy_what_if.specs.declared.tried.Searched.{Searched}
 use Rattle.convoy_what_if.specs.declared.tried.Tried.{Tried}
-use Rattle.convoy_what_if.specs.Cells.{row_cells}
 
--- The row tells what was found in the scenario that the change makes, whose messages have the names that they have there.
-pub record TellsFound (scenario : Scenario) (row : Tried) (searched : Searched) : Type 0 where
+-- the name that a message, if there is one, has in the scenario
+abbrev pub name_in : Scenario → Option ℕ → Option (List ℕ)
+name_in scenario m = option_map (λ m. (message_at scenario m).name) m
+
+-- The row tells what was found in the scenario that the change makes, and the messages of its cause by the names that they have there.
+pub record TellsFound (row : Tried) (searched : Searched) : Type 0 where
   pub found : row.finding ≡ searched.finding
-  pub told : row.cells ≡ row_cells scenario row.change searched.instance searched.finding
+  pub rival : row.rival ≡ name_in searched.instance (rival_of searched.finding)
+  pub tied : row.tied ≡ name_in searched.instance (tied_of searched.finding)
 
 -- The row tells that memory ran out.
-pub record TellsMemory (scenario : Scenario) (row : Tried) : Type 0 where
+pub record TellsMemory (row : Tried) : Type 0 where
   pub found : row.finding ≡ OutOfMemory
-  pub told : row.cells ≡ row_cells scenario row.change scenario OutOfMemory
+  pub no_rival : row.rival ≡ None
+  pub no_tied : row.tied ≡ None
 
 -- The row tells what was answered where its change was tried: what was found; or that memory ran out, just where that was the answer.
-abbrev pub TellsAnswer : Scenario → Tried → Result Searched ScenarioFault → Type 0
-TellsAnswer scenario row (Ok searched) = TellsFound scenario row searched
-TellsAnswer scenario row (Err fault) = (fault ≡ Memory) × TellsMemory scenario row
+abbrev pub TellsAnswer : Tried → Result Searched ScenarioFault → Type 0
+TellsAnswer row (Ok searched) = TellsFound row searched
+TellsAnswer row (Err fault) = (fault ≡ Memory) × TellsMemory row
 
 -- The row tells what was answered where its change was tried, where such answers may be given for a change.
-pub record IsTriedBy (scenario : Scenario) (may_answer : Change → Result Searched ScenarioFault → Type 0) (row : Tried) : Type 0 where
+pub record IsTriedBy (may_answer : Change → Result Searched ScenarioFault → Type 0) (row : Tried) : Type 0 where
   pub answer : Result Searched ScenarioFault
   pub given : may_answer row.change answer
-  pub told : TellsAnswer scenario row answer
+  pub told : TellsAnswer row answer
 
 -- The change makes that scenario, and a search with these settings found that there.
 pub record IsSearched (settings : Settings) (scenario : Scenario) (change : Change) (searched : Searched) : Type 0 where
@@ -48,7 +53,7 @@ MayAnswer settings scenario change (Err fault) = (changed scenario change ≡ Er
 
 -- the row tells what was answered where its change was tried by a search with these settings
 abbrev pub IsTried : Settings → Scenario → Tried → Type 0
-IsTried settings scenario row = IsTriedBy scenario (MayAnswer settings scenario) row
+IsTried settings scenario row = IsTriedBy (MayAnswer settings scenario) row
 
 -- Where such answers may be given for a change, the answer for this one may be a fault other than that memory ran out, and this fault tells it.
 pub record IsRefusedBy (may_answer : Change → Result Searched ScenarioFault → Type 0) (change : Change) (fault : Fault) : Type 0 where

@@ -1,5 +1,5 @@
 -- What `survey --without` writes: what would become of the greatest latency with each change of one thing: a message left out, or a link at its least or at its most.
-use Rattle.std.specs.Prelude.{◌≡◌, ◌⊎◌, ℕ, List, Ok, Err}
+use Rattle.std.specs.Prelude.{◌≡◌, ◌⊎◌, ℕ, Bool, List, Ok, Err}
 use Rattle.std.specs.List.{list_any}
 use Rattle.convoy_scenario.specs.Scenario.{Scenario}
 use Rattle.convoy_scenario.specs.WellFormed.{IsScenario}
@@ -9,10 +9,12 @@ use Rattle.convoy_tables.specs.declared.format.Format.{Format}
 use Rattle.convoy_tables.specs.Formats.{table_text}
 use Rattle.convoy_commands.specs.declared.fault.Fault.{Fault}
 use Rattle.convoy_commands.specs.declared.done.Done.{Done}
+use Rattle.convoy_commands.specs.Measured.{measure_of_text}
 use Rattle.convoy_commands.specs.Replies.{Rule}
 use Rattle.convoy_commands.specs.Ends.{end_by}
 use Rattle.convoy_commands.specs.Searches.{IsFaulty}
 use Rattle.convoy_survey.specs.Findings.{is_fault, is_open}
+use Rattle.convoy_survey.specs.Times.{times_of}
 use Rattle.convoy_what_if.specs.Changes.{changes_of}
 use Rattle.convoy_what_if.specs.declared.tried.Tried.{Tried}
 use Rattle.convoy_what_if.specs.Cells.{table_of}
@@ -23,14 +25,14 @@ use Rattle.convoy_what_if.specs.Tries.{HasBroken}
 abbrev pub end_of : List Tried → Done
 end_of rows = end_by (list_any (λ row. is_fault row.finding) rows) (list_any (λ row. is_open row.finding) rows)
 
--- THE HEADLINE. What is written is the table of all changes of the scenario that was read, each tried, in this format, and the end is told by its rows.
-pub record IsWhatIf (format : Format) (settings : Settings) (text : List ℕ) (end : Done) (out : List ℕ) : Type 0 where
+-- THE HEADLINE. What is written is the table of all changes of the scenario that was read, each tried, in this format, with those that change nothing each in a row or in one line together, and the end is told by all rows.
+pub record IsWhatIf (format : Format) (shows_all : Bool) (settings : Settings) (text : List ℕ) (end : Done) (out : List ℕ) : Type 0 where
   pub scenario : Scenario
   pub rows : List Tried
   pub read : scenario_of_text text ≡ Ok scenario
   pub lawful : IsScenario scenario
   pub tried : AreTried settings scenario (changes_of scenario) rows
-  pub written : out ≡ table_text format (table_of scenario rows)
+  pub written : out ≡ table_text format (table_of (times_of format (measure_of_text settings.unit text scenario)) shows_all scenario rows)
   pub ends : end ≡ end_of rows
 
 -- The text is that of a scenario of which some change makes none, for the cause that the fault tells.
@@ -40,6 +42,6 @@ pub record IsBroken (text : List ℕ) (fault : Fault) : Type 0 where
   pub broken : HasBroken scenario (changes_of scenario) fault
 
 -- what may be answered for a text
-abbrev pub WhatIfSays : Format → Settings → Rule
-WhatIfSays format settings text (Ok (end, out)) = IsWhatIf format settings text end out
-WhatIfSays format settings text (Err fault) = IsFaulty text fault ⊎ IsBroken text fault
+abbrev pub WhatIfSays : Format → Bool → Settings → Rule
+WhatIfSays format shows_all settings text (Ok (end, out)) = IsWhatIf format shows_all settings text end out
+WhatIfSays format shows_all settings text (Err fault) = IsFaulty text fault ⊎ IsBroken text fault

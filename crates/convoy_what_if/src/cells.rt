@@ -1,32 +1,97 @@
 //! The cells of the table of changes.
 
-ghost use Rattle.std.specs.Prelude.{◌≡◌, ◌∷◌, [], ◌++◌, OnOk, IfOk};
+ghost use Rattle.std.specs.Prelude.{◌≡◌, ◌∷◌, [], ◌++◌, string_bytes, OnOk, IfOk};
 ghost use Rattle.convoy_scenario.specs.Naming.{sender_word};
 ghost use Rattle.convoy_scenario.specs.Scenario.{group_name_at};
-ghost use Rattle.convoy_tables.specs.Tables.{word};
-ghost use Rattle.convoy_what_if.specs.Cells.{change_cells, change_word, left_out, link_cells, row_cells};
+ghost use Rattle.convoy_tables.specs.Tables.{nothing, word};
+ghost use Rattle.convoy_what_if.specs.Cells.{change_cells, change_word, left_out, link_cells, number_cells, others_cells, others_words, row_cells, text_cell};
 
 use super::kinds::Change;
+use super::tried::Tried;
+use convoy_draft::Name;
 use convoy_scenario::naming::{group_name, sender_word};
 use convoy_scenario::{Scenario, Sender};
-use convoy_survey::{Finding, push_finding, push_name};
+use convoy_survey::{Finding, Times, push_name, push_nodes, push_ticks, push_times};
 use convoy_tables::Row;
 use std::alloc::{AllocError, Global};
 
-/// The cells of a row: the change by the names of the scenario, and what was found by those of the other.
+/// The cells of a row: the change by the names of the scenario, and what was found.
 pub(crate) fn row_cells(
     alloc: Global,
+    times: &Times,
     scenario: &Scenario,
-    change: Change,
-    other: &Scenario,
-    finding: Finding,
+    row: &Tried,
 ) -> Result<Row, AllocError>
-    ensures { IfOk result (λ cells. cells ≡ row_cells scenario.now change other.now finding) }
+    ensures { IfOk result (λ cells. cells ≡ row_cells times.now scenario.now row.now) }
 {
     let mut cells = Row::new(alloc);
-    push_change(scenario, change, &mut cells)?;
-    push_finding(other, finding, &mut cells)?;
+    push_change(scenario, row.change, &mut cells)?;
+    push_numbers(alloc, times, row.finding, &mut cells)?;
+    push_text(&row.rival, &mut cells)?;
+    push_text(&row.tied, &mut cells)?;
+    push_nodes(row.finding, &mut cells)?;
     Ok(cells)
+}
+
+/// The cells of the line that stands for so many other changes, which leave what was found with no change as it is.
+pub(crate) fn others_cells(
+    alloc: Global,
+    times: &Times,
+    count: usize,
+    finding: Finding,
+) -> Result<Row, AllocError>
+    ensures { IfOk result (λ cells. cells ≡ others_cells times.now count finding) }
+{
+    let mut cells = Row::new(alloc);
+    cells.push_word(&others_words(alloc, count)?)?;
+    push_nothing_thrice(&mut cells)?;
+    push_numbers(alloc, times, finding, &mut cells)?;
+    push_nothing_thrice(&mut cells)?;
+    Ok(cells)
+}
+
+/// The words for so many other changes.
+fn others_words(alloc: Global, count: usize) -> Result<String, AllocError>
+    ensures { IfOk result (λ words. string_bytes words ≡ others_words count) }
+{
+    if count == 1 {
+        format!(in alloc; "{count} other")
+    } else {
+        format!(in alloc; "{count} others")
+    }
+}
+
+/// Puts three cells with nothing at the end of a row.
+fn push_nothing_thrice(cells: &mut Row) -> Result<(), AllocError>
+    ensures { OnOk result (cells.new ≡ cells.old ++ (nothing ∷ nothing ∷ nothing ∷ [])) }
+{
+    cells.push_nothing()?;
+    cells.push_nothing()?;
+    cells.push_nothing()
+}
+
+/// Puts what is known, and its numbers in ticks and as times, at the end of a row.
+fn push_numbers(
+    alloc: Global,
+    times: &Times,
+    finding: Finding,
+    cells: &mut Row,
+) -> Result<(), AllocError>
+    ensures { OnOk result (cells.new ≡ cells.old ++ number_cells times.now finding) }
+{
+    cells.push_word(finding.answer())?;
+    push_ticks(finding, cells)?;
+    push_times(alloc, times, finding, cells)
+}
+
+/// Puts a name at the end of a row, or nothing where there is none.
+fn push_text(name: &Option<Name>, cells: &mut Row) -> Result<(), AllocError>
+    ensures { OnOk result (cells.new ≡ cells.old ++ text_cell name.now ∷ []) }
+{
+    match name {
+        Some(name) => cells.push_word(name.as_str()),
+        None => cells.push_nothing(),
+    }
 }
 
 /// Puts a change at the end of a row.

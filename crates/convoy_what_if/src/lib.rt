@@ -14,6 +14,7 @@ mod answering;
 mod cells;
 pub mod change_laws;
 mod drafting;
+mod folding;
 mod kinds;
 mod listing;
 mod placing;

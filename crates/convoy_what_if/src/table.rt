@@ -1,43 +1,116 @@
-ghost use Rattle.std.specs.Prelude.{◌≡◌, IfOk};
+ghost use Rattle.std.specs.Prelude.{◌≡◌, ◌++◌, IfOk, OnOk};
 ghost use Rattle.convoy_tables.specs.Formats.{table_text};
-ghost use Rattle.convoy_what_if.specs.Cells.{columns_of, table_of};
+ghost use Rattle.convoy_what_if.specs.Cells.{columns_of, lines_of, others_lines, row_lines, table_of};
 
+use super::cells::{others_cells, row_cells};
+use super::folding::{count_leaving, folded_latency, is_nothing, leaves_latency};
 use super::tried::Tried;
 use convoy_scenario::Scenario;
-use convoy_survey::push_finding_columns;
+use convoy_survey::{Finding, Times, push_finding_columns};
 use convoy_tables::{Format, Row, Table, table_text};
 use std::alloc::{AllocError, Global};
 
-/// The table of these rows as it is written in a format.
+/// The table of these rows as it is written in a format: all of them, or without those that change nothing.
 pub(crate) fn text_of(
     alloc: Global,
     format: Format,
+    times: &Times,
+    shows_all: bool,
     scenario: &Scenario,
-    rows: Vec<Tried>,
+    rows: &[Tried],
 ) -> Result<Vec<u8>, AllocError>
-    ensures { IfOk result (λ text. text.items ≡ table_text format (table_of scenario.now rows.items)) }
+    ensures { IfOk result (λ text. text.items ≡ table_text format (table_of times.now shows_all scenario.now rows.now)) }
 {
-    let table = table_of(alloc, scenario, rows)?;
+    let table = table_of(alloc, times, shows_all, scenario, rows)?;
     table_text(alloc, &table, format)
 }
 
-/// The table of these rows.
-fn table_of(alloc: Global, scenario: &Scenario, rows: Vec<Tried>) -> Result<Table, AllocError>
-    ensures { IfOk result (λ table. table ≡ table_of scenario.now rows.items) }
+/// The table of these rows: all of them, or without those that change nothing.
+fn table_of(
+    alloc: Global,
+    times: &Times,
+    shows_all: bool,
+    scenario: &Scenario,
+    rows: &[Tried],
+) -> Result<Table, AllocError>
+    ensures { IfOk result (λ table. table ≡ table_of times.now shows_all scenario.now rows.now) }
 {
-    let mut table = Table::new(alloc, columns_of(alloc, scenario)?);
-    for row in rows {
-        table.push(row.cells)?;
-    }
+    let mut table = Table::new(alloc, columns_of(alloc, times)?);
+    let unchanged = folded_latency(shows_all, rows);
+    push_rows(alloc, times, scenario, unchanged, rows, &mut table)?;
     Ok(table)
 }
 
+/// Puts the lines for these rows at the end of a table, where those that leave the latency at this number are folded.
+fn push_rows(
+    alloc: Global,
+    times: &Times,
+    scenario: &Scenario,
+    unchanged: Option<u32>,
+    rows: &[Tried],
+    table: &mut Table,
+) -> Result<(), AllocError>
+    ensures { OnOk result (table.new ≡ record table.old {
+      rows = table.old.rows ++ lines_of times.now scenario.now unchanged rows.now;
+    }) }
+{
+    let count = count_leaving(unchanged, rows);
+    for row in rows {
+        push_row(alloc, times, scenario, unchanged, count, row, table)?;
+    }
+    Ok(())
+}
+
+/// Puts the lines for a row at the end of a table, where those that leave the latency at this number are folded, so many
+/// of them.
+fn push_row(
+    alloc: Global,
+    times: &Times,
+    scenario: &Scenario,
+    unchanged: Option<u32>,
+    count: usize,
+    row: &Tried,
+    table: &mut Table,
+) -> Result<(), AllocError>
+    ensures { OnOk result (table.new ≡ record table.old {
+      rows = table.old.rows ++ row_lines times.now scenario.now unchanged count row.now;
+    }) }
+{
+    if is_nothing(row.change) {
+        table.push(row_cells(alloc, times, scenario, row)?)?;
+        return push_others(alloc, times, count, row.finding, table);
+    }
+    if leaves_latency(unchanged, row) {
+        return Ok(());
+    }
+    table.push(row_cells(alloc, times, scenario, row)?)
+}
+
+/// Puts the line that stands for so many other changes at the end of a table, if there is any.
+fn push_others(
+    alloc: Global,
+    times: &Times,
+    count: usize,
+    finding: Finding,
+    table: &mut Table,
+) -> Result<(), AllocError>
+    ensures { OnOk result (table.new ≡ record table.old {
+      rows = table.old.rows ++ others_lines times.now count finding;
+    }) }
+{
+    if count == 0 {
+        Ok(())
+    } else {
+        table.push(others_cells(alloc, times, count, finding)?)
+    }
+}
+
 /// The names of the columns.
-fn columns_of(alloc: Global, scenario: &Scenario) -> Result<Row, AllocError>
-    ensures { IfOk result (λ columns. columns ≡ columns_of scenario.now.tick) }
+fn columns_of(alloc: Global, times: &Times) -> Result<Row, AllocError>
+    ensures { IfOk result (λ columns. columns ≡ columns_of times.now) }
 {
     let mut columns = Row::new(alloc);
     columns.push_words(&["change", "message", "from", "to"])?;
-    push_finding_columns(alloc, scenario, &mut columns)?;
+    push_finding_columns(times, &mut columns)?;
     Ok(columns)
 }

@@ -1,7 +1,7 @@
 use super::kinds::Change;
+use convoy_draft::Name;
 use convoy_packets::Instance;
 use convoy_survey::Finding;
-use convoy_tables::Row;
 
 /// The scenario that a change makes, and what a search found of the latency that is asked there.
 #[derive(Drop)]
@@ -18,7 +18,7 @@ pub struct Tried {
     /// What a search found of the latency in the scenario that is changed so, whose messages are numbered as there; or
     /// that memory ran out.
     pub finding: Finding,
-    /// Its row of the table: the change, and what was found, with the names of messages as they are after
-    /// the change.
-    pub cells: Row,
+    /// The messages of its cause, [`Finding::rival`] and [`Finding::tied`], by their names.
+    pub rival: Option<Name>,
+    pub tied: Option<Name>,
 }

@@ -3,15 +3,16 @@
 ghost use Rattle.std.specs.Prelude.{◌≡◌, ◌⊎◌, IfOk, IfErr};
 ghost use Rattle.convoy_scenario.specs.Memory.{IsUnlessMemory};
 ghost use Rattle.convoy_what_if.specs.Changes.{changed};
-ghost use Rattle.convoy_what_if.specs.Tries.{IsRefusedBy, IsTriedBy, MayAnswer, TellsFound, TellsMemory};
+ghost use Rattle.convoy_what_if.specs.Tries.{IsRefusedBy, IsTriedBy, MayAnswer, TellsFound, TellsMemory, name_in};
 
-use super::cells::row_cells;
 use super::drafting;
 use super::kinds::Change;
 use super::tried::{Searched, Tried};
 use convoy_branch::Options;
 use convoy_commands::{Fault, Watch};
+use convoy_draft::Name;
 use convoy_packets::Instance;
+use convoy_scenario::naming::message_name;
 use convoy_scenario::{Scenario, ScenarioFault};
 use convoy_survey::{Finding, find};
 use std::alloc::{AllocError, Global};
@@ -51,57 +52,58 @@ fn changed_instance(
 /// so. Fails with the fault that it answers else, and with `Fault::Memory` where there is no memory for the row.
 pub(crate) fn try_change<F: Fn(Change) -> Result<Searched, ScenarioFault>>(
     alloc: Global,
-    scenario: &Scenario,
     change: Change,
     search: &F,
 ) -> Result<Tried, Fault>
     requires { F.pre search.now change }
     ensures change { IfOk result (λ row. row.change ≡ change) }
-    ensures tried { IfOk result (IsTriedBy scenario.now (F.post search.now)) }
+    ensures tried { IfOk result (IsTriedBy (F.post search.now)) }
     ensures err { IfErr result (λ fault. IsRefusedBy (F.post search.now) change fault ⊎ (fault ≡ Fault.Memory)) }
 {
     match search(change) {
-        Ok(searched) => Ok(row_of(alloc, scenario, change, &searched)?),
-        Err(ScenarioFault::Memory) => Ok(row_without(alloc, scenario, change)?),
+        Ok(searched) => Ok(row_of(alloc, change, &searched)?),
+        Err(ScenarioFault::Memory) => Ok(row_without(change)),
         Err(cause) => Err(Fault::Scenario(cause)),
     }
 }
 
 /// The row of a change, by what was found in the scenario that it makes.
-fn row_of(
-    alloc: Global,
-    scenario: &Scenario,
-    change: Change,
-    searched: &Searched,
-) -> Result<Tried, AllocError>
+fn row_of(alloc: Global, change: Change, searched: &Searched) -> Result<Tried, AllocError>
     ensures change { IfOk result (λ row. row.change ≡ change) }
-    ensures told { IfOk result (λ row. TellsFound scenario.now row searched.now) }
+    ensures told { IfOk result (λ row. TellsFound row searched.now) }
 {
-    let finding = searched.finding;
-    let cells = row_cells(
-        alloc,
-        scenario,
-        change,
-        searched.instance.scenario(),
-        finding,
-    )?;
+    let (finding, scenario) = (searched.finding, searched.instance.scenario());
     Ok(Tried {
         change,
         finding,
-        cells,
+        rival: name_in(alloc, scenario, finding.rival())?,
+        tied: name_in(alloc, scenario, finding.tied())?,
     })
 }
 
-/// The row of a change for which memory ran out.
-fn row_without(alloc: Global, scenario: &Scenario, change: Change) -> Result<Tried, AllocError>
-    ensures change { IfOk result (λ row. row.change ≡ change) }
-    ensures told { IfOk result (TellsMemory scenario.now) }
+/// The name of a message, if there is one.
+fn name_in(
+    alloc: Global,
+    scenario: &Scenario,
+    message: Option<usize>,
+) -> Result<Option<Name>, AllocError>
+    ensures { IfOk result (λ name. name ≡ name_in scenario.now message) }
 {
-    let finding = Finding::OutOfMemory;
-    let cells = row_cells(alloc, scenario, change, scenario, finding)?;
-    Ok(Tried {
+    match message {
+        Some(message) => Ok(Some(Name::new(alloc, message_name(scenario, message))?)),
+        None => Ok(None),
+    }
+}
+
+/// The row of a change for which memory ran out.
+fn row_without(change: Change) -> Tried
+    ensures change { result.change ≡ change }
+    ensures told { TellsMemory result }
+{
+    Tried {
         change,
-        finding,
-        cells,
-    })
+        finding: Finding::OutOfMemory,
+        rival: None,
+        tied: None,
+    }
 }

@@ -6,11 +6,11 @@ pub returns-in_ok-greatest_text-in-Proved : goal.returns-in_ok-greatest_text-in-
 returns-in_ok-greatest_text-in-Proved c text search =
     inl
     (greatest_written _ _ _ _ c.in-Proved.certificate c.in-Proved.tickets c.in-Proved.by_worker
-    (rw c.in-Proved.is at search) c.limit-limit.ensures.lawful.few_tickets
-    (rw (c.latency.ensures, c.tick-tick.ensures.value) at c.in_ok-greatest_text-in-Proved.ensures))
+    (rw c.in-Proved.is at search.0) c.limit-limit.ensures.lawful.few_tickets
+    (rw (c.latency.ensures, search.1) at c.in_ok-greatest_text-in-Proved.ensures))
 
 pub returns-in_ok-open_text-in-Open : goal.returns-in_ok-open_text-in-Open
 returns-in_ok-open_text-in-Open c text search =
     inl
     (bounds_written _ _ _ _ c.in-Open.best c.in-Open.upper c.in-Open.tickets c.in-Open.by_worker
-    (rw c.in-Open.is at search) (rw (c.latency-in-Open.ensures.value, c.tick-tick.ensures.value) at c.in_ok-open_text-in-Open.ensures))
+    (rw c.in-Open.is at search.0) (rw (c.latency-in-Open.ensures.value, search.1) at c.in_ok-open_text-in-Open.ensures))

@@ -6,6 +6,6 @@ use Rattle.convoy_commands.proofs.with_ceiling.explain_with_ceiling.Goals as goa
 
 pub returns-in-Err : goal.returns-in-Err
 returns-in-Err c =
-    refused_as_asked c.args.limit Explain ExplainWithCeilingSays c.args.text.now c.in-Err.fault _ as_explained c.answer_to_fault.ensures
-    (refused_within c.texts_are_read.ensures c.checked_is_valid.ensures c.args.limit Explain c.args.text.now c.in-Err.fault _
+    refused_as_asked c.args.limit (Explain c.args.unit) (ExplainWithCeilingSays c.args.unit) c.args.text.now c.in-Err.fault _ (as_explained c.args.unit) c.answer_to_fault.ensures
+    (refused_within c.texts_are_read.ensures c.checked_is_valid.ensures c.args.limit (Explain c.args.unit) c.args.text.now c.in-Err.fault _
     c.in-Err.ensures.exact c.answer_to_fault.ensures)

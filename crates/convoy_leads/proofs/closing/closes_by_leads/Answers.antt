@@ -1,13 +1,13 @@
 use Rattle.std.proofs.Common.{◌≡◌, IsTrue, subst, ◌∙◌}
-use Rattle.convoy_intervals.specs.Tracked.{Tracked}
-use Rattle.convoy_leads.specs.Closing.{closes_by_leads}
+use Rattle.convoy_leads.specs.Closing.{Tested, closes_by_leads, closes_over}
 use Rattle.convoy_leads.specs.Openings.{is_closed}
 use Rattle.convoy_leads.proofs.closing.closes_by_leads.Goals as goal
 
 pub returns-clause-value : goal.returns-clause-value
+unfolding closes_by_leads
 returns-clause-value c =
     c.is_closed.ensures
-    ∙ subst (λ (t : Tracked). is_closed c.in_ok-shown.shown ≡ closes_by_leads t.scenario t.delay_box c.args.latency) c.in_ok-test.ensures c.in_ok-shown.ensures.closed
+    ∙ subst (λ (t : Tested). is_closed c.in_ok-shown.shown ≡ closes_over t.scenario t.windows c.args.latency) c.in_ok-test.ensures c.in_ok-shown.ensures.closed
 
 pub returns-clause-holds : goal.returns-clause-holds
 returns-clause-holds c told schedule member order =

@@ -1,6 +1,17 @@
-use Rattle.convoy_survey.proofs.KnownMessages.{messages_known}
+use Rattle.std.proofs.Common.{inl, refl}
 use Rattle.convoy_survey.proofs.answering.survey_answer.Goals as goal
 
-pub survey_text-requires : goal.survey_text-requires
-survey_text-requires g c =
-    rw c.deref.ensures.value (messages_known c.in_ok-scenario.field-0.scenario c.in_ok-rows.rows.items c.in_ok-rows.ensures.targets)
+pub returns : goal.returns
+returns g c =
+    inl
+    (record {
+      scenario = c.in_ok-input.input.scenario;
+      rows = c.in_ok-rows.rows.items;
+      read = c.in_ok-input.ensures.read;
+      lawful = c.message_count-count.ensures.lawful;
+      surveyed = c.in_ok-rows.ensures;
+      written =
+          rw (c.about.ensures.text, c.in_ok-text.ensures, c.deref.ensures.value, c.of-times.ensures, c.of.ensures, c.unit.ensures, c.in_ok-input.ensures.unit)
+          refl;
+      ends = rw (c.about.ensures.done, c.end_of.ensures, c.deref-2.ensures.value) refl;
+    })

@@ -8,5 +8,5 @@ returns-in_ok-differs_line-in-Some c text accepted =
 
 pub returns-in_ok-accepted_text-in-None : goal.returns-in_ok-accepted_text-in-None
 returns-in_ok-accepted_text-in-None c text accepted =
-    yes_about _ c.args.tells text c.args.line.items _ c.args.certificate.now
+    yes_about _ c.args.tells c.args.unit text c.args.line.items _ c.args.certificate.now
     accepted (rw c.scenario.ensures at c.in-None.ensures) c.in_ok-accepted_text-in-None.ensures

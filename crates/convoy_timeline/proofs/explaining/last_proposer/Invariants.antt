@@ -1,5 +1,6 @@
 use Rattle.std.proofs.Common.{◌≡◌, ◌==◌, find, drop}
-use Rattle.convoy_timeline.specs.ExplanationWords.{committed_told, propose_told}
+use Rattle.convoy_timeline.specs.ExplanationWords.{propose_told}
+use Rattle.convoy_timeline.specs.RunWords.{committed_told}
 use Rattle.convoy_timeline.proofs.explaining.last_proposer.Given as goal
 
 -- the first of those that are left is the first of all

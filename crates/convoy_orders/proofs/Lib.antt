@@ -1,0 +1,20 @@
+pub mod Lists
+pub mod Renumbering
+pub mod SameParts
+pub mod Used
+pub mod Backwards
+pub mod SameTimes
+pub mod StampTimes
+pub mod Later
+pub mod Composed
+pub mod Orders
+pub mod SameOrder
+pub mod Targets
+pub mod Ceilings
+pub mod Narrower
+pub mod RelistedNames
+pub mod Relisted
+pub mod RelistedRules
+pub mod RelistedOrders
+pub mod NarrowerDrafts
+mod Rows

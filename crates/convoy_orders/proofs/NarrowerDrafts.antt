@@ -1,0 +1,45 @@
+-- One draft with two choices of links: where each link is no wider, no range is.
+use Rattle.std.proofs.Common.{◌≡◌, ℕ, ◌≤◌, ◌==◌, ◌&&◌, List, [], ◌∷◌, map, Option, inl, inr, sym, ap₂, subst, subst₂, arith}
+use Rattle.std.specs.List.{AllZip, find}
+use Rattle.std.proofs.lemmas.Bool.{cases_Bool}
+use Rattle.convoy_draft.specs.Draft.{DraftLink}
+use Rattle.convoy_scenario.specs.declared.sender.Sender.{Sender}
+use Rattle.convoy_scenario.specs.Scenario.{Scenario, is_same_sender}
+use Rattle.convoy_scenario.specs.ScenarioLaws.{OrderKeepsRanges}
+use Rattle.convoy_scenario.specs.Numbering.{delay_of_draft, in_order, link_of, links_of_draft, place, scenario_of, sender_of}
+use Rattle.convoy_scenario.proofs.KeptRanges.{leads, range_found}
+use Rattle.convoy_orders.specs.GreatestAt.{IsUpperAt}
+use Rattle.convoy_orders.specs.NarrowerDrafts.{IsNarrowerLink, NarrowerLinksAreNoSlower, relinked}
+use Rattle.convoy_orders.specs.NarrowerRanges.{AreNarrowerRanges, IsWithinRange, NarrowerIsNoSlower}
+use Rattle.convoy_orders.proofs.Relisted.{is_given}
+
+module _ (groups : List (List ℕ)) (sender : Sender) (to : ℕ) where
+  leads_alike : (link narrow : DraftLink) → IsNarrowerLink link narrow → leads sender to (link_of groups narrow) ≡ leads sender to (link_of groups link)
+  leads_alike link narrow is =
+      ap₂ (λ (from : Option (List ℕ)) (name : List ℕ). is_same_sender sender (sender_of groups from) && (to == place name groups)) is.sender is.to
+
+  found_within : (delay less : ℕ) (links narrow : List DraftLink) → less ≤ delay → AllZip IsNarrowerLink links narrow
+      → IsWithinRange (range_found less (find (leads sender to) (map (link_of groups) narrow))) (range_found delay (find (leads sender to) (map (link_of groups) links)))
+  found_within delay less [] [] low all = (omega arith, low)
+  found_within delay less [] (n ∷ ns) low all = absurd all
+  found_within delay less (link ∷ links) [] low all = absurd all
+  found_within delay less (link ∷ links) (n ∷ ns) low all =
+      let same = leads_alike link n all.0 in
+      elim (cases_Bool (leads sender to (link_of groups link))) [
+        | inl here ↦ rw (same, here) all.0.range
+        | inr elsewhere ↦ rw (same, elsewhere) (found_within delay less links ns low all.1)
+      ]
+
+pub links_no_slower : OrderKeepsRanges → NarrowerIsNoSlower → NarrowerLinksAreNoSlower
+links_no_slower kept slower draft delay links plan narrow m g latency is too low all upper =
+    let mine = is_given kept draft plan is in
+    let its = is_given kept (relinked delay links draft) narrow too in
+    let less : delay_of_draft (relinked delay links draft) ≤ delay_of_draft draft =
+    subst₂ (λ (s t : Scenario). s.delay ≤ t.delay) (sym its.made) (sym mine.made) low in
+    let narrower : AreNarrowerRanges (delay_of_draft (relinked delay links draft)) (in_order (delay_of_draft (relinked delay links draft)) (links_of_draft (relinked delay links draft))) (scenario_of draft) =
+    λ sender to.
+    subst₂ IsWithinRange (sym (its.kept sender to)) (sym (mine.kept sender to))
+    (found_within draft.groups sender to (delay_of_draft draft) (delay_of_draft (relinked delay links draft)) draft.links links less all) in
+    subst (λ (s : Scenario). IsUpperAt s m g latency) its.made
+    (slower (scenario_of draft) (delay_of_draft (relinked delay links draft)) (in_order (delay_of_draft (relinked delay links draft)) (links_of_draft (relinked delay links draft))) m g latency
+    narrower (subst (λ (s : Scenario). IsUpperAt s m g latency) (sym mine.made) upper))

@@ -1,0 +1,133 @@
+-- A draft and the same draft with its groups listed in another order give scenarios that are one but for the numbers of the groups.
+use Rattle.std.proofs.Common.{◌≡◌, ℕ, ◌<◌, ◌==◌, ◌&&◌, Bool, true, List, [], ◌∷◌, length, get_or, map, Ok, inl, inr, refl, sym, ap, ap₂, subst₂, ◌∙◌, arith}
+use Rattle.std.specs.List.{find, list_all}
+use Rattle.std.specs.Result.{result_and}
+use Rattle.std.proofs.lemmas.Bool.{cases_Bool, cases_lt, and_parts}
+use Rattle.std.proofs.lemmas.List.{length-map, get_or-map, get_or_past}
+use Rattle.std.proofs.lemmas.List.Sorted.{IsPermutation-sym, length_permutation}
+use Rattle.std.proofs.lemmas.List.Sums.{AllPass-from_list_all}
+use Rattle.convoy_draft.specs.Draft.{Draft, DraftLink, DraftMessage}
+use Rattle.convoy_draft.specs.Checks.{checks, is_among, is_known_sender, judge, knows, knows_link}
+use Rattle.convoy_scenario.specs.declared.sender.Sender.{Sender}
+use Rattle.convoy_scenario.specs.Scenario.{Scenario, is_same_sender, message_at, no_message, range_between}
+use Rattle.convoy_scenario.specs.ScenarioLaws.{OrderKeepsRanges}
+use Rattle.convoy_scenario.specs.Numbering.{delay_of_draft, link_of, links_of_draft, message_of, place, scenario_of, scenario_of_draft}
+use Rattle.convoy_scenario.proofs.GivenScenarios.{passed}
+use Rattle.convoy_scenario.proofs.KeptRanges.{leads, range_found}
+use Rattle.convoy_scenario.proofs.NumberedLemmas.{Passes, groups_distinct, nothing, passes}
+use Rattle.convoy_orders.specs.Renumbered.{IsRenumbered, IsRenumberedMessage, renumbered_sender}
+use Rattle.convoy_orders.specs.Relisted.{number_in, relisted, RelistedDraftsAreRenumbered}
+use Rattle.convoy_orders.proofs.Renumbering.{same_number, same_sender}
+use Rattle.convoy_orders.proofs.RelistedNames.{addressed_renumbered, all_among, number_back, number_of_name, sender_renumbered}
+
+-- the ranges of a draft are those of its links as they are written
+abbrev AreRangesOf : Draft → Type 0
+AreRangesOf draft =
+    (sender : Sender) (to : ℕ) → range_between (scenario_of draft) sender to ≡ range_found (delay_of_draft draft) (find (leads sender to) (links_of_draft draft))
+
+module _ (draft : Draft) (names : List (List ℕ)) (long : length names ≡ length draft.groups)
+    (all : (g : ℕ) → g < length draft.groups → is_among (get_or draft.groups g []) names ≡ true) (is : Passes draft) (too : Passes (relisted names draft))
+    (kept : AreRangesOf draft) (kept_too : AreRangesOf (relisted names draft)) where
+  abbrev plan : Scenario
+  plan = scenario_of draft
+
+  abbrev other : Scenario
+  other = scenario_of (relisted names draft)
+
+  abbrev renumber : ℕ → ℕ
+  renumber = number_in names draft.groups
+
+  abbrev back : ℕ → ℕ
+  back = number_in draft.groups names
+
+  again : (g : ℕ) → back (renumber g) ≡ g
+  again = number_back draft.groups names long all (groups_distinct draft.groups is.groups_differ)
+
+  -- ---- messages
+  message_too : (message : DraftMessage) → knows draft.groups message ≡ true → IsRenumberedMessage renumber (message_of draft.groups message) (message_of names message)
+  message_too message known = record {
+    sender = sender_renumbered draft.groups names long all message.sender (and_parts (is_known_sender draft.groups message.sender) (list_all (λ name. is_among name draft.groups) message.to) known).0;
+    destinations = addressed_renumbered draft.groups names long all message.to;
+    at = refl;
+    wait = refl;
+  }
+
+  messages_too : (m : ℕ) → IsRenumberedMessage renumber (message_at plan m) (message_at other m)
+  messages_too m = elim (cases_lt m (length draft.messages)) [
+    | inl l ↦
+        subst₂ (IsRenumberedMessage renumber)
+        (sym (get_or-map (message_of draft.groups) draft.messages m nothing no_message l)) (sym (get_or-map (message_of names) draft.messages m nothing no_message l))
+        (message_too (get_or draft.messages m nothing) (AllPass-from_list_all (knows draft.groups) draft.messages is.known m nothing l))
+    | inr l ↦
+        let few = length-map draft.messages (message_of draft.groups) in
+        let few_too = length-map draft.messages (message_of names) in
+        subst₂ (IsRenumberedMessage renumber)
+        (sym (get_or_past (map (message_of draft.groups) draft.messages) m no_message (omega arith))) (sym (get_or_past (map (message_of names) draft.messages) m no_message (omega arith)))
+        (record { sender = refl; destinations = λ g. refl; at = refl; wait = refl })
+  ]
+
+  -- ---- links
+  leads_too : (sender : Sender) (to : ℕ) (link : DraftLink) → knows_link draft.groups link ≡ true
+      → leads (renumbered_sender renumber sender) (renumber to) (link_of names link) ≡ leads sender to (link_of draft.groups link)
+  leads_too sender to link known =
+      let k = and_parts (is_known_sender draft.groups link.sender) (is_among link.to draft.groups) known in
+      ap₂ (λ (a b : Bool). a && b)
+      (ap (is_same_sender (renumbered_sender renumber sender)) (sender_renumbered draft.groups names long all link.sender k.0)
+      ∙ same_sender renumber back again sender (link_of draft.groups link).sender)
+      (ap (λ n. renumber to == n) (number_of_name draft.groups names long all link.to k.1) ∙ same_number renumber back again to (place link.to draft.groups))
+
+  found_too : (sender : Sender) (to delay : ℕ) (links : List DraftLink) → list_all (knows_link draft.groups) links ≡ true
+      → range_found delay (find (leads (renumbered_sender renumber sender) (renumber to)) (map (link_of names) links)) ≡ range_found delay (find (leads sender to) (map (link_of draft.groups) links))
+  found_too sender to delay [] known = refl
+  found_too sender to delay (link ∷ links) known =
+      let k = and_parts (knows_link draft.groups link) (list_all (knows_link draft.groups) links) known in
+      let rest = found_too sender to delay links k.1 in
+      let same = leads_too sender to link k.0 in
+      elim (cases_Bool (leads sender to (link_of draft.groups link))) [
+        | inl there ↦ rw (same, there) refl
+        | inr elsewhere ↦ rw (same, elsewhere) rest
+      ]
+
+  range_too : (sender : Sender) (to : ℕ) → range_between other (renumbered_sender renumber sender) (renumber to) ≡ range_between plan sender to
+  range_too sender to =
+      kept_too (renumbered_sender renumber sender) (renumber to)
+      ∙ found_too sender to (delay_of_draft draft) draft.links is.ends
+      ∙ sym (kept sender to)
+
+  module _ (no_others : (g : ℕ) → g < length names → is_among (get_or names g []) draft.groups ≡ true) where
+    pub renumbered_too : IsRenumbered renumber back plan other
+    renumbered_too = record {
+      back_again = again;
+      there_again = number_back names draft.groups (sym long) no_others (groups_distinct names too.groups_differ);
+      time = refl;
+      message_count = length-map draft.messages (message_of names) ∙ sym (length-map draft.messages (message_of draft.groups));
+      messages = messages_too;
+      ranges = range_too;
+      target_message = refl;
+      target_group = number_of_name draft.groups names long all draft.target_group is.target_group;
+    }
+
+-- a draft that gives a scenario gives the one that it is with numbers, and keeps the rules
+pub record IsGiven (draft : Draft) (plan : Scenario) : Type 0 where
+  pub rules : judge (checks draft) ≡ Ok tt
+  pub passes : Passes draft
+  pub made : scenario_of draft ≡ plan
+  pub kept : AreRangesOf draft
+
+pub is_given : OrderKeepsRanges → (draft : Draft) (plan : Scenario) → scenario_of_draft draft ≡ Ok plan → IsGiven draft plan
+is_given kept draft plan is =
+    let p = passed (judge (checks draft)) (scenario_of draft) plan is in
+    record {
+      rules = p.0;
+      passes = passes draft p.0;
+      made = p.1;
+      kept = λ sender to. kept draft (scenario_of draft) sender to (ap (λ r. result_and r (Ok (scenario_of draft))) p.0);
+    }
+
+pub drafts_renumbered : OrderKeepsRanges → RelistedDraftsAreRenumbered
+drafts_renumbered kept draft names plan other of =
+    let mine = is_given kept draft plan of.is in
+    let its = is_given kept (relisted names draft) other of.other_is in
+    subst₂ (IsRenumbered (number_in names draft.groups) (number_in draft.groups names)) mine.made its.made
+    (renumbered_too draft names (length_permutation draft.groups names of.same) (λ g l. all_among names draft.groups (IsPermutation-sym draft.groups names of.same) g [] l)
+    mine.passes its.passes mine.kept its.kept (λ g l. all_among draft.groups names of.same g [] l))

@@ -1,0 +1,15 @@
+use Rattle.std.proofs.Common.{Vec, ℕ, inl, ap, ◌∙◌}
+use Rattle.std.specs.declared.alloc.Global.{Global}
+use Rattle.convoy_what_if.proofs.Told.{told}
+use Rattle.convoy_what_if.proofs.answering.what_if_answer.Goals as goal
+
+pub returns : goal.returns
+returns g c =
+    inl
+    (told c.args.format c.args.shows_all c.args.options.now c.args.text.now _ _
+    c.in_ok-input.input.scenario c.in_ok-instance.instance c.into_scenario-scenario.result
+    c.in_ok-rows.rows.items c.deref.result.now c.deref-2.result.now
+    c.unit.result c.in_ok-input.input.unit c.of-2.result c.of-times.result
+    c.in_ok-input.ensures.read c.in_ok-instance.ensures c.into_scenario-scenario.ensures.value c.into_scenario-scenario.ensures.lawful c.in_ok-rows.ensures.tried
+    c.deref.ensures.value c.deref-2.ensures.value c.unit.ensures c.in_ok-input.ensures.unit c.of-2.ensures c.of-times.ensures
+    (ap (λ (bytes : Vec ℕ Global). bytes.items) c.about_greatest.ensures.text ∙ c.in_ok-text.ensures) (c.about_greatest.ensures.done ∙ c.end_of-done.ensures))
