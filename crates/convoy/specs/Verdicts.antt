@@ -5,10 +5,11 @@ use Rattle.convoy_streams.specs.Devices.{Answer, HasRun}
 use Rattle.convoy_streams.specs.Writes.{WritesAll, FailsWithin}
 use Rattle.convoy_scenario.specs.Scenario.{Scenario}
 use Rattle.convoy_commands.specs.declared.done.Done.{Done}
-use Rattle.convoy_commands.specs.declared.done.Done.TheVariants.{Fine, Open, Faulty, Refused, Differs, NotChecked}
+use Rattle.convoy_commands.specs.declared.done.Done.TheVariants.{Fine, Open, Beyond, Faulty, Refused, Differs, NotChecked}
 use Rattle.convoy_commands.specs.declared.fault.Fault.{Fault}
 use Rattle.convoy_commands.specs.declared.fault.Fault.TheVariants as faults
 use Rattle.convoy_commands.specs.Faults.{fault_line_of}
+use Rattle.convoy_commands.specs.Searches.{LatencySays}
 use Rattle.convoy_tasks.specs.Batches.{IsBatchRun}
 use Rattle.convoy_tasks.specs.declared.task.Task.{Task}
 use Rattle.convoy_tasks.specs.declared.task.Task.TheVariants.{BatchTable}
@@ -25,6 +26,7 @@ use Rattle.convoy.specs.declared.ending.End.{End}
 abbrev pub status_of_done : Done → ℕ
 status_of_done Fine = 0
 status_of_done Open = 3
+status_of_done Beyond = 5
 status_of_done Faulty = 1
 status_of_done (Refused refusal) = 4
 status_of_done (Differs part) = 4
@@ -37,13 +39,13 @@ status_told false done = 0
 
 -- that for a task
 abbrev pub status_of_task : Task → Done → ℕ
-status_of_task (BatchTable format options tells_status) done = status_told tells_status done
+status_of_task (BatchTable format asked options tells_status) done = status_told tells_status done
 status_of_task other done = status_of_done done
 
 -- THE EXIT STATUS of a run that had no fault: that for how its task ended, or that of the text that was written
 abbrev pub status_of : Verdict → Done → ℕ
 status_of (Ask task inputs manner) done = status_of_task task done
-status_of (Batch options tells_status input manner) done = status_told tells_status done
+status_of (Batch asked options tells_status input manner) done = status_told tells_status done
 status_of (Text text status is_quiet) done = status
 status_of Memory done = 1
 
@@ -74,8 +76,8 @@ abbrev pub Obeys : {S K : Type 0} → (S → Answer → S → Type 0) → (K →
     S → S → S → S → K → K → Result Done Fault → Type 0
 Obeys may_read may_write (Ask task inputs manner) source new_source other new_other sink new_sink result =
     Performs may_read may_write task inputs.wanted source new_source other new_other sink new_sink result
-Obeys may_read may_write (Batch options tells_status input manner) source new_source other new_other sink new_sink result =
-    (new_other ≡ other) × IsBatchRun options MOST_READS may_read may_write source new_source sink new_sink result
+Obeys may_read may_write (Batch asked options tells_status input manner) source new_source other new_other sink new_sink result =
+    (new_other ≡ other) × IsBatchRun (LatencySays asked options) MOST_READS may_read may_write source new_source sink new_sink result
 Obeys may_read may_write (Text text status is_quiet) source new_source other new_other sink new_sink result =
     (new_source ≡ source)
     × (new_other ≡ other)

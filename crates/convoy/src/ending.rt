@@ -62,6 +62,7 @@ fn status_of_done(done: Done) -> u8
     match done {
         Done::Fine => FINE,
         Done::Open => OPEN,
+        Done::Beyond => BEYOND,
         Done::Faulty => FAULT,
         Done::Refused(_) | Done::Differs(_) => REFUSED,
         Done::NotChecked => NOT_CHECKED,
@@ -74,11 +75,15 @@ const FINE: u8 = 0;
 /// The status of a run that ended with a fault, or of which a job has one.
 pub const FAULT: u8 = 1;
 
-/// The status of a search that did not end within its limits, or of traffic that does not attain a ceiling.
+/// The status of a search that did not end within its limits, of traffic that does not attain a ceiling, or of a deadline
+/// of which it is not known whether it is kept.
 const OPEN: u8 = 3;
 
 /// The status of a certificate that is refused, or is of another scenario than the one that is wanted.
 const REFUSED: u8 = 4;
+
+/// The status of a deadline that is not kept.
+const BEYOND: u8 = 5;
 
 /// The status of a certificate that is not checked, since that takes more steps than may be taken.
 const NOT_CHECKED: u8 = 6;

@@ -13,12 +13,14 @@ use convoy_hints::{
     CheckedText, Hint, hint_for_batch, hint_for_both, hint_for_ceiling, hint_for_certificate,
     hint_for_changes, hint_for_difference, hint_for_file_as_group, hint_for_first,
     hint_for_given_order, hint_for_given_schedule, hint_for_greatest, hint_for_jobs,
-    hint_for_leads, hint_for_length, hint_for_limit, hint_for_named_group, hint_for_order_in_ticks,
-    hint_for_plain_number, hint_for_reading, hint_for_scenario, hint_for_seconds, hint_for_tickets,
-    hint_for_unchecked, hint_for_writing, hint_of_text, is_name_of_file, line_for_file,
+    hint_for_late_certificate, hint_for_late_message, hint_for_leads, hint_for_length,
+    hint_for_limit, hint_for_named_group, hint_for_order_in_ticks, hint_for_plain_number,
+    hint_for_reading, hint_for_scenario, hint_for_seconds, hint_for_tickets, hint_for_unchecked,
+    hint_for_writing, hint_of_text, is_name_of_file, line_for_file,
 };
 use convoy_streams::KeptReader;
 use convoy_tasks::{MOST_JOBS, Task};
+use convoy_toml::Asked;
 use std::alloc::{AllocError, Global};
 use std::io::{Error, Write};
 
@@ -81,13 +83,14 @@ pub fn greeting(alloc: Global, verdict: &Verdict) -> Result<Option<String>, Allo
 /// What a task reads, in words.
 fn text_of(task: &Task) -> &'static str {
     match task {
-        Task::First
+        Task::First { .. }
         | Task::Ceiling { .. }
         | Task::Ceilings { .. }
         | Task::Analyse { .. }
         | Task::Latency { .. }
         | Task::Survey { .. }
-        | Task::WhatIf { .. } => "a scenario",
+        | Task::WhatIf { .. }
+        | Task::Budget { .. } => "a scenario",
         Task::Check { .. } | Task::Explain { .. } | Task::Draw { .. } => "a certificate",
         Task::Tell(_) => "a scenario or a certificate",
         Task::BatchTable { .. } => "scenarios",
@@ -174,7 +177,7 @@ fn hint_for_end<R, W>(alloc: Global, run: &Finished<'_, R, W>, end: &End) -> Hin
             _ => Ok(None),
         },
         Done::Open if !is_batch(run.verdict) => hint_for_open(alloc, run),
-        Done::Fine | Done::Open | Done::Faulty => hint_for_answer(alloc, run, &end.known),
+        Done::Fine | Done::Open | Done::Beyond | Done::Faulty => hint_for_answer(alloc, run, end),
     }
 }
 
@@ -187,7 +190,8 @@ fn hint_for_fault<R, W>(alloc: Global, run: &Finished<'_, R, W>, fault: &Fault) 
     };
     match fault {
         Fault::Scenario(fault) if reader.is_whole() => {
-            hint_for_scenario_or_group(alloc, run.verdict, reader.text(), *fault)
+            let asked = asked_of_input(run);
+            hint_for_scenario_or_group(alloc, run.verdict, reader.text(), asked, *fault)
         }
         Fault::Schedule(fault) if reader.is_whole() => {
             hint_for_given_schedule(alloc, reader.text(), *fault)
@@ -216,21 +220,59 @@ fn hint_for_fault<R, W>(alloc: Global, run: &Finished<'_, R, W>, fault: &Fault) 
     }
 }
 
+/// What the command line asks of the text that was read last, beside what that says; None where it asks nothing.
+fn asked_of_input<'a, R, W>(run: &Finished<'a, R, W>) -> Option<&'a Asked> {
+    if is_of_scenario(run) {
+        None
+    } else {
+        asked_of(run.verdict)
+    }
+}
+
+/// What the command line asks of its text beside what that says; None where it asks nothing.
+fn asked_of(verdict: &Verdict) -> Option<&Asked> {
+    match verdict {
+        Verdict::Batch { asked, .. } => Some(asked),
+        verdict => asked_of_task(task_of(verdict)?),
+    }
+}
+
+/// What a task asks of a scenario beside its text.
+fn asked_of_task(task: &Task) -> Option<&Asked> {
+    match task {
+        Task::First { asked }
+        | Task::Ceiling { asked, .. }
+        | Task::Ceilings { asked, .. }
+        | Task::Analyse { asked, .. }
+        | Task::Latency { asked, .. }
+        | Task::Survey { asked, .. }
+        | Task::WhatIf { asked, .. }
+        | Task::Budget { asked, .. }
+        | Task::BatchTable { asked, .. } => Some(asked),
+        Task::Tell(_) | Task::Check { .. } | Task::Explain { .. } | Task::Draw { .. } => None,
+    }
+}
+
 /// The hint for a fault of a scenario. A group that is unknown is the one that the command line names, where the
 /// text is that of a scenario without it; and where that is the name of a file, no scenario was given.
 fn hint_for_scenario_or_group(
     alloc: Global,
     verdict: &Verdict,
     text: &[u8],
+    asked: Option<&Asked>,
     fault: ScenarioFault,
 ) -> Hint {
     let hint = match group_of(verdict) {
         Some(group) => hint_for_named_group(alloc, text, group, fault)?,
         None => None,
     };
-    match hint {
-        Some(hint) => Ok(Some(hint)),
-        None => hint_for_scenario(alloc, text, fault),
+    match (hint, asked) {
+        (Some(hint), _) => Ok(Some(hint)),
+        (None, Some(asked)) => hint_for_scenario(alloc, text, asked, fault),
+        (None, None) => {
+            let asked = Asked::as_written();
+            hint_for_scenario(alloc, text, &asked, fault)
+        }
     }
 }
 
@@ -324,10 +366,11 @@ fn traffic_sought(verdict: &Verdict) -> Option<u64> {
 /// The options of the search, or of the searches, that the command line asks for.
 fn options_of(verdict: &Verdict) -> Option<&Options> {
     match task_of(verdict)? {
-        Task::Analyse { options }
+        Task::Analyse { options, .. }
         | Task::Latency { options, .. }
         | Task::Survey { options, .. }
-        | Task::WhatIf { options, .. } => Some(options),
+        | Task::WhatIf { options, .. }
+        | Task::Budget { options, .. } => Some(options),
         _ => None,
     }
 }
@@ -371,13 +414,13 @@ fn names_bounds(verdict: &Verdict) -> bool {
 
 /// The hints for a run that gave its answer: that for its kind, and what a plain number among durations of its scenario
 /// was taken for.
-fn hint_for_answer<R, W>(alloc: Global, run: &Finished<'_, R, W>, known: &Option<Known>) -> Hint {
+fn hint_for_answer<R, W>(alloc: Global, run: &Finished<'_, R, W>, end: &End) -> Hint {
     let reader = run.reader;
     if is_batch(run.verdict) {
-        return hint_for_batch(alloc, reader.text(), reader.is_whole(), LONGEST_JOB);
+        return hint_for_jobs_of(alloc, run);
     }
-    let hint = hint_for_kind_of_answer(alloc, run.verdict, known)?;
-    let more = match known {
+    let hint = hint_for_kind_of_answer(alloc, run.verdict, end)?;
+    let more = match &end.known {
         Some(
             Known {
                 scenario,
@@ -393,17 +436,43 @@ fn hint_for_answer<R, W>(alloc: Global, run: &Finished<'_, R, W>, known: &Option
     }
 }
 
-/// The hint for the kind of answer: without a command word the answer is that of one schedule, and a greatest latency
-/// may be the ceiling.
-fn hint_for_kind_of_answer(alloc: Global, verdict: &Verdict, known: &Option<Known>) -> Hint {
-    match verdict {
-        Verdict::Ask {
-            task: Task::First,
-            manner,
-            ..
-        } if !manner.names_command => Ok(Some(hint_for_first(alloc)?)),
-        Verdict::Ask { task, .. } => hint_for_task(alloc, task, known),
-        Verdict::Batch { .. } | Verdict::Text { .. } | Verdict::Memory => Ok(None),
+/// The hints for the jobs of a batch.
+fn hint_for_jobs_of<R, W>(alloc: Global, run: &Finished<'_, R, W>) -> Hint {
+    let (text, is_whole) = (run.reader.text(), run.reader.is_whole());
+    match asked_of(run.verdict) {
+        Some(asked) => hint_for_batch(alloc, text, asked, is_whole, LONGEST_JOB),
+        None => Ok(None),
+    }
+}
+
+/// The hint for the kind of answer: without a command word the answer is that of one schedule, a deadline may not be
+/// kept, and a greatest latency may be the ceiling.
+fn hint_for_kind_of_answer(alloc: Global, verdict: &Verdict, end: &End) -> Hint {
+    match (verdict, end.done) {
+        (
+            Verdict::Ask {
+                task: Task::First { .. },
+                manner,
+                ..
+            },
+            _,
+        ) if !manner.names_command => Ok(Some(hint_for_first(alloc)?)),
+        (
+            Verdict::Ask {
+                task: Task::Latency { .. },
+                ..
+            },
+            Done::Beyond,
+        ) => hint_for_late_message(alloc).map(Some),
+        (
+            Verdict::Ask {
+                task: Task::Analyse { .. },
+                ..
+            },
+            Done::Beyond,
+        ) => hint_for_late_certificate(alloc).map(Some),
+        (Verdict::Ask { task, .. }, _) => hint_for_task(alloc, task, &end.known),
+        (Verdict::Batch { .. } | Verdict::Text { .. } | Verdict::Memory, _) => Ok(None),
     }
 }
 

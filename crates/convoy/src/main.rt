@@ -5,6 +5,7 @@
 ghost use Rattle.std.specs.Prelude.{◌≡◌};
 ghost use Rattle.convoy_arguments.specs.Verdicts.{IsVerdict};
 ghost use Rattle.convoy_arguments.specs.declared.limits.TheConstants.{MOST_READS};
+ghost use Rattle.convoy_commands.specs.Searches.{LatencySays};
 ghost use Rattle.convoy_tasks.specs.Batches.{IsBatchRun};
 ghost use Rattle.convoy_tasks.specs.Runs.{IsRun, done_of};
 ghost use Rattle.convoy_tasks.specs.Tasks.{longest_for, task_says};
@@ -21,6 +22,7 @@ use convoy_commands::{Done, Fault, Options, Watch, fault_line};
 use convoy_scenario::Scenario;
 use convoy_streams::{DeviceFailed, Sink, Source, StreamSink, hold_closed, write_all};
 use convoy_tasks::{Ended, Task, read_scenario, run_batch, run_task};
+use convoy_toml::Asked;
 use ending::{End, FAULT, status_of};
 use hinting::{Finished, greeting, reads_standard, tell_ended, write_line};
 use kept::KeptWriter;
@@ -105,8 +107,8 @@ fn obey<R: Threads + Wait + Sync, S: Source, K: Sink, W: Watch + Sync>(
         Verdict::Ask { task, inputs, .. } => {
             perform(rt, alloc, task, inputs, source, other, sink, watch)
         }
-        Verdict::Batch { options, .. } => Ok(End::of(answer_batch(
-            rt, alloc, options, source, sink, watch,
+        Verdict::Batch { asked, options, .. } => Ok(End::of(answer_batch(
+            rt, alloc, asked, options, source, sink, watch,
         )?)),
         Verdict::Text { text, .. } => match write_all(sink, text.as_bytes()) {
             Ok(()) => Ok(End::of(Done::Fine)),
@@ -183,20 +185,21 @@ fn run_for<R: Threads + Wait + Sync, S: Source, K: Sink, W: Watch + Sync>(
     }
 }
 
-/// Answers a batch, block by block.
+/// Answers a batch, block by block, where this is asked of each text.
 #[inline(never)]
 fn answer_batch<R: Threads + Wait + Sync, S: Source, K: Sink, W: Watch + Sync>(
     rt: &R,
     alloc: Global,
+    asked: &Asked,
     options: &Options,
     source: &mut S,
     sink: &mut K,
     watch: &W,
 ) -> Result<Done, Fault>
     requires { options.now.most_reads ≡ MOST_READS }
-    ensures { IsBatchRun options.now MOST_READS S.reads K.writes source.old source.new sink.old sink.new result }
+    ensures { IsBatchRun (LatencySays asked.now options.now) MOST_READS S.reads K.writes source.old source.new sink.old sink.new result }
 {
-    run_batch(rt, alloc, source, sink, options, watch)
+    run_batch(rt, alloc, asked, source, sink, options, watch)
 }
 
 /// Writes the line of a fault. Where memory runs out or the write fails, nothing more is written.

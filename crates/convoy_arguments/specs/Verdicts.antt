@@ -13,7 +13,7 @@ use Rattle.convoy_arguments.specs.Texts.{are_shown}
 -- rejected, and no character that a terminal would obey; or for want of memory.
 abbrev pub EndsAtOnce : Verdict → Type 0
 EndsAtOnce (Ask task inputs manner) = ⊥
-EndsAtOnce (Batch options tells_status input manner) = ⊥
+EndsAtOnce (Batch asked options tells_status input manner) = ⊥
 EndsAtOnce (Text text status is_quiet) = ((status ≡ 0) ⊎ (status ≡ 2)) × IsTrue (are_shown (string_bytes text))
 EndsAtOnce Memory = Unit {0}
 
@@ -25,14 +25,14 @@ WantsOnlyIfChecks task wanted = wanted ≡ None
 -- a task on its inputs, a batch that may read as often as each task, or an end at once
 abbrev pub IsVerdict : Verdict → Type 0
 IsVerdict (Ask task inputs manner) = WantsOnlyIfChecks task inputs.wanted × AreApart inputs.wanted inputs.text
-IsVerdict (Batch options tells_status input manner) = options.most_reads ≡ MOST_READS
+IsVerdict (Batch asked options tells_status input manner) = options.most_reads ≡ MOST_READS
 IsVerdict (Text text status is_quiet) = EndsAtOnce (Text text status is_quiet)
 IsVerdict Memory = Unit {0}
 
 -- the file that is read, where one is
 abbrev pub file_of : Verdict → Option (List ℕ)
 file_of (Ask task inputs manner) = file_in inputs.text
-file_of (Batch options tells_status input manner) = file_in input
+file_of (Batch asked options tells_status input manner) = file_in input
 file_of (Text text status is_quiet) = None
 file_of Memory = None
 

@@ -9,7 +9,7 @@ use std::fmt;
 
 /// A word with its control characters, and its backslashes, as escapes.
 #[derive(Clone, Copy, Drop)]
-struct Escaped<'a>(&'a str);
+pub(crate) struct Escaped<'a>(pub(crate) &'a str);
 
 impl fmt::Display for Escaped<'_> {
     fn fmt<W: fmt::Write>(&self, f: &mut fmt::Formatter<W>) -> fmt::Result {

@@ -68,8 +68,11 @@ Exit status:
      also where memory ran out for a row, and of `batch --status` one of a scenario
   2  the command line is rejected
   3  a search that did not end within its limits, or a ceiling that was not attained;
-     of `batch` only with `--status`
+     with a deadline, that it is not known whether it is kept; of `batch` only with
+     `--status` or `--at-most`
   4  a certificate that is refused
+  5  a deadline that is not kept: `within` of a message, or `--at-most`; of `batch`
+     only with `--status` or `--at-most`
   6  a certificate that is not checked, since that takes more steps than `--limit`
      allows";
 
@@ -208,7 +211,11 @@ Where the search does not end, it writes two lines, and the exit status is 3:
 ticks, and 'schedule', of a schedule that has the latency LEAST. In real time a
 line 'order' follows, as with `simulate`.
 LEAST is then most likely the greatest latency; MOST is safe to rely on. With none
-of `--limit`, `--bounds` and `--seconds` the search mostly ends.";
+of `--limit`, `--bounds` and `--seconds` the search mostly ends.
+
+Where the target's message has a deadline, by its key `within` or by `--at-most`, the
+exit status tells how that is kept: 0 where it is, 5 where it is not, and 3 where
+neither is known. What is written is the same.";
 
 pub(crate) const ABOUT_LATENCY: &str = "Writes the greatest latency";
 
@@ -224,7 +231,13 @@ Where the search does not end, it writes 'open LEAST MOST', the least and the
 most that the greatest latency may be, both once more in that unit where a tick
 has a length, and the exit status is 3.
 LEAST is then most likely the greatest latency; MOST is safe to rely on. With none
-of `--limit`, `--bounds` and `--seconds` the search mostly ends.";
+of `--limit`, `--bounds` and `--seconds` the search mostly ends.
+
+Where the target's message has a deadline, by its key `within` or by `--at-most`, a
+line below tells how that is kept: 'within by N', where N ticks are left and the exit
+status is 0, 'beyond by N', where at least N are too many and it is 5, or 'undecided',
+where neither is known and it is 3.
+  convoy latency --at-most \"400 ms\" scenario.toml";
 
 pub(crate) const ABOUT_CEILING: &str =
     "Writes a latency that no traffic exceeds, and traffic that attains it";
@@ -241,6 +254,10 @@ traffic, as a scenario with a schedule that has the latency L. So
   convoy ceiling scenario.toml | tail -n +3 > traffic.toml
 makes a scenario that other commands read, as `simulate` and `analyse`. Where L
 is U no number below U is safe, and the exit status is 0; else it is 3.
+
+Where the target's message has a deadline, by its key `within` or by `--at-most`, a
+third line tells whether all such traffic keeps it, as with `latency`, and so does the
+exit status. In tables columns VERDICT and BY do.
 
 With `--all` a table is written instead, with a row for each message at each group
 that it goes to, and with `--group GROUP` for each message that goes to that group,
@@ -277,7 +294,7 @@ begins with 'job K NAME'. It may also stand before the first. A name is one word
 A scenario that is too long, or for which memory runs out, gets that fault as its
 block. Blocks are written as the scenarios come. With `--format` a table is written
 instead, once all is known. The exit status is 0 whatever they say, unless
-`--status` is given.";
+`--status` or `--at-most` is given.";
 
 pub(crate) const ABOUT_SURVEY: &str = "Tells the greatest latency of each message at each group";
 
@@ -308,7 +325,41 @@ unless `--all` is given.
   change   message  from    to  answer    least  most  rival  tied  nodes
   nothing  -        -       -   greatest     12    12  y      x         1
 
-The exit status is 1 where a row is a fault, else 3 where one is open.";
+Where a message has a deadline, by its key `within` or by `--at-most`, VERDICT tells
+how it is kept: 'within', 'beyond' or 'undecided'; and BY by how many ticks.
+
+The exit status is 5 where a row is beyond its deadline, else 1 where one is a fault,
+else 3 where one is open, or where it has a deadline, undecided.";
+
+pub(crate) const ABOUT_BUDGET: &str =
+    "Tells how slow each link may get before a deadline is missed";
+
+pub(crate) const LONG_ABOUT_BUDGET: &str = "\
+Reads a scenario, and tells for each way on which packets travel, the others as they
+are, how much later, and how much earlier, packets may come there before the greatest
+latency of the target misses its deadline, which the key `within` of its message or
+`--at-most` says:
+  convoy budget --at-most \"165 ms\" scenario.toml
+  message  group  from    to  answer  least  most  most_until  left  least_from
+  t        a      client  a   exact       3    25        1625  1600           1
+LEAST and MOST are the range that the way has now, in ticks. MOST_UNTIL is the
+greatest MOST with which the deadline is kept: 'any' where even the greatest that can
+be written does no harm, 'none' where none is small enough. LEFT is how much that is
+more than MOST. LEAST_FROM is the least LEAST with which the deadline is kept. Where a
+tick has a length, times follow. The numbers are exact: with one tick more the
+deadline is missed. Where the search for one did not end, the answer is 'open', and
+with the numbers the deadline is kept all the same.
+
+The exit status is 5 where the deadline is missed already, else 1 where memory ran out
+for a row, else 3 where one is open.";
+
+pub(crate) const ABOUT_ALL_DEADLINES: &str = "\
+Tells the budgets of each message that has a deadline, at each group that it goes to;
+the text need not have a target";
+
+pub(crate) const ABOUT_OF_CEILING: &str = "\
+Lets the ceiling keep the deadline, and not just the greatest latency: then any traffic
+of the scenario's kinds does";
 
 pub(crate) const ABOUT_WITHOUT: &str = "\
 Tells the greatest latency of the target with each change of one thing: another
@@ -375,7 +426,19 @@ Tells on standard error, once a second, how far the search has come. Where that
 is a terminal it is told anyway";
 
 pub(crate) const ABOUT_STATUS: &str = "\
-Tells by the exit status how the scenarios end: 1 where one has a fault, or else 3
-where the answer for one is open, or else 0";
+Tells by the exit status how the scenarios end: 5 where one is beyond its deadline,
+or else 1 where one has a fault, or else 3 where the answer for one is open, or else 0";
+
+pub(crate) const ABOUT_AT_MOST: &str = "\
+The deadline of each message that has no key `within`, in ticks or as '400 ms': the
+exit status is 0 where all are kept, 5 where one is not, and 3 where neither is known";
+
+pub(crate) const ABOUT_BATCH_AT_MOST: &str = "\
+The deadline of each message that has no key `within`, in ticks or as '400 ms'. The
+exit status tells how deadlines are kept, as with `--status`";
+
+pub(crate) const ABOUT_TARGET: &str = "\
+The message and the group of which the latency is asked, as 't@a', in place of those
+of the table [target], which may be missing then";
 
 pub(crate) const ABOUT_QUIET: &str = "Writes no hints to standard error, and no progress";

@@ -1,6 +1,7 @@
 ghost use Rattle.std.specs.Prelude.{◌≡◌, ◌⊎◌, IfOk};
 ghost use Rattle.convoy_arguments.specs.Verdicts.{EndsAtOnce, IsVerdict, WantsOnlyIfChecks};
 
+use super::asking::{Unasked, asked_of};
 use super::escaping::{are_shown, with_escapes};
 use super::input::{Input, Inputs};
 use super::limits::{HELP, REJECTED};
@@ -13,6 +14,7 @@ use clap::error::ErrorKind;
 use clap::{ArgMatches, Error};
 use convoy_commands::Telling;
 use convoy_tasks::Task;
+use convoy_toml::Asked;
 use std::alloc::{AllocError, Global};
 use std::convert::AsStr;
 
@@ -86,6 +88,13 @@ fn told(alloc: Global, text: &str, status: u8, is_quiet: bool) -> Verdict
     }
 }
 
+/// The verdict on words that are rejected with that text.
+fn rejected(alloc: Global, text: &str, is_quiet: bool) -> Verdict
+    ensures { IsVerdict result }
+{
+    told(alloc, text, REJECTED, is_quiet)
+}
+
 /// The command that the words ask for, or a batch. The word `help` asks for what `--help` does. Without a
 /// command word the command is `first`, and before `-` it may be left out, too.
 fn verdict_of<S: AsStr>(alloc: Global, words: &[S]) -> Result<Verdict, Error>
@@ -125,10 +134,12 @@ fn command_of<S: AsStr>(alloc: Global, words: &[S], names_command: bool) -> Resu
     let matches = parser(alloc)?.try_get_matches_from(words)?;
     match matches.subcommand() {
         Some((name, given)) => {
-            asked(alloc, name, given, Manner::of_command(given, names_command))
+            verdict_of_command(alloc, name, given, Manner::of_command(given, names_command))
         }
         None => Ok(Verdict::Ask {
-            task: Task::First,
+            task: Task::First {
+                asked: Asked::as_written(),
+            },
             inputs: Inputs {
                 text: Input::Standard,
                 wanted: None,
@@ -138,8 +149,8 @@ fn command_of<S: AsStr>(alloc: Global, words: &[S], names_command: bool) -> Resu
     }
 }
 
-/// What the command of that name asks for.
-fn asked(
+/// What the command of that name asks for. Where a value is none, the words are rejected.
+fn verdict_of_command(
     alloc: Global,
     name: &str,
     given: &ArgMatches<'_>,
@@ -147,19 +158,37 @@ fn asked(
 ) -> Result<Verdict, Error>
     ensures { IfOk result IsVerdict }
 {
+    match asked_of(alloc, name, given) {
+        Ok(asked) => verdict_for(alloc, name, given, asked, manner),
+        Err(Unasked::Rejected(text)) => { Ok(rejected(alloc, text.as_str(), manner.is_quiet)) }
+        Err(Unasked::Memory) => Ok(Verdict::Memory),
+    }
+}
+
+/// What the command of that name asks for, where this is asked of the text.
+fn verdict_for(
+    alloc: Global,
+    name: &str,
+    given: &ArgMatches<'_>,
+    asked: Asked,
+    manner: Manner,
+) -> Result<Verdict, Error>
+    ensures { IfOk result IsVerdict }
+{
     let text = Input::of(alloc, given.get_str("file"))?;
     if name == "batch" && given.get_str("format").is_none() {
         return Ok(Verdict::Batch {
+            tells_status: tells_status(given),
+            asked,
             options: options_of(given),
-            tells_status: given.get_flag("status"),
             input: text,
             manner,
         });
     }
-    let task = task_for(alloc, name, given)?;
+    let task = task_for(alloc, name, given, asked)?;
     let wanted = wanted_for(alloc, &task, given)?;
     if let (Some(Input::Standard), Input::Standard) = (&wanted, &text) {
-        return Ok(told(alloc, BOTH_STANDARD, REJECTED, manner.is_quiet));
+        return Ok(rejected(alloc, BOTH_STANDARD, manner.is_quiet));
     }
     Ok(Verdict::Ask {
         task,
@@ -190,14 +219,26 @@ fn scenario_in(alloc: Global, given: &ArgMatches<'_>) -> Result<Option<Input>, A
     }
 }
 
-/// The task of the command of that name.
-fn task_for(alloc: Global, name: &str, given: &ArgMatches<'_>) -> Result<Task, AllocError> {
+/// Whether the exit status of a batch tells how its jobs end: also where a deadline is given for them.
+fn tells_status(given: &ArgMatches<'_>) -> bool {
+    given.get_flag("status") || given.get_str("at-most").is_some()
+}
+
+/// The task of the command of that name, where this is asked of the text.
+fn task_for(
+    alloc: Global,
+    name: &str,
+    given: &ArgMatches<'_>,
+    asked: Asked,
+) -> Result<Task, AllocError> {
     match name {
         "analyse" => Ok(Task::Analyse {
+            asked,
             options: options_of(given),
         }),
         "latency" => Ok(Task::Latency {
             with_ceiling: given.get_flag("ceiling"),
+            asked,
             options: options_of(given),
         }),
         "simulate" => Ok(Task::Tell(Telling::Simulate)),
@@ -205,9 +246,10 @@ fn task_for(alloc: Global, name: &str, given: &ArgMatches<'_>) -> Result<Task, A
         "packets" => Ok(Task::Tell(Telling::Packets)),
         "scenario" => Ok(Task::Tell(Telling::Toml)),
         "check" | "explain" | "draw" => Ok(certificate_task_for(name, given)),
-        "ceiling" => ceiling_for(alloc, given),
-        "batch" | "survey" => Ok(table_for(name, given)),
-        _ => Ok(Task::First),
+        "ceiling" => ceiling_for(alloc, given, asked),
+        "budget" => Ok(budget_for(given, asked)),
+        "batch" | "survey" => Ok(table_for(name, given, asked)),
+        _ => Ok(Task::First { asked }),
     }
 }
 
@@ -233,41 +275,62 @@ fn certificate_task_for(name: &str, given: &ArgMatches<'_>) -> Task {
 }
 
 /// What `ceiling` asks for.
-fn ceiling_for(alloc: Global, given: &ArgMatches<'_>) -> Result<Task, AllocError> {
+fn ceiling_for(alloc: Global, given: &ArgMatches<'_>, asked: Asked) -> Result<Task, AllocError> {
     let (simulations, unit) = (simulations_of(given), unit_of(given));
     let group = match given.get_str("group") {
         Some(name) => Some(String::from_str(alloc, name)?),
         None if given.get_flag("all") => None,
-        None => return Ok(Task::Ceiling { simulations, unit }),
+        None => {
+            return Ok(Task::Ceiling {
+                simulations,
+                asked,
+                unit,
+            });
+        }
     };
     Ok(Task::Ceilings {
         format: format_of(given),
         group,
         simulations,
+        asked,
         unit,
     })
 }
 
+/// What `budget` asks for.
+fn budget_for(given: &ArgMatches<'_>, asked: Asked) -> Task {
+    Task::Budget {
+        format: format_of(given),
+        of_all: given.get_flag("all"),
+        of_ceiling: given.get_flag("ceiling"),
+        asked,
+        options: options_of(given),
+    }
+}
+
 /// The table of searches that `survey` or `batch` asks for.
-fn table_for(name: &str, given: &ArgMatches<'_>) -> Task {
+fn table_for(name: &str, given: &ArgMatches<'_>, asked: Asked) -> Task {
     let (format, options) = (format_of(given), options_of(given));
     if name == "batch" {
         return Task::BatchTable {
             format,
+            asked,
             options,
-            tells_status: given.get_flag("status"),
+            tells_status: tells_status(given),
         };
     }
     if given.get_flag("without") {
         Task::WhatIf {
             format,
             shows_all: given.get_flag("all"),
+            asked,
             options,
         }
     } else {
         Task::Survey {
             format,
             with_ceilings: given.get_flag("ceiling"),
+            asked,
             options,
         }
     }

@@ -9,6 +9,7 @@ pub use manner::Manner;
 pub use verdict::Verdict;
 pub use word_hints::hint_for_words;
 
+mod asking;
 mod escaping;
 mod help;
 mod input;

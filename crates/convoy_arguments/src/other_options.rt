@@ -3,9 +3,15 @@
 use std::alloc::{AllocError, Global};
 
 /// Such options, and what to write in their place.
-const OTHERS: [(&str, &str); 19] = [
-    ("--target", TARGET),
+const OTHERS: [(&str, &str); 25] = [
     ("--message", TARGET),
+    ("--within", AT_MOST),
+    ("--deadline", AT_MOST),
+    ("--max", AT_MOST),
+    ("--max-latency", AT_MOST),
+    ("--budget", AT_MOST),
+    ("--slo", AT_MOST),
+    ("--sla", AT_MOST),
     ("--units", UNIT),
     ("--ms", UNIT),
     ("--output", OUTPUT),
@@ -26,7 +32,10 @@ const OTHERS: [(&str, &str); 19] = [
 ];
 
 const TARGET: &str =
-    "the table [target] of the scenario names it, and 'survey' asks for each message at each group";
+    "'--target MESSAGE@GROUP' names the target, and 'survey' asks for each message at each group";
+
+const AT_MOST: &str =
+    "'--at-most' says how late a message may be, as '--at-most \"400 ms\"', and the key 'within' of a message says it in the scenario";
 
 const UNIT: &str = "'--unit' says in which unit times are told, as '--unit ms'";
 

@@ -1,14 +1,16 @@
 //! The commands and their options, in the order in which help lists them.
 
 use super::help::{
-    ABOUT_ALL, ABOUT_ALL_CHANGES, ABOUT_ANALYSE, ABOUT_BATCH, ABOUT_BATCH_FORMAT, ABOUT_BESIDE,
-    ABOUT_BOUNDS, ABOUT_CEILING, ABOUT_CHECK, ABOUT_DRAW, ABOUT_EXPLAIN, ABOUT_FIRST, ABOUT_FORMAT,
-    ABOUT_GROUP, ABOUT_LATENCY, ABOUT_LIMIT, ABOUT_PACKETS, ABOUT_PROGRESS, ABOUT_SCENARIO,
+    ABOUT_ALL, ABOUT_ALL_CHANGES, ABOUT_ALL_DEADLINES, ABOUT_ANALYSE, ABOUT_AT_MOST, ABOUT_BATCH,
+    ABOUT_BATCH_AT_MOST, ABOUT_BATCH_FORMAT, ABOUT_BESIDE, ABOUT_BOUNDS, ABOUT_BUDGET,
+    ABOUT_CEILING, ABOUT_CHECK, ABOUT_DRAW, ABOUT_EXPLAIN, ABOUT_FIRST, ABOUT_FORMAT, ABOUT_GROUP,
+    ABOUT_LATENCY, ABOUT_LIMIT, ABOUT_OF_CEILING, ABOUT_PACKETS, ABOUT_PROGRESS, ABOUT_SCENARIO,
     ABOUT_SECONDS, ABOUT_SEEK, ABOUT_SEEK_TRAFFIC, ABOUT_SIMULATE, ABOUT_STATUS, ABOUT_STEPS,
-    ABOUT_SURVEY, ABOUT_TELL, ABOUT_TIMELINE, ABOUT_UNIT, ABOUT_WANTED, ABOUT_WITHOUT,
-    ABOUT_WORKERS, LONG_ABOUT_ANALYSE, LONG_ABOUT_BATCH, LONG_ABOUT_CEILING, LONG_ABOUT_CHECK,
-    LONG_ABOUT_DRAW, LONG_ABOUT_EXPLAIN, LONG_ABOUT_FIRST, LONG_ABOUT_LATENCY, LONG_ABOUT_PACKETS,
-    LONG_ABOUT_SCENARIO, LONG_ABOUT_SIMULATE, LONG_ABOUT_SURVEY, LONG_ABOUT_TIMELINE,
+    ABOUT_SURVEY, ABOUT_TARGET, ABOUT_TELL, ABOUT_TIMELINE, ABOUT_UNIT, ABOUT_WANTED,
+    ABOUT_WITHOUT, ABOUT_WORKERS, LONG_ABOUT_ANALYSE, LONG_ABOUT_BATCH, LONG_ABOUT_BUDGET,
+    LONG_ABOUT_CEILING, LONG_ABOUT_CHECK, LONG_ABOUT_DRAW, LONG_ABOUT_EXPLAIN, LONG_ABOUT_FIRST,
+    LONG_ABOUT_LATENCY, LONG_ABOUT_PACKETS, LONG_ABOUT_SCENARIO, LONG_ABOUT_SIMULATE,
+    LONG_ABOUT_SURVEY, LONG_ABOUT_TIMELINE,
 };
 use super::limits::MOST_SECONDS;
 use clap::builder::ValueParser;
@@ -93,6 +95,9 @@ const FORMATS: Value = Value::Given("FORMAT", ValueParser::Names(&["text", "csv"
 /// The units in which times may be told.
 const UNITS: Value = Value::Given("UNIT", ValueParser::Names(&["ns", "us", "ms", "s"]));
 
+/// How a target is named.
+const NAMED_TARGET: Value = Value::Given("MESSAGE@GROUP", ValueParser::String);
+
 /// How many schedules may be simulated, and how many are where that is not said.
 const SIMULATIONS: Value = Value::Usual("N", ValueParser::Unsigned(0, MOST_SIMULATIONS), "20000");
 
@@ -176,6 +181,14 @@ const CEILING: Setting = Setting {
     company: Company::Any,
 };
 
+/// Whether a survey has ceilings: of one target it has none.
+const SURVEY_CEILING: Setting = Setting {
+    name: "ceiling",
+    about: ABOUT_BESIDE,
+    value: Value::Absent,
+    company: Company::Without("target"),
+};
+
 /// Whether the exit status of a batch tells how its jobs end.
 const STATUS: Setting = Setting {
     name: "status",
@@ -240,6 +253,70 @@ const ALL_CHANGES: Setting = Setting {
     company: Company::With("without"),
 };
 
+/// The deadline of messages to which the text gives none.
+const AT_MOST: Setting = Setting {
+    name: "at-most",
+    about: ABOUT_AT_MOST,
+    value: Value::Given("TIME", ValueParser::String),
+    company: Company::Any,
+};
+
+/// The deadline of the messages of a batch to which their texts give none.
+const BATCH_AT_MOST: Setting = Setting {
+    name: "at-most",
+    about: ABOUT_BATCH_AT_MOST,
+    value: Value::Given("TIME", ValueParser::String),
+    company: Company::Any,
+};
+
+/// The target.
+const TARGET: Setting = Setting {
+    name: "target",
+    about: ABOUT_TARGET,
+    value: NAMED_TARGET,
+    company: Company::Any,
+};
+
+/// The target of a ceiling, where one alone is asked for.
+const CEILING_TARGET: Setting = Setting {
+    name: "target",
+    about: ABOUT_TARGET,
+    value: NAMED_TARGET,
+    company: Company::Without(TARGETS),
+};
+
+/// Whether the budgets of all deadlines are asked for.
+const ALL_DEADLINES: Setting = Setting {
+    name: "all",
+    about: ABOUT_ALL_DEADLINES,
+    value: Value::Absent,
+    company: Company::Any,
+};
+
+/// Whether the ceiling has to keep a deadline.
+const OF_CEILING: Setting = Setting {
+    name: "ceiling",
+    about: ABOUT_OF_CEILING,
+    value: Value::Absent,
+    company: Company::Any,
+};
+
+/// The target of a budget, where one alone is asked for.
+const BUDGET_TARGET: Setting = Setting {
+    name: "target",
+    about: ABOUT_TARGET,
+    value: NAMED_TARGET,
+    company: Company::Without("all"),
+};
+
+/// The target of a survey of changes.
+const CHANGES_TARGET: Setting = Setting {
+    name: "target",
+    about: ABOUT_TARGET,
+    value: NAMED_TARGET,
+    company: Company::With("without"),
+};
+
 /// In which unit times are told.
 const UNIT: Setting = Setting {
     name: "unit",
@@ -265,12 +342,14 @@ const TELL: Setting = Setting {
 };
 
 /// The commands.
-pub(crate) const COMMANDS: [Listed; 13] = [
+pub(crate) const COMMANDS: [Listed; 14] = [
     Listed {
         name: "analyse",
         about: ABOUT_ANALYSE,
         long_about: LONG_ABOUT_ANALYSE,
-        settings: &[LIMIT, SECONDS, SEEK, BOUNDS, WORKERS, PROGRESS],
+        settings: &[
+            TARGET, AT_MOST, LIMIT, SECONDS, SEEK, BOUNDS, WORKERS, PROGRESS,
+        ],
     },
     Listed {
         name: "explain",
@@ -289,14 +368,22 @@ pub(crate) const COMMANDS: [Listed; 13] = [
         about: ABOUT_LATENCY,
         long_about: LONG_ABOUT_LATENCY,
         settings: &[
-            LIMIT, SECONDS, SEEK, BOUNDS, WORKERS, PROGRESS, UNIT, CEILING,
+            TARGET, AT_MOST, LIMIT, SECONDS, SEEK, BOUNDS, WORKERS, PROGRESS, UNIT, CEILING,
         ],
     },
     Listed {
         name: "ceiling",
         about: ABOUT_CEILING,
         long_about: LONG_ABOUT_CEILING,
-        settings: &[ALL, GROUP, CEILINGS_FORMAT, UNIT, SEEK_TRAFFIC],
+        settings: &[
+            CEILING_TARGET,
+            AT_MOST,
+            ALL,
+            GROUP,
+            CEILINGS_FORMAT,
+            UNIT,
+            SEEK_TRAFFIC,
+        ],
     },
     Listed {
         name: "survey",
@@ -311,9 +398,30 @@ pub(crate) const COMMANDS: [Listed; 13] = [
             PROGRESS,
             FORMAT,
             UNIT,
-            CEILING,
+            SURVEY_CEILING,
+            AT_MOST,
             WITHOUT,
+            CHANGES_TARGET,
             ALL_CHANGES,
+        ],
+    },
+    Listed {
+        name: "budget",
+        about: ABOUT_BUDGET,
+        long_about: LONG_ABOUT_BUDGET,
+        settings: &[
+            BUDGET_TARGET,
+            AT_MOST,
+            ALL_DEADLINES,
+            OF_CEILING,
+            LIMIT,
+            SECONDS,
+            SEEK,
+            BOUNDS,
+            WORKERS,
+            PROGRESS,
+            FORMAT,
+            UNIT,
         ],
     },
     Listed {
@@ -327,6 +435,7 @@ pub(crate) const COMMANDS: [Listed; 13] = [
             BOUNDS,
             WORKERS,
             PROGRESS,
+            BATCH_AT_MOST,
             STATUS,
             BATCH_FORMAT,
             UNIT,
@@ -342,7 +451,7 @@ pub(crate) const COMMANDS: [Listed; 13] = [
         name: "first",
         about: ABOUT_FIRST,
         long_about: LONG_ABOUT_FIRST,
-        settings: &[],
+        settings: &[TARGET],
     },
     Listed {
         name: "simulate",

@@ -5,6 +5,7 @@ use super::input::{Input, Inputs};
 use super::manner::Manner;
 use convoy_commands::Options;
 use convoy_tasks::Task;
+use convoy_toml::Asked;
 
 /// What is to be done for a command line.
 #[derive(Drop)]
@@ -15,9 +16,10 @@ pub enum Verdict {
         inputs: Inputs,
         manner: Manner,
     },
-    /// It asks for the blocks of a batch, by searches with these options; and whether the exit status is to tell how
-    /// the searches end.
+    /// It asks for the blocks of a batch, where this is asked of each text, by searches with these options; and whether
+    /// the exit status is to tell how the searches end.
     Batch {
+        asked: Asked,
         options: Options,
         tells_status: bool,
         input: Input,

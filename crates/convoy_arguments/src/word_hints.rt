@@ -6,22 +6,30 @@ use std::convert::AsStr;
 use std::fmt;
 
 /// The commands that write tables: `ceiling` where it is asked for several ceilings.
-const WITH_TABLES: [&str; 3] = ["survey", "batch", "ceiling"];
+const WITH_TABLES: [&str; 4] = ["survey", "batch", "ceiling", "budget"];
 
 /// Options of a command or two, and these commands as they are told.
-const OF_SOME: [(&str, &str); 9] = [
-    ("all", "'ceiling' and 'survey --without'"),
+const OF_SOME: [(&str, &str); 11] = [
+    ("all", "'ceiling', 'budget' and 'survey --without'"),
     ("group", "'ceiling'"),
-    ("ceiling", "'latency', 'explain' and 'survey'"),
+    ("ceiling", "'latency', 'explain', 'survey' and 'budget'"),
     ("without", "'survey'"),
     ("scenario", "'check'"),
     ("tell", "'check'"),
     ("status", "'batch'"),
     (
-        "unit",
-        "'latency', 'survey', 'ceiling', 'batch', 'explain', 'draw' and 'check'",
+        "at-most",
+        "'latency', 'analyse', 'survey', 'ceiling', 'budget' and 'batch'",
     ),
-    ("format", "'survey', 'batch' and 'ceiling'"),
+    (
+        "target",
+        "'first', 'latency', 'analyse', 'ceiling', 'budget' and 'survey --without'",
+    ),
+    (
+        "unit",
+        "'latency', 'survey', 'ceiling', 'budget', 'batch', 'explain', 'draw' and 'check'",
+    ),
+    ("format", "'survey', 'batch', 'ceiling' and 'budget'"),
 ];
 
 /// The options by which `ceiling` is asked for several ceilings.

@@ -47,7 +47,7 @@ none_if_closed plan schedule seen false is = absurd (false≢true is)
 -- it is what a look finds, if that finds no better one
 pub IsFound-run : (bounds : Bounds) (plan : Scenario) (region : Region) (seen : ℕ) (found : Option Record) → found ≡ found_in bounds plan region seen → IsFound bounds plan region seen found
 IsFound-run bounds plan region seen found is =
-    let closed = closes_for bounds plan region.ranges seen in
+    let closed = closes_for bounds plan region seen in
     let better : IfSome (found_in bounds plan region seen) (IsBetter plan seen) = IsBetter-tried plan (run_of plan region) seen closed (closed || nat_le (latency_of plan (run_of plan region)) seen) refl in
     record {
       closed = λ closes. is ∙ none_if_closed plan (run_of plan region) seen closed closes;

@@ -13,9 +13,7 @@ use Rattle.convoy_certificate.specs.Text.{is_lead, is_stamp}
 use Rattle.convoy_checker.specs.Leaves.{ClosesByLeads, IsRight}
 use Rattle.convoy_checker.specs.Trees.{AreTrees, regions_below}
 use Rattle.convoy_checker.specs.Validity.{IsTree}
-use Rattle.convoy_intervals.specs.Boxes.{Box}
 use Rattle.convoy_regions.specs.Regions.{Region, root_region}
-use Rattle.convoy_regions.specs.Stages.{Precedence}
 use Rattle.convoy_checker.proofs.TreeLaws.{AreTrees-filled, AreTrees-weaker}
 use Rattle.convoy_branch.specs.Fronts.{AreFronts, FrontNode, Spent, Left, front_below, IsSearched, IsSearchedSplit, IsOfFront, front_after, left_in, spent_in}
 use Rattle.convoy_branch.specs.Steps.{IsTurn}
@@ -153,11 +151,11 @@ pub no_leads-whole : (bounds : Bounds) (plan : Scenario) (best : ℕ) (nodes : L
 no_leads-whole bounds plan best nodes other none fronts =
     no_leads-spent bounds plan best (spent_in nodes) (root_region plan ∷ []) other (subst (λ (ns : List FrontNode). AreFronts bounds plan best (root_region plan ∷ []) ns) (sym (all_spent nodes (ap length none))) fronts)
 
--- some leaf closes the region of the box, whatever comes before what
-pub record HasLeaf (plan : Scenario) (upper : ℕ) (box : Box) : Type 0 where
+-- some leaf closes the region
+pub record HasLeaf (plan : Scenario) (upper : ℕ) (region : Region) : Type 0 where
   pub leaf : Node
-  pub last : (before : List Precedence) → regions_below plan leaf (record { ranges = box; before = before }) ≡ []
-  pub right : (before : List Precedence) → IsRight plan upper leaf (record { ranges = box; before = before })
+  pub last : regions_below plan leaf region ≡ []
+  pub right : IsRight plan upper leaf region
 
 -- there is a tree over the regions that is right for a latency
 pub record HasTree (plan : Scenario) (upper : ℕ) (regions : List Region) : Type 0 where
@@ -168,9 +166,9 @@ pub record HasTree (plan : Scenario) (upper : ℕ) (regions : List Region) : Typ
 HasTree-cons : (plan : Scenario) (upper : ℕ) (node : Node) (region : Region) (regions : List Region) → IsRight plan upper node region → HasTree plan upper (regions_below plan node region ++ regions) → HasTree plan upper (region ∷ regions)
 HasTree-cons plan upper node region regions right rest = record { nodes = node ∷ rest.nodes; tree = (right, rest.tree) }
 
-HasTree-closed : (plan : Scenario) (upper : ℕ) (region : Region) (regions : List Region) → HasLeaf plan upper region.ranges → HasTree plan upper regions → HasTree plan upper (region ∷ regions)
+HasTree-closed : (plan : Scenario) (upper : ℕ) (region : Region) (regions : List Region) → HasLeaf plan upper region → HasTree plan upper regions → HasTree plan upper (region ∷ regions)
 HasTree-closed plan upper region regions closed rest =
-    HasTree-cons plan upper closed.leaf region regions (closed.right region.before) (subst (λ (rs : List Region). HasTree plan upper (rs ++ regions)) (sym (closed.last region.before)) rest)
+    HasTree-cons plan upper closed.leaf region regions closed.right (subst (λ (rs : List Region). HasTree plan upper (rs ++ regions)) (sym closed.last) rest)
 
 -- a front gives one for each latency that is no less than the best one, and for which leaves close the regions that are left
 pub HasTree-front : (bounds : Bounds) (plan : Scenario) (best upper : ℕ) (nodes : List FrontNode) (regions : List Region) → best ≤ upper → All (HasLeaf plan upper) (left_in nodes) → AreFronts bounds plan best regions nodes → HasTree plan upper regions
@@ -181,5 +179,5 @@ HasTree-front bounds plan best upper (Spent node ∷ nodes) (region ∷ regions)
     let right = IsRight-searched bounds plan upper node region (IsSearched-better bounds plan best upper node region above tree.0) in
     HasTree-cons plan upper node region regions right (HasTree-front bounds plan best upper nodes (regions_below plan node region ++ regions) above closed tree.1)
 HasTree-front bounds plan best upper (Left branch ∷ nodes) (region ∷ regions) above closed tree =
-    let leaf = subst (λ (r : Region). HasLeaf plan upper r.ranges) tree.0 (All-head (HasLeaf plan upper) branch.ranges (left_in nodes) closed) in
-    HasTree-closed plan upper region regions leaf (HasTree-front bounds plan best upper nodes regions above (All-tail (HasLeaf plan upper) branch.ranges (left_in nodes) closed) tree.1)
+    let leaf = subst (λ (r : Region). HasLeaf plan upper r) tree.0 (All-head (HasLeaf plan upper) branch (left_in nodes) closed) in
+    HasTree-closed plan upper region regions leaf (HasTree-front bounds plan best upper nodes regions above (All-tail (HasLeaf plan upper) branch (left_in nodes) closed) tree.1)

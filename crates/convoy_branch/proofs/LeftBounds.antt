@@ -17,7 +17,7 @@ IsUpperOver bounds plan best work upper = IsUpperOf bounds plan best (left_in (m
 
 IsUpperOver-cons : (bounds : Bounds) (plan : Scenario) (best raised : ℕ) (piece : Work) (rest : List Work) (most : ℕ) → UppersRaised → IsRaisedOver bounds plan piece best raised → IsUpperOver bounds plan raised rest most → IsUpperOver bounds plan best (piece ∷ rest) most
 IsUpperOver-cons bounds plan best raised (Branch branch tried) rest most law is over =
-    law bounds plan best raised branch.region.ranges (left_in (map front_of rest)) most is over
+    law bounds plan best raised branch.region (left_in (map front_of rest)) most is over
 IsUpperOver-cons bounds plan best raised (Write node) rest most law is over =
     subst (λ (n : ℕ). IsUpperOver bounds plan n rest most) is over
 

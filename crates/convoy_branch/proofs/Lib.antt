@@ -1,4 +1,5 @@
 pub mod Aims
+pub mod RegionTests
 pub mod Tries
 pub mod FrontTrees
 pub mod FrontCounts

@@ -14,9 +14,8 @@ use Rattle.convoy_sim.specs.Record.{Record, IsAttained}
 use Rattle.convoy_certificate.specs.Certificate.{Certificate}
 use Rattle.convoy_certificate.specs.Text.{is_lead, is_stamp}
 use Rattle.convoy_certificate.specs.declared.node.Node.{Node}
-use Rattle.convoy_intervals.specs.Boxes.{Box}
 use Rattle.convoy_regions.specs.Branches as regions
-use Rattle.convoy_regions.specs.Regions.{root_region}
+use Rattle.convoy_regions.specs.Regions.{Region, root_region}
 use Rattle.convoy_checker.specs.TreeLaws.{TreesCover}
 use Rattle.convoy_checker.specs.Validity.{IsValid}
 use Rattle.convoy_branch.specs.declared.search.Work.{Work}
@@ -94,13 +93,13 @@ IsProved-done bounds plan best nodes tickets limit latency schedule scenario tur
 left : (work : List Work) (branch : regions.Branch) (tried : Bool) (nodes : List Node) → left_in (front_nodes (work ++ Branch branch tried ∷ []) nodes) ≡ left_in (map front_of (work ++ Branch branch tried ∷ []))
 left work branch tried nodes = left_in-append_spent (map front_of (work ++ Branch branch tried ∷ [])) (reverse nodes)
 
-last_of : (work : List Work) (branch : regions.Branch) (tried : Bool) → left_in (map front_of (work ++ Branch branch tried ∷ [])) ≡ left_in (map front_of work) ++ branch.region.ranges ∷ []
+last_of : (work : List Work) (branch : regions.Branch) (tried : Bool) → left_in (map front_of (work ++ Branch branch tried ∷ [])) ≡ left_in (map front_of work) ++ branch.region ∷ []
 last_of work branch tried =
     ap (λ (front : List FrontNode). left_in front) (map_push front_of work (Branch branch tried)) ∙ left_in-append (map front_of work) (Left branch.region ∷ [])
 
 some_left : (work : List Work) (branch : regions.Branch) (tried : Bool) (nodes : List Node) → 0 < length (left_in (front_nodes (work ++ Branch branch tried ∷ []) nodes))
 some_left work branch tried nodes =
-    omega (arith, ap length (left work branch tried nodes ∙ last_of work branch tried), length-append (left_in (map front_of work)) (branch.region.ranges ∷ []))
+    omega (arith, ap length (left work branch tried nodes ∙ last_of work branch tried), length-append (left_in (map front_of work)) (branch.region ∷ []))
 
 front_left : (bounds : Bounds) (plan : Scenario) (best : Record) (work pushed : List Work) (branch : regions.Branch) (tried : Bool) (nodes : List Node) (tickets latency upper : ℕ) → IsAttained best → IsSearching bounds plan best (work ++ Branch branch tried ∷ []) nodes tickets → pushed ≡ work ++ Branch branch tried ∷ [] → latency ≡ best.latency → IsUpperOf bounds plan latency (left_in (map front_of pushed)) upper → IsFront bounds plan best.latency upper tickets
 front_left bounds plan best work pushed branch tried nodes tickets latency upper attained searching pushed_is latency_is upper_is =
@@ -113,7 +112,7 @@ front_left bounds plan best work pushed branch tried nodes tickets latency upper
       left = some_left work branch tried nodes;
       reached = (best.schedule, best_assigned plan best searching.of_scenario attained, best_latency plan best searching.of_scenario attained);
       least = searching.least;
-      upper_is = subst (λ (bs : List Box). IsUpperOf bounds plan best.latency bs upper) same over_best;
+      upper_is = subst (λ (rs : List Region). IsUpperOf bounds plan best.latency rs upper) same over_best;
     }
 
 pub IsOpen-left : (bounds : Bounds) (plan : Scenario) (best : Record) (work pushed : List Work) (branch : regions.Branch) (tried : Bool) (nodes : List Node) (tickets latency upper : ℕ) (by_worker : List ℕ) → FrontsBound → IsScenario plan → IsAttained best → IsSearching bounds plan best (work ++ Branch branch tried ∷ []) nodes tickets → pushed ≡ work ++ Branch branch tried ∷ [] → latency ≡ best.latency → IsUpperOf bounds plan latency (left_in (map front_of pushed)) upper → by_worker ≡ tickets ∷ [] → IsOpen bounds plan 1 tickets best upper tickets by_worker

@@ -8,7 +8,6 @@ use Rattle.convoy_sim.specs.Greatest.{IsUpper}
 use Rattle.convoy_certificate.specs.Certificate.{IsNode}
 use Rattle.convoy_certificate.specs.Reading.{AreReadable}
 use Rattle.convoy_certificate.specs.Text.{is_lead, is_stamp}
-use Rattle.convoy_intervals.specs.Boxes.{Box}
 use Rattle.convoy_regions.specs.Regions.{Region, IsRegion, root_region}
 use Rattle.convoy_checker.specs.Validity.{IsTree}
 use Rattle.convoy_branch.specs.declared.bounds.Bounds.{Bounds}
@@ -101,10 +100,10 @@ WholeFrontsAreReadable =
 abbrev pub UppersBegin : Type 0
 UppersBegin = (bounds : Bounds) (scenario : Scenario) (best : ℕ) → IsUpperOf bounds scenario best [] best
 
--- one box more raises the latency from which the upper bound of the others starts
+-- one region more raises the latency from which the upper bound of the others starts
 abbrev pub UppersRaised : Type 0
 UppersRaised =
-    (bounds : Bounds) (scenario : Scenario) (best raised : ℕ) (box : Box) (boxes : List Box) (upper : ℕ)
-    → IsRaised bounds scenario box best raised
-    → IsUpperOf bounds scenario raised boxes upper
-    → IsUpperOf bounds scenario best (box ∷ boxes) upper
+    (bounds : Bounds) (scenario : Scenario) (best raised : ℕ) (region : Region) (regions : List Region) (upper : ℕ)
+    → IsRaised bounds scenario region best raised
+    → IsUpperOf bounds scenario raised regions upper
+    → IsUpperOf bounds scenario best (region ∷ regions) upper

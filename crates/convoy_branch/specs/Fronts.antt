@@ -12,7 +12,6 @@ use Rattle.convoy_branch.specs.declared.bounds.Bounds.{Bounds}
 use Rattle.convoy_branch.specs.declared.bounds.Bounds.TheVariants as bounds_of
 use Rattle.convoy_branch.specs.declared.step.Turn.{Turn}
 use Rattle.convoy_branch.specs.declared.step.Turn.TheVariants.{Closed, Halves}
-use Rattle.convoy_intervals.specs.Boxes.{Box}
 use Rattle.convoy_regions.specs.Regions.{Region, root_region, run_of}
 use Rattle.convoy_checker.specs.Leaves.{ClosesByBound, ClosesByLeads, ClosesByPoint, ClosesByStamps}
 use Rattle.convoy_checker.specs.Trees.{AreTrees, regions_below}
@@ -35,7 +34,7 @@ front_below scenario (Left branch) region = []
 pub record IsSearchedSplit (bounds : Bounds) (scenario : Scenario) (best : ℕ) (split : Node) (region : Region) : Type 0 where
   pub part : IsSplitOf scenario split region
   pub known : ℕ
-  pub open_region : closes_for bounds scenario region.ranges known ≡ false
+  pub open_region : closes_for bounds scenario region known ≡ false
   pub tried : latency_of scenario (run_of scenario region) ≤ known
   pub passed : known ≤ best
 
@@ -62,20 +61,20 @@ abbrev pub front_after : Turn → List FrontNode
 front_after (Closed node) = Spent node ∷ []
 front_after (Halves split first second tried) = Spent split ∷ Left first.region ∷ Left second.region ∷ []
 
--- the nodes for which tickets were spent, and the ranges of the regions that are left
+-- the nodes for which tickets were spent, and the regions that are left
 abbrev pub spent_node : FrontNode → Option Node
 spent_node (Spent node) = Some node
 spent_node (Left branch) = None
 
-abbrev pub left_box : FrontNode → Option Box
-left_box (Spent node) = None
-left_box (Left branch) = Some branch.ranges
+abbrev pub left_region : FrontNode → Option Region
+left_region (Spent node) = None
+left_region (Left branch) = Some branch
 
 abbrev pub spent_in : List FrontNode → List Node
 spent_in nodes = filter_map spent_node nodes
 
-abbrev pub left_in : List FrontNode → List Box
-left_in nodes = filter_map left_box nodes
+abbrev pub left_in : List FrontNode → List Region
+left_in nodes = filter_map left_region nodes
 
 -- The front of a search by those bounds that has not ended: with a best latency, an upper bound of all latencies, and the number of tickets that were spent.
 pub record IsFront (bounds : Bounds) (scenario : Scenario) (best upper tickets : ℕ) : Type 0 where
@@ -88,5 +87,5 @@ pub record IsFront (bounds : Bounds) (scenario : Scenario) (best upper tickets :
   -- some assignment has the best latency, and that of the least delays is no greater
   pub reached : IsReached scenario best
   pub least : latency_of scenario (least_of (ranges_of scenario)) ≤ best
-  -- the upper bound is that of the best latency and of the ranges that are left
+  -- the upper bound is that of the best latency and of the regions that are left
   pub upper_is : IsUpperOf bounds scenario best (left_in nodes) upper

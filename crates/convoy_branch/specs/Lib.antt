@@ -12,13 +12,14 @@ pub use Rattle.convoy_regions.specs.Regions
 pub use Rattle.convoy_regions.specs.Branches
 pub use Rattle.convoy_stamps.specs.StampBounds
 pub use Rattle.convoy_leads.specs.Closing
+pub use Rattle.convoy_narrowing.specs.Narrowing
 pub use Rattle.convoy_leads.specs.Openings
 pub use Rattle.convoy_certificate.specs.Certificate
 pub use Rattle.convoy_certificate.specs.Text
 pub use Rattle.convoy_checker.specs.Trees
 pub use Rattle.convoy_checker.specs.Leaves
 pub use Rattle.convoy_checker.specs.Validity
--- What a search promises: the bounds by which it goes, which boxes it closes, what it tells of those that are left, a step over a region, how far a search has come, what it answers, alone and both ways, how far it may go, and the laws of fronts.
+-- What a search promises: the bounds by which it goes, which regions it closes, what it tells of those that are left, a step over a region, how far a search has come, what it answers, alone and both ways, how far it may go, and the laws of fronts.
 pub mod SearchBounds
 pub mod Options
 pub mod Uppers

@@ -62,5 +62,5 @@ nodes_after nodes (Halves split first second tried) = nodes
 
 -- what a piece of work raises the best latency to: a region that is left, and nothing else
 abbrev pub IsRaisedOver : Bounds → Scenario → Work → ℕ → ℕ → Type 0
-IsRaisedOver bounds plan (Branch branch tried) best raised = IsRaised bounds plan branch.region.ranges best raised
+IsRaisedOver bounds plan (Branch branch tried) best raised = IsRaised bounds plan branch.region best raised
 IsRaisedOver bounds plan (Write node) best raised = raised ≡ best

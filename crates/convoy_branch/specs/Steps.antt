@@ -22,7 +22,7 @@ use Rattle.convoy_branch.specs.SearchBounds.{closes_for, least_bound}
 -- The record of the region's run, where its latency is above the one seen. Where the search closes the region at once, no schedule is tried.
 abbrev pub found_in : Bounds → Scenario → Region → ℕ → Option Record
 found_in bounds scenario region seen =
-    if closes_for bounds scenario region.ranges seen || nat_le (latency_of scenario (run_of scenario region)) seen
+    if closes_for bounds scenario region seen || nat_le (latency_of scenario (run_of scenario region)) seen
     then None
     else Some (attained_by scenario (run_of scenario region))
 
@@ -37,7 +37,7 @@ pub record IsBetter (scenario : Scenario) (known : ℕ) (found : Record) : Type 
 
 -- What a step may find, where a record of that latency was seen: nothing where the search closes the region at once, and else a better record or nothing; but for a search by leads just the record of the region's run.
 pub record IsFound (bounds : Bounds) (scenario : Scenario) (region : Region) (seen : ℕ) (found : Option Record) : Type 0 where
-  pub closed : closes_for bounds scenario region.ranges seen ≡ true → found ≡ None
+  pub closed : closes_for bounds scenario region seen ≡ true → found ≡ None
   pub better : IfSome found (IsBetter scenario seen)
   pub greatest : bounds ≢ bounds_of.Lead → found ≡ found_in bounds scenario region seen
 
@@ -48,7 +48,7 @@ known_after seen (Some found) = found.latency
 
 -- the search does not close the region for the latency known, and the latency of its run is known
 pub record StaysOpen (bounds : Bounds) (scenario : Scenario) (region : Region) (known : ℕ) : Type 0 where
-  pub not_closed : closes_for bounds scenario region.ranges known ≡ false
+  pub not_closed : closes_for bounds scenario region known ≡ false
   pub tried : latency_of scenario (run_of scenario region) ≤ known
 
 -- the search asks for stamp bounds, and that of the region closes it where the plain bound does not

@@ -1,40 +1,47 @@
--- The upper bound of all latencies that a search tells where boxes are left.
+-- The upper bound of all latencies that a search tells where regions are left.
 use Rattle.std.specs.Prelude.{◌≡◌, ℕ, ◌≤◌, max, IsTrue, List, ◌∷◌, map}
 use Rattle.std.specs.List.{All}
 use Rattle.convoy_scenario.specs.Scenario.{Scenario}
 use Rattle.convoy_sim.specs.Times.{greatest}
 use Rattle.convoy_intervals.specs.Bounds.{plain_bound}
-use Rattle.convoy_intervals.specs.Boxes.{Box}
+use Rattle.convoy_regions.specs.Regions.{Region}
 use Rattle.convoy_branch.specs.declared.bounds.Bounds.{Bounds}
 use Rattle.convoy_branch.specs.declared.bounds.Bounds.TheVariants.{Plain, Stamp, Lead}
 use Rattle.convoy_branch.specs.SearchBounds.{closes_for, least_bound}
 
--- a search by leads closes the box for some latency that is no greater
-pub record IsClosedWithin (scenario : Scenario) (most : ℕ) (box : Box) : Type 0 where
+-- the plain bound of a region's ranges, and that of a search that asks for stamp bounds
+abbrev pub plain_over : Scenario → Region → ℕ
+plain_over scenario region = plain_bound scenario region.ranges
+
+abbrev pub least_over : Scenario → Region → ℕ
+least_over scenario region = least_bound scenario region.ranges
+
+-- a search by leads closes the region for some latency that is no greater
+pub record IsClosedWithin (scenario : Scenario) (most : ℕ) (region : Region) : Type 0 where
   pub latency : ℕ
   pub few : latency ≤ most
-  pub closes : IsTrue (closes_for Lead scenario box latency)
+  pub closes : IsTrue (closes_for Lead scenario region latency)
 
--- the upper bound is at least the best latency, and each box that is left is closed within it; it is no greater than the greatest of the best latency and of the bounds
-pub record IsUpperByLeads (scenario : Scenario) (best : ℕ) (boxes : List Box) (upper : ℕ) : Type 0 where
+-- the upper bound is at least the best latency, and each region that is left is closed within it; it is no greater than the greatest of the best latency and of the bounds
+pub record IsUpperByLeads (scenario : Scenario) (best : ℕ) (regions : List Region) (upper : ℕ) : Type 0 where
   pub above : best ≤ upper
-  pub closed : All (IsClosedWithin scenario upper) boxes
-  pub within : upper ≤ greatest (best ∷ map (least_bound scenario) boxes)
+  pub closed : All (IsClosedWithin scenario upper) regions
+  pub within : upper ≤ greatest (best ∷ map (least_over scenario) regions)
 
--- the upper bound of a search that has that best latency, where those boxes are left: the greatest of it and of their bounds, or less by leads
-abbrev pub IsUpperOf : Bounds → Scenario → ℕ → List Box → ℕ → Type 0
-IsUpperOf Plain scenario best boxes upper = upper ≡ greatest (best ∷ map (plain_bound scenario) boxes)
-IsUpperOf Stamp scenario best boxes upper = upper ≡ greatest (best ∷ map (least_bound scenario) boxes)
-IsUpperOf Lead scenario best boxes upper = IsUpperByLeads scenario best boxes upper
+-- the upper bound of a search that has that best latency, where those regions are left: the greatest of it and of their bounds, or less by leads
+abbrev pub IsUpperOf : Bounds → Scenario → ℕ → List Region → ℕ → Type 0
+IsUpperOf Plain scenario best regions upper = upper ≡ greatest (best ∷ map (plain_over scenario) regions)
+IsUpperOf Stamp scenario best regions upper = upper ≡ greatest (best ∷ map (least_over scenario) regions)
+IsUpperOf Lead scenario best regions upper = IsUpperByLeads scenario best regions upper
 
--- a search by leads closes the box for what an upper bound is raised to, which is no greater than by the bound
-pub record IsRaisedByLeads (scenario : Scenario) (box : Box) (upper raised : ℕ) : Type 0 where
+-- a search by leads closes the region for what an upper bound is raised to, which is no greater than by the bound
+pub record IsRaisedByLeads (scenario : Scenario) (region : Region) (upper raised : ℕ) : Type 0 where
   pub above : upper ≤ raised
-  pub closes : IsTrue (closes_for Lead scenario box raised)
-  pub within : raised ≤ max upper (least_bound scenario box)
+  pub closes : IsTrue (closes_for Lead scenario region raised)
+  pub within : raised ≤ max upper (least_over scenario region)
 
--- what an upper bound is raised to where that box is left too
-abbrev pub IsRaised : Bounds → Scenario → Box → ℕ → ℕ → Type 0
-IsRaised Plain scenario box upper raised = raised ≡ max upper (plain_bound scenario box)
-IsRaised Stamp scenario box upper raised = raised ≡ max upper (least_bound scenario box)
-IsRaised Lead scenario box upper raised = IsRaisedByLeads scenario box upper raised
+-- what an upper bound is raised to where that region is left too
+abbrev pub IsRaised : Bounds → Scenario → Region → ℕ → ℕ → Type 0
+IsRaised Plain scenario region upper raised = raised ≡ max upper (plain_over scenario region)
+IsRaised Stamp scenario region upper raised = raised ≡ max upper (least_over scenario region)
+IsRaised Lead scenario region upper raised = IsRaisedByLeads scenario region upper raised

@@ -1,15 +1,18 @@
 //! From above: runs are sought for latencies near the least for which leads close the root box, where few
 //! cases are open, and each that is open tells what its run has to do.
 
-ghost use Rattle.std.specs.Prelude.{◌≡◌, ◌≤◌, All, IfOk, OnOk};
+ghost use Rattle.std.specs.Prelude.{◌≡◌, ◌≤◌, All, IfOk, IfSome, OnOk};
 ghost use Rattle.convoy_branch.specs.Aims.{HasRisen, IsAbove};
+ghost use Rattle.convoy_branch.specs.Asked.{IsLeftOpen};
 
+use super::asked::LeftOpen;
 use super::bounds::Bounds;
 use super::gate::Gate;
 use super::limit::Limit;
+use super::ordering::order_to_split;
 use super::step::{place_to_split, wished};
-use convoy_intervals::Tracked;
 use convoy_packets::Instance;
+use convoy_regions::Branch;
 use convoy_scenario::Time;
 use convoy_sim::Record;
 use std::alloc::{AllocError, Global};
@@ -51,7 +54,7 @@ pub fn root_from_above<G: Gate>(
     ensures no_lower { IfOk result (λ found. known.latency ≤ found.best.latency) }
 {
     let mut above = Above::of(alloc, instance, known);
-    let root = Tracked::root(alloc, instance)?;
+    let root = Branch::root(alloc, instance)?;
     let bound = above.approach(&root, limit, gate)?;
     Ok(FromAbove {
         best: above.best,
@@ -138,7 +141,7 @@ impl<'a> Above<'a> {
     /// quarters of what is left.
     fn approach<G: Gate>(
         &mut self,
-        root: &Tracked,
+        root: &Branch,
         limit: Limit,
         gate: &G,
     ) -> Result<u32, AllocError>
@@ -146,7 +149,7 @@ impl<'a> Above<'a> {
         requires root { root.now.scenario ≡ self.old.instance.now }
         ensures { OnOk result (HasRisen self.old self.new) }
     {
-        let (mut low, mut bound) = (self.best.latency(), root.bound());
+        let (mut low, mut bound) = (self.best.latency(), root.tracked().bound());
         let mut below = 1;
         let mut was_open = false;
         for _ in 0..MOST_TESTS {
@@ -170,7 +173,7 @@ impl<'a> Above<'a> {
     }
 
     /// Whether leads close the root for a latency in ticks; where they do not, its wish runs are simulated.
-    fn ask(&mut self, root: &Tracked, aim: u32) -> Result<bool, AllocError>
+    fn ask(&mut self, root: &Branch, aim: u32) -> Result<bool, AllocError>
         requires above { IsAbove self.old }
         requires root { root.now.scenario ≡ self.old.instance.now }
         ensures { OnOk result (HasRisen self.old self.new) }
@@ -192,7 +195,7 @@ impl<'a> Above<'a> {
         ensures { OnOk result (HasRisen self.old self.new) }
     {
         let mut work = Vec::new(self.alloc);
-        work.push(Tracked::root(self.alloc, self.instance)?)?;
+        work.push(Branch::root(self.alloc, self.instance)?)?;
         for _ in 0..MOST_BOXES {
             let Some(branch) = work.pop() else {
                 return Ok(Aimed::Closed);
@@ -215,8 +218,8 @@ impl<'a> Above<'a> {
     /// be closed or split.
     fn take_up(
         &mut self,
-        work: &mut Vec<Tracked>,
-        branch: Tracked,
+        work: &mut Vec<Branch>,
+        branch: Branch,
         aim: u32,
     ) -> Result<bool, AllocError>
         requires above { IsAbove self.old }
@@ -225,24 +228,53 @@ impl<'a> Above<'a> {
         ensures risen { OnOk result (HasRisen self.old self.new) }
         ensures work { OnOk result (All (λ left. left.scenario ≡ self.old.instance.now) work.new.items) }
     {
-        let asked = Bounds::Lead.ask(self.alloc, self.instance, &branch, aim)?;
+        let (alloc, instance) = (self.alloc, self.instance);
+        let asked = Bounds::Lead.ask(alloc, instance, &branch, aim)?;
         if asked.leaf.is_some() {
             return Ok(true);
         }
         let known = self.best.latency();
-        if let Some(found) = wished(self.alloc, self.instance, &branch, &asked, known)? {
+        if let Some(found) = wished(alloc, instance, &branch, &asked, known)? {
             self.best = found;
         }
-        let delay_box = branch.delay_box();
-        let place = place_to_split(self.alloc, self.instance, delay_box, aim, asked.left, true)?;
-        let Some((packet, at)) = place else {
-            return Ok(matches!(self.instance.time(), Time::Ticks));
+        let halves = halves_of(alloc, instance, branch, aim, asked.left)?;
+        let Some((first, second)) = halves else {
+            return Ok(matches!(instance.time(), Time::Ticks));
         };
-        let Ok((lower, upper)) = branch.halves(self.instance, usize::from(packet), at) else {
-            return Err(AllocError);
-        };
-        work.push(lower)?;
-        work.push(upper)?;
+        work.push(first)?;
+        work.push(second)?;
         Ok(true)
+    }
+}
+
+/// The halves of a region that leads leave open for a latency in ticks: in real time by an order that they leave
+/// open, or else at a packet. None where it has neither. The error is that memory ran out.
+#[tactic(auto, using(crate::proofs::Aims::both_of))]
+fn halves_of(
+    alloc: Global,
+    instance: &Instance,
+    branch: Branch,
+    latency: u32,
+    left: Option<Box<LeftOpen>>,
+) -> Result<Option<(Branch, Branch)>, AllocError>
+    requires of_scenario { branch.scenario ≡ instance.now }
+    requires left { IfSome left (λ left. IsLeftOpen instance.now branch.region left.value) }
+    ensures { IfOk result (λ found. IfSome found (λ halves.
+        (halves.0.scenario ≡ instance.now) × (halves.1.scenario ≡ instance.now))) }
+{
+    if matches!(instance.time(), Time::Real)
+        && let Some((first, second)) = order_to_split(alloc, instance, &branch, &left)?
+    {
+        return match branch.orders(alloc, instance, first, second) {
+            Ok(halves) => Ok(Some(halves)),
+            Err((_whole, error)) => Err(error),
+        };
+    }
+    let Some((packet, at)) = place_to_split(alloc, instance, &branch, latency, left, true)? else {
+        return Ok(None);
+    };
+    match branch.halves(instance, usize::from(packet), at) {
+        Ok(halves) => Ok(Some(halves)),
+        Err((_whole, error)) => Err(error),
     }
 }

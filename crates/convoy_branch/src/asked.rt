@@ -1,19 +1,19 @@
-//! What a search learns where it asks whether a box is closed.
+//! What a search learns where it asks whether a region is closed.
 
 use convoy_certificate::Node;
 use convoy_leads::{LeadTest, Opening};
 
-/// What is known of a box where it was asked whether it is closed for a latency.
+/// What is known of a region where it was asked whether it is closed for a latency.
 #[derive(Drop)]
 pub(crate) struct Asked<'a> {
     /// The leaf that closes it, if there is one.
     pub leaf: Option<Node>,
     /// What leads leave open of it, where they were asked and do not close it: apart from the rest, which
-    /// is little, since most boxes are closed or split without leads.
+    /// is little, since most regions are closed or split without leads.
     pub left: Option<Box<LeftOpen<'a>>>,
 }
 
-/// A box that leads do not close for a latency: their test of it, and what keeps it open for that latency, if
+/// A region that leads do not close for a latency: their test of it, and what keeps it open for that latency, if
 /// that is a case of a rival.
 #[derive(Drop)]
 pub(crate) struct LeftOpen<'a> {
@@ -24,7 +24,7 @@ pub(crate) struct LeftOpen<'a> {
 impl<'a> Asked<'a> {
     ghost use Rattle.std.specs.Prelude.{◌≡◌, Some, None};
 
-    /// That of a box which a leaf closes.
+    /// That of a region which a leaf closes.
     pub(crate) fn closed(leaf: Node) -> Asked<'a>
         ensures { result ≡ record { leaf = Some leaf; left = None } }
     {
@@ -34,7 +34,7 @@ impl<'a> Asked<'a> {
         }
     }
 
-    /// That of a box which the bounds do not close, where leads are not asked.
+    /// That of a region which the bounds do not close, where leads are not asked.
     pub(crate) fn nothing() -> Asked<'a>
         ensures { result ≡ record { leaf = None; left = None } }
     {

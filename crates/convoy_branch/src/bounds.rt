@@ -1,29 +1,31 @@
 ghost use Rattle.std.specs.Prelude.{◌≡◌, ◌≤◌, if◌then◌else◌, Some, None, IfOk, IfSome};
 ghost use Rattle.convoy_certificate.specs.declared.node.Node.TheVariants.{Lead};
-ghost use Rattle.convoy_intervals.specs.Boxes.{IsBox};
-ghost use Rattle.convoy_leads.specs.Closing.{closes_by_leads};
+ghost use Rattle.convoy_leads.specs.Openings.{IsOpening, IsShown};
+ghost use Rattle.convoy_narrowing.specs.Narrowing.{closes_narrowed, closes_region, narrowed};
 ghost use Rattle.convoy_branch.specs.Asked.{IsAsked, IsLeftOpen};
 ghost use Rattle.convoy_branch.specs.SearchBounds.{least_bound, most_nodes};
 ghost use Rattle.convoy_branch.specs.Uppers.{IsRaised, IsRaisedByLeads};
 
 use super::asked::{Asked, LeftOpen};
 use convoy_certificate::{MOST_LEADS, MOST_NODES, Node};
-use convoy_intervals::{DelayBox, Tracked};
-use convoy_leads::LeadTest;
+use convoy_intervals::Tracked;
+use convoy_leads::{LeadTest, Shown};
+use convoy_narrowing::narrowed;
 use convoy_packets::Instance;
+use convoy_regions::Branch;
 use convoy_scenario::Time;
 use convoy_stamps::stamp_bound_of;
 use std::alloc::{AllocError, Global};
 
-/// By what a search closes boxes (docs/PROTOCOL.md). In real time no stamp bound is asked for, and
+/// By what a search closes regions (docs/PROTOCOL.md). In real time no stamp bound is asked for, and
 /// the plain one counts in its place.
 #[derive(Clone, Copy, PartialEq, Eq)]
 pub enum Bounds {
     /// By plain bounds alone.
     Plain,
-    /// By stamp bounds, each asked for where the plain bound of the box does not suffice.
+    /// By stamp bounds, each asked for where the plain bound of the region's ranges does not suffice.
     Stamp,
-    /// By leads, asked for where the stamp bound of the box does not suffice.
+    /// By leads, asked for where the stamp bound of the region's ranges does not suffice.
     Lead,
 }
 
@@ -40,78 +42,135 @@ impl Bounds {
         }
     }
 
-    /// Asks for the leaf that closes a box for a latency in ticks: that of the plain bound, else that of
+    /// Asks for the leaf that closes a region for a latency in ticks: that of the plain bound, else that of
     /// the stamp bound if it is asked for, and else that of leads, which tell what they leave open where
     /// there is none. The error is that memory ran out.
     pub(crate) fn ask<'a>(
         self,
         alloc: Global,
         instance: &'a Instance,
-        branch: &Tracked,
+        branch: &Branch,
         latency: u32,
     ) -> Result<Asked<'a>, AllocError>
         requires of_scenario { branch.now.scenario ≡ instance.now }
-        ensures { IfOk result (IsAsked self instance.now branch.now.delay_box latency) }
+        ensures { IfOk result (IsAsked self instance.now branch.now.region latency) }
     {
-        if branch.bound() <= latency {
+        if branch.tracked().bound() <= latency {
             return Ok(Asked::closed(Node::Bound));
         }
         if self == Bounds::Plain {
             return Ok(Asked::nothing());
         }
-        if least_bound(alloc, instance, branch)? <= latency {
+        if least_bound(alloc, instance, branch.tracked())? <= latency {
             return Ok(Asked::closed(Node::Stamp));
         }
         if self == Bounds::Lead {
-            return ask_leads(alloc, instance, branch.delay_box(), latency);
+            return ask_leads(alloc, instance, branch, latency);
         }
         Ok(Asked::nothing())
     }
 
-    /// What an upper bound of all latencies, in ticks, is raised to where a box is left: to the bound
-    /// of the box if that is greater, or in a search by leads to less, for which these close the box.
+    /// What an upper bound of all latencies, in ticks, is raised to where a region is left: to the bound
+    /// of its ranges if that is greater, or in a search by leads to less, for which these close the region.
     /// The error is that memory ran out.
     pub fn raised(
         self,
         alloc: Global,
         instance: &Instance,
-        branch: &Tracked,
+        branch: &Branch,
         upper: u32,
     ) -> Result<u32, AllocError>
         requires of_scenario { branch.now.scenario ≡ instance.now }
         ensures { IfOk result
-            (λ raised. IsRaised self instance.now branch.now.delay_box upper raised) }
+            (λ raised. IsRaised self instance.now branch.now.region upper raised) }
     {
         match self {
-            Bounds::Plain => Ok(upper.max(branch.bound())),
-            Bounds::Stamp => Ok(upper.max(least_bound(alloc, instance, branch)?)),
+            Bounds::Plain => Ok(upper.max(branch.tracked().bound())),
+            Bounds::Stamp => Ok(upper.max(least_bound(alloc, instance, branch.tracked())?)),
             Bounds::Lead => {
-                let bound = least_bound(alloc, instance, branch)?;
+                let bound = least_bound(alloc, instance, branch.tracked())?;
                 raised_by_leads(alloc, instance, branch, upper, bound)
             }
         }
     }
 }
 
-/// Asks leads whether they close a box for a latency in ticks.
-#[tactic(auto, unfolding(convoy_leads::specs::Closing::closes_by_leads))]
+/// Asks leads whether they close a region for a latency in ticks: over the windows of its box, and where they
+/// do not and it has precedences, over its own.
+#[tactic(auto, unfolding(convoy_leads::specs::Closing::closes_by_leads, convoy_narrowing::specs::Narrowing::closes_region))]
 fn ask_leads<'a>(
     alloc: Global,
     instance: &'a Instance,
-    delay_box: &DelayBox,
+    branch: &Branch,
     latency: u32,
 ) -> Result<Asked<'a>, AllocError>
-    requires inside { IsBox instance.now delay_box.now }
+    requires of_scenario { branch.now.scenario ≡ instance.now }
     ensures leaf { IfOk result (λ asked. asked.leaf
-        ≡ (if closes_by_leads instance.now delay_box.now latency then Some (Lead latency) else None)) }
+        ≡ (if closes_region instance.now branch.now.region latency then Some (Lead latency) else None)) }
     ensures left { IfOk result
-        (λ asked. IfSome asked.left (λ left. IsLeftOpen instance.now delay_box.now left.value)) }
+        (λ asked. IfSome asked.left (λ left. IsLeftOpen instance.now branch.now.region left.value)) }
 {
-    let test = LeadTest::of(alloc, instance, delay_box)?;
+    let test = LeadTest::of(alloc, instance, branch.delay_box())?;
     let shown = test.shows(latency)?;
     if shown.is_closed() {
         return Ok(Asked::closed(Node::Lead { latency }));
     }
+    if branch.before().is_empty() {
+        return left_open(alloc, test, shown, latency);
+    }
+    ask_narrowed(alloc, instance, branch, latency)
+}
+
+/// The same over the windows of the region alone.
+fn ask_narrowed<'a>(
+    alloc: Global,
+    instance: &'a Instance,
+    branch: &Branch,
+    latency: u32,
+) -> Result<Asked<'a>, AllocError>
+    requires of_scenario { branch.now.scenario ≡ instance.now }
+    ensures leaf { IfOk result (λ asked. asked.leaf
+        ≡ (if closes_narrowed instance.now branch.now.region latency then Some (Lead latency) else None)) }
+    ensures left { IfOk result
+        (λ asked. IfSome asked.left (λ left. IsLeftOpen instance.now branch.now.region left.value)) }
+{
+    let test = narrowed_test(alloc, instance, branch)?;
+    let shown = test.shows(latency)?;
+    if shown.is_closed() {
+        return Ok(Asked::closed(Node::Lead { latency }));
+    }
+    left_open(alloc, test, shown, latency)
+}
+
+/// The test of the windows of a region. The error is that memory ran out.
+fn narrowed_test<'a>(
+    alloc: Global,
+    instance: &'a Instance,
+    branch: &Branch,
+) -> Result<LeadTest<'a>, AllocError>
+    requires of_scenario { branch.now.scenario ≡ instance.now }
+    ensures { IfOk result (λ test. test ≡ record {
+      scenario = instance.now;
+      windows = narrowed instance.now branch.now.region;
+    }) }
+{
+    let windows = narrowed(alloc, instance, branch.delay_box(), branch.before())?;
+    LeadTest::over(alloc, instance, windows)
+}
+
+/// What is known where a test does not close its windows for a latency in ticks, but shows that of them. The
+/// error is that memory ran out.
+fn left_open<'a>(
+    alloc: Global,
+    test: LeadTest<'a>,
+    shown: Shown,
+    latency: u32,
+) -> Result<Asked<'a>, AllocError>
+    requires shown { IsShown test.scenario shown }
+    ensures leaf { IfOk result (λ asked. asked.leaf ≡ None) }
+    ensures left { IfOk result (λ asked. IfSome asked.left (λ left.
+        (left.value.test ≡ test.entry) × IfSome left.value.opening (IsOpening test.entry.scenario))) }
+{
     let opening = test.opening(shown, latency)?;
     Ok(Asked {
         leaf: None,
@@ -131,27 +190,27 @@ fn least_bound(alloc: Global, instance: &Instance, branch: &Tracked) -> Result<u
     }
 }
 
-/// What leads raise an upper bound to, in ticks, where a box is left whose bound is known: the ticks
+/// What leads raise an upper bound to, in ticks, where a region is left whose bound is known: the ticks
 /// between the upper bound and that are halved until one is left.
-#[tactic(auto, unfolding(convoy_leads::specs::Closing::closes_by_leads))]
+#[tactic(auto, unfolding(convoy_narrowing::specs::Narrowing::closes_region))]
 fn raised_by_leads(
     alloc: Global,
     instance: &Instance,
-    branch: &Tracked,
+    branch: &Branch,
     upper: u32,
     bound: u32,
 ) -> Result<u32, AllocError>
     requires of_scenario { branch.now.scenario ≡ instance.now }
-    requires bound { bound ≡ least_bound instance.now branch.now.delay_box }
+    requires bound { bound ≡ least_bound instance.now branch.now.region.ranges }
     ensures { IfOk result
-        (λ raised. IsRaisedByLeads instance.now branch.now.delay_box upper raised) }
+        (λ raised. IsRaisedByLeads instance.now branch.now.region upper raised) }
 {
     if bound <= upper {
         return Ok(upper);
     }
     let mut low = upper;
     let mut high = bound;
-    let test = LeadTest::of(alloc, instance, branch.delay_box())?;
+    let test = narrowed_test(alloc, instance, branch)?;
     while low < high {
         let middle = low + (high - low) / 2;
         if test.shows(middle)?.is_closed() {

@@ -65,7 +65,7 @@ pub fn uppers_begin()
     ensures { UppersBegin }
 {}
 
-/// The upper bound of a box and of others starts from what the box raises the best latency to.
+/// The upper bound of a region and of others starts from what the region raises the best latency to.
 pub fn uppers_raised()
     ensures { UppersRaised }
 {}

@@ -21,6 +21,7 @@ pub mod front_laws;
 mod gate;
 mod limit;
 mod options;
+mod ordering;
 mod outcome;
 mod placing;
 mod search;

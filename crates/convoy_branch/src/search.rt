@@ -295,7 +295,7 @@ fn raised_over(
         (λ raised. IsRaisedOver bounds instance.now piece.now upper raised) }
 {
     match piece {
-        Work::Branch { branch, .. } => bounds.raised(alloc, instance, branch.tracked(), upper),
+        Work::Branch { branch, .. } => bounds.raised(alloc, instance, branch, upper),
         Work::Write(_) => Ok(upper),
     }
 }

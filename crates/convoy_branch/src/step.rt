@@ -2,7 +2,7 @@ ghost use Rattle.std.specs.Prelude.{◌≡◌, ◌↔◌, ℕ, length, nat_le, i
 ghost use Rattle.std.specs.Prelude.{IfErr, IfOk, IfSome, IsNone, IsTrue};
 ghost use Rattle.convoy_sim.specs.Delivery.{latency_of};
 ghost use Rattle.convoy_sim.specs.Record.{attained_by};
-ghost use Rattle.convoy_intervals.specs.Boxes.{CanSplit, IsBox, IsPoint};
+ghost use Rattle.convoy_intervals.specs.Boxes.{CanSplit, IsPoint};
 ghost use Rattle.convoy_draft.specs.declared.time.Time.TheVariants.{Real};
 ghost use Rattle.convoy_regions.specs.Regions.{can_order, run_of};
 ghost use Rattle.convoy_branch.specs.declared.bounds.Bounds.{Bounds};
@@ -13,10 +13,11 @@ ghost use Rattle.convoy_branch.specs.Looks.{IsLook, IsLookAtRun};
 
 use super::asked::{Asked, LeftOpen};
 use super::bounds::Bounds;
+use super::ordering::order_to_split;
 use super::placing::place_by_leads;
 use convoy_certificate::Node;
+use convoy_intervals::DelayBox;
 use convoy_intervals::box_laws::{tests_decide, upper_keeps_greatest};
-use convoy_intervals::{DelayBox, Tracked};
 use convoy_packets::{Instance, PacketTable};
 use convoy_regions::Branch;
 use convoy_regions::region_laws::stages_are_few;
@@ -59,9 +60,8 @@ pub enum Turn {
 /// search asks for it, the stamp bound; or else, where it goes by leads, if these close it. Else its run is
 /// simulated, unless it was tried, and a latency above `seen` is
 /// found; by leads, wish runs of the case that they leave open are simulated too. Then the region is closed for
-/// what was found, or as a point where no tie of it is open, and else is split: at a packet, or where each has
-/// one delay left, by the order of two moments that tie (docs/PROTOCOL.md). Where memory runs out the region
-/// comes back as it was.
+/// what was found, or as a point where no tie of it is open, and else is split: at a packet, or in real time by the
+/// order of two moments (docs/PROTOCOL.md). Where memory runs out the region comes back as it was.
 pub fn step_branch(
     alloc: Global,
     instance: &Instance,
@@ -97,7 +97,7 @@ pub fn step_branch(
 pub(crate) struct Look<'a> {
     /// A record of a greater latency than was seen.
     pub found: Option<Record>,
-    /// What was asked of the region's ranges for the latency that is known then.
+    /// What was asked of the region for the latency that is known then.
     pub asked: Asked<'a>,
 }
 
@@ -140,10 +140,10 @@ fn look_by_wishes<'a>(
         return Ok(look);
     }
     let known = known_after(&look.found, seen);
-    match wished(alloc, instance, branch.tracked(), &look.asked, known)? {
+    match wished(alloc, instance, branch, &look.asked, known)? {
         None => Ok(look),
         Some(found) => {
-            let asked = Bounds::Lead.ask(alloc, instance, branch.tracked(), found.latency())?;
+            let asked = Bounds::Lead.ask(alloc, instance, branch, found.latency())?;
             Ok(Look {
                 found: Some(found),
                 asked,
@@ -152,16 +152,16 @@ fn look_by_wishes<'a>(
     }
 }
 
-/// The record of a wish run of what leads leave open of a box, if its latency is above the one known, in ticks.
+/// The record of a wish run of what leads leave open of a region, if its latency is above the one known, in ticks.
 pub(crate) fn wished(
     alloc: Global,
     instance: &Instance,
-    branch: &Tracked,
+    branch: &Branch,
     asked: &Asked,
     known: u32,
 ) -> Result<Option<Record>, AllocError>
     requires of_scenario { branch.now.scenario ≡ instance.now }
-    requires left { IfSome asked.now.left (λ left. IsLeftOpen instance.now branch.now.delay_box left.value) }
+    requires left { IfSome asked.now.left (λ left. IsLeftOpen instance.now branch.now.region left.value) }
     ensures { IfOk result (λ found. IfSome found (IsBetter instance.now known)) }
 {
     let Some(left) = &asked.left else {
@@ -197,7 +197,7 @@ fn look_at_run<'a>(
         (λ look. IsLookAtRun bounds instance.now branch.now.region seen look) }
 {
     stamp_bound_at_most_plain();
-    let asked = bounds.ask(alloc, instance, branch.tracked(), seen)?;
+    let asked = bounds.ask(alloc, instance, branch, seen)?;
     if asked.leaf.is_some() {
         return Ok(Look { found: None, asked });
     }
@@ -205,7 +205,7 @@ fn look_at_run<'a>(
         None => Ok(Look { found: None, asked }),
         Some(found) => {
             let latency = found.latency();
-            let asked = bounds.ask(alloc, instance, branch.tracked(), latency)?;
+            let asked = bounds.ask(alloc, instance, branch, latency)?;
             Ok(Look {
                 found: Some(found),
                 asked,
@@ -256,13 +256,56 @@ fn open_turn(
     left: Option<Box<LeftOpen>>,
 ) -> Result<Turn, (Branch, AllocError)>
     requires of_scenario { branch.scenario ≡ instance.now }
-    requires left { IfSome left (λ left. IsLeftOpen instance.now branch.region.ranges left.value) }
+    requires left { IfSome left (λ left. IsLeftOpen instance.now branch.region left.value) }
+    ensures value { (by : Bounds) (known : ℕ) → StaysOpen by instance.now branch.region known
+        → IfOk result (λ turn. IsTurn by instance.now branch.region known turn) }
+    ensures back { IfErr result (λ refused. refused.0 ≡ branch) }
+{
+    match instance.time() {
+        Time::Ticks => packet_turn(alloc, instance, branch, latency, left),
+        Time::Real => order_turn(alloc, instance, branch, latency, left),
+    }
+}
+
+/// The same in real time, where splits by orders that leads leave open and splits at packets take turns.
+fn order_turn(
+    alloc: Global,
+    instance: &Instance,
+    branch: Branch,
+    latency: u32,
+    left: Option<Box<LeftOpen>>,
+) -> Result<Turn, (Branch, AllocError)>
+    requires of_scenario { branch.scenario ≡ instance.now }
+    requires real { instance.now.time ≡ Real }
+    requires left { IfSome left (λ left. IsLeftOpen instance.now branch.region left.value) }
+    ensures value { (by : Bounds) (known : ℕ) → StaysOpen by instance.now branch.region known
+        → IfOk result (λ turn. IsTurn by instance.now branch.region known turn) }
+    ensures back { IfErr result (λ refused. refused.0 ≡ branch) }
+{
+    match order_to_split(alloc, instance, &branch, &left) {
+        Err(error) => Err((branch, error)),
+        Ok(None) => packet_turn(alloc, instance, branch, latency, left),
+        Ok(Some(order)) => ordered_turn(alloc, instance, branch, order.0, order.1),
+    }
+}
+
+/// What becomes of such a region where it is split at a packet, if one may take several delays.
+fn packet_turn(
+    alloc: Global,
+    instance: &Instance,
+    branch: Branch,
+    latency: u32,
+    left: Option<Box<LeftOpen>>,
+) -> Result<Turn, (Branch, AllocError)>
+    requires of_scenario { branch.scenario ≡ instance.now }
+    requires left { IfSome left (λ left. IsLeftOpen instance.now branch.region left.value) }
     ensures value { (by : Bounds) (known : ℕ) → StaysOpen by instance.now branch.region known
         → IfOk result (λ turn. IsTurn by instance.now branch.region known turn) }
     ensures back { IfErr result (λ refused. refused.0 ≡ branch) }
 {
     upper_keeps_greatest();
-    let place = match place_to_split(alloc, instance, branch.delay_box(), latency, left, false) {
+    let rival_first = !branch.before().is_empty();
+    let place = match place_to_split(alloc, instance, &branch, latency, left, rival_first) {
         Ok(place) => place,
         Err(error) => return Err((branch, error)),
     };
@@ -352,33 +395,34 @@ fn ordered_turn(
     })
 }
 
-/// Where to split a box that is not closed for the latency that is known, in ticks: by what leads leave
-/// open of it, where they were asked, if the chain that keeps it open says so, and else in the middle of
+/// Where to split the box of a region that is not closed for the latency that is known, in ticks: by what leads
+/// leave open of it, where they were asked, if the chain that keeps it open says so, and else in the middle of
 /// the widest range. None where each packet has one delay left. Where the rival is to come first, so that it has
 /// a low stamp, the place speaks of that, too. The error is that memory ran out.
 pub(crate) fn place_to_split(
     alloc: Global,
     instance: &Instance,
-    branch: &DelayBox,
+    branch: &Branch,
     latency: u32,
     left: Option<Box<LeftOpen>>,
     rival_first: bool,
 ) -> Result<Option<(u16, u16)>, AllocError>
-    requires inside { IsBox instance.now branch.now }
-    requires left { IfSome left (λ left. IsLeftOpen instance.now branch.now left.value) }
-    ensures point { IfOk result (λ found. IsNone found ↔ IsPoint branch.now) }
+    requires of_scenario { branch.now.scenario ≡ instance.now }
+    requires left { IfSome left (λ left. IsLeftOpen instance.now branch.now.region left.value) }
+    ensures point { IfOk result (λ found. IsNone found ↔ IsPoint branch.now.region.ranges) }
     ensures part { IfOk result
-        (λ found. IfSome found (λ place. CanSplit branch.now place.0 place.1)) }
+        (λ found. IfSome found (λ place. CanSplit branch.now.region.ranges place.0 place.1)) }
 {
+    let delay_box = branch.delay_box();
     if let Some(left) = left
         && let Some(opening) = &left.opening
     {
-        let place = place_by_leads(alloc, instance, branch, opening, latency, rival_first)?;
+        let place = place_by_leads(alloc, instance, delay_box, opening, latency, rival_first)?;
         if place.is_some() {
             return Ok(place);
         }
     }
-    Ok(middle_of_widest(instance.table(), branch))
+    Ok(middle_of_widest(instance.table(), delay_box))
 }
 
 /// The packet of the widest range of a box, the first where several are as wide, and the middle of its

@@ -3,6 +3,7 @@ use Rattle.std.proofs.Common.{◌≡◌, ◌≢◌, ◌≤◌, ◌++◌, ◌∙�
 use Rattle.std.specs.List.{list_any}
 use Rattle.std.specs.declared.alloc.Global.{Global}
 use Rattle.convoy_scenario.specs.Scenario.{Scenario}
+use Rattle.convoy_toml.specs.declared.asked.Asked.{Asked}
 use Rattle.convoy_sim.specs.Delivery.{latency_of}
 use Rattle.convoy_sim.specs.Greatest.{IsGreatest, IsReached, IsUpper}
 use Rattle.convoy_sim.specs.Record.{Record, IsAttained}
@@ -23,16 +24,18 @@ use Rattle.convoy_branch.specs.SearchBounds.{most_nodes}
 use Rattle.convoy_branch.specs.declared.limit.Limit.{Limit}
 use Rattle.convoy_branch.specs.declared.options.Ways.{Ways}
 use Rattle.convoy_branch.specs.declared.options.Ways.TheVariants.{One, Both}
-use Rattle.convoy_commands.specs.declared.done.Done.TheVariants.{Fine}
+use Rattle.convoy_commands.specs.declared.done.Done.{Done}
+use Rattle.convoy_commands.specs.declared.done.Done.TheVariants as ends
 use Rattle.convoy_commands.specs.Checks.{check_reply}
 use Rattle.convoy_commands.specs.Measured.{measure_of_text}
 use Rattle.convoy_commands.specs.ReplyLines.{accepted_line, greatest_line, open_line, schedule_text}
 use Rattle.convoy_commands.specs.Searches.{IsFrontBy, IsFrontTold, IsGreatestTold, IsOpenBetween, IsOpenProof, IsOutcomeBy, IsProof, IsSearchOf}
+use Rattle.convoy_commands.specs.Verdicts.{judged, target_deadline, verdict_text}
 
 -- the text of a valid certificate gets a yes
 pub accepts : TextsAreRead → CheckedIsValid → (certificate : Certificate) → IsCertificate certificate →
     AreReadable certificate.nodes → IsValid certificate →
-    check_reply (certificate_text certificate) ≡ Ok (Fine, accepted_line certificate.latency)
+    check_reply (certificate_text certificate) ≡ Ok (ends.Fine, accepted_line certificate.latency)
 unfolding check_reply
 accepts are_read is_valid certificate lawful readable valid =
     rw (are_read certificate lawful readable, (is_valid certificate).1 valid) refl
@@ -149,14 +152,15 @@ open_end Both scenario workers limit best upper tickets by_worker found =
       };
     }
 
--- What is written where a search for the scenario of the text has ended.
-module _ (settings : Settings) (text out : List ℕ) (scenario : Scenario) where
+-- What is written where a search for the scenario of the text has ended, and how the command ends.
+module _ (asked : Asked) (settings : Settings) (text : List ℕ) (end : Done) (out : List ℕ) (scenario : Scenario) where
   -- the text of a proved outcome's certificate
   pub proof_written : TextsAreRead → TextsAreShort → CheckedIsValid → ValidIsGreatest →
       (certificate : Certificate) (tickets : ℕ) (by_worker : Vec ℕ Global) → IsCertificate certificate →
-      IsSearchOf settings text scenario (Proved certificate tickets by_worker) → settings.limit ≤ highest_limit settings.ways →
-      out ≡ certificate_text certificate → IsProof settings text out
-  proof_written are_read are_short is_valid is_greatest certificate tickets by_worker lawful search few written =
+      IsSearchOf asked settings text scenario (Proved certificate tickets by_worker) → settings.limit ≤ highest_limit settings.ways →
+      out ≡ certificate_text certificate → end ≡ judged (target_deadline asked text scenario) certificate.latency certificate.latency ends.Fine →
+      IsProof asked settings text end out
+  proof_written are_read are_short is_valid is_greatest certificate tickets by_worker lawful search few written ended_so =
       let ended = proved_end settings.ways scenario search.ended.workers (limit_of settings) certificate tickets by_worker search.ended.found few in
       record {
         certificate = certificate;
@@ -171,13 +175,17 @@ module _ (settings : Settings) (text out : List ℕ) (scenario : Scenario) where
         no_leads = ended.no_leads;
         fits = rw written (are_short certificate lawful ended.readable.few);
         accepted = rw written (accepts are_read is_valid certificate lawful ended.readable ended.valid);
+        ends = rw ended.of_scenario ended_so;
       }
 
   -- the latency of a proved outcome
   pub greatest_written : (certificate : Certificate) (tickets : ℕ) (by_worker : Vec ℕ Global) →
-      IsSearchOf settings text scenario (Proved certificate tickets by_worker) → settings.limit ≤ highest_limit settings.ways →
-      out ≡ greatest_line (measure_of_text settings.unit text scenario) certificate.latency → IsGreatestTold settings text out
-  greatest_written certificate tickets by_worker search few written =
+      IsSearchOf asked settings text scenario (Proved certificate tickets by_worker) → settings.limit ≤ highest_limit settings.ways →
+      out ≡ greatest_line (measure_of_text settings.unit text scenario) certificate.latency
+      ++ verdict_text (measure_of_text settings.unit text scenario) (target_deadline asked text scenario) certificate.latency certificate.latency →
+      end ≡ judged (target_deadline asked text scenario) certificate.latency certificate.latency ends.Fine →
+      IsGreatestTold asked settings text end out
+  greatest_written certificate tickets by_worker search few written ended_so =
       let ended = proved_end settings.ways scenario search.ended.workers (limit_of settings) certificate tickets by_worker search.ended.found few in
       record {
         scenario = scenario;
@@ -186,12 +194,13 @@ module _ (settings : Settings) (text out : List ℕ) (scenario : Scenario) where
         lawful = search.lawful;
         greatest = ended.greatest;
         written = written;
+        ends = ended_so;
       }
 
   -- what an open outcome says of the scenario
   open_between : (best : Record) (upper tickets : ℕ) (by_worker : Vec ℕ Global) →
-      (search : IsSearchOf settings text scenario (Open best upper tickets by_worker)) →
-      IsOpenBetween settings text scenario best.latency upper
+      (search : IsSearchOf asked settings text scenario (Open best upper tickets by_worker)) →
+      IsOpenBetween asked settings text scenario best.latency upper
   open_between best upper tickets by_worker search =
       let ended = open_end settings.ways scenario search.ended.workers (limit_of settings) best upper tickets by_worker search.ended.found in
       record {
@@ -204,23 +213,29 @@ module _ (settings : Settings) (text out : List ℕ) (scenario : Scenario) where
 
   -- the bounds of an open outcome
   pub bounds_written : (best : Record) (upper tickets : ℕ) (by_worker : Vec ℕ Global) →
-      IsSearchOf settings text scenario (Open best upper tickets by_worker) →
-      out ≡ open_line (measure_of_text settings.unit text scenario) best.latency upper → IsFrontTold settings text out
-  bounds_written best upper tickets by_worker search written = record {
+      IsSearchOf asked settings text scenario (Open best upper tickets by_worker) →
+      out ≡ open_line (measure_of_text settings.unit text scenario) best.latency upper
+      ++ verdict_text (measure_of_text settings.unit text scenario) (target_deadline asked text scenario) best.latency upper →
+      end ≡ judged (target_deadline asked text scenario) best.latency upper ends.Open →
+      IsFrontTold asked settings text end out
+  bounds_written best upper tickets by_worker search written ended_so = record {
     scenario = scenario;
     least = best.latency;
     most = upper;
     between = open_between best upper tickets by_worker search;
     written = written;
+    ends = ended_so;
   }
 
   -- the bounds of an open outcome, and the schedule of its record
   pub open_written : (best : Record) (upper tickets : ℕ) (by_worker : Vec ℕ Global) → IsAttained best →
-      IsSearchOf settings text scenario (Open best upper tickets by_worker) →
-      out ≡ open_line None best.latency upper ++ schedule_text scenario best.schedule → IsOpenProof settings text out
-  open_written best upper tickets by_worker attained search written =
-      let end = open_end settings.ways scenario search.ended.workers (limit_of settings) best upper tickets by_worker search.ended.found in
-      let of_scenario = end.of_scenario in
+      IsSearchOf asked settings text scenario (Open best upper tickets by_worker) →
+      out ≡ open_line None best.latency upper ++ schedule_text scenario best.schedule →
+      end ≡ judged (target_deadline asked text scenario) best.latency upper ends.Open →
+      IsOpenProof asked settings text end out
+  open_written best upper tickets by_worker attained search written ended_so =
+      let ended = open_end settings.ways scenario search.ended.workers (limit_of settings) best upper tickets by_worker search.ended.found in
+      let of_scenario = ended.of_scenario in
       let same : best.latency ≡ latency_of scenario best.schedule = rw of_scenario at attained.latency in
       record {
         scenario = scenario;
@@ -229,4 +244,5 @@ module _ (settings : Settings) (text out : List ℕ) (scenario : Scenario) where
         assigned = rw of_scenario at attained.assignment;
         between = rw same at (open_between best upper tickets by_worker search);
         written = rw same at written;
+        ends = rw same at ended_so;
       }

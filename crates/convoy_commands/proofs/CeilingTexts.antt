@@ -1,11 +1,12 @@
 -- What is written of a ceiling, from what its calls answered.
-use Rattle.std.proofs.Common.{◌≡◌, ◌≤◌, ◌==◌, ℕ, List, Option, Ok, if◌then◌else◌, sym, subst, ap, ap₂, ◌∙◌}
+use Rattle.std.proofs.Common.{◌≡◌, ◌≤◌, ◌==◌, ℕ, List, Option, Ok, if◌then◌else◌, sym, subst, ap, ◌∙◌}
 use Rattle.convoy_draft.specs.declared.duration.TimeUnit.{TimeUnit}
 use Rattle.convoy_times.specs.Measures.{measure_by}
 use Rattle.convoy_times.specs.declared.measure.Measure.{Measure}
 use Rattle.convoy_scenario.specs.Scenario.{Scenario}
 use Rattle.convoy_scenario.specs.WellFormed.{IsScenario}
-use Rattle.convoy_toml.specs.Reading.{scenario_of_text, unit_written}
+use Rattle.convoy_toml.specs.declared.asked.Asked.{Asked}
+use Rattle.convoy_toml.specs.Reading.{deadlines_of_text, scenario_of_text_by, unit_written}
 use Rattle.convoy_sim.specs.Record.{Record}
 use Rattle.convoy_ceiling.specs.Ceiling.{IsUpperInTraffic, ceiling_of}
 use Rattle.convoy_ceiling.specs.Finding.{IsFound}
@@ -13,25 +14,34 @@ use Rattle.convoy_commands.specs.declared.done.Done.{Done}
 use Rattle.convoy_commands.specs.declared.done.Done.TheVariants.{Fine, Open}
 use Rattle.convoy_commands.specs.Ceilings.{IsCeilingTold, ceiling_text}
 use Rattle.convoy_commands.specs.Measured.{measure_of_text}
+use Rattle.convoy_commands.specs.Verdicts.{deadline_at, judged, target_deadline}
 
 -- in which unit the times of a text are told
-measured_by : (asked unit : Option TimeUnit) (text : List ℕ) (plan : Scenario) (measure : Option Measure) →
-    unit ≡ unit_written text → measure ≡ measure_by asked unit plan → measure ≡ measure_of_text asked text plan
-measured_by asked unit text plan measure is made = made ∙ ap (λ (u : Option TimeUnit). measure_by asked u plan) is
+measured_by : (unit in_text : Option TimeUnit) (text : List ℕ) (plan : Scenario) (measure : Option Measure) →
+    in_text ≡ unit_written text → measure ≡ measure_by unit in_text plan → measure ≡ measure_of_text unit text plan
+measured_by unit in_text text plan measure is made = made ∙ ap (λ (u : Option TimeUnit). measure_by unit u plan) is
 
-pub ceiling_told : (asked unit : Option TimeUnit) (measure : Option Measure) (text out : List ℕ) (plan made : Scenario) (found : Record) (ceiling latency : ℕ) (done : Done)
-    → scenario_of_text text ≡ Ok plan → unit ≡ unit_written text → measure ≡ measure_by asked unit plan
+-- the deadline of the target of a text
+pub deadline_in : (asked : Asked) (text : List ℕ) (plan : Scenario) (deadlines : List (Option ℕ)) (message : ℕ) (deadline : Option ℕ) →
+    deadlines ≡ deadlines_of_text asked text → message ≡ plan.target_message → deadline ≡ deadline_at deadlines message →
+    deadline ≡ target_deadline asked text plan
+deadline_in asked text plan deadlines message deadline are is found = rw (are, is) at found
+
+pub ceiling_told : (asked : Asked) (unit in_text : Option TimeUnit) (measure : Option Measure) (deadline : Option ℕ) (text out : List ℕ)
+    (plan made : Scenario) (found : Record) (ceiling latency : ℕ) (end done : Done)
+    → scenario_of_text_by asked text ≡ Ok plan → in_text ≡ unit_written text → measure ≡ measure_by unit in_text plan → deadline ≡ target_deadline asked text plan
     → IsScenario plan → IsUpperInTraffic plan plan.target_message plan.target_group (ceiling_of plan)
     → IsFound plan made found → found.latency ≤ ceiling_of plan → ceiling ≡ ceiling_of plan → latency ≡ found.latency
-    → out ≡ ceiling_text measure plan found → done ≡ (if latency == ceiling then Fine else Open) → IsCeilingTold asked text out done
-ceiling_told asked unit measure text out plan made found ceiling latency done read in_text measured lawful safe is within of_plan attained written ends = record {
+    → out ≡ ceiling_text measure deadline plan found → end ≡ (if latency == ceiling then Fine else Open) → done ≡ judged deadline latency ceiling end
+    → IsCeilingTold asked unit text out done
+ceiling_told asked unit in_text measure deadline text out plan made found ceiling latency end done read written_in measured within lawful safe is no_greater of_plan attained written ends judged_so = record {
   scenario = plan;
   read = read;
   lawful = lawful;
   safe = safe;
   traffic = found;
   found = subst (λ (t : Scenario). IsFound plan t found) (sym is.of_traffic) is;
-  within = within;
-  written = written ∙ ap (λ (m : Option Measure). ceiling_text m plan found) (measured_by asked unit text plan measure in_text measured);
-  ended = ends ∙ ap₂ (λ (l c : ℕ). if l == c then Fine else Open) attained of_plan;
+  within = no_greater;
+  written = rw (measured_by unit in_text text plan measure written_in measured, within) at written;
+  ended = rw (ends, attained, of_plan, within) at judged_so;
 }

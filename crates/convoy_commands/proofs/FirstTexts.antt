@@ -2,7 +2,8 @@
 use Rattle.std.proofs.Common.{◌≡◌, inl, inr, ℕ, List, Ok, Err, refl}
 use Rattle.convoy_scenario.specs.Memory.{IsUnlessMemory}
 use Rattle.convoy_scenario.specs.Scenario.{Scenario}
-use Rattle.convoy_toml.specs.Reading.{scenario_of_text}
+use Rattle.convoy_toml.specs.declared.asked.Asked.{Asked}
+use Rattle.convoy_toml.specs.Reading.{scenario_of_text_by}
 use Rattle.convoy_draft.specs.declared.fault.ScenarioFault.{ScenarioFault}
 use Rattle.convoy_draft.specs.declared.fault.ScenarioFault.TheVariants as scenario
 use Rattle.convoy_commands.specs.declared.fault.Fault.{Fault}
@@ -12,23 +13,23 @@ use Rattle.convoy_commands.specs.First.{attained_text, first_text, least_schedul
 use Rattle.convoy_commands.proofs.NoDevice.{IsNoDevice, no_device_in_made, no_device_in_scenario}
 
 -- the text has a fault, or memory ran out
-pub text_refused : (text : List ℕ) (refused : ScenarioFault) →
-    IsUnlessMemory scenario.Memory (scenario_of_text text) (Err refused) →
-    IsUnlessMemory Memory (first_text text) (Err (told_of refused))
+pub text_refused : (asked : Asked) (text : List ℕ) (refused : ScenarioFault) →
+    IsUnlessMemory scenario.Memory (scenario_of_text_by asked text) (Err refused) →
+    IsUnlessMemory Memory (first_text asked text) (Err (told_of refused))
 unfolding first_text
-text_refused text refused (inl is) = inl (rw (← is) refl)
-text_refused text refused (inr is) = let same : refused ≡ scenario.Memory = cc in inr (rw same refl)
+text_refused asked text refused (inl is) = inl (rw (← is) refl)
+text_refused asked text refused (inr is) = let same : refused ≡ scenario.Memory = cc in inr (rw same refl)
 
 -- the text is that of a scenario
-pub text_answered : (text : List ℕ) (plan : Scenario) →
-    IsUnlessMemory scenario.Memory (scenario_of_text text) (Ok plan) →
-    first_text text ≡ Ok (attained_text plan (least_schedule plan))
+pub text_answered : (asked : Asked) (text : List ℕ) (plan : Scenario) →
+    IsUnlessMemory scenario.Memory (scenario_of_text_by asked text) (Ok plan) →
+    first_text asked text ≡ Ok (attained_text plan (least_schedule plan))
 unfolding first_text
-text_answered text plan (inl is) = rw (← is) refl
-text_answered text plan (inr is) = cc
+text_answered asked text plan (inl is) = rw (← is) refl
+text_answered asked text plan (inr is) = cc
 
 -- its fault is no device's
-pub first_no_device : (text : List ℕ) (fault : Fault) → first_text text ≡ Err fault → IsNoDevice fault
+pub first_no_device : (asked : Asked) (text : List ℕ) (fault : Fault) → first_text asked text ≡ Err fault → IsNoDevice fault
 unfolding first_text
-first_no_device text fault is =
-    no_device_in_made _ told_of (scenario_of_text text) fault (λ refused same. no_device_in_scenario refused) is
+first_no_device asked text fault is =
+    no_device_in_made _ told_of (scenario_of_text_by asked text) fault (λ refused same. no_device_in_scenario refused) is

@@ -9,5 +9,6 @@ pub mod FirstTexts
 pub mod NoDevice
 pub mod Starts
 pub mod TellTexts
+pub mod VerdictMeanings
 pub mod WithinTexts
 pub mod WrittenTexts

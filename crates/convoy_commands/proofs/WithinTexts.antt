@@ -1,5 +1,5 @@
 -- What is answered where no more steps may be taken than a limit.
-use Rattle.std.proofs.Common.{◌≡◌, ◌⊎◌, ◌∙◌, ap, sym, subst, inl, inr, refl, arith, cond, nat_le, ℕ, Bool, true, false, List, [], Option, Some, None, Result, Ok, Err, IfOk, IfSome}
+use Rattle.std.proofs.Common.{◌≡◌, ◌⊎◌, ◌∙◌, ap, sym, subst, inl, inr, refl, arith, cond, nat_le, ℕ, Bool, true, false, List, Option, Some, None, Result, Ok, Err, IfOk, IfSome}
 use Rattle.std.specs.Result.{result_map_both, result_transpose}
 use Rattle.std.proofs.lemmas.Bool.{le-leb}
 use Rattle.convoy_scenario.specs.Memory.{IsUnlessMemory}

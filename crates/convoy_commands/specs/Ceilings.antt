@@ -3,7 +3,8 @@ use Rattle.std.specs.Prelude.{◌≡◌, ℕ, ◌≤◌, ◌==◌, if◌then◌e
 use Rattle.convoy_draft.specs.declared.duration.TimeUnit.{TimeUnit}
 use Rattle.convoy_scenario.specs.Scenario.{Scenario}
 use Rattle.convoy_scenario.specs.WellFormed.{IsScenario}
-use Rattle.convoy_toml.specs.Reading.{scenario_of_text}
+use Rattle.convoy_toml.specs.declared.asked.Asked.{Asked}
+use Rattle.convoy_toml.specs.Reading.{scenario_of_text_by}
 use Rattle.convoy_toml_writer.specs.Text.{toml_text}
 use Rattle.convoy_times.specs.declared.measure.Measure.{Measure}
 use Rattle.convoy_sim.specs.Record.{Record}
@@ -14,34 +15,37 @@ use Rattle.convoy_commands.specs.declared.done.Done.TheVariants.{Fine, Open}
 use Rattle.convoy_commands.specs.ReplyLines.{attained_line, ticks_line}
 use Rattle.convoy_commands.specs.Measured.{measure_of_text}
 use Rattle.convoy_commands.specs.Replies.{Rule}
-use Rattle.convoy_commands.specs.Searches.{IsFaulty}
+use Rattle.convoy_commands.specs.Searches.{IsFaultyBy}
+use Rattle.convoy_commands.specs.Verdicts.{judged, target_deadline, verdict_text}
 
 -- a ceiling
 abbrev pub ceiling_line : Option Measure → ℕ → List ℕ
 ceiling_line measure ceiling = ticks_line (codes "ceiling") measure ceiling
 
--- the ceiling of a scenario, the latency that was found in traffic, and that traffic with its schedule as a scenario's text
-abbrev pub ceiling_text : Option Measure → Scenario → Record → List ℕ
-ceiling_text measure scenario found =
-    ceiling_line measure (ceiling_of scenario) ++ (attained_line found.latency ++ toml_text found.scenario found.schedule)
+-- the ceiling of a scenario, the latency that was found in traffic, how the latencies in traffic keep the deadline where there is one, and that traffic with its schedule as a scenario's text
+abbrev pub ceiling_text : Option Measure → Option ℕ → Scenario → Record → List ℕ
+ceiling_text measure deadline scenario found =
+    ceiling_line measure (ceiling_of scenario)
+    ++ (attained_line found.latency ++ (verdict_text measure deadline found.latency (ceiling_of scenario) ++ toml_text found.scenario found.schedule))
 
--- how the command ends: well where the latency is the ceiling
-abbrev pub ceiling_ends : Scenario → Record → Done
-ceiling_ends scenario found = if found.latency == ceiling_of scenario then Fine else Open
+-- how the command ends: as the verdict says where there is a deadline, and else well where the latency is the ceiling
+abbrev pub ceiling_ends : Option ℕ → Scenario → Record → Done
+ceiling_ends deadline scenario found =
+    judged deadline found.latency (ceiling_of scenario) (if found.latency == ceiling_of scenario then Fine else Open)
 
 -- What is written is the ceiling of the scenario that was read, above which no message of the target's kind has a latency in any traffic of the scenario's kinds, and traffic of these kinds, in which the same is asked, with a schedule that has the latency that is told.
-pub record IsCeilingTold (asked : Option TimeUnit) (text out : List ℕ) (done : Done) : Type 0 where
+pub record IsCeilingTold (asked : Asked) (unit : Option TimeUnit) (text out : List ℕ) (done : Done) : Type 0 where
   pub scenario : Scenario
-  pub read : scenario_of_text text ≡ Ok scenario
+  pub read : scenario_of_text_by asked text ≡ Ok scenario
   pub lawful : IsScenario scenario
   pub safe : IsUpperInTraffic scenario scenario.target_message scenario.target_group (ceiling_of scenario)
   pub traffic : Record
   pub found : IsFound scenario traffic.scenario traffic
   pub within : traffic.latency ≤ ceiling_of scenario
-  pub written : out ≡ ceiling_text (measure_of_text asked text scenario) scenario traffic
-  pub ended : done ≡ ceiling_ends scenario traffic
+  pub written : out ≡ ceiling_text (measure_of_text unit text scenario) (target_deadline asked text scenario) scenario traffic
+  pub ended : done ≡ ceiling_ends (target_deadline asked text scenario) scenario traffic
 
 -- what `ceiling` may answer
-abbrev pub CeilingSays : Option TimeUnit → Rule
-CeilingSays asked text (Ok (done, out)) = IsCeilingTold asked text out done
-CeilingSays asked text (Err fault) = IsFaulty text fault
+abbrev pub CeilingSays : Asked → Option TimeUnit → Rule
+CeilingSays asked unit text (Ok (done, out)) = IsCeilingTold asked unit text out done
+CeilingSays asked unit text (Err fault) = IsFaultyBy asked text fault

@@ -1,7 +1,8 @@
 -- What the command `first` writes.
 use Rattle.std.specs.Prelude.{ℕ, List, ◌++◌, Result}
 use Rattle.std.specs.Result.{result_map_both}
-use Rattle.convoy_toml.specs.Reading.{scenario_of_text}
+use Rattle.convoy_toml.specs.declared.asked.Asked.{Asked}
+use Rattle.convoy_toml.specs.Reading.{scenario_of_text_by}
 use Rattle.convoy_scenario.specs.Scenario.{Scenario}
 use Rattle.convoy_packets.specs.Assignment.{Schedule, ranges_of}
 use Rattle.convoy_packets.specs.Table.{least_of}
@@ -20,10 +21,10 @@ abbrev pub attained_text : Scenario → Schedule → List ℕ
 attained_text scenario schedule = attained_line (latency_of scenario schedule) ++ schedule_text scenario schedule
 
 -- What is written for a text: that of the least delays of its scenario, or else the scenario's fault.
-unfoldable pub first_text : List ℕ → Result (List ℕ) Fault
-first_text text =
-    result_map_both (λ scenario. attained_text scenario (least_schedule scenario)) told_of (scenario_of_text text)
+unfoldable pub first_text : Asked → List ℕ → Result (List ℕ) Fault
+first_text asked text =
+    result_map_both (λ scenario. attained_text scenario (least_schedule scenario)) told_of (scenario_of_text_by asked text)
 
 -- what `first` may answer: just that
-abbrev pub FirstSays : Rule
-FirstSays = Answers (λ text. fine (first_text text))
+abbrev pub FirstSays : Asked → Rule
+FirstSays asked = Answers (λ text. fine (first_text asked text))

@@ -4,6 +4,7 @@ pub use Rattle.convoy_scenario.specs.WellFormed
 pub use Rattle.convoy_scenario.specs.Naming
 pub use Rattle.convoy_scenario_lines.specs.ScenarioLines
 pub use Rattle.convoy_toml.specs.Reading
+pub use Rattle.convoy_toml.specs.Deadlines
 pub use Rattle.convoy_draft.specs.Keys
 pub use Rattle.convoy_times.specs.Measures
 pub use Rattle.convoy_toml.specs.Shape
@@ -46,6 +47,7 @@ pub use Rattle.convoy_branch.specs.Options
 -- what a reader has to believe: which answers each command may give
 pub mod Measured
 pub mod ReplyLines
+pub mod Verdicts
 pub mod Faults
 pub mod Refusals
 pub mod Replies

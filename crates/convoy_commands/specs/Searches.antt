@@ -2,9 +2,8 @@
 use Rattle.std.specs.Prelude.{◌≡◌, ◌≢◌, ◌⊎◌, ℕ, ◌≤◌, false, List, ◌++◌, length, None, Result, Ok, Err}
 use Rattle.std.specs.List.{list_any}
 use Rattle.convoy_scenario.specs.Scenario.{Scenario}
-use Rattle.convoy_toml.specs.declared.target.TargetKey.{TargetKey}
-use Rattle.convoy_toml.specs.declared.target.TargetKey.TheVariants.{Required}
-use Rattle.convoy_toml.specs.Reading.{scenario_of_text, scenario_of_text_by}
+use Rattle.convoy_toml.specs.declared.asked.Asked.{Asked}
+use Rattle.convoy_toml.specs.Reading.{as_written, scenario_of_text_by}
 use Rattle.convoy_scenario.specs.WellFormed.{IsScenario}
 use Rattle.convoy_draft.specs.declared.fault.ScenarioFault.{ScenarioFault}
 use Rattle.convoy_packets.specs.Assignment.{Schedule, IsAssignment}
@@ -25,6 +24,7 @@ use Rattle.convoy_branch.specs.declared.outcome.Outcome.TheVariants as outcomes
 use Rattle.convoy_branch.specs.Options.{Settings, limit_of}
 use Rattle.convoy_branch.specs.declared.options.Ways.{Ways}
 use Rattle.convoy_branch.specs.declared.options.Ways.TheVariants.{One, Both}
+use Rattle.convoy_commands.specs.declared.done.Done.{Done}
 use Rattle.convoy_commands.specs.declared.done.Done.TheVariants.{Fine, Open}
 use Rattle.convoy_commands.specs.declared.fault.Fault.{Fault}
 use Rattle.convoy_commands.specs.declared.fault.Fault.TheVariants.{Memory}
@@ -34,17 +34,18 @@ use Rattle.convoy_commands.specs.Faults.{told_of}
 use Rattle.convoy_commands.specs.ReplyLines.{accepted_line, greatest_line, open_line, schedule_text}
 use Rattle.convoy_commands.specs.Measured.{measure_of_text}
 use Rattle.convoy_commands.specs.Replies.{Rule}
+use Rattle.convoy_commands.specs.Verdicts.{judged, target_deadline, verdict_text}
 use Rattle.convoy_commands.specs.declared.search.Searched.{Searched}
 
--- The text has this fault, where the target has to be written or not.
-pub record IsFaultyBy (key : TargetKey) (text : List ℕ) (fault : Fault) : Type 0 where
+-- The text has this fault, where that is asked.
+pub record IsFaultyBy (asked : Asked) (text : List ℕ) (fault : Fault) : Type 0 where
   pub cause : ScenarioFault
-  pub found : scenario_of_text_by key text ≡ Err cause
+  pub found : scenario_of_text_by asked text ≡ Err cause
   pub told : fault ≡ told_of cause
 
 -- The text has this fault.
 abbrev pub IsFaulty : List ℕ → Fault → Type 0
-IsFaulty text fault = IsFaultyBy Required text fault
+IsFaulty text fault = IsFaultyBy as_written text fault
 
 -- what a search by one kind of bounds, or both ways, answers with that limit
 abbrev pub IsOutcomeBy : Ways → Scenario → ℕ → Limit → Outcome → Type 0
@@ -70,23 +71,25 @@ pub record IsEnd (settings : Settings) (scenario : Scenario) (outcome : Outcome)
   pub as_said : (workers ≡ settings.workers) ⊎ ((workers ≡ 1) × (tickets_of outcome ≤ 1))
   pub found : IsOutcomeBy settings.ways scenario workers (limit_of settings) outcome
 
--- The text is that of this scenario, and a search for it with these settings ended so.
-pub record IsSearchOf (settings : Settings) (text : List ℕ) (scenario : Scenario) (outcome : Outcome) : Type 0 where
-  pub read : scenario_of_text text ≡ Ok scenario
+-- The text is that of this scenario, where that is asked, and a search for it with these settings ended so.
+pub record IsSearchOf (asked : Asked) (settings : Settings) (text : List ℕ) (scenario : Scenario) (outcome : Outcome) : Type 0 where
+  pub read : scenario_of_text_by asked text ≡ Ok scenario
   pub lawful : IsScenario scenario
   pub ended : IsEnd settings scenario outcome
 
--- what a search for the scenario of a text gives, with that scenario and how its times are told; or why there is no answer
-abbrev pub SearchGives : Settings → List ℕ → Result Searched Fault → Type 0
-SearchGives settings text (Ok searched) =
-    IsSearchOf settings text searched.read searched.outcome × (searched.measure ≡ measure_of_text settings.unit text searched.read)
-SearchGives settings text (Err fault) = IsFaulty text fault ⊎ (fault ≡ Memory)
+-- what a search for the scenario of a text gives, with that scenario, how its times are told, and the deadline of its target; or why there is no answer
+abbrev pub SearchGives : Asked → Settings → List ℕ → Result Searched Fault → Type 0
+SearchGives asked settings text (Ok searched) =
+    IsSearchOf asked settings text searched.read searched.outcome
+    × (searched.measure ≡ measure_of_text settings.unit text searched.read)
+    × (searched.deadline ≡ target_deadline asked text searched.read)
+SearchGives asked settings text (Err fault) = IsFaultyBy asked text fault ⊎ (fault ≡ Memory)
 
--- THE HEADLINE. What is written is a certificate of the scenario that was read, with no more nodes than there are tickets; its schedule has the stated latency; no assignment has a greater one; and the checker accepts what is written.
-pub record IsProof (settings : Settings) (text out : List ℕ) : Type 0 where
+-- THE HEADLINE. What is written is a certificate of the scenario that was read, with no more nodes than there are tickets; its schedule has the stated latency; no assignment has a greater one; and the checker accepts what is written. How the command ends, the deadline of the target says where there is one.
+pub record IsProof (asked : Asked) (settings : Settings) (text : List ℕ) (end : Done) (out : List ℕ) : Type 0 where
   pub certificate : Certificate
   pub lawful : IsCertificate certificate
-  pub read : scenario_of_text text ≡ Ok certificate.scenario
+  pub read : scenario_of_text_by asked text ≡ Ok certificate.scenario
   pub written : out ≡ certificate_text certificate
   pub latency : latency_of certificate.scenario certificate.schedule ≡ certificate.latency
   pub greatest : IsGreatest certificate.scenario certificate.latency
@@ -98,51 +101,55 @@ pub record IsProof (settings : Settings) (text out : List ℕ) : Type 0 where
   -- the checker reads it whole: it is within the limit of bytes
   pub fits : length out ≤ LONGEST_CERTIFICATE
   pub accepted : check_reply out ≡ Ok (Fine, accepted_line certificate.latency)
+  pub ends : end ≡ judged (target_deadline asked text certificate.scenario) certificate.latency certificate.latency Fine
 
 -- The greatest latency of the scenario that was read is from `least` to `most`: so say the front, or both fronts, of a search that has stopped with boxes left.
-pub record IsOpenBetween (settings : Settings) (text : List ℕ) (scenario : Scenario) (least most : ℕ) : Type 0 where
-  pub read : scenario_of_text text ≡ Ok scenario
+pub record IsOpenBetween (asked : Asked) (settings : Settings) (text : List ℕ) (scenario : Scenario) (least most : ℕ) : Type 0 where
+  pub read : scenario_of_text_by asked text ≡ Ok scenario
   pub lawful : IsScenario scenario
   pub reached : IsReached scenario least
   pub upper : IsUpper scenario most
   pub front : IsFrontBy settings.ways scenario least most (limit_of settings)
 
 -- What is written is the least and the most that the greatest latency may be, and a schedule that has the least.
-pub record IsOpenProof (settings : Settings) (text out : List ℕ) : Type 0 where
+pub record IsOpenProof (asked : Asked) (settings : Settings) (text : List ℕ) (end : Done) (out : List ℕ) : Type 0 where
   pub scenario : Scenario
   pub schedule : Schedule
   pub most : ℕ
   pub assigned : IsAssignment scenario schedule
-  pub between : IsOpenBetween settings text scenario (latency_of scenario schedule) most
+  pub between : IsOpenBetween asked settings text scenario (latency_of scenario schedule) most
   pub written : out ≡ open_line None (latency_of scenario schedule) most ++ schedule_text scenario schedule
+  pub ends : end ≡ judged (target_deadline asked text scenario) (latency_of scenario schedule) most Open
 
 -- what `analyse` may answer
-abbrev pub AnalyseSays : Settings → Rule
-AnalyseSays settings text (Ok (Fine, out)) = IsProof settings text out
-AnalyseSays settings text (Ok (Open, out)) = IsOpenProof settings text out
-AnalyseSays settings text (Ok (other, out)) = ⊥
-AnalyseSays settings text (Err fault) = IsFaulty text fault
+abbrev pub AnalyseSays : Asked → Settings → Rule
+AnalyseSays asked settings text (Ok (end, out)) = IsProof asked settings text end out ⊎ IsOpenProof asked settings text end out
+AnalyseSays asked settings text (Err fault) = IsFaultyBy asked text fault
 
--- The greatest latency of the scenario that was read is written.
-pub record IsGreatestTold (settings : Settings) (text out : List ℕ) : Type 0 where
+-- The greatest latency of the scenario that was read is written, and how it keeps the deadline of the target where there is one.
+pub record IsGreatestTold (asked : Asked) (settings : Settings) (text : List ℕ) (end : Done) (out : List ℕ) : Type 0 where
   pub scenario : Scenario
   pub latency : ℕ
-  pub read : scenario_of_text text ≡ Ok scenario
+  pub read : scenario_of_text_by asked text ≡ Ok scenario
   pub lawful : IsScenario scenario
   pub greatest : IsGreatest scenario latency
-  pub written : out ≡ greatest_line (measure_of_text settings.unit text scenario) latency
+  pub written : out
+      ≡ greatest_line (measure_of_text settings.unit text scenario) latency
+      ++ verdict_text (measure_of_text settings.unit text scenario) (target_deadline asked text scenario) latency latency
+  pub ends : end ≡ judged (target_deadline asked text scenario) latency latency Fine
 
--- What is written is the least and the most that the greatest latency may be.
-pub record IsFrontTold (settings : Settings) (text out : List ℕ) : Type 0 where
+-- What is written is the least and the most that the greatest latency may be, and how that keeps the deadline.
+pub record IsFrontTold (asked : Asked) (settings : Settings) (text : List ℕ) (end : Done) (out : List ℕ) : Type 0 where
   pub scenario : Scenario
   pub least : ℕ
   pub most : ℕ
-  pub between : IsOpenBetween settings text scenario least most
-  pub written : out ≡ open_line (measure_of_text settings.unit text scenario) least most
+  pub between : IsOpenBetween asked settings text scenario least most
+  pub written : out
+      ≡ open_line (measure_of_text settings.unit text scenario) least most
+      ++ verdict_text (measure_of_text settings.unit text scenario) (target_deadline asked text scenario) least most
+  pub ends : end ≡ judged (target_deadline asked text scenario) least most Open
 
 -- what `latency` may answer
-abbrev pub LatencySays : Settings → Rule
-LatencySays settings text (Ok (Fine, out)) = IsGreatestTold settings text out
-LatencySays settings text (Ok (Open, out)) = IsFrontTold settings text out
-LatencySays settings text (Ok (other, out)) = ⊥
-LatencySays settings text (Err fault) = IsFaulty text fault
+abbrev pub LatencySays : Asked → Settings → Rule
+LatencySays asked settings text (Ok (end, out)) = IsGreatestTold asked settings text end out ⊎ IsFrontTold asked settings text end out
+LatencySays asked settings text (Err fault) = IsFaultyBy asked text fault

@@ -2,7 +2,8 @@
 use Rattle.std.specs.Prelude.{◌≡◌, ℕ, Bool, true, false, List, ◌++◌, Option, Ok, Err}
 use Rattle.convoy_draft.specs.declared.duration.TimeUnit.{TimeUnit}
 use Rattle.convoy_scenario.specs.Scenario.{Scenario}
-use Rattle.convoy_toml.specs.Reading.{scenario_of_text}
+use Rattle.convoy_toml.specs.declared.asked.Asked.{Asked}
+use Rattle.convoy_toml.specs.Reading.{scenario_of_text_by}
 use Rattle.convoy_ceiling.specs.Ceiling.{IsUpperInTraffic, ceiling_of}
 use Rattle.convoy_certificate.specs.Certificate.{Certificate}
 use Rattle.convoy_certificate.specs.Reading.{certificate_of}
@@ -23,37 +24,37 @@ pub record HasCeilingBelow (measure : Option Measure) (scenario : Scenario) (ans
   pub written : out ≡ answer ++ ceiling_line measure (ceiling_of scenario)
 
 -- what `latency` answers for the text of a scenario, and below it the scenario's ceiling
-pub record IsLatencyWithCeiling (settings : Settings) (text out : List ℕ) (done : Done) : Type 0 where
+pub record IsLatencyWithCeiling (asked : Asked) (settings : Settings) (text out : List ℕ) (done : Done) : Type 0 where
   pub scenario : Scenario
   pub answer : List ℕ
-  pub read : scenario_of_text text ≡ Ok scenario
-  pub answered : LatencySays settings text (Ok (done, answer))
+  pub read : scenario_of_text_by asked text ≡ Ok scenario
+  pub answered : LatencySays asked settings text (Ok (done, answer))
   pub ceiling : HasCeilingBelow (measure_of_text settings.unit text scenario) scenario answer out
 
 -- what `explain` answers for the text of a certificate that is valid, and below it the ceiling of the certificate's scenario
-pub record IsExplanationWithCeiling (asked : Option TimeUnit) (text out : List ℕ) : Type 0 where
+pub record IsExplanationWithCeiling (unit : Option TimeUnit) (text out : List ℕ) : Type 0 where
   pub certificate : Certificate
   pub answer : List ℕ
   pub read : certificate_of text ≡ Ok certificate
-  pub answered : AskSays (Explain asked) text (Ok (Fine, answer))
-  pub ceiling : HasCeilingBelow (measure_of asked certificate.scenario) certificate.scenario answer out
+  pub answered : AskSays (Explain unit) text (Ok (Fine, answer))
+  pub ceiling : HasCeilingBelow (measure_of unit certificate.scenario) certificate.scenario answer out
 
 -- what may be answered for the text of a scenario: below a fault stands no ceiling
-abbrev pub LatencyWithCeilingSays : Settings → Rule
-LatencyWithCeilingSays settings text (Ok (done, out)) = IsLatencyWithCeiling settings text out done
-LatencyWithCeilingSays settings text (Err fault) = LatencySays settings text (Err fault)
+abbrev pub LatencyWithCeilingSays : Asked → Settings → Rule
+LatencyWithCeilingSays asked settings text (Ok (done, out)) = IsLatencyWithCeiling asked settings text out done
+LatencyWithCeilingSays asked settings text (Err fault) = LatencySays asked settings text (Err fault)
 
 -- what may be answered for the text of a certificate: below a refusal and a fault stands no ceiling
 abbrev pub ExplainWithCeilingSays : Option TimeUnit → Rule
-ExplainWithCeilingSays asked text (Ok (Fine, out)) = IsExplanationWithCeiling asked text out
-ExplainWithCeilingSays asked text other = AskSays (Explain asked) text other
+ExplainWithCeilingSays unit text (Ok (Fine, out)) = IsExplanationWithCeiling unit text out
+ExplainWithCeilingSays unit text other = AskSays (Explain unit) text other
 
 -- what `latency` may answer, by whether the ceiling is to stand below it
-abbrev pub latency_says : Bool → Settings → Rule
-latency_says true settings = LatencyWithCeilingSays settings
-latency_says false settings = LatencySays settings
+abbrev pub latency_says : Bool → Asked → Settings → Rule
+latency_says true asked settings = LatencyWithCeilingSays asked settings
+latency_says false asked settings = LatencySays asked settings
 
 -- what `explain` may answer, by the same
 abbrev pub explain_says : Bool → Option TimeUnit → Rule
-explain_says true asked = ExplainWithCeilingSays asked
-explain_says false asked = AskSays (Explain asked)
+explain_says true unit = ExplainWithCeilingSays unit
+explain_says false unit = AskSays (Explain unit)

@@ -7,34 +7,38 @@ ghost use Rattle.convoy_commands.specs.Replies.{SaysUnlessMemory, reply_of};
 use super::answer::{Answer, Known};
 use super::done::Done;
 use super::fault::Fault;
-use super::reply_lines::push_ceiling;
+use super::reply_lines::{push_ceiling, push_verdict};
+use super::verdict::{deadline_at, judged};
 use convoy_ceiling::{Found, seek_traffic, target_ceiling};
 use convoy_lines::push_number_line;
 use convoy_scenario::{Scenario, TimeUnit};
 use convoy_times::Measure;
-use convoy_toml::read_toml;
+use convoy_toml::{Asked, read_toml_asked};
 use convoy_toml_writer::write_toml;
 use std::alloc::{AllocError, Global};
 
-/// The ceiling of the scenario of a text, and traffic that is sought by so many simulations at most
-/// (docs/FORMATS.md, "What `ceiling` writes"), with times in the unit that is asked for. The faults are those of
-/// [`read_toml`], and `Fault::Memory`.
+/// The ceiling of the scenario of a text, where that is asked, and traffic that is sought by so many simulations at
+/// most, with how latencies in traffic keep the deadline of the target, where this has one (docs/FORMATS.md, "What
+/// `ceiling` writes"); times are told in the unit that is given. The faults are those of [`read_toml_asked`], and
+/// `Fault::Memory`.
 pub fn ceiling_answer(
     alloc: Global,
     simulations: u64,
+    asked: &Asked,
     unit: Option<TimeUnit>,
     text: &[u8],
 ) -> Result<Answer, Fault>
-    ensures { SaysUnlessMemory (CeilingSays unit) text.now (reply_of result) }
+    ensures { SaysUnlessMemory (CeilingSays asked.now unit) text.now (reply_of result) }
 {
-    let input = read_toml(alloc, text)?;
+    let input = read_toml_asked(alloc, text, asked)?;
     let scenario = input.scenario;
+    let deadline = deadline_at(&input.deadlines, scenario.target_message());
     let measure = Measure::of(&scenario, unit, input.unit);
     let ceiling = target_ceiling(&scenario);
     let found = seek_traffic(alloc, &scenario, simulations)?;
-    let text = told(alloc, &scenario, measure, ceiling, &found)?;
+    let text = told(alloc, &scenario, &measure, deadline, ceiling, &found)?;
     let latency = found.record.latency();
-    let done = ending(ceiling, latency);
+    let done = judged(deadline, latency, ceiling, ending(ceiling, latency));
     Ok(Answer {
         done,
         text,
@@ -46,7 +50,7 @@ pub fn ceiling_answer(
     })
 }
 
-/// How the command ends: well where the latency is the ceiling.
+/// How the command ends without a deadline: well where the latency is the ceiling.
 fn ending(ceiling: u32, latency: u32) -> Done
     ensures { result ≡ (if latency == ceiling then Fine else Open) }
 {
@@ -57,21 +61,24 @@ fn ending(ceiling: u32, latency: u32) -> Done
     }
 }
 
-/// The ceiling of a scenario, and the traffic that was found.
+/// The ceiling of a scenario, how latencies in traffic keep the deadline, and the traffic that was found.
 fn told(
     alloc: Global,
     scenario: &Scenario,
-    measure: Option<Measure>,
+    measure: &Option<Measure>,
+    deadline: Option<u32>,
     ceiling: u32,
     found: &Found,
 ) -> Result<Vec<u8>, AllocError>
     requires ceiling { ceiling ≡ ceiling_of scenario.now }
     requires traffic { found.now.record.scenario ≡ found.now.traffic }
-    ensures { IfOk result (λ text. text.items ≡ ceiling_text measure scenario.now found.now.record) }
+    ensures { IfOk result (λ text. text.items ≡ ceiling_text measure.now deadline scenario.now found.now.record) }
 {
     let mut text = Vec::new(alloc);
-    push_ceiling(measure, ceiling, &mut text)?;
-    push_number_line(&mut text, "attained", found.record.latency())?;
+    push_ceiling(*measure, ceiling, &mut text)?;
+    let latency = found.record.latency();
+    push_number_line(&mut text, "attained", latency)?;
+    push_verdict(*measure, deadline, latency, ceiling, &mut text)?;
     write_toml(found.traffic.scenario(), found.record.schedule(), &mut text)?;
     Ok(text)
 }

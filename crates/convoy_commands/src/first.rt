@@ -13,15 +13,15 @@ use convoy_lines::push_number_line;
 use convoy_packets::schedule_laws::fixed_order_is_order;
 use convoy_packets::{Instance, Schedule};
 use convoy_sim::latency;
-use convoy_toml::read_toml;
+use convoy_toml::{Asked, read_toml_asked};
 use std::alloc::{AllocError, Global};
 
-/// The latency that the schedule of least delays attains in the scenario of a text, and that schedule
-/// (docs/FORMATS.md, "What `first` writes"). The faults are those of [`read_toml`], and `Fault::Memory`.
-pub fn first_answer(alloc: Global, text: &[u8]) -> Result<Answer, Fault>
-    ensures { SaysUnlessMemory FirstSays text.now (reply_of result) }
+/// The latency that the schedule of least delays attains in the scenario of a text, where that is asked, and that
+/// schedule (docs/FORMATS.md, "What `first` writes"). The faults are those of [`read_toml_asked`], and `Fault::Memory`.
+pub fn first_answer(alloc: Global, asked: &Asked, text: &[u8]) -> Result<Answer, Fault>
+    ensures { SaysUnlessMemory (FirstSays asked.now) text.now (reply_of result) }
 {
-    fine(first_text(alloc, text))
+    fine(first_text(alloc, asked, text))
 }
 
 /// The answer of a command that ends well whenever it has one.
@@ -50,11 +50,11 @@ fn attained(alloc: Global, instance: &Instance) -> Result<Vec<u8>, AllocError>
 }
 
 /// What is written for a text, and what is known of its scenario.
-fn first_text(alloc: Global, text: &[u8]) -> Result<(Vec<u8>, Known), Fault>
-    ensures { IsUnlessMemory Memory (first_text text.now)
+fn first_text(alloc: Global, asked: &Asked, text: &[u8]) -> Result<(Vec<u8>, Known), Fault>
+    ensures { IsUnlessMemory Memory (first_text asked.now text.now)
         (result_map_both (λ told. told.0.items) (λ fault. fault) result) }
 {
-    let input = read_toml(alloc, text)?;
+    let input = read_toml_asked(alloc, text, asked)?;
     let instance = Instance::of(alloc, input.scenario)?;
     let attained = attained(alloc, &instance)?;
     let read = ReadInstance {

@@ -20,6 +20,7 @@ pub use limits::{DEFAULT_STEPS, LONGEST_CERTIFICATE, LONGEST_JOB, MOST_STEPS};
 pub use reply_lines::push_ceiling;
 pub use search::search_instance;
 pub use telling::{Telling, tell};
+pub use verdict::{Verdict, deadline_at, judged, margin_of};
 pub use watch::Watch;
 pub use with_ceiling::explain_with_ceiling;
 
@@ -38,5 +39,6 @@ mod reply_lines;
 mod scheduled;
 mod search;
 mod telling;
+mod verdict;
 mod watch;
 mod with_ceiling;

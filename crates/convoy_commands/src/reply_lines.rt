@@ -1,7 +1,9 @@
 ghost use Rattle.std.specs.Prelude.{◌≡◌, ◌++◌, OnOk};
 ghost use Rattle.convoy_commands.specs.Ceilings.{ceiling_line};
 ghost use Rattle.convoy_commands.specs.ReplyLines.{open_line, ticks_line};
+ghost use Rattle.convoy_commands.specs.Verdicts.{verdict_text};
 
+use super::verdict::Verdict;
 use convoy_lines::push_number;
 use convoy_times::{Measure, push_told};
 use std::alloc::AllocError;
@@ -35,6 +37,28 @@ pub(crate) fn push_ticks_line(
     push_told(measure, &[ticks], out)?;
     out.push(b'\n')?;
     Ok(())
+}
+
+/// Appends how a greatest latency that is at least and at most so many ticks keeps a deadline, where there is one: a
+/// line with what is left to it or is too much, in ticks and, where there is a measure, in its unit (docs/FORMATS.md,
+/// "Deadlines"). Fails where memory runs out, and else never; a front of the line may have been appended then.
+pub(crate) fn push_verdict(
+    measure: Option<Measure>,
+    deadline: Option<u32>,
+    least: u32,
+    most: u32,
+    out: &mut Vec<u8>,
+) -> Result<(), AllocError>
+    ensures { OnOk result (out.new.items ≡ out.old.items ++ verdict_text measure deadline least most) }
+{
+    let Some(deadline) = deadline else {
+        return Ok(());
+    };
+    match Verdict::of(deadline, least, most) {
+        Verdict::Within => push_ticks_line("within by", measure, deadline - most, out),
+        Verdict::Beyond => push_ticks_line("beyond by", measure, least - deadline, out),
+        Verdict::Undecided => Ok(out.extend_from_slice(b"undecided\n")?),
+    }
 }
 
 /// Appends the line of a search that did not end: the least and the most that the greatest latency

@@ -7,6 +7,7 @@ ghost use Rattle.convoy_commands.specs.Searches.{IsEnd, SearchGives};
 
 use super::answer::ReadInstance;
 use super::fault::Fault;
+use super::verdict::deadline_at;
 use super::watch::Watch;
 use convoy_branch::{
     Bounds, FromAbove, Options, Outcome, Ways, lead_share, plain_share, root_from_above,
@@ -17,7 +18,7 @@ use convoy_packets::{Instance, Schedule};
 use convoy_seek::seek;
 use convoy_sim::Record;
 use convoy_times::Measure;
-use convoy_toml::read_toml;
+use convoy_toml::{Asked, read_toml_asked};
 use std::alloc::{AllocError, Global};
 use std::sync::Wait;
 use std::thread::Threads;
@@ -36,24 +37,28 @@ pub(crate) struct Searched {
     pub read: ReadInstance,
     /// How its times are told.
     pub measure: Option<Measure>,
+    /// The deadline of its target, in ticks, where it has one.
+    pub deadline: Option<u32>,
     /// How the search ended.
     pub outcome: Outcome,
 }
 
-/// Searches for the greatest latency of the scenario that a text gives, by the options' limit of
-/// tickets, by their bounds or both ways, and with their number of workers. The faults are those of [`read_toml`],
-/// and `Fault::Memory`.
+/// Searches for the greatest latency of the scenario that a text gives, where that is asked, by the options' limit of
+/// tickets, by their bounds or both ways, and with their number of workers. The faults are those of
+/// [`read_toml_asked`], and `Fault::Memory`.
 pub(crate) fn search_text<R: Threads + Wait + Sync, W: Watch + Sync>(
     rt: &R,
     alloc: Global,
+    asked: &Asked,
     text: &[u8],
     options: &Options,
     watch: &W,
 ) -> Result<Searched, Fault>
-    ensures { SearchGives options.now text.now result }
+    ensures { SearchGives asked.now options.now text.now result }
 {
-    let input = read_toml(alloc, text)?;
+    let input = read_toml_asked(alloc, text, asked)?;
     let measure = Measure::of(&input.scenario, options.unit(), input.unit);
+    let deadline = deadline_at(&input.deadlines, input.scenario.target_message());
     let read = ReadInstance {
         instance: Instance::of(alloc, input.scenario)?,
         plain: input.plain,
@@ -62,6 +67,7 @@ pub(crate) fn search_text<R: Threads + Wait + Sync, W: Watch + Sync>(
     Ok(Searched {
         read,
         measure,
+        deadline,
         outcome,
     })
 }

@@ -1,7 +1,8 @@
 //! An answer with the ceiling of its scenario in a line below it (docs/FORMATS.md, "What `ceiling` writes").
 
 ghost use Rattle.std.specs.Prelude.{◌≡◌, ℕ, List, Ok, IfOk, OnOk};
-ghost use Rattle.convoy_toml.specs.Reading.{scenario_of_text};
+ghost use Rattle.convoy_toml.specs.declared.asked.Asked.{Asked};
+ghost use Rattle.convoy_toml.specs.Reading.{scenario_of_text_by};
 ghost use Rattle.convoy_branch.specs.Options.{Settings};
 ghost use Rattle.convoy_commands.specs.declared.done.Done.TheVariants.{NotChecked};
 ghost use Rattle.convoy_commands.specs.Measured.{measure_of_text};
@@ -30,10 +31,10 @@ pub(crate) fn put_ceiling(
     measure: Option<Measure>,
     answer: Answer,
 ) -> Result<Answer, AllocError>
-    ensures { (settings : Settings) (text : List ℕ) → scenario_of_text text ≡ Ok scenario.now
+    ensures { (asked : Asked) (settings : Settings) (text : List ℕ) → scenario_of_text_by asked text ≡ Ok scenario.now
         → measure ≡ measure_of_text settings.unit text scenario.now
-        → LatencySays settings text (Ok (told_of_answer answer))
-        → IfOk result (λ told. latency_says with_ceiling settings text (Ok (told_of_answer told))) }
+        → LatencySays asked settings text (Ok (told_of_answer answer))
+        → IfOk result (λ told. latency_says with_ceiling asked settings text (Ok (told_of_answer told))) }
 {
     if !with_ceiling {
         return Ok(answer);

@@ -2,7 +2,7 @@
 use Rattle.std.specs.Prelude.{ℕ, if◌then◌else◌, List, Option, Some, None, codes}
 use Rattle.std.specs.Str.{bytes_eq}
 use Rattle.convoy_draft.specs.declared.fault.Key.{Key}
-use Rattle.convoy_draft.specs.declared.fault.Key.TheVariants.{Time, Tick, Delay, Groups, Multicast, Name, From, To, At, Until, Target, Message, Group, Link, Least, Most, Both, Schedule, Order, Unknown}
+use Rattle.convoy_draft.specs.declared.fault.Key.TheVariants.{Time, Tick, Delay, Groups, Multicast, Name, From, To, At, Until, Within, Target, Message, Group, Link, Least, Most, Both, Schedule, Order, Unknown}
 use Rattle.convoy_draft.specs.declared.time.Time.{Time as AnyTime}
 use Rattle.convoy_draft.specs.declared.time.Time.TheVariants.{Ticks, Real}
 
@@ -18,6 +18,7 @@ key_word From = codes "from"
 key_word To = codes "to"
 key_word At = codes "at"
 key_word Until = codes "until"
+key_word Within = codes "within"
 key_word Target = codes "target"
 key_word Message = codes "message"
 key_word Group = codes "group"

@@ -3,14 +3,20 @@ use convoy_hints_scenario::hint_for_fault;
 use convoy_hints_sketch::{Hint, noun};
 use convoy_scenario::ScenarioFault;
 use convoy_streams::{JobFault, Splitter};
-use convoy_toml::read_toml;
+use convoy_toml::{Asked, read_toml_asked};
 use std::alloc::{AllocError, Global};
 
-/// What is wrong with the jobs of a batch, in a line `hint: job ..` for each that has a fault. Each has
-/// at most `longest` bytes. The text may have been cut, where it is not `whole`: of the job that was cut
+/// What is wrong with the jobs of a batch, where this is asked of each, in a line `hint: job ..` for each that has a
+/// fault. Each has at most `longest` bytes. The text may have been cut, where it is not `whole`: of the job that was cut
 /// it is told at most that it is too long. None where no job has a fault of which anything can be said.
-pub fn hint_for_batch(alloc: Global, text: &[u8], whole: bool, longest: usize) -> Hint {
-    let mut jobs = Jobs::of(alloc, text, longest);
+pub fn hint_for_batch(
+    alloc: Global,
+    text: &[u8],
+    asked: &Asked,
+    whole: bool,
+    longest: usize,
+) -> Hint {
+    let mut jobs = Jobs::of(alloc, text, asked, longest);
     for byte in text {
         jobs.take(*byte)?;
     }
@@ -36,6 +42,7 @@ struct Place {
 struct Jobs<'a> {
     alloc: Global,
     text: &'a [u8],
+    asked: &'a Asked,
     longest: usize,
     splitter: Splitter,
     /// The job under way.
@@ -49,10 +56,11 @@ struct Jobs<'a> {
 
 impl<'a> Jobs<'a> {
     /// The jobs of that text, of which nothing was taken yet.
-    fn of(alloc: Global, text: &'a [u8], longest: usize) -> Jobs<'a> {
+    fn of(alloc: Global, text: &'a [u8], asked: &'a Asked, longest: usize) -> Jobs<'a> {
         Jobs {
             alloc,
             text,
+            asked,
             longest,
             splitter: Splitter::new(alloc, longest),
             place: Place {
@@ -118,7 +126,7 @@ impl<'a> Jobs<'a> {
         let alloc = self.alloc;
         let label = std::str::from_utf8(self.splitter.label()).unwrap_or("");
         let hint = match self.splitter.job() {
-            Ok(text) => hint_for_job(alloc, label, text)?,
+            Ok(text) => hint_for_job(alloc, label, text, self.asked)?,
             Err(JobFault::TooLong) => {
                 let raw = self.text.get(self.place.start..self.taken).unwrap_or(&[]);
                 Some(hint_for_long_job(alloc, raw, self.longest)?)
@@ -137,16 +145,16 @@ impl<'a> Jobs<'a> {
     }
 }
 
-/// What is wrong with the scenario of a job; None where nothing is. Lines are counted within the job.
-fn hint_for_job(alloc: Global, label: &str, text: &[u8]) -> Hint {
-    match read_toml(alloc, text) {
+/// What is wrong with the scenario of a job, where this is asked; None where nothing is. Lines are counted within the job.
+fn hint_for_job(alloc: Global, label: &str, text: &[u8], asked: &Asked) -> Hint {
+    match read_toml_asked(alloc, text, asked) {
         Ok(_) | Err(ScenarioFault::Memory) => Ok(None),
         Err(_) if text.iter().all(|byte| byte.is_ascii_whitespace()) => {
             Ok(Some(hint_for_nothing(alloc, label)?))
         }
         Err(fault) => match hint_for_dividers(alloc, text)? {
             Some(hint) => Ok(Some(hint)),
-            None => hint_for_fault(alloc, text, fault),
+            None => hint_for_fault(alloc, text, asked, fault),
         },
     }
 }

@@ -23,6 +23,7 @@ pub(crate) fn sketch_of_lines(alloc: Global, text: &str) -> Result<Sketch<'_>, A
         },
         multicasts: Vec::new(alloc),
         links: Vec::new(alloc),
+        is_target_asked: false,
     };
     for (before, line) in text.lines().enumerate() {
         let words: Vec<&str> = line.split(' ').collect(alloc)?;

@@ -39,6 +39,22 @@ pub fn hint_for_greatest(alloc: Global, scenario: &Scenario, greatest: u32) -> H
     Ok(Some(hint))
 }
 
+/// What to ask where a deadline is not kept, in one line `hint: ..`: why the message is so late, and what would save most.
+pub fn hint_for_late_message(alloc: Global) -> Result<String, AllocError> {
+    String::from_str(
+        alloc,
+        "hint: the deadline is not kept: 'convoy analyse .. | convoy explain' tells why, and 'convoy survey --without ..' what would save most\n",
+    )
+}
+
+/// The same where the answer is a certificate, or what was found in place of one: neither tells of a deadline.
+pub fn hint_for_late_certificate(alloc: Global) -> Result<String, AllocError> {
+    String::from_str(
+        alloc,
+        "hint: the deadline is not kept, of which no certificate tells: 'convoy latency ..' says by how much, and 'convoy explain' tells of a certificate why\n",
+    )
+}
+
 /// What a table of changes says of a scenario whose greatest latency is the ceiling of messages of these kinds at the
 /// target's group, in one line `hint: ..`: little, since its times of issue are tuned to that. None where it is below the
 /// ceiling.

@@ -19,14 +19,18 @@ pub(crate) fn hint_for_unknown_group(alloc: Global, sketch: &Sketch<'_>) -> Hint
     let stray = stray_in_multicasts(sketch)
         .or(stray_in_target(sketch))
         .or(stray_in_links(sketch));
-    match stray {
-        Some(stray) => {
-            let groups = words_of(alloc, &sketch.draft.groups)?;
-            hint_for_stray(alloc, stray, &groups).map(Some)
-        }
-        None => Ok(None),
+    let Some(stray) = stray else {
+        return Ok(None);
+    };
+    let groups = words_of(alloc, &sketch.draft.groups)?;
+    if sketch.is_target_asked && stray.part.table == ScenarioTable::Target {
+        return hint_for_no_such(alloc, BY_OPTION, "group", stray.name, &groups).map(Some);
     }
+    hint_for_stray(alloc, stray, &groups).map(Some)
 }
+
+/// Where the target is named, if a command line names it.
+const BY_OPTION: &str = "'--target'";
 
 /// The first name in a multicast that is that of no group.
 fn stray_in_multicasts<'s>(sketch: &'s Sketch<'_>) -> Option<Stray<'s>> {
@@ -112,28 +116,47 @@ fn hint_for_stray(alloc: Global, stray: Stray<'_>, groups: &[&str]) -> Result<St
             "'{key}' in {part} is {shown}, which is no group: leave the key '{key}' out where clients send"
         );
     }
-    match nearest(alloc, name, groups)? {
-        Some(near) => hint_for_near_group(alloc, stray, near),
-        None => hint_for_no_group(alloc, stray, groups),
+    let place = format!(in alloc; "'{key}' in {part}")?;
+    hint_for_no_such(alloc, place.as_str(), "group", name, groups)
+}
+
+/// A name at that place is that of nothing of that kind, of which these are the names: the one that it is near to, or
+/// else all of them.
+pub(crate) fn hint_for_no_such(
+    alloc: Global,
+    place: &str,
+    kind: &'static str,
+    name: &str,
+    names: &[&str],
+) -> Result<String, AllocError> {
+    match nearest(alloc, name, names)? {
+        Some(near) => hint_for_near_name(alloc, place, kind, name, near),
+        None => hint_for_no_name(alloc, place, kind, name, names),
     }
 }
 
-/// A name is that of no group, and near to that of one.
-fn hint_for_near_group(alloc: Global, stray: Stray<'_>, near: &str) -> Result<String, AllocError> {
-    let Stray { name, key, part } = stray;
+/// A name at that place is that of nothing of that kind, and near to this one.
+fn hint_for_near_name(
+    alloc: Global,
+    place: &str,
+    kind: &'static str,
+    name: &str,
+    near: &str,
+) -> Result<String, AllocError> {
     let (shown, near) = (Quoted(name), Quoted(near));
-    format!(in alloc; "'{key}' in {part} names {shown}, which is no group: did you mean {near}?")
+    format!(in alloc; "{place} names {shown}, which is no {kind}: did you mean {near}?")
 }
 
-/// A name is that of no group, and near to none.
-fn hint_for_no_group(
+/// A name at that place is that of nothing of that kind, and near to none of these.
+fn hint_for_no_name(
     alloc: Global,
-    stray: Stray<'_>,
-    groups: &[&str],
+    place: &str,
+    kind: &'static str,
+    name: &str,
+    names: &[&str],
 ) -> Result<String, AllocError> {
-    let Stray { name, key, part } = stray;
-    let (shown, groups) = (Quoted(name), Names(groups));
-    format!(in alloc; "'{key}' in {part} names {shown}, which is no group: the groups are {groups}")
+    let (shown, names) = (Quoted(name), Names(names));
+    format!(in alloc; "{place} names {shown}, which is no {kind}: the {kind}s are {names}")
 }
 
 /// Which message goes nowhere.
@@ -167,35 +190,13 @@ fn hint_for_twice(alloc: Global, part: Part<'_>, name: &str) -> Result<String, A
 /// The target's message is no message.
 pub(crate) fn hint_for_unknown_target(alloc: Global, sketch: &Sketch<'_>) -> Hint {
     let names = names_of(alloc, &sketch.draft.multicasts)?;
-    hint_for_no_message(alloc, sketch.draft.target_message.as_str(), &names).map(Some)
-}
-
-/// The name in the target is that of none of the messages.
-fn hint_for_no_message(alloc: Global, name: &str, names: &[&str]) -> Result<String, AllocError> {
-    match nearest(alloc, name, names)? {
-        Some(near) => hint_for_near_message(alloc, name, near),
-        None => hint_for_strange_message(alloc, name, names),
-    }
-}
-
-/// The name in the target is that of no message, and near to that of one.
-fn hint_for_near_message(alloc: Global, name: &str, near: &str) -> Result<String, AllocError> {
-    let (shown, near) = (Quoted(name), Quoted(near));
-    format!(in alloc;
-        "'message' in the target names {shown}, which is no message: did you mean {near}?"
-    )
-}
-
-/// The name in the target is that of no message, and near to none.
-fn hint_for_strange_message(
-    alloc: Global,
-    name: &str,
-    names: &[&str],
-) -> Result<String, AllocError> {
-    let (shown, names) = (Quoted(name), Names(names));
-    format!(in alloc;
-        "'message' in the target names {shown}, which is no message: the messages are {names}"
-    )
+    let place = if sketch.is_target_asked {
+        BY_OPTION
+    } else {
+        "'message' in the target"
+    };
+    let name = sketch.draft.target_message.as_str();
+    hint_for_no_such(alloc, place, "message", name, &names).map(Some)
 }
 
 /// The target's message does not go to the target's group.
@@ -204,7 +205,12 @@ pub(crate) fn hint_for_target_not_addressed(alloc: Global, sketch: &Sketch<'_>) 
         if multicast.name.is_same(&sketch.draft.target_message) {
             let to = words_of(alloc, &multicast.to)?;
             let group = sketch.draft.target_group.as_str();
-            return hint_for_elsewhere(alloc, *part, group, &to).map(Some);
+            let place = if sketch.is_target_asked {
+                BY_OPTION
+            } else {
+                "the target"
+            };
+            return hint_for_elsewhere(alloc, place, *part, group, &to).map(Some);
         }
     }
     Ok(None)
@@ -213,12 +219,13 @@ pub(crate) fn hint_for_target_not_addressed(alloc: Global, sketch: &Sketch<'_>) 
 /// A message does not go to the target's group.
 fn hint_for_elsewhere(
     alloc: Global,
+    place: &str,
     part: Part<'_>,
     group: &str,
     to: &[&str],
 ) -> Result<String, AllocError> {
     let (group, to) = (Quoted(group), Names(to));
-    format!(in alloc; "the target asks for {part} at {group}, and it goes to {to} alone")
+    format!(in alloc; "{place} asks for {part} at {group}, and it goes to {to} alone")
 }
 
 /// The target's message may be issued at several ticks.

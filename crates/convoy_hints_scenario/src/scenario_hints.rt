@@ -10,30 +10,32 @@ use super::references::{
 };
 use convoy_certificate::{Form, form_of};
 use convoy_hints_sketch::{
-    Hint, Quoted, ScenarioText, Sketch, hint_for_mixture, hint_for_part_of_tick, hint_for_shape,
-    sketch_of_draft, spot_at, with_cause_of_tick,
+    Hint, Quoted, ScenarioText, Sketch, hint_for_deadline, hint_for_mixture, hint_for_part_of_tick,
+    hint_for_shape, sketch_of_draft, spot_at, with_cause_of_tick,
 };
 use convoy_scenario::{DraftScenario, Key, Limit, Scenario, ScenarioFault};
 use convoy_toml::{
-    Placed, PlainNumber, TargetKey, WrittenScenario, draft_of_written, read_table, written_of_table,
+    Asked, Placed, PlainNumber, TargetKey, WrittenInput, WrittenScenario, draft_of_written,
+    read_table, written_of_table,
 };
 use std::alloc::{AllocError, Global};
+use toml::Table;
 use toml::de::Error;
 
-/// What is wrong with the text of a scenario that has that fault, in one line `hint: ..`. None where nothing
-/// can be said beyond the fault.
-pub fn hint_for_scenario(alloc: Global, text: &[u8], fault: ScenarioFault) -> Hint {
-    let hint = hint_for_fault(alloc, text, fault)?;
+/// What is wrong with the text of a scenario that has that fault where this is asked, or with what is asked, in one line
+/// `hint: ..`. None where nothing can be said beyond the fault.
+pub fn hint_for_scenario(alloc: Global, text: &[u8], asked: &Asked, fault: ScenarioFault) -> Hint {
+    let hint = hint_for_fault(alloc, text, asked, fault)?;
     with_label(alloc, hint)
 }
 
 /// The same without the label of a hint: for a text that is one of several, as a job of a batch, whose lines
 /// are counted from 1.
-pub fn hint_for_fault(alloc: Global, text: &[u8], fault: ScenarioFault) -> Hint {
+pub fn hint_for_fault(alloc: Global, text: &[u8], asked: &Asked, fault: ScenarioFault) -> Hint {
     match fault {
         ScenarioFault::Memory => Ok(None),
         ScenarioFault::NotToml => hint_for_text(alloc, text),
-        fault => hint_for_table(alloc, text, fault),
+        fault => hint_for_table(alloc, text, asked, fault),
     }
 }
 
@@ -136,7 +138,10 @@ fn gives_bare_time(line: &str) -> bool {
 
 /// Whether a time may stand at the key of that word.
 fn is_key_of_time(word: &str) -> bool {
-    matches!(word, "tick" | "delay" | "least" | "most" | "at" | "until")
+    matches!(
+        word,
+        "tick" | "delay" | "least" | "most" | "at" | "until" | "within"
+    )
 }
 
 /// Whether a value begins as a number and has a unit or a decimal comma.
@@ -153,7 +158,7 @@ fn is_bare_duration(value: &str) -> bool {
 }
 
 /// What is wrong with the table of a scenario: it is read as the commands read it, up to the fault.
-fn hint_for_table(alloc: Global, text: &[u8], fault: ScenarioFault) -> Hint {
+fn hint_for_table(alloc: Global, text: &[u8], asked: &Asked, fault: ScenarioFault) -> Hint {
     let (Ok(table), Ok(text)) = (read_table(alloc, text), std::str::from_utf8(text)) else {
         return Ok(None);
     };
@@ -161,14 +166,28 @@ fn hint_for_table(alloc: Global, text: &[u8], fault: ScenarioFault) -> Hint {
         text,
         table: &table,
     };
-    let written = match written_of_table(alloc, &table, target_for(fault)) {
+    let written = match written_for(alloc, &table, asked, fault) {
         Ok(written) => written.scenario,
         Err(placed) => return hint_for_key(alloc, source, &placed),
     };
     match draft_of_written(alloc, &written) {
-        Ok(draft) => hint_for_draft(alloc, source, &written, draft, fault),
+        Ok(draft) => hint_for_draft(alloc, source, asked, &written, draft, fault),
         Err(placed) => hint_for_times(alloc, source, &written, &placed),
     }
+}
+
+/// What is written in a table that has that fault where this is asked.
+fn written_for(
+    alloc: Global,
+    table: &Table,
+    asked: &Asked,
+    fault: ScenarioFault,
+) -> Result<WrittenInput, Placed> {
+    if names_target(asked) {
+        return written_of_table(alloc, table, &asked.target);
+    }
+    let target = target_for(fault);
+    written_of_table(alloc, table, &target)
 }
 
 /// Whether a text that has that fault has to name its target: some commands read it without one, and it is a
@@ -178,6 +197,11 @@ fn target_for(fault: ScenarioFault) -> TargetKey {
         ScenarioFault::Shape(Key::Target) => TargetKey::Required,
         _ => TargetKey::Optional,
     }
+}
+
+/// Whether a target is asked for beside the text.
+fn names_target(asked: &Asked) -> bool {
+    matches!(asked.target, TargetKey::Named { .. })
 }
 
 /// What is wrong at a key.
@@ -206,21 +230,25 @@ fn hint_for_times(
     }
 }
 
-/// What is wrong with a draft.
+/// What is wrong with a draft, or with a deadline, whose shape is told last.
 fn hint_for_draft(
     alloc: Global,
     source: ScenarioText<'_>,
+    asked: &Asked,
     written: &WrittenScenario,
     draft: DraftScenario,
     fault: ScenarioFault,
 ) -> Hint {
     match fault {
         ScenarioFault::NoRange => hint_for_no_range(alloc, &draft, written.delay.is_some()),
-        ScenarioFault::TargetWaits if !source.table.contains_key(Key::Target.word()) => {
+        ScenarioFault::Shape(_) => hint_for_deadline(alloc, source, written, &asked.at_most),
+        ScenarioFault::TargetWaits
+            if !names_target(asked) && !source.table.contains_key(Key::Target.word()) => {
             hint_for_no_known_issue(alloc).map(Some)
         }
         fault => {
-            let sketch = sketch_of_draft(alloc, source, &written.links, draft)?;
+            let names_target = names_target(asked);
+            let sketch = sketch_of_draft(alloc, source, &written.links, draft, names_target)?;
             let hint = hint_for_sketch(alloc, &sketch, fault)?;
             with_cause(alloc, source, written, fault, hint)
         }

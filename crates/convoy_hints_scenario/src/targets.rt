@@ -1,13 +1,16 @@
-use convoy_hints_sketch::{Hint, Names, Quoted, nearest};
+use super::references::hint_for_no_such;
+use super::scenario_hints::with_label;
+use convoy_hints_sketch::{Hint, Quoted};
 use convoy_scenario::{Scenario, ScenarioFault};
-use convoy_toml::read_toml_any_target;
+use convoy_toml::{Asked, read_toml_asked};
 use std::alloc::{AllocError, Global};
 
 /// What is wrong with the group at which a command line asks for the ceilings of the scenario of that text, in one line
 /// `hint: ..`: that the scenario has none of that name, or that this is the name of a file where no text was given. None
 /// where the scenario has such a group, or the text has a fault of its own.
 pub fn hint_for_named_group(alloc: Global, text: &[u8], name: &str, fault: ScenarioFault) -> Hint {
-    match (fault, read_toml_any_target(alloc, text)) {
+    let asked = Asked::of_any_target();
+    match (fault, read_toml_asked(alloc, text, &asked)) {
         (ScenarioFault::UnknownGroup, Ok(input)) => hint_for_group(alloc, &input.scenario, name),
         (_, Err(_)) if is_name_of_file(name) && is_blank(text) => {
             hint_for_file_as_group(alloc, name).map(Some)
@@ -43,21 +46,8 @@ fn hint_for_group(alloc: Global, scenario: &Scenario, name: &str) -> Hint {
     if is_name_of_file(name) {
         return hint_for_file_as_group(alloc, name).map(Some);
     }
-    let shown = Quoted(name);
-    match nearest(alloc, name, &groups)? {
-        Some(near) => {
-            let near = Quoted(near);
-            format!(in alloc;
-                "hint: '--group' names {shown}, which is no group: did you mean {near}?\n"
-            ).map(Some)
-        }
-        None => {
-            let groups = Names(&groups);
-            format!(in alloc;
-                "hint: '--group' names {shown}, which is no group: the groups are {groups}\n"
-            ).map(Some)
-        }
-    }
+    let hint = hint_for_no_such(alloc, "'--group'", "group", name, &groups)?;
+    with_label(alloc, Some(hint))
 }
 
 /// The names of the groups of a scenario.

@@ -42,6 +42,7 @@ pub(crate) fn field_at(table: ScenarioTable, key: Key) -> Field {
         Key::To => (Kind::Texts, "to = [\"a\", \"b\"]"),
         Key::At => (Kind::Time, "at = 0"),
         Key::Until => (Kind::Time, "until = 10"),
+        Key::Within => (Kind::Time, "within = 40"),
         Key::Target => (Kind::Table, "[target]"),
         Key::Message => (Kind::Text, "message = \"x\""),
         Key::Group => (Kind::Text, "group = \"a\""),
@@ -64,6 +65,7 @@ pub(crate) fn lasting_field(key: Key) -> Option<Field> {
         Key::Most => "most = \"2 ms\"",
         Key::At => "at = \"0 ms\"",
         Key::Until => "until = \"10 ms\"",
+        Key::Within => "within = \"400 ms\"",
         _ => return None,
     };
     Some(Field {
@@ -76,7 +78,14 @@ pub(crate) fn lasting_field(key: Key) -> Option<Field> {
 pub(crate) fn keys_of(table: ScenarioTable) -> &'static [Key] {
     match table {
         ScenarioTable::Top => &TOP_KEYS,
-        ScenarioTable::Multicast(_) => &[Key::Name, Key::From, Key::To, Key::At, Key::Until],
+        ScenarioTable::Multicast(_) => &[
+            Key::Name,
+            Key::From,
+            Key::To,
+            Key::At,
+            Key::Until,
+            Key::Within,
+        ],
         ScenarioTable::Target => &[Key::Message, Key::Group],
         ScenarioTable::Link(_) => &[Key::From, Key::To, Key::Both, Key::Least, Key::Most],
     }

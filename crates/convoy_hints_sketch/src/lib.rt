@@ -5,6 +5,7 @@
 #![tactic(auto)]
 
 pub use counting::noun;
+pub use deadlines::hint_for_deadline;
 pub use durations::{Length, shown_time, shown_written};
 pub use hint::Hint;
 pub use near::nearest;
@@ -19,6 +20,7 @@ pub use tick_causes::with_cause_of_tick;
 pub use times::{hint_for_mixture, hint_for_part_of_tick, hint_for_plain_number};
 
 mod counting;
+mod deadlines;
 mod durations;
 mod fields;
 mod headers;

@@ -19,10 +19,15 @@ const ENDS: &str = "write 'from' and 'to', and 'both = true' where the range is 
 const CLIENTS: &str =
     "clients have no names and are one place: leave 'from' out where they send; a group that nothing is sent to may be another place of clients";
 
+/// What to write in place of a word for a deadline.
+const DEADLINE: &str =
+    "a deadline is the key 'within' of a message, or for all messages the option '--at-most'";
+
 /// What to write in place of a key that a table may not have; None where that is not known.
 pub(crate) fn advice_for(table: ScenarioTable, word: &str) -> Option<&'static str> {
     match table {
         _ if is_word_for_clients(word) => Some(CLIENTS),
+        _ if is_word_for_deadline(word) => Some(DEADLINE),
         ScenarioTable::Link(_) => advice_on_range(word).or(advice_on_ends(word)),
         _ => None,
     }
@@ -58,6 +63,14 @@ fn advice_on_ends(word: &str) -> Option<&'static str> {
         "between" | "ends" | "pair" => Some(ENDS),
         _ => None,
     }
+}
+
+/// Whether a word is one for a deadline.
+fn is_word_for_deadline(word: &str) -> bool {
+    matches!(
+        word,
+        "deadline" | "at_most" | "at-most" | "max_latency" | "timeout" | "budget" | "slo" | "sla"
+    )
 }
 
 /// Whether a word is one for the clients.

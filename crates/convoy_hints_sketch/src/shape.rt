@@ -336,7 +336,7 @@ fn hint_for_other_key(alloc: Global, word: &str, part: &Part<'_>) -> Result<Stri
             "'{word}' stands below the header of {part}, and so belongs to that: write it above the first header"
         );
     }
-    if word == Key::Until.word() {
+    if is_key_among(word, &[Key::Until, Key::Within]) {
         return format!(in alloc;
             "'{word}' stands in {part}, and is a key of a message: write it below the 'at' of that"
         );

@@ -14,14 +14,17 @@ pub struct Sketch<'a> {
     pub multicasts: Vec<Part<'a>>,
     /// Where each link stands, in their order; of those that no table writes there is none here.
     pub links: Vec<Part<'a>>,
+    /// Whether a command line names the target, and not what is written.
+    pub is_target_asked: bool,
 }
 
-/// The sketch of a text with that draft, whose tables write those links.
+/// The sketch of a text with that draft, whose tables write those links; and whether a command line names its target.
 pub fn sketch_of_draft<'a>(
     alloc: Global,
     source: ScenarioText<'a>,
     links: &[WrittenLink],
     draft: DraftScenario,
+    is_target_asked: bool,
 ) -> Result<Sketch<'a>, AllocError> {
     let mut multicasts = Vec::new(alloc);
     for number in 0..draft.multicasts.len() {
@@ -32,6 +35,7 @@ pub fn sketch_of_draft<'a>(
         draft,
         multicasts,
         links,
+        is_target_asked,
     })
 }
 

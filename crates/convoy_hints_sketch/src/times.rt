@@ -229,6 +229,12 @@ pub fn hint_for_mixture(
     ).map(Some)
 }
 
+/// Whether one of the times of a scenario is a duration.
+pub(crate) fn has_durations(alloc: Global, scenario: &WrittenScenario) -> Result<bool, AllocError> {
+    let spells = spells_of(alloc, scenario)?;
+    Ok(first_lasting(&spells).is_some())
+}
+
 /// The first time that is a number of ticks.
 fn first_count(spells: &[Spell]) -> Option<&Spell> {
     spells.iter().find(|spell| spell.count().is_some())

@@ -1,5 +1,5 @@
 -- Two texts that say the same, the one in finer ticks: their scenarios have the same greatest latency in time.
-use Rattle.std.proofs.Common.{◌≡◌, ℕ, ◌*◌, ◌≤◌, leb-true, nat_le, ◌&&◌, true, List, Option, Some, is_some, option_map, ℤ, Result, Ok, Err, refl, sym, ap, subst, ◌∙◌}
+use Rattle.std.proofs.Common.{◌≡◌, ℕ, ◌*◌, ◌≤◌, leb-true, nat_le, ◌&&◌, true, List, Option, Some, None, is_some, option_map, ℤ, Result, Ok, Err, refl, sym, ap, subst, ◌∙◌}
 use Rattle.std.proofs.lemmas.Bool.{and_parts}
 use Rattle.convoy_lines.specs.Results.{◌>>=◌}
 use Rattle.convoy_draft.specs.declared.fault.ScenarioFault.{ScenarioFault}
@@ -17,7 +17,8 @@ use Rattle.convoy_scenario.specs.Scenario.{Scenario}
 use Rattle.convoy_scenario.proofs.GivenScenarios.{passed}
 use Rattle.convoy_scenario.proofs.NumberedLemmas.{passes}
 use Rattle.convoy_toml.specs.declared.target.TargetKey.TheVariants.{Required}
-use Rattle.convoy_toml.specs.Reading.{InputView, input_of_table, input_of_text, input_of_written, need_ranges, scenario_of_input, scenario_of_text, table_of_text}
+use Rattle.convoy_toml.specs.Reading.{InputView, as_written, input_of_table, input_of_text, input_of_written, need_ranges, scenario_of_input, scenario_of_text, scenario_of_written, table_of_text}
+use Rattle.convoy_toml.specs.Deadlines.{deadlines_of_written}
 use Rattle.convoy_toml.specs.Shape.{Written, WrittenScenario, written_of_table}
 use Rattle.convoy_toml.specs.Times.{draft_of_written, need_least, tick_of}
 use Rattle.convoy_toml.specs.Ways.{has_ranges, with_least}
@@ -46,21 +47,24 @@ input_has : (given : Result InputView ScenarioFault) (scenario : Scenario) → s
 input_has (Ok input) scenario e = (input, refl, same_ok input.scenario scenario e)
 input_has (Err fault) scenario e = absurd cc
 
-of_written : (written : Written) (scenario : Scenario) → scenario_of_input (input_of_written written) ≡ Ok scenario → IsGiven written.scenario scenario
+of_written : (written : Written) (scenario : Scenario) → scenario_of_input (input_of_written as_written written) ≡ Ok scenario → IsGiven written.scenario scenario
 of_written written scenario e =
     let view : Scenario → InputView = λ s. record { scenario = s; schedule = written.schedule; order = written.order } in
     let ranges : Draft → Result (Unit {0}) ScenarioFault = need_ranges (is_some written.scenario.least) in
-    let input = input_has (input_of_written written) scenario e in
-    let draft = after_ok (draft_of_written written.scenario) (λ d. scenario_of_draft d >>= λ s. ranges d >>= λ u. Ok (view s)) input.0 input.1 in
-    let made = after_ok (scenario_of_draft draft.0) (λ s. ranges draft.0 >>= λ u. Ok (view s)) input.0 draft.2 in
-    let ranged = after_ok (ranges draft.0) (λ u. Ok (view made.0)) input.0 made.2 in
-    let same : made.0 ≡ scenario = ap (λ (i : InputView). i.scenario) (same_ok (view made.0) input.0 ranged.2) ∙ input.2 in
+    let dated : Scenario → Result InputView ScenarioFault = λ s. deadlines_of_written None written.scenario >>= λ deadlines. Ok (view s) in
+    let input = input_has (input_of_written as_written written) scenario e in
+    let whole = after_ok (scenario_of_written written.scenario) dated input.0 input.1 in
+    let draft = after_ok (draft_of_written written.scenario) (λ d. scenario_of_draft d >>= λ s. ranges d >>= λ u. Ok s) whole.0 whole.1 in
+    let made = after_ok (scenario_of_draft draft.0) (λ s. ranges draft.0 >>= λ u. Ok s) whole.0 draft.2 in
+    let ranged = after_ok (ranges draft.0) (λ u. Ok made.0) whole.0 made.2 in
+    let kept = after_ok (deadlines_of_written None written.scenario) (λ deadlines. Ok (view whole.0)) input.0 whole.2 in
+    let same : made.0 ≡ scenario = same_ok made.0 whole.0 ranged.2 ∙ (ap (λ (i : InputView). i.scenario) (same_ok (view whole.0) input.0 kept.2) ∙ input.2) in
     record { draft = draft.0; drafted = draft.1; made = made.1 ∙ ap Ok same; ranged = when_ok (has_ranges (is_some written.scenario.least) draft.0) NoRange ranged.0 ranged.1 }
 
 given : (text : List ℕ) (written : Written) (scenario : Scenario) → written_of_text text ≡ Ok written → scenario_of_text text ≡ Ok scenario → IsGiven written.scenario scenario
 given text written scenario is e =
     let table = after_ok (table_of_text text) (written_of_table Required) written is in
-    let same : input_of_text text ≡ input_of_written written = ap (λ r. r >>= input_of_table Required) table.1 ∙ ap (λ r. r >>= input_of_written) table.2 in
+    let same : input_of_text text ≡ input_of_written as_written written = ap (λ r. r >>= input_of_table as_written) table.1 ∙ ap (λ r. r >>= input_of_written as_written) table.2 in
     of_written written scenario (ap scenario_of_input (sym same) ∙ e)
 
 -- ---- the two scenarios

@@ -53,7 +53,7 @@ written tick = record {
     least = Some (Lasting 4_000_000);
     groups = codes "a" ∷ codes "b" ∷ [];
     links = [];
-    messages = record { name = codes "t"; sender = None; to = codes "a" ∷ codes "b" ∷ []; at = Lasting 0; until = None } ∷ [];
+    messages = record { name = codes "t"; sender = None; to = codes "a" ∷ codes "b" ∷ []; at = Lasting 0; until = None; within = None } ∷ [];
     target_message = codes "t";
     target_group = codes "a";
   };

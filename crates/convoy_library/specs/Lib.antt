@@ -7,6 +7,7 @@ pub use Rattle.convoy_draft.specs.Limits
 pub use Rattle.convoy_draft.specs.Draft
 pub use Rattle.convoy_scenario.specs.Numbering
 pub use Rattle.convoy_toml.specs.Reading
+pub use Rattle.convoy_toml.specs.Deadlines
 pub use Rattle.convoy_toml_writer.specs.Text as ScenarioText
 pub use Rattle.convoy_draft.specs.declared.fault.ScenarioFault
 pub use Rattle.convoy_draft.specs.declared.time.Time

@@ -22,6 +22,8 @@ use std::marker::Model;
 pub struct Branch {
     tracked: Tracked,
     before: Vec<Precedence>,
+    /// Whether it is a half by the delay of a packet.
+    by_delay: bool,
 }
 
 impl Model for Branch {
@@ -47,6 +49,7 @@ impl Branch {
         Ok(Branch {
             tracked: Tracked::root(alloc, instance)?,
             before: Vec::new(alloc),
+            by_delay: false,
         })
     }
 
@@ -64,6 +67,20 @@ impl Branch {
         ensures lawful { IsRegion self.now.scenario self.now.region }
     {
         self.tracked.delay_box()
+    }
+
+    /// Its precedences.
+    pub fn before(&self) -> &[Precedence]
+        ensures value { result.now ≡ self.now.region.before }
+        ensures lawful { IsRegion self.now.scenario self.now.region }
+    {
+        &self.before
+    }
+
+    /// Whether it is a half of a region that was split at a packet, for searches in which such splits and those by
+    /// orders take turns.
+    pub fn is_half_by_delay(&self) -> bool {
+        self.by_delay
     }
 
     /// Whether each packet has one delay left.
@@ -128,23 +145,36 @@ impl Branch {
             ))
             (λ refused. refused.0 ≡ self) }
     {
-        let Branch { tracked, before } = self;
-        let copy = match copy_of(&before) {
+        let copy = match copy_of(&self.before) {
             Ok(copy) => copy,
-            Err(error) => return Err((Branch { tracked, before }, error)),
+            Err(error) => return Err((self, error)),
         };
+        let Branch {
+            tracked,
+            before,
+            by_delay,
+        } = self;
         match tracked.halves(instance, packet, at) {
             Ok((lower, upper)) => Ok((
                 Branch {
                     tracked: lower,
                     before,
+                    by_delay: true,
                 },
                 Branch {
                     tracked: upper,
                     before: copy,
+                    by_delay: true,
                 },
             )),
-            Err((tracked, error)) => Err((Branch { tracked, before }, error)),
+            Err((tracked, error)) => {
+                let whole = Branch {
+                    tracked,
+                    before,
+                    by_delay,
+                };
+                Err((whole, error))
+            }
         }
     }
 
@@ -206,6 +236,7 @@ impl Branch {
         Ok(Branch {
             tracked: self.tracked.copy()?,
             before,
+            by_delay: false,
         })
     }
 }

@@ -26,7 +26,7 @@ use Rattle.convoy_share.specs.Opening.{AreOpened}
 use Rattle.convoy_share.specs.Pieces.{front}
 use Rattle.convoy_share.specs.Workers.{HasJoined, StaysOwner}
 use Rattle.convoy_share.proofs.Fillings.{IsFilling-better}
-use Rattle.convoy_share.proofs.Outcomes.{left_boxes_in}
+use Rattle.convoy_share.proofs.Outcomes.{left_regions_in}
 
 -- each branch was taken: all trees can be put together
 pub can_fill : (shared : Common) (before worker : OwnerWorker) (count : ℕ) → StaysOwner shared before worker → AreAllTaken worker.end.put worker.end.taken → count ≡ length worker.end.put → CanBeFilled shared.bounds shared.scenario worker.means.hand.seen (drawn worker.means) count worker.end.put worker.end.taken worker.trees.items
@@ -95,7 +95,7 @@ IsTreeAtEnd-ended better shared joined least ended best tickets limit ledger led
       };
       few = omega (arith, all.within, most);
       left = elim is.left [
-        | inl none ↦ inl (sym (left_boxes_in put pieces is.whole.filling.settled) ∙ none)
+        | inl none ↦ inl (sym (left_regions_in put pieces is.whole.filling.settled) ∙ none)
         | inr over ↦ inr (elim over [ inl done ↦ inl (all.done done ∙ most) | inr stops ↦ inr (sym stops_is ∙ stops) ])
       ];
     }

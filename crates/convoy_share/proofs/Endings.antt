@@ -39,13 +39,13 @@ whole bounds scenario seen tickets put done slots filling =
 pub whole_tree : (bounds : Bounds) (scenario : Scenario) (seen tickets : ℕ) (put : List Region) (done : List Piece) (slots : List (List Piece)) → IsFilling bounds scenario seen tickets put done [] slots → AreTreesOf bounds scenario seen put (root_region scenario ∷ []) done
 whole_tree bounds scenario seen tickets put done slots filling = (whole bounds scenario seen tickets put done slots filling).0
 
--- with no box left the nodes are the tree of a valid certificate
+-- with no region left the nodes are the tree of a valid certificate
 pub IsTree-filled : (trees : WholeFrontsAreTrees) (bounds : Bounds) (scenario : Scenario) (seen tickets : ℕ) (put : List Region) (done : List Piece) (slots : List (List Piece)) → left_in (front put done) ≡ [] → IsFilling bounds scenario seen tickets put done [] slots → IsTree scenario seen (nodes_in done) × (length (nodes_in done) ≡ tickets)
 IsTree-filled trees bounds scenario seen tickets put done slots none filling =
     let all = whole bounds scenario seen tickets put done slots filling in
     (subst (λ (ns : List Node). IsTree scenario seen ns) (spent_nodes put done) (trees bounds scenario seen (front put done) none all.0), all.1)
 
--- with boxes left it is a front
+-- with regions left it is a front
 pub IsFront-filled : (bounds : Bounds) (scenario : Scenario) (seen tickets upper : ℕ) (put : List Region) (done : List Piece) (slots : List (List Piece)) → 0 < length (left_in (front put done)) → IsReached scenario seen → latency_of scenario (least_of (ranges_of scenario)) ≤ seen → IsUpperOf bounds scenario seen (left_in (front put done)) upper → IsFilling bounds scenario seen tickets put done [] slots → IsFront bounds scenario seen upper tickets
 IsFront-filled bounds scenario seen tickets upper put done slots left reached least upper_is filling =
     let all = whole bounds scenario seen tickets put done slots filling in

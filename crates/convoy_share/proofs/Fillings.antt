@@ -12,7 +12,7 @@ use Rattle.convoy_regions.specs.Regions.{Region, any_order, root_region}
 use Rattle.convoy_regions.specs.Branches.{Branch}
 use Rattle.convoy_branch.specs.declared.bounds.Bounds.{Bounds}
 use Rattle.convoy_certificate.specs.declared.node.Node.{Node}
-use Rattle.convoy_branch.specs.Fronts.{FrontNode, Spent, left_box, left_in}
+use Rattle.convoy_branch.specs.Fronts.{FrontNode, Spent, left_region, left_in}
 use Rattle.convoy_branch.specs.FrontLaws.{FrontsBetter}
 use Rattle.convoy_share.specs.declared.piece.Piece.{Piece}
 use Rattle.convoy_share.specs.declared.piece.Piece.TheVariants.{Done, Todo, Pushed}
@@ -117,7 +117,7 @@ pub IsFilling-popped : (bounds : Bounds) (scenario : Scenario) (seen tickets : �
 IsFilling-popped bounds scenario seen tickets put done rest less piece other slots popped is filling =
     subst (λ (ps : List Piece). IsFilling bounds scenario seen tickets put done ps slots) (ap (λ (ps : List Piece). reverse ps) popped ∙ reverse-append less (piece ∷ []) ∙ ap (λ (p : Piece). p ∷ reverse less) is) filling
 
--- a node more leaves the same boxes
+-- a node more leaves the same regions
 pub left_done : (put : List Region) (done : List Piece) (node : Node) → left_in (front put (done ++ Done node ∷ [])) ≡ left_in (front put done)
 left_done put done node =
-    ap (λ (ns : List FrontNode). left_in ns) (map-append (front_of put) done (Done node ∷ [])) ∙ filter_map-append left_box (front put done) (Spent node ∷ []) ∙ append-nil (left_in (front put done))
+    ap (λ (ns : List FrontNode). left_in ns) (map-append (front_of put) done (Done node ∷ [])) ∙ filter_map-append left_region (front put done) (Spent node ∷ []) ∙ append-nil (left_in (front put done))

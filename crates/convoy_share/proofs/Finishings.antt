@@ -4,11 +4,10 @@ use Rattle.std.proofs.Common.{ap, sym, subst, ◌∙◌, inl, inr}
 use Rattle.std.proofs.lemmas.List.{map-append}
 use Rattle.std.proofs.lemmas.List.Elements.{All-head, filter_map-append}
 use Rattle.convoy_scenario.specs.Scenario.{Scenario}
-use Rattle.convoy_intervals.specs.Boxes.{Box}
 use Rattle.convoy_regions.specs.Regions.{Region}
 use Rattle.convoy_regions.specs.Branches.{Branch}
 use Rattle.convoy_branch.specs.declared.bounds.Bounds.{Bounds}
-use Rattle.convoy_branch.specs.Fronts.{FrontNode, left_box, left_in}
+use Rattle.convoy_branch.specs.Fronts.{FrontNode, left_region, left_in}
 use Rattle.convoy_branch.specs.FrontLaws.{FrontsBetter}
 use Rattle.convoy_share.specs.declared.means.Means.{Means}
 use Rattle.convoy_share.specs.declared.piece.Piece.{Piece}
@@ -20,16 +19,16 @@ use Rattle.convoy_share.specs.Means.{IsGrown, IsLeftAtEnd, drawn}
 use Rattle.convoy_share.specs.Pieces.{front, front_of, IsPiece}
 use Rattle.convoy_share.proofs.Fillings.{IsFilling-better, IsFilling-searched}
 use Rattle.convoy_share.proofs.Grown.{over_later}
-use Rattle.convoy_share.proofs.Outcomes.{left_boxes_in}
+use Rattle.convoy_share.proofs.Outcomes.{left_regions_in}
 use Rattle.convoy_share.proofs.Places.{places_none}
 
 left_append : (put : List Region) (done pieces : List Piece) → left_in (front put (done ++ pieces)) ≡ left_in (front put done) ++ left_in (front put pieces)
 left_append put done pieces =
-    ap (λ (ns : List FrontNode). left_in ns) (map-append (front_of put) done pieces) ∙ filter_map-append left_box (front put done) (front put pieces)
+    ap (λ (ns : List FrontNode). left_in ns) (map-append (front_of put) done pieces) ∙ filter_map-append left_region (front put done) (front put pieces)
 
-nil_append : (boxes others : List Box) → boxes ≡ [] → others ≡ [] → boxes ++ others ≡ []
+nil_append : (regions others : List Region) → regions ≡ [] → others ≡ [] → regions ++ others ≡ []
 nil_append [] others none same = same
-nil_append (box ∷ boxes) others none same = absurd (cc)
+nil_append (region ∷ regions) others none same = absurd (cc)
 
 -- the branch that is next is searched, and its tree settled
 pub IsFinishing-searched : (better : FrontsBetter) (shared : Common) (put : List Region) (before after : Means) (done rest : List Piece) (slots : List (List Piece)) (branch : Branch) (tried : Bool) (pieces : List Piece) → IsGrown shared.bounds shared.scenario before after [] [] 0 (branch.region ∷ []) pieces → IsLeftAtEnd shared.may_stop after pieces → IsFinishing shared put before done (Todo branch tried ∷ rest) slots → IsFinishing shared put after (done ++ pieces) rest slots
@@ -44,14 +43,14 @@ IsFinishing-searched better shared put before after done rest slots branch tried
       filling = subst (λ (n : ℕ). IsFilling bounds plan seen n put (done ++ pieces) rest slots) (sym grown.spent) next;
       left = elim is.left [
         | inl before_none ↦ elim left [
-          | inl here_none ↦ inl (left_append put done pieces ∙ nil_append (left_in (front put done)) (left_in (front put pieces)) before_none (left_boxes_in put pieces none ∙ here_none))
+          | inl here_none ↦ inl (left_append put done pieces ∙ nil_append (left_in (front put done)) (left_in (front put pieces)) before_none (left_regions_in put pieces none ∙ here_none))
           | inr over ↦ inr over
         ]
         | inr over ↦ inr (over_later shared.may_stop before after grown.later over)
       ];
     }
 
--- what is settled leaves the same boxes
+-- what is settled leaves the same regions
 pub IsFinishing-next : (shared : Common) (put : List Region) (means : Means) (done done' rest rest' : List Piece) (slots slots' : List (List Piece)) → left_in (front put done') ≡ left_in (front put done) → IsFilling shared.bounds shared.scenario means.hand.seen (drawn means) put done' rest' slots' → IsFinishing shared put means done rest slots → IsFinishing shared put means done' rest' slots'
 IsFinishing-next shared put means done done' rest rest' slots slots' same filling is = record {
   filling = filling;

@@ -15,7 +15,7 @@ use Rattle.convoy_share.specs.declared.means.Means.{Means}
 use Rattle.convoy_share.specs.declared.means.TakenUp.TheVariants.{Turned, Left}
 use Rattle.convoy_share.specs.declared.piece.Piece.{Piece}
 use Rattle.convoy_share.specs.declared.piece.Piece.TheVariants.{Todo, Pushed}
-use Rattle.convoy_share.specs.Pieces.{IsPiece, left_boxes}
+use Rattle.convoy_share.specs.Pieces.{IsPiece, left_regions}
 use Rattle.convoy_share.specs.Subtrees.{ArePieces}
 use Rattle.convoy_share.specs.Turns.{parted, pieces_of}
 use Rattle.convoy_share.specs.Means.{IsLater, IsTakenUp, IsGrown, IsLeftAtEnd, IsOver}
@@ -104,13 +104,13 @@ IsGrown-kept bounds scenario before after low boxes pieces grown =
 pub over_later : (may_stop : Bool) (before after : Means) → IsLater before after → IsOver may_stop before.clerk.done → IsOver may_stop after.clerk.done
 over_later may_stop before after later over = elim over [ inl done ↦ inl (later.done done) | inr stops ↦ inr stops ]
 
--- other pieces may leave the same boxes
-pub IsLeftAtEnd-by : (may_stop : Bool) (means : Means) (pieces others : List Piece) → left_boxes others ≡ left_boxes pieces → IsLeftAtEnd may_stop means pieces → IsLeftAtEnd may_stop means others
+-- other pieces may leave the same regions
+pub IsLeftAtEnd-by : (may_stop : Bool) (means : Means) (pieces others : List Piece) → left_regions others ≡ left_regions pieces → IsLeftAtEnd may_stop means pieces → IsLeftAtEnd may_stop means others
 IsLeftAtEnd-by may_stop means pieces others same left =
     elim left [ inl none ↦ inl (same ∙ none) | inr over ↦ inr over ]
 
--- a ticket was spent, and no box more is left
-pub left_same : (bounds : Bounds) (scenario : Scenario) (may_stop : Bool) (most : ℕ) (between after : Means) (pieces others : List Piece) (branch : Branch) (turn : Turn) → IsTakenUp bounds scenario may_stop most branch between after (Turned turn) → left_boxes others ≡ left_boxes pieces → IsLeftAtEnd may_stop between pieces → IsLeftAtEnd may_stop after others
+-- a ticket was spent, and no region more is left
+pub left_same : (bounds : Bounds) (scenario : Scenario) (may_stop : Bool) (most : ℕ) (between after : Means) (pieces others : List Piece) (branch : Branch) (turn : Turn) → IsTakenUp bounds scenario may_stop most branch between after (Turned turn) → left_regions others ≡ left_regions pieces → IsLeftAtEnd may_stop between pieces → IsLeftAtEnd may_stop after others
 left_same bounds scenario may_stop most between after pieces others branch turn taken same before = elim before [
   | inl none ↦ inl (same ∙ none)
   | inr over ↦ inr (over_later may_stop between after taken.later over)

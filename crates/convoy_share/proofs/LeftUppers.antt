@@ -8,15 +8,15 @@ use Rattle.convoy_branch.specs.FrontLaws.{UppersRaised}
 use Rattle.convoy_branch.specs.Uppers.{IsUpperOf}
 use Rattle.convoy_share.specs.declared.piece.Piece.{Piece}
 use Rattle.convoy_share.specs.declared.piece.Piece.TheVariants.{Done, Todo, Pushed}
-use Rattle.convoy_share.specs.Pieces.{IsRaisedOver, left_boxes}
+use Rattle.convoy_share.specs.Pieces.{IsRaisedOver, left_regions}
 
 -- the upper bound where that is the best latency and the branches among the pieces are left
 abbrev pub IsUpperOver : Bounds → Scenario → ℕ → List Piece → ℕ → Type 0
-IsUpperOver bounds scenario best pieces upper = IsUpperOf bounds scenario best (left_boxes pieces) upper
+IsUpperOver bounds scenario best pieces upper = IsUpperOf bounds scenario best (left_regions pieces) upper
 
 IsUpperOver-cons : (bounds : Bounds) (scenario : Scenario) (best raised : ℕ) (piece : Piece) (rest : List Piece) (most : ℕ) → UppersRaised → IsRaisedOver bounds scenario piece best raised → IsUpperOver bounds scenario raised rest most → IsUpperOver bounds scenario best (piece ∷ rest) most
 IsUpperOver-cons bounds scenario best raised (Todo branch tried) rest most law is over =
-    law bounds scenario best raised branch.region.ranges (left_boxes rest) most is over
+    law bounds scenario best raised branch.region (left_regions rest) most is over
 IsUpperOver-cons bounds scenario best raised (Done node) rest most law is over =
     subst (λ (n : ℕ). IsUpperOver bounds scenario n rest most) is over
 IsUpperOver-cons bounds scenario best raised (Pushed number) rest most law is over =

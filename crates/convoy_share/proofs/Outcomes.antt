@@ -14,7 +14,6 @@ use Rattle.convoy_certificate.specs.Certificate.{Certificate, IsNode}
 use Rattle.convoy_certificate.specs.Reading.{AreReadable}
 use Rattle.convoy_certificate.specs.Text.{is_lead, is_stamp}
 use Rattle.convoy_certificate.specs.declared.node.Node.{Node}
-use Rattle.convoy_intervals.specs.Boxes.{Box}
 use Rattle.convoy_regions.specs.Regions.{Region, root_region}
 use Rattle.convoy_checker.specs.TreeLaws.{TreesCover}
 use Rattle.convoy_branch.specs.declared.bounds.Bounds.{Bounds}
@@ -30,23 +29,23 @@ use Rattle.convoy_share.specs.declared.piece.Piece.{Piece}
 use Rattle.convoy_share.specs.declared.piece.Piece.TheVariants.{Done, Todo, Pushed}
 use Rattle.convoy_share.specs.declared.searching.Closed.{Closed}
 use Rattle.convoy_share.specs.Ended.{IsClosed}
-use Rattle.convoy_share.specs.Pieces.{IsPiece, front, is_left, left_boxes, nodes_in, places_in, AreTreesOf}
+use Rattle.convoy_share.specs.Pieces.{IsPiece, front, is_left, left_regions, nodes_in, places_in, AreTreesOf}
 use Rattle.convoy_share.proofs.Endings.{IsTree-filled, IsFront-filled, spent_nodes, whole_tree}
 
--- the boxes that are left, where no place is
-pub left_boxes_in : (put : List Region) (pieces : List Piece) → places_in pieces ≡ [] → left_in (front put pieces) ≡ left_boxes pieces
-left_boxes_in put [] none = refl
-left_boxes_in put (Done node ∷ pieces) none = left_boxes_in put pieces none
-left_boxes_in put (Todo branch tried ∷ pieces) none = ap (λ (bs : List Box). branch.region.ranges ∷ bs) (left_boxes_in put pieces none)
-left_boxes_in put (Pushed number ∷ pieces) none = absurd (cc)
+-- the regions that are left, where no place is
+pub left_regions_in : (put : List Region) (pieces : List Piece) → places_in pieces ≡ [] → left_in (front put pieces) ≡ left_regions pieces
+left_regions_in put [] none = refl
+left_regions_in put (Done node ∷ pieces) none = left_regions_in put pieces none
+left_regions_in put (Todo branch tried ∷ pieces) none = ap (λ (bs : List Region). branch.region ∷ bs) (left_regions_in put pieces none)
+left_regions_in put (Pushed number ∷ pieces) none = absurd (cc)
 
-pub none_left : (pieces : List Piece) → list_any is_left pieces ≡ false → left_boxes pieces ≡ []
+pub none_left : (pieces : List Piece) → list_any is_left pieces ≡ false → left_regions pieces ≡ []
 none_left [] none = refl
 none_left (Done node ∷ pieces) none = none_left pieces none
 none_left (Todo branch tried ∷ pieces) none = absurd (cc)
 none_left (Pushed number ∷ pieces) none = none_left pieces none
 
-some_left : (pieces : List Piece) → list_any is_left pieces ≡ true → 0 < length (left_boxes pieces)
+some_left : (pieces : List Piece) → list_any is_left pieces ≡ true → 0 < length (left_regions pieces)
 some_left [] some = absurd (cc)
 some_left (Done node ∷ pieces) some = some_left pieces some
 some_left (Todo branch tried ∷ pieces) some = omega arith
@@ -95,7 +94,7 @@ certificate_is {scenario} {scenario'} {latency} {latency'} {schedule} {schedule'
     ∙ ap (λ (ds : Schedule). certificate_with scenario' latency' ds nodes) same_delays
     ∙ ap (λ (ns : List Node). certificate_with scenario' latency' schedule' ns) same_nodes
 
--- no box is left: the tree is that of a valid certificate
+-- no region is left: the tree is that of a valid certificate
 abbrev certificate_of : Scenario → Closed → Certificate
 certificate_of scenario closed = record {
   scenario = scenario;
@@ -110,7 +109,7 @@ IsProved-certificate trees cover no_stamps no_leads reads bounds scenario worker
     let pieces = closed.pieces.items in
     let put = is.tree.whole.put in
     let filling = is.tree.whole.filling in
-    let none_in : left_in (front put pieces) ≡ [] = left_boxes_in put pieces filling.settled ∙ none_left pieces none in
+    let none_in : left_in (front put pieces) ≡ [] = left_regions_in put pieces filling.settled ∙ none_left pieces none in
     let tree = IsTree-filled trees bounds scenario best.latency closed.tickets put pieces is.tree.whole.slots none_in filling in
     let lawful = best_lawful scenario best is.of_scenario is.attained in
     let fronts = whole_tree bounds scenario best.latency closed.tickets put pieces is.tree.whole.slots filling in
@@ -133,17 +132,17 @@ pub IsProved-closed : (trees : WholeFrontsAreTrees) (cover : TreesCover) (no_sta
 IsProved-closed trees cover no_stamps no_leads reads bounds scenario workers limit closed certificate none same is =
     subst (λ (c : Certificate). IsProved bounds scenario workers limit.tickets c closed.tickets closed.by_worker.items) (sym same) (IsProved-certificate trees cover no_stamps no_leads reads bounds scenario workers limit closed none is)
 
--- a box is left, and the tree is a front
-IsOpen-front : (bound : FrontsBound) (bounds : Bounds) (scenario : Scenario) (workers : ℕ) (limit : Limit) (upper spendable : ℕ) (closed : Closed) → list_any is_left closed.pieces.items ≡ true → latency_of scenario (least_of (ranges_of scenario)) ≤ closed.best.latency → IsUpperOf bounds scenario closed.best.latency (left_boxes closed.pieces.items) upper → IsClosed bounds scenario workers limit closed → closed.tickets ≡ spendable → IsOpen bounds scenario workers spendable closed.best upper closed.tickets closed.by_worker.items
+-- a region is left, and the tree is a front
+IsOpen-front : (bound : FrontsBound) (bounds : Bounds) (scenario : Scenario) (workers : ℕ) (limit : Limit) (upper spendable : ℕ) (closed : Closed) → list_any is_left closed.pieces.items ≡ true → latency_of scenario (least_of (ranges_of scenario)) ≤ closed.best.latency → IsUpperOf bounds scenario closed.best.latency (left_regions closed.pieces.items) upper → IsClosed bounds scenario workers limit closed → closed.tickets ≡ spendable → IsOpen bounds scenario workers spendable closed.best upper closed.tickets closed.by_worker.items
 IsOpen-front bound bounds scenario workers limit upper spendable closed some least upper_is is all =
     let best = closed.best in
     let pieces = closed.pieces.items in
     let put = is.tree.whole.put in
     let filling = is.tree.whole.filling in
-    let boxes : left_in (front put pieces) ≡ left_boxes pieces = left_boxes_in put pieces filling.settled in
-    let left : 0 < length (left_in (front put pieces)) = subst (λ (bs : List Box). 0 < length bs) (sym boxes) (some_left pieces some) in
+    let boxes : left_in (front put pieces) ≡ left_regions pieces = left_regions_in put pieces filling.settled in
+    let left : 0 < length (left_in (front put pieces)) = subst (λ (bs : List Region). 0 < length bs) (sym boxes) (some_left pieces some) in
     let reached = best_reached scenario best is.of_scenario is.attained in
-    let over = subst (λ (bs : List Box). IsUpperOf bounds scenario best.latency bs upper) (sym boxes) upper_is in
+    let over = subst (λ (bs : List Region). IsUpperOf bounds scenario best.latency bs upper) (sym boxes) upper_is in
     let open_front = IsFront-filled bounds scenario best.latency closed.tickets upper put pieces is.tree.whole.slots left reached least over filling in
     record {
       of_scenario = is.of_scenario;
@@ -155,7 +154,7 @@ IsOpen-front bound bounds scenario workers limit upper spendable closed some lea
     }
 
 -- where the search may be stopped, no more tickets may have been spent than were
-pub IsOpen-closed : (bound : FrontsBound) (bounds : Bounds) (scenario : Scenario) (workers : ℕ) (limit : Limit) (upper : ℕ) (closed : Closed) → list_any is_left closed.pieces.items ≡ true → latency_of scenario (least_of (ranges_of scenario)) ≤ closed.best.latency → IsUpperOf bounds scenario closed.best.latency (left_boxes closed.pieces.items) upper → IsClosed bounds scenario workers limit closed → IsWithin limit (λ tickets. IsOpen bounds scenario workers tickets closed.best upper closed.tickets closed.by_worker.items)
+pub IsOpen-closed : (bound : FrontsBound) (bounds : Bounds) (scenario : Scenario) (workers : ℕ) (limit : Limit) (upper : ℕ) (closed : Closed) → list_any is_left closed.pieces.items ≡ true → latency_of scenario (least_of (ranges_of scenario)) ≤ closed.best.latency → IsUpperOf bounds scenario closed.best.latency (left_regions closed.pieces.items) upper → IsClosed bounds scenario workers limit closed → IsWithin limit (λ tickets. IsOpen bounds scenario workers tickets closed.best upper closed.tickets closed.by_worker.items)
 IsOpen-closed bound bounds scenario workers limit upper closed some least upper_is is =
     let IsAnswer : ℕ → Type 0 = λ tickets. IsOpen bounds scenario workers tickets closed.best upper closed.tickets closed.by_worker.items in
     elim is.tree.left [

@@ -14,7 +14,7 @@ use Rattle.convoy_share.specs.declared.searching.Closed.{Closed}
 use Rattle.convoy_share.specs.Common.{Common}
 use Rattle.convoy_share.specs.Filling.{IsFilling}
 use Rattle.convoy_share.specs.Means.{IsOver}
-use Rattle.convoy_share.specs.Pieces.{front, left_boxes}
+use Rattle.convoy_share.specs.Pieces.{front, left_regions}
 
 -- A whole tree, where that latency was seen and so many tickets were drawn: each node is right, and there is one for each ticket.
 pub record IsWhole (bounds : Bounds) (scenario : Scenario) (seen tickets : ℕ) (pieces : List Piece) : Type 0 where
@@ -42,7 +42,7 @@ IsSpent limit tickets = (tickets ≡ limit.tickets) ⊎ (limit.may_stop ≡ true
 pub record IsTreeAtEnd (bounds : Bounds) (scenario : Scenario) (best tickets : ℕ) (limit : Limit) (pieces : List Piece) : Type 0 where
   pub whole : IsWhole bounds scenario best tickets pieces
   pub few : tickets ≤ limit.tickets
-  pub left : (left_boxes pieces ≡ []) ⊎ IsSpent limit tickets
+  pub left : (left_regions pieces ≡ []) ⊎ IsSpent limit tickets
 
 -- what a search with that limit has come to: unless all tickets were spent or it may be stopped, nothing is left
 pub record IsClosed (bounds : Bounds) (scenario : Scenario) (workers : ℕ) (limit : Limit) (closed : Closed) : Type 0 where

@@ -8,7 +8,7 @@ use Rattle.convoy_share.specs.declared.means.Means.{Means}
 use Rattle.convoy_share.specs.declared.means.TakenUp.{TakenUp}
 use Rattle.convoy_share.specs.declared.means.TakenUp.TheVariants.{Turned, Left}
 use Rattle.convoy_share.specs.declared.piece.Piece.{Piece}
-use Rattle.convoy_share.specs.Pieces.{left_boxes}
+use Rattle.convoy_share.specs.Pieces.{left_regions}
 use Rattle.convoy_share.specs.Subtrees.{IsUnderWay}
 use Rattle.convoy_share.specs.Turns.{IsTurned}
 
@@ -49,4 +49,4 @@ pub record IsGrown (bounds : Bounds) (scenario : Scenario) (before after : Means
 
 -- unless all tickets were drawn or the search may be stopped, no branch is left among the pieces
 abbrev pub IsLeftAtEnd : Bool → Means → List Piece → Type 0
-IsLeftAtEnd may_stop means pieces = (left_boxes pieces ≡ []) ⊎ IsOver may_stop means.clerk.done
+IsLeftAtEnd may_stop means pieces = (left_regions pieces ≡ []) ⊎ IsOver may_stop means.clerk.done

@@ -4,7 +4,6 @@ use Rattle.std.specs.List.{filter_map}
 use Rattle.convoy_scenario.specs.Scenario.{Scenario}
 use Rattle.convoy_certificate.specs.Certificate.{IsNode}
 use Rattle.convoy_certificate.specs.declared.node.Node.{Node}
-use Rattle.convoy_intervals.specs.Boxes.{Box}
 use Rattle.convoy_regions.specs.Regions.{Region, any_order}
 use Rattle.convoy_branch.specs.declared.bounds.Bounds.{Bounds}
 use Rattle.convoy_branch.specs.Fronts.{AreFronts, FrontNode, Spent, Left}
@@ -45,17 +44,17 @@ nodes_in pieces = filter_map done_node pieces
 abbrev pub spent : List Piece → ℕ
 spent pieces = length (nodes_in pieces)
 
--- whether a piece is a branch that is left, and the ranges of those that are left
+-- whether a piece is a branch that is left, and the regions of those that are left
 abbrev pub is_left : Piece → Bool
 is_left (Todo branch tried) = true
 is_left piece = false
 
-abbrev pub todo_box : Piece → Option Box
-todo_box (Todo branch tried) = Some branch.region.ranges
-todo_box piece = None
+abbrev pub todo_region : Piece → Option Region
+todo_region (Todo branch tried) = Some branch.region
+todo_region piece = None
 
-abbrev pub left_boxes : List Piece → List Box
-left_boxes pieces = filter_map todo_box pieces
+abbrev pub left_regions : List Piece → List Region
+left_regions pieces = filter_map todo_region pieces
 
 -- what may stand in a tree of that scenario, where that latency was seen and those branches were put
 abbrev pub IsPiece : Scenario → ℕ → List Region → Piece → Type 0
@@ -66,6 +65,6 @@ IsPiece scenario seen put (Pushed number) = number < length put
 
 -- what a piece raises an upper bound to: a branch that is left, and nothing else
 abbrev pub IsRaisedOver : Bounds → Scenario → Piece → ℕ → ℕ → Type 0
-IsRaisedOver bounds scenario (Todo branch tried) upper raised = IsRaised bounds scenario branch.region.ranges upper raised
+IsRaisedOver bounds scenario (Todo branch tried) upper raised = IsRaised bounds scenario branch.region upper raised
 IsRaisedOver bounds scenario (Done node) upper raised = raised ≡ upper
 IsRaisedOver bounds scenario (Pushed number) upper raised = raised ≡ upper

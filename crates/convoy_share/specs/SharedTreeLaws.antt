@@ -41,7 +41,7 @@ PlacesAreFilled =
     → IsFilling bounds scenario seen tickets put done (Pushed number ∷ rest) slots
     → IsFilling bounds scenario seen tickets put done (slot_at slots number ++ rest) (slice_set slots number [])
 
--- with every place filled and no box left, the nodes are a tree that closes the root, and number the tickets
+-- with every place filled and no region left, the nodes are a tree that closes the root, and number the tickets
 abbrev pub WholeTreesClose : Type 0
 WholeTreesClose =
     (bounds : Bounds) (scenario : Scenario) (seen tickets : ℕ) (put : List Region) (done : List Piece) (slots : List (List Piece))
@@ -49,7 +49,7 @@ WholeTreesClose =
     → IsFilling bounds scenario seen tickets put done [] slots
     → IsTree scenario seen (nodes_in done) × (length (nodes_in done) ≡ tickets)
 
--- with every place filled and boxes left, the pieces are a front
+-- with every place filled and regions left, the pieces are a front
 abbrev pub OpenTreesAreFronts : Type 0
 OpenTreesAreFronts =
     (bounds : Bounds) (scenario : Scenario) (seen tickets upper : ℕ) (put : List Region) (done : List Piece) (slots : List (List Piece))

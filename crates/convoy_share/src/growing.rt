@@ -3,7 +3,7 @@
 ghost use Rattle.std.specs.Prelude.{◌≡◌, ◌≤◌, ◌<◌, ◌+◌, [], ◌∷◌, ◌++◌, length, reverse};
 ghost use Rattle.std.specs.Prelude.{IfNone, IfOk, IfSome, OnOk};
 ghost use Rattle.convoy_share.specs.Growing.{pieces_in};
-ghost use Rattle.convoy_share.specs.Pieces.{left_boxes};
+ghost use Rattle.convoy_share.specs.Pieces.{left_regions};
 ghost use Rattle.convoy_share.specs.Turns.{parted};
 
 use super::piece::{Piece, Settled};
@@ -43,8 +43,8 @@ impl Growing {
             length self.new.work.items < length self.old.work.items)) }
         ensures none { IfOk result (λ next. IfNone next
             (pieces_in self.old ≡ reverse self.new.written.items)) }
-        ensures left { OnOk result (left_boxes (reverse self.new.written.items)
-            ≡ left_boxes (reverse self.old.written.items)) }
+        ensures left { OnOk result (left_regions (reverse self.new.written.items)
+            ≡ left_regions (reverse self.old.written.items)) }
     {
         while let Some(piece) = self.work.pop() {
             match piece {
@@ -61,8 +61,8 @@ impl Growing {
         ensures pieces { OnOk result (pieces_in self.new
             ≡ self.old.work.items ++ Piece.Done node ∷ reverse self.old.written.items) }
         ensures few { OnOk result (self.new.work.items ≡ self.old.work.items) }
-        ensures left { OnOk result (left_boxes (reverse self.new.written.items)
-            ≡ left_boxes (reverse self.old.written.items)) }
+        ensures left { OnOk result (left_regions (reverse self.new.written.items)
+            ≡ left_regions (reverse self.old.written.items)) }
     {
         self.written.push(Settled::done(node))?;
         Ok(())
@@ -96,8 +96,8 @@ impl Growing {
         ensures pieces { OnOk result (pieces_in self.new
             ≡ self.old.work.items ++ Piece.Todo branch tried ∷ reverse self.old.written.items) }
         ensures few { OnOk result (self.new.work.items ≡ self.old.work.items) }
-        ensures left { OnOk result (left_boxes (reverse self.new.written.items)
-            ≡ branch.region.ranges ∷ left_boxes (reverse self.old.written.items)) }
+        ensures left { OnOk result (left_regions (reverse self.new.written.items)
+            ≡ branch.region ∷ left_regions (reverse self.old.written.items)) }
     {
         self.written.push(Settled::left(alloc, branch, tried)?)?;
         Ok(())

@@ -4,7 +4,7 @@ ghost use Rattle.std.specs.Prelude.{◌≡◌, ℕ, List, IfOk};
 ghost use Rattle.std.specs.List.{All, list_any};
 ghost use Rattle.convoy_regions.specs.Regions.{Region};
 ghost use Rattle.convoy_branch.specs.Uppers.{IsUpperOf};
-ghost use Rattle.convoy_share.specs.Pieces.{IsPiece, IsRaisedOver, is_left, left_boxes, nodes_in};
+ghost use Rattle.convoy_share.specs.Pieces.{IsPiece, IsRaisedOver, is_left, left_regions, nodes_in};
 
 use super::piece::{Kept, Settled};
 use convoy_branch::Bounds;
@@ -48,7 +48,7 @@ pub(crate) fn upper_over(
     seen: u32,
 ) -> Result<u32, AllocError>
     requires pieces { (best : ℕ) × (put : List Region) × All (IsPiece instance.now best put) pieces.now }
-    ensures { IfOk result (λ upper. IsUpperOf bounds instance.now seen (left_boxes pieces.now) upper) }
+    ensures { IfOk result (λ upper. IsUpperOf bounds instance.now seen (left_regions pieces.now) upper) }
 {
     uppers_begin();
     uppers_raised();
@@ -72,7 +72,7 @@ fn raised_over(
         (λ raised. IsRaisedOver bounds instance.now piece.now upper raised) }
 {
     match piece.kept() {
-        Kept::Todo { branch, .. } => bounds.raised(alloc, instance, branch.tracked(), upper),
+        Kept::Todo { branch, .. } => bounds.raised(alloc, instance, branch, upper),
         Kept::Done(_) | Kept::Pushed(_) => Ok(upper),
     }
 }

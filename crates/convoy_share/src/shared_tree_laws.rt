@@ -23,14 +23,14 @@ pub fn places_are_filled()
     ensures { PlacesAreFilled }
 {}
 
-/// Once every place is filled and no box is left, the nodes are a tree that closes the root.
+/// Once every place is filled and no region is left, the nodes are a tree that closes the root.
 pub fn whole_trees_close()
     ensures { WholeTreesClose }
 {
     whole_fronts_are_trees();
 }
 
-/// Once every place is filled and boxes are left, the pieces are a front.
+/// Once every place is filled and regions are left, the pieces are a front.
 pub fn open_trees_are_fronts()
     ensures { OpenTreesAreFronts }
 {}

@@ -20,7 +20,7 @@ use std::thread::Threads;
 /// Searches both ways with so many workers, from an opening record of the scenario: as
 /// [`convoy_branch::search_both_ways`] does, where each of the two searches is one as [`search_from`]
 /// makes. The gate is told of the second search before its threads start. Where it may stop the search,
-/// and does so before then, there is no second one; where it stops either, boxes may be left with fewer
+/// and does so before then, there is no second one; where it stops either, regions may be left with fewer
 /// tickets spent.
 ///
 /// The only error is that memory ran out, in either search.

@@ -1,4 +1,5 @@
 pub mod Numbers
+pub mod RowVerdicts
 pub mod Opens
 pub mod Greatest
 pub mod OneMessage

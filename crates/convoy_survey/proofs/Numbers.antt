@@ -1,16 +1,18 @@
 -- The numbers of a row, and those that `latency` answers. This file is open to the crates above.
-use Rattle.std.proofs.Common.{◌≡◌, ◌≤◌, ℕ, List, Result, Ok, Err, IfOk, ap, subst, sym, ◌∙◌, arith}
+use Rattle.std.proofs.Common.{◌≡◌, ◌≤◌, ◌++◌, ℕ, List, Result, Ok, Err, IfOk, ap, subst, sym, ◌∙◌, arith}
 use Rattle.std.specs.declared.alloc.AllocError.{AllocError}
 use Rattle.convoy_scenario.specs.Scenario.{Scenario}
 use Rattle.convoy_draft.specs.declared.fault.ScenarioFault.{ScenarioFault}
 use Rattle.convoy_scenario.specs.Targets.{with_target}
 use Rattle.convoy_sim.specs.Greatest.{IsGreatest}
-use Rattle.convoy_toml.specs.Reading.{scenario_of_text}
+use Rattle.convoy_toml.specs.declared.asked.Asked.{Asked}
+use Rattle.convoy_toml.specs.Reading.{scenario_of_text_by}
 use Rattle.convoy_branch.specs.Options.{Settings}
-use Rattle.convoy_commands.specs.declared.done.Done.TheVariants.{Fine}
+use Rattle.convoy_commands.specs.declared.done.Done.{Done}
 use Rattle.convoy_commands.specs.Measured.{measure_of_text}
 use Rattle.convoy_commands.specs.ReplyLines.{greatest_line}
-use Rattle.convoy_commands.specs.Searches.{LatencySays}
+use Rattle.convoy_commands.specs.Searches.{IsGreatestTold}
+use Rattle.convoy_commands.specs.Verdicts.{target_deadline, verdict_text}
 use Rattle.convoy_survey.specs.declared.finding.Finding.{Finding}
 use Rattle.convoy_survey.specs.declared.finding.Finding.TheVariants.{Greatest, Open, OutOfMemory}
 use Rattle.convoy_survey.specs.Findings.{Encloses, IsFinding, least_of, most_of, told_finding}
@@ -30,17 +32,23 @@ same_greatest scenario a b one other =
 pub same_scenario : (a b : Scenario) → ◌≡◌ {A = Result Scenario ScenarioFault} (Ok a) (Ok b) → a ≡ b
 same_scenario a b is = cc
 
--- what `latency` answers for a text is the greatest latency of the text's scenario
-pub latency_told : (settings : Settings) (scenario : Scenario) (latency : ℕ) (text out : List ℕ) → IsGreatest scenario latency → scenario_of_text text ≡ Ok scenario →
-    LatencySays settings text (Ok (Fine, out)) → out ≡ greatest_line (measure_of_text settings.unit text scenario) latency
-latency_told settings scenario latency text out greatest read told =
+-- the lines of a greatest latency of the scenario of a text
+abbrev pub latency_lines : Asked → Settings → List ℕ → Scenario → ℕ → List ℕ
+latency_lines asked settings text scenario latency =
+    greatest_line (measure_of_text settings.unit text scenario) latency
+    ++ verdict_text (measure_of_text settings.unit text scenario) (target_deadline asked text scenario) latency latency
+
+-- the greatest latency that `latency` tells of a text is that of the text's scenario
+pub latency_told : (asked : Asked) (settings : Settings) (scenario : Scenario) (latency : ℕ) (text out : List ℕ) (end : Done) → IsGreatest scenario latency →
+    scenario_of_text_by asked text ≡ Ok scenario → IsGreatestTold asked settings text end out → out ≡ latency_lines asked settings text scenario latency
+latency_told asked settings scenario latency text out end greatest read told =
     let same : told.scenario ≡ scenario = same_scenario told.scenario scenario (sym told.read ∙ read) in
     let number : told.latency ≡ latency = same_greatest scenario told.latency latency (rw same at told.greatest) greatest in
-    rw (← number) (told.written ∙ ap (λ (s : Scenario). greatest_line (measure_of_text settings.unit text s) told.latency) same)
+    told.written ∙ ap (λ (s : Scenario). latency_lines asked settings text s told.latency) same ∙ ap (latency_lines asked settings text scenario) number
 
 pub rows_are_latencies : RowsAreLatencies
-rows_are_latencies settings other scenario m g latency nodes cause text out found read told =
-    latency_told other (with_target scenario m g) latency text out found.greatest read told
+rows_are_latencies settings other asked scenario m g latency nodes cause text out end found read told =
+    latency_told asked other (with_target scenario m g) latency text out end found.greatest read told
 
 -- what a search finds encloses the greatest latency
 pub finding_encloses : (settings : Settings) (scenario : Scenario) (finding : Finding) → IsFinding settings scenario finding →

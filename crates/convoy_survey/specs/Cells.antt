@@ -9,14 +9,10 @@ use Rattle.convoy_survey.specs.declared.finding.Cause.{Cause}
 use Rattle.convoy_survey.specs.declared.finding.Finding.{Finding}
 use Rattle.convoy_survey.specs.declared.finding.Surveyed.{Surveyed}
 use Rattle.convoy_survey.specs.declared.times.Times.{Times}
-use Rattle.convoy_survey.specs.AtAll.{answer_at_all, at_all, ceiling_at_all, rows_of}
+use Rattle.convoy_survey.specs.AtAll.{answer_at_all, at_all, ceiling_at_all, least_at_all, most_at_all, rows_of}
 use Rattle.convoy_survey.specs.Findings.{answer_word, cause_of, least_of, most_of, nodes_of, rival_in, tied_in}
-use Rattle.convoy_survey.specs.Times.{time_cell, time_pair, where_told}
-
--- a number that may not be known
-abbrev pub count_cell : Option ℕ → Cell
-count_cell None = nothing
-count_cell (Some n) = number n
+use Rattle.convoy_survey.specs.Judgements.{judged_cells, judged_columns}
+use Rattle.convoy_survey.specs.Times.{count_cell, time_cell, time_pair, where_told}
 
 -- the name of a message that there may not be
 abbrev pub name_cell : Scenario → Option ℕ → Cell
@@ -80,25 +76,28 @@ abbrev pub ceiling_cells_if : Bool → Times → ℕ → List Cell
 ceiling_cells_if false times ceiling = []
 ceiling_cells_if true times ceiling = beside_cells times ceiling
 
--- the cells of a row, whatever was found, with the ceiling of its message at its group where ceilings are asked for
-abbrev pub cells_of : Bool → Times → Scenario → Surveyed → List Cell
-cells_of with_ceilings times scenario row =
+-- the cells of a row, whatever was found: with the verdict on it by the deadline of its message where there are deadlines, and the ceiling of its message at its group where ceilings are asked for
+abbrev pub cells_of : Bool → Times → List (Option ℕ) → Scenario → Surveyed → List Cell
+cells_of with_ceilings times deadlines scenario row =
     target_cells scenario row.message row.group
     ++ (finding_cells times scenario row.finding
-    ++ ceiling_cells_if with_ceilings times (ceiling_at scenario row.message row.group))
+    ++ (judged_cells deadlines times row.message (least_of row.finding) (most_of row.finding)
+    ++ ceiling_cells_if with_ceilings times (ceiling_at scenario row.message row.group)))
 
 -- the cells of the row of a message at all its groups, of which these are its rows
-abbrev pub at_all_cells : Bool → Times → Scenario → ℕ → List Surveyed → List Cell
-at_all_cells with_ceilings times scenario m rows =
+abbrev pub at_all_cells : Bool → Times → List (Option ℕ) → Scenario → ℕ → List Surveyed → List Cell
+at_all_cells with_ceilings times deadlines scenario m rows =
     at_all_target_cells scenario m
-    ++ (known_cells times scenario (at_all rows) ++ ceiling_cells_if with_ceilings times (ceiling_at_all scenario rows))
+    ++ (known_cells times scenario (at_all rows)
+    ++ (judged_cells deadlines times m (least_at_all rows) (most_at_all rows)
+    ++ ceiling_cells_if with_ceilings times (ceiling_at_all scenario rows)))
 
 -- the rows of the table for the rows of a message, if it has any: each of them, and below them the message at all its groups
-abbrev pub message_lines : Bool → Times → Scenario → List Surveyed → List (List Cell)
-message_lines with_ceilings times scenario [] = []
-message_lines with_ceilings times scenario (row ∷ rows) =
-    map (cells_of with_ceilings times scenario) (row ∷ rows)
-    ++ at_all_cells with_ceilings times scenario row.message (row ∷ rows) ∷ []
+abbrev pub message_lines : Bool → Times → List (Option ℕ) → Scenario → List Surveyed → List (List Cell)
+message_lines with_ceilings times deadlines scenario [] = []
+message_lines with_ceilings times deadlines scenario (row ∷ rows) =
+    map (cells_of with_ceilings times deadlines scenario) (row ∷ rows)
+    ++ at_all_cells with_ceilings times deadlines scenario row.message (row ∷ rows) ∷ []
 
 -- COLUMNS
 abbrev pub target_columns : List Cell
@@ -128,13 +127,14 @@ ceiling_columns_if false times = []
 ceiling_columns_if true times = beside_columns times
 
 -- the names of the columns
-abbrev pub columns_of : Bool → Times → List Cell
-columns_of with_ceilings times = target_columns ++ (finding_columns times ++ ceiling_columns_if with_ceilings times)
+abbrev pub columns_of : Bool → Times → List (Option ℕ) → List Cell
+columns_of with_ceilings times deadlines =
+    target_columns ++ (finding_columns times ++ (judged_columns deadlines times ++ ceiling_columns_if with_ceilings times))
 
 -- THE TABLE
--- of these rows, those of one message after those of another
-abbrev pub table_of : Bool → Times → Scenario → List Surveyed → Table
-table_of with_ceilings times scenario rows = record {
-  columns = columns_of with_ceilings times;
-  rows = flat_map (λ m. message_lines with_ceilings times scenario (rows_of m rows)) (message_numbers scenario);
+-- of these rows, those of one message after those of another, by the deadlines of the messages
+abbrev pub table_of : Bool → Times → List (Option ℕ) → Scenario → List Surveyed → Table
+table_of with_ceilings times deadlines scenario rows = record {
+  columns = columns_of with_ceilings times deadlines;
+  rows = flat_map (λ m. message_lines with_ceilings times deadlines scenario (rows_of m rows)) (message_numbers scenario);
 }

@@ -10,11 +10,13 @@ pub use Rattle.convoy_branch.specs.Options
 pub use Rattle.convoy_times.specs.Measures
 pub use Rattle.convoy_tables.specs.Tables
 pub use Rattle.convoy_tables.specs.Formats
+pub use Rattle.convoy_commands.specs.Verdicts
 pub use Rattle.convoy_commands.specs.Searches
 -- what a reader has to believe: what a survey finds, and the table that it writes
 pub mod Findings
 pub mod AtAll
 pub mod Times
+pub mod Judgements
 pub mod Cells
 pub mod Surveys
 -- the same of the ceilings of all targets

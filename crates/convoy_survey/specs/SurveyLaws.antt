@@ -1,16 +1,20 @@
 -- What is proved of the rows of a survey, and of those of ceilings. Each is the one clause of the function of its name in the crate's module `survey_laws`.
-use Rattle.std.specs.Prelude.{◌≡◌, ℕ, ◌<◌, ◌≤◌, List, length, Option, None, IfSome, Ok}
+use Rattle.std.specs.Prelude.{◌≡◌, ℕ, ◌<◌, ◌≤◌, List, length, ◌++◌, Option, Some, None, IfSome, Ok}
 use Rattle.std.specs.List.{All, Contains}
 use Rattle.convoy_scenario.specs.Scenario.{Scenario, message_at}
 use Rattle.convoy_scenario.specs.Targets.{with_target}
 use Rattle.convoy_sim.specs.Greatest.{IsReached, IsUpper}
 use Rattle.convoy_ceiling.specs.Ceiling.{IsUpperInTraffic}
-use Rattle.convoy_toml.specs.Reading.{scenario_of_text}
+use Rattle.convoy_toml.specs.declared.asked.Asked.{Asked}
+use Rattle.convoy_toml.specs.Reading.{scenario_of_text_by}
 use Rattle.convoy_branch.specs.Options.{Settings}
-use Rattle.convoy_commands.specs.declared.done.Done.TheVariants.{Fine}
+use Rattle.convoy_commands.specs.declared.done.Done.{Done}
+use Rattle.convoy_commands.specs.declared.verdict.Verdict.{Verdict}
+use Rattle.convoy_commands.specs.CommandLaws.{VerdictSays}
 use Rattle.convoy_commands.specs.Measured.{measure_of_text}
 use Rattle.convoy_commands.specs.ReplyLines.{greatest_line}
-use Rattle.convoy_commands.specs.Searches.{LatencySays}
+use Rattle.convoy_commands.specs.Searches.{IsGreatestTold}
+use Rattle.convoy_commands.specs.Verdicts.{target_deadline, verdict_text}
 use Rattle.convoy_survey.specs.declared.ceiled.Ceiled.{Ceiled}
 use Rattle.convoy_survey.specs.declared.finding.Cause.{Cause}
 use Rattle.convoy_survey.specs.declared.finding.Finding.TheVariants.{Greatest}
@@ -19,21 +23,30 @@ use Rattle.convoy_survey.specs.AtAll.{least_at_all, most_at_all, rows_of}
 use Rattle.convoy_survey.specs.Ceilings.{AreCeiled, IsAttainedInTraffic, IsCeiled}
 use Rattle.convoy_survey.specs.CeilingTables.{ceiled_of, greatest_attained, greatest_ceiling}
 use Rattle.convoy_survey.specs.Findings.{Encloses, IsFinding, IsSurveyed, least_of, most_of}
+use Rattle.convoy_survey.specs.Judgements.{finding_verdict}
 use Rattle.convoy_survey.specs.Surveys.{AreSurveyed}
 
--- Of a text of the same scenario with a row's message and group as its target, `latency` answers the row's number, by whatever settings and whoever asked.
+-- Of a text of the same scenario with a row's message and group as its target, `latency` answers the row's number where it tells a greatest latency, by whatever settings and whoever asked, and below it how that keeps the deadline of the target, if it has one.
 abbrev pub RowsAreLatencies : Type 0
 RowsAreLatencies =
-    (settings other : Settings) (scenario : Scenario) (m g latency nodes : ℕ) (cause : Cause) (text out : List ℕ) →
+    (settings other : Settings) (asked : Asked) (scenario : Scenario) (m g latency nodes : ℕ) (cause : Cause) (text out : List ℕ) (end : Done) →
     IsFinding settings (with_target scenario m g) (Greatest latency cause nodes) →
-    scenario_of_text text ≡ Ok (with_target scenario m g) → LatencySays other text (Ok (Fine, out)) →
-    out ≡ greatest_line (measure_of_text other.unit text (with_target scenario m g)) latency
+    scenario_of_text_by asked text ≡ Ok (with_target scenario m g) → IsGreatestTold asked other text end out →
+    out
+    ≡ greatest_line (measure_of_text other.unit text (with_target scenario m g)) latency
+    ++ verdict_text (measure_of_text other.unit text (with_target scenario m g)) (target_deadline asked text (with_target scenario m g)) latency latency
 
 -- The two numbers of a row, `least` and `most`, enclose the greatest latency of its target, whether or not the search ended.
 abbrev pub RowsEnclose : Type 0
 RowsEnclose =
     (settings : Settings) (scenario : Scenario) (row : Surveyed) → IsSurveyed settings scenario row →
     Encloses (with_target scenario row.message row.group) (least_of row.finding) (most_of row.finding)
+
+-- What the verdict on a row says holds of its target, whether or not the search ended: within, no schedule has a latency above the deadline, and beyond, some schedule has one.
+abbrev pub RowVerdictsHold : Type 0
+RowVerdictsHold =
+    (settings : Settings) (scenario : Scenario) (row : Surveyed) (deadline : ℕ) (verdict : Verdict) → IsSurveyed settings scenario row →
+    finding_verdict (Some deadline) row.finding ≡ Some verdict → VerdictSays (with_target scenario row.message row.group) deadline verdict
 
 -- It holds of a message at one of the groups that it goes to.
 pub record IsAtOne (scenario : Scenario) (m : ℕ) (holds_at : ℕ → Type 0) : Type 0 where

@@ -1,12 +1,12 @@
 -- What a survey of a scenario writes.
-use Rattle.std.specs.Prelude.{◌≡◌, ℕ, ◌<◌, Bool, List, length, map, Result, Ok, Err}
+use Rattle.std.specs.Prelude.{◌≡◌, ℕ, ◌<◌, Bool, List, length, map, Option, Result, Ok, Err}
 use Rattle.std.specs.List.{All, list_any}
 use Rattle.std.specs.declared.alloc.AllocError.{AllocError}
 use Rattle.convoy_scenario.specs.Scenario.{Scenario, GoesTo, message_at}
 use Rattle.convoy_scenario.specs.Targets.{targets_of}
 use Rattle.convoy_scenario.specs.WellFormed.{IsScenario}
-use Rattle.convoy_toml.specs.declared.target.TargetKey.TheVariants.{Optional}
-use Rattle.convoy_toml.specs.Reading.{scenario_of_text_by}
+use Rattle.convoy_toml.specs.declared.asked.Asked.{Asked}
+use Rattle.convoy_toml.specs.Reading.{deadlines_of_text, scenario_of_text_by}
 use Rattle.convoy_branch.specs.Options.{Settings}
 use Rattle.convoy_tables.specs.declared.format.Format.{Format}
 use Rattle.convoy_tables.specs.Formats.{table_text}
@@ -15,10 +15,12 @@ use Rattle.convoy_commands.specs.Measured.{measure_of_text}
 use Rattle.convoy_commands.specs.Replies.{Rule}
 use Rattle.convoy_commands.specs.Ends.{end_by}
 use Rattle.convoy_commands.specs.Searches.{IsFaultyBy}
+use Rattle.convoy_commands.specs.Verdicts.{deadline_at}
 use Rattle.convoy_survey.specs.declared.finding.Finding.{Finding}
 use Rattle.convoy_survey.specs.declared.finding.Surveyed.{Surveyed}
 use Rattle.convoy_survey.specs.Cells.{table_of}
-use Rattle.convoy_survey.specs.Findings.{IsRowBy, MayAnswer, is_fault, is_open, target_of}
+use Rattle.convoy_survey.specs.Findings.{IsRowBy, MayAnswer, is_fault, target_of}
+use Rattle.convoy_survey.specs.Judgements.{is_finding_beyond, is_finding_open}
 use Rattle.convoy_survey.specs.Times.{times_of}
 
 -- the message may be the target of the scenario at the group: it goes there, and does not wait
@@ -41,21 +43,32 @@ pub record AreRowsBy (scenario : Scenario) (may_answer : ℕ → ℕ → Result 
 abbrev pub AreSurveyed : Settings → Scenario → List Surveyed → Type 0
 AreSurveyed settings scenario rows = AreRowsBy scenario (MayAnswer settings scenario) rows
 
--- how a survey with these rows ends: a fault comes before a search that did not end
-abbrev pub end_of : List Surveyed → Done
-end_of rows = end_by (list_any (λ row. is_fault row.finding) rows) (list_any (λ row. is_open row.finding) rows)
+-- the row is beyond the deadline of its message
+abbrev pub is_row_beyond : List (Option ℕ) → Surveyed → Bool
+is_row_beyond deadlines row = is_finding_beyond (deadline_at deadlines row.message) row.finding
 
--- THE HEADLINE. What is written is the table of these rows of the scenario that was read, and of each of its messages at all groups, where the target may be left out, in this format and with the ceilings where they are asked for, and the end is told by the rows. What a ceiling is worth the law `CeilingHolds` says.
-pub record IsSurvey (format : Format) (with_ceilings : Bool) (settings : Settings) (text : List ℕ) (end : Done) (out : List ℕ) : Type 0 where
+-- the row is open: it is not known whether it keeps the deadline of its message, or where that has none the search did not end
+abbrev pub is_row_open : List (Option ℕ) → Surveyed → Bool
+is_row_open deadlines row = is_finding_open (deadline_at deadlines row.message) row.finding
+
+-- how a survey with these rows ends: one beyond its deadline comes before a fault, and that before one that is open
+abbrev pub end_of : List (Option ℕ) → List Surveyed → Done
+end_of deadlines rows =
+    end_by (list_any (is_row_beyond deadlines) rows) (list_any (λ row. is_fault row.finding) rows) (list_any (is_row_open deadlines) rows)
+
+-- THE HEADLINE. What is written is the table of these rows of the scenario that was read, where that is asked, and of each of its messages at all groups, in this format, judged by the deadlines of its messages, and with the ceilings where they are asked for, and the end is told by the rows. What a ceiling is worth the law `CeilingHolds` says.
+pub record IsSurvey (format : Format) (with_ceilings : Bool) (asked : Asked) (settings : Settings) (text : List ℕ) (end : Done) (out : List ℕ) : Type 0 where
   pub scenario : Scenario
   pub rows : List Surveyed
-  pub read : scenario_of_text_by Optional text ≡ Ok scenario
+  pub read : scenario_of_text_by asked text ≡ Ok scenario
   pub lawful : IsScenario scenario
   pub surveyed : AreSurveyed settings scenario rows
-  pub written : out ≡ table_text format (table_of with_ceilings (times_of format (measure_of_text settings.unit text scenario)) scenario rows)
-  pub ends : end ≡ end_of rows
+  pub written : out
+      ≡ table_text format
+      (table_of with_ceilings (times_of format (measure_of_text settings.unit text scenario)) (deadlines_of_text asked text) scenario rows)
+  pub ends : end ≡ end_of (deadlines_of_text asked text) rows
 
 -- what a survey may answer for a text
-abbrev pub SurveySays : Format → Bool → Settings → Rule
-SurveySays format with_ceilings settings text (Ok (end, out)) = IsSurvey format with_ceilings settings text end out
-SurveySays format with_ceilings settings text (Err fault) = IsFaultyBy Optional text fault
+abbrev pub SurveySays : Format → Bool → Asked → Settings → Rule
+SurveySays format with_ceilings asked settings text (Ok (end, out)) = IsSurvey format with_ceilings asked settings text end out
+SurveySays format with_ceilings asked settings text (Err fault) = IsFaultyBy asked text fault

@@ -1,14 +1,19 @@
--- How a table tells times.
+-- How a table tells numbers that may not be known, and times.
 use Rattle.std.specs.Prelude.{ℕ, true, List, [], ◌∷◌, Option, Some, None, is_some, if◌then◌else◌}
 use Rattle.convoy_draft.specs.Durations.{unit_word}
 use Rattle.convoy_times.specs.declared.measure.Measure.{Measure}
 use Rattle.convoy_times.specs.Measures.{told_ticks}
 use Rattle.convoy_tables.specs.declared.format.Format.{Format}
 use Rattle.convoy_tables.specs.declared.format.Format.TheVariants.{Text, Csv, Json}
-use Rattle.convoy_tables.specs.Tables.{Cell, nothing, numeral, word}
+use Rattle.convoy_tables.specs.Tables.{Cell, nothing, number, numeral, word}
 use Rattle.convoy_survey.specs.declared.times.Times.{Times}
 
--- those of a table in this format: as CSV and as JSON it has columns of times in any case, in text where there is a measure
+-- a number that may not be known
+abbrev pub count_cell : Option ℕ → Cell
+count_cell None = nothing
+count_cell (Some n) = number n
+
+-- the times of a table in this format: as CSV and as JSON it has columns of times in any case, in text where there is a measure
 abbrev pub times_of : Format → Option Measure → Times
 times_of Text measure = record { are_told = is_some measure; measure = measure }
 times_of Csv measure = record { are_told = true; measure = measure }

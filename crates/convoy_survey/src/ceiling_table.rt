@@ -5,28 +5,32 @@ ghost use Rattle.convoy_survey.specs.CeilingTables.{ceiled_lines, ceiled_of, cei
 use super::at_all::greater;
 use super::ceiled::Ceiled;
 use super::cells::{push_count, push_target, push_target_at_all};
+use super::judgements::{push_judged, push_judged_columns};
 use super::time_cells::{push_columns_if_told, push_time_pair};
 use super::times::Times;
 use convoy_scenario::Scenario;
 use convoy_tables::{Format, Row, Table, table_text};
 use std::alloc::{AllocError, Global};
 
-/// The table of ceilings as it is written in a format: at all groups with a row for each message at all of them, too.
+/// The table of ceilings as it is written in a format, judged where a message has a deadline: at all groups with a row
+/// for each message at all of them, too.
 pub(crate) fn ceilings_text(
     alloc: Global,
     format: Format,
     at_all_groups: bool,
     times: &Times,
+    deadlines: &[Option<u32>],
     scenario: &Scenario,
     rows: &[Ceiled],
 ) -> Result<Vec<u8>, AllocError>
-    ensures { IfOk result (λ text. text.items ≡ table_text format (table_of_ceilings at_all_groups times.now scenario.now rows.now)) }
+    ensures { IfOk result (λ text. text.items
+        ≡ table_text format (table_of_ceilings at_all_groups times.now deadlines.now scenario.now rows.now)) }
 {
-    let mut table = Table::new(alloc, columns_of(alloc, times)?);
+    let mut table = Table::new(alloc, columns_of(alloc, times, deadlines)?);
     if at_all_groups {
-        push_messages(alloc, times, scenario, rows, &mut table)?;
+        push_messages(alloc, times, deadlines, scenario, rows, &mut table)?;
     } else {
-        push_rows(alloc, times, scenario, rows, &mut table)?;
+        push_rows(alloc, times, deadlines, scenario, rows, &mut table)?;
     }
     table_text(alloc, &table, format)
 }
@@ -35,17 +39,18 @@ pub(crate) fn ceilings_text(
 fn push_messages(
     alloc: Global,
     times: &Times,
+    deadlines: &[Option<u32>],
     scenario: &Scenario,
     rows: &[Ceiled],
     table: &mut Table,
 ) -> Result<(), AllocError>
     ensures { OnOk result (table.new ≡ record table.old {
-      rows = table.old.rows ++ ceiling_lines true times.now scenario.now rows.now;
+      rows = table.old.rows ++ ceiling_lines true times.now deadlines.now scenario.now rows.now;
     }) }
 {
     for message in 0..scenario.message_count() {
         let of_message = ceiled_of(alloc, message, rows)?;
-        push_message(alloc, times, scenario, &of_message, table)?;
+        push_message(alloc, times, deadlines, scenario, &of_message, table)?;
     }
     Ok(())
 }
@@ -54,42 +59,44 @@ fn push_messages(
 fn push_message(
     alloc: Global,
     times: &Times,
+    deadlines: &[Option<u32>],
     scenario: &Scenario,
     rows: &[Ceiled],
     table: &mut Table,
 ) -> Result<(), AllocError>
     ensures { OnOk result (table.new ≡ record table.old {
-      rows = table.old.rows ++ ceiled_lines times.now scenario.now rows.now;
+      rows = table.old.rows ++ ceiled_lines times.now deadlines.now scenario.now rows.now;
     }) }
 {
     let [first, ..] = rows else {
         return Ok(());
     };
-    push_rows(alloc, times, scenario, rows, table)?;
-    table.push(at_all_cells(alloc, times, scenario, first.message, rows)?)
+    push_rows(alloc, times, deadlines, scenario, rows, table)?;
+    table.push(at_all_cells(alloc, times, deadlines, scenario, first.message, rows)?)
 }
 
 /// Puts each of these rows at the end of a table.
 fn push_rows(
     alloc: Global,
     times: &Times,
+    deadlines: &[Option<u32>],
     scenario: &Scenario,
     rows: &[Ceiled],
     table: &mut Table,
 ) -> Result<(), AllocError>
     ensures { OnOk result (table.new ≡ record table.old {
-      rows = table.old.rows ++ map (ceiling_cells times.now scenario.now) rows.now;
+      rows = table.old.rows ++ map (ceiling_cells times.now deadlines.now scenario.now) rows.now;
     }) }
 {
     for row in rows {
-        table.push(cells_of(alloc, times, scenario, row)?)?;
+        table.push(cells_of(alloc, times, deadlines, scenario, row)?)?;
     }
     Ok(())
 }
 
 /// The names of the columns.
-fn columns_of(alloc: Global, times: &Times) -> Result<Row, AllocError>
-    ensures { IfOk result (λ columns. columns ≡ ceiling_columns times.now) }
+fn columns_of(alloc: Global, times: &Times, deadlines: &[Option<u32>]) -> Result<Row, AllocError>
+    ensures { IfOk result (λ columns. columns ≡ ceiling_columns times.now deadlines.now) }
 {
     let mut columns = Row::new(alloc);
     columns.push_words(&["message", "group", "ceiling", "attained"])?;
@@ -98,6 +105,7 @@ fn columns_of(alloc: Global, times: &Times) -> Result<Row, AllocError>
         &["ceiling_time", "attained_time", "unit"],
         &mut columns,
     )?;
+    push_judged_columns(deadlines, times, &mut columns)?;
     Ok(columns)
 }
 
@@ -105,14 +113,24 @@ fn columns_of(alloc: Global, times: &Times) -> Result<Row, AllocError>
 fn cells_of(
     alloc: Global,
     times: &Times,
+    deadlines: &[Option<u32>],
     scenario: &Scenario,
     row: &Ceiled,
 ) -> Result<Row, AllocError>
-    ensures { IfOk result (λ cells. cells ≡ ceiling_cells times.now scenario.now row.now) }
+    ensures { IfOk result (λ cells. cells ≡ ceiling_cells times.now deadlines.now scenario.now row.now) }
 {
     let mut cells = Row::new(alloc);
     push_target(scenario, row.message, row.group, &mut cells)?;
     push_numbers(alloc, times, row.ceiling, row.attained, &mut cells)?;
+    push_judged(
+        alloc,
+        deadlines,
+        times,
+        row.message,
+        row.attained,
+        Some(row.ceiling),
+        &mut cells,
+    )?;
     Ok(cells)
 }
 
@@ -120,16 +138,26 @@ fn cells_of(
 fn at_all_cells(
     alloc: Global,
     times: &Times,
+    deadlines: &[Option<u32>],
     scenario: &Scenario,
     message: usize,
     rows: &[Ceiled],
 ) -> Result<Row, AllocError>
-    ensures { IfOk result (λ cells. cells ≡ ceiling_at_all_cells times.now scenario.now message rows.now) }
+    ensures { IfOk result (λ cells. cells ≡ ceiling_at_all_cells times.now deadlines.now scenario.now message rows.now) }
 {
     let mut cells = Row::new(alloc);
     push_target_at_all(scenario, message, &mut cells)?;
     let (ceiling, attained) = (greatest_ceiling(rows), greatest_attained(rows));
     push_numbers(alloc, times, ceiling, attained, &mut cells)?;
+    push_judged(
+        alloc,
+        deadlines,
+        times,
+        message,
+        attained,
+        Some(ceiling),
+        &mut cells,
+    )?;
     Ok(cells)
 }
 

@@ -3,10 +3,12 @@
 ghost use Rattle.std.specs.Prelude.{◌≡◌, ◌<◌, ◌∷◌, [], ◌++◌, length, OnOk, IfOk, All};
 ghost use Rattle.convoy_ceiling.specs.Ceiling.{ceiling_at};
 ghost use Rattle.convoy_survey.specs.AtAll.{ceiling_at_all};
-ghost use Rattle.convoy_survey.specs.Cells.{at_all_cells, at_all_target_cells, cause_cells, ceiling_cells_if, cells_of, count_cell, finding_cells, known_cells, name_cell, node_cells, rival_cells, target_cells, tick_cells, time_cells};
+ghost use Rattle.convoy_survey.specs.Cells.{at_all_cells, at_all_target_cells, cause_cells, ceiling_cells_if, cells_of, finding_cells, known_cells, name_cell, node_cells, rival_cells, target_cells, tick_cells, time_cells};
+ghost use Rattle.convoy_survey.specs.Times.{count_cell};
 
 use super::at_all::{AtAll, ceiling_at_all};
 use super::finding::{Cause, Finding, Surveyed, rival_in, tied_in};
+use super::judgements::push_judged;
 use super::time_cells::{push_time_if_told, push_time_pair};
 use super::times::Times;
 use convoy_ceiling::ceiling;
@@ -15,41 +17,63 @@ use convoy_scenario::naming::{group_name, message_name};
 use convoy_tables::Row;
 use std::alloc::{AllocError, Global};
 
-/// The cells of a row, with its ceiling where it is asked for.
+/// The cells of a row, with the verdict on it where there are deadlines, and its ceiling where that is asked for.
 pub(crate) fn cells_of(
     alloc: Global,
     with_ceilings: bool,
     times: &Times,
+    deadlines: &[Option<u32>],
     scenario: &Scenario,
     row: &Surveyed,
 ) -> Result<Row, AllocError>
     requires { row.now.message < length scenario.now.multicasts }
-    ensures { IfOk result (λ cells. cells ≡ cells_of with_ceilings times.now scenario.now row.now) }
+    ensures { IfOk result (λ cells. cells ≡ cells_of with_ceilings times.now deadlines.now scenario.now row.now) }
 {
     let mut cells = Row::new(alloc);
     push_target(scenario, row.message, row.group, &mut cells)?;
     push_finding(alloc, times, scenario, row.finding, &mut cells)?;
+    let (least, most) = (row.finding.least(), row.finding.most());
+    push_judged(
+        alloc,
+        deadlines,
+        times,
+        row.message,
+        least,
+        most,
+        &mut cells,
+    )?;
     let ceiling = ceiling(scenario, row.message, row.group);
     push_ceiling_if(alloc, with_ceilings, times, ceiling, &mut cells)?;
     Ok(cells)
 }
 
-/// The cells of the row of a message at all the groups that it goes to, of which these are its rows, with the greatest
-/// of their ceilings where these are asked for.
+/// The cells of the row of a message at all the groups that it goes to, of which these are its rows, with the verdict on
+/// it where there are deadlines, and the greatest of their ceilings where these are asked for.
 pub(crate) fn at_all_cells(
     alloc: Global,
     with_ceilings: bool,
     times: &Times,
+    deadlines: &[Option<u32>],
     scenario: &Scenario,
     message: usize,
     rows: &[Surveyed],
 ) -> Result<Row, AllocError>
     requires { All (λ row. row.message < length scenario.now.multicasts) rows.now }
-    ensures { IfOk result (λ cells. cells ≡ at_all_cells with_ceilings times.now scenario.now message rows.now) }
+    ensures { IfOk result (λ cells. cells ≡ at_all_cells with_ceilings times.now deadlines.now scenario.now message rows.now) }
 {
     let mut cells = Row::new(alloc);
     push_target_at_all(scenario, message, &mut cells)?;
-    push_known(alloc, times, scenario, AtAll::of(rows), &mut cells)?;
+    let known = AtAll::of(rows);
+    push_known(alloc, times, scenario, known, &mut cells)?;
+    push_judged(
+        alloc,
+        deadlines,
+        times,
+        message,
+        known.least,
+        known.most,
+        &mut cells,
+    )?;
     let ceiling = ceiling_at_all(scenario, rows);
     push_ceiling_if(alloc, with_ceilings, times, ceiling, &mut cells)?;
     Ok(cells)
@@ -69,7 +93,7 @@ fn push_ceiling_if(
         return Ok(());
     }
     cells.push_number(u64::from(ceiling))?;
-    push_time_if_told(alloc, times, ceiling, cells)
+    push_time_if_told(alloc, times, Some(ceiling), cells)
 }
 
 /// Puts a message and a group at the end of a row, by their names.

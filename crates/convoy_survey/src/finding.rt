@@ -1,6 +1,9 @@
 ghost use Rattle.std.specs.Prelude.{◌≡◌};
 ghost use Rattle.convoy_survey.specs.Findings.{answer_word, cause_of, is_fault, is_open, least_of, most_of, nodes_of, rival_in, rival_of, tied_in, tied_of, told_finding};
+ghost use Rattle.convoy_survey.specs.Judgements.{finding_verdict, is_finding_beyond, is_finding_open};
 
+use super::judgements::{is_beyond, is_open_by, verdict_at};
+use convoy_commands::Verdict;
 use std::alloc::AllocError;
 
 /// Why the target is late in the run of one schedule.
@@ -129,6 +132,27 @@ impl Finding {
             Finding::Open { .. } => true,
             Finding::Greatest { .. } | Finding::OutOfMemory => false,
         }
+    }
+
+    /// The verdict on what was found by a deadline in ticks, where there is one and something was found.
+    pub fn verdict(self, deadline: Option<u32>) -> Option<Verdict>
+        ensures { result ≡ finding_verdict deadline self }
+    {
+        verdict_at(deadline, self.least(), self.most())
+    }
+
+    /// Whether what was found is beyond a deadline in ticks, where there is one.
+    pub fn is_beyond(self, deadline: Option<u32>) -> bool
+        ensures { result ≡ is_finding_beyond deadline self }
+    {
+        is_beyond(self.verdict(deadline))
+    }
+
+    /// Whether it is not known if a deadline in ticks is kept, or where there is none whether the search did not end.
+    pub fn is_open_by(self, deadline: Option<u32>) -> bool
+        ensures { result ≡ is_finding_open deadline self }
+    {
+        is_open_by(self.verdict(deadline), self.is_open())
     }
 
     /// Whether nothing was found, for a fault.

@@ -1,5 +1,5 @@
 //! Tables of all targets of a scenario: its survey, with the greatest latency of each message at each group
-//! that it goes to, and their ceilings.
+//! that it goes to, and their ceilings; and how these keep their deadlines.
 #![tactic(auto)]
 
 pub use answering::survey_answer;
@@ -9,6 +9,9 @@ pub use ceilings::{ceilings_by, ceilings_of};
 pub use cells::{push_cause, push_finding, push_name, push_nodes, push_ticks, push_times};
 pub use convoy_tables::Format;
 pub use finding::{Cause, Finding, Surveyed};
+pub use judgements::{
+    has_deadline, is_beyond, is_open_by, push_verdict_cells, push_verdict_columns, verdict_at,
+};
 pub use rows::{survey, survey_by};
 pub use searching::find;
 pub use table::{push_finding_columns, push_time_columns};
@@ -23,6 +26,7 @@ mod ceiling_table;
 mod ceilings;
 mod cells;
 mod finding;
+mod judgements;
 mod rows;
 mod searching;
 pub mod survey_laws;

@@ -1,7 +1,9 @@
 //! The laws of surveys and of tables of ceilings. Each is the one clause of a function that does nothing; a
 //! caller that needs the law calls the function.
 
-ghost use Rattle.convoy_survey.specs.SurveyLaws.{CeilingRowsAtAllEnclose, CeilingRowsEnclose, RowsAreLatencies, RowsAtAllEnclose, RowsEnclose};
+ghost use Rattle.convoy_survey.specs.SurveyLaws.{CeilingRowsAtAllEnclose, CeilingRowsEnclose, RowVerdictsHold, RowsAreLatencies, RowsAtAllEnclose, RowsEnclose};
+
+use convoy_commands::command_laws::verdicts_hold;
 
 /// The number of a row is that which `latency` answers for the scenario with that target.
 pub fn rows_are_latencies()
@@ -13,6 +15,14 @@ pub fn rows_are_latencies()
 pub fn rows_enclose()
     ensures { RowsEnclose }
 {}
+
+/// What the verdict on a row says holds of the scenario with that target: where it is within its deadline, no schedule has
+/// a latency above that, and where it is beyond, some schedule has.
+pub fn row_verdicts_hold()
+    ensures { RowVerdictsHold }
+{
+    verdicts_hold();
+}
 
 /// The two numbers of the row of a message at all groups enclose the greatest latency at its groups: some schedule has the
 /// least at one of them, and none has a latency above the most at any.

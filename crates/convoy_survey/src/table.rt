@@ -5,44 +5,50 @@ ghost use Rattle.convoy_tables.specs.Formats.{table_text};
 use super::at_all::rows_of;
 use super::cells::{at_all_cells, cells_of};
 use super::finding::Surveyed;
+use super::judgements::push_judged_columns;
 use super::time_cells::push_columns_if_told;
 use super::times::Times;
 use convoy_scenario::Scenario;
 use convoy_tables::{Format, Row, Table, table_text};
 use std::alloc::{AllocError, Global};
 
-/// The table of a survey as it is written in a format, with ceilings where they are asked for.
+/// The table of a survey as it is written in a format, judged where a message has a deadline, and with ceilings where
+/// they are asked for.
 pub(crate) fn survey_text(
     alloc: Global,
     format: Format,
     with_ceilings: bool,
     times: &Times,
+    deadlines: &[Option<u32>],
     scenario: &Scenario,
     rows: &[Surveyed],
 ) -> Result<Vec<u8>, AllocError>
-    ensures { IfOk result (λ text. text.items ≡ table_text format (table_of with_ceilings times.now scenario.now rows.now)) }
+    ensures { IfOk result (λ text. text.items
+        ≡ table_text format (table_of with_ceilings times.now deadlines.now scenario.now rows.now)) }
 {
-    let table = table_of(alloc, with_ceilings, times, scenario, rows)?;
+    let table = table_of(alloc, with_ceilings, times, deadlines, scenario, rows)?;
     table_text(alloc, &table, format)
 }
 
-/// The table of a survey, with ceilings where they are asked for.
+/// The table of a survey, judged where a message has a deadline, and with ceilings where they are asked for.
 fn table_of(
     alloc: Global,
     with_ceilings: bool,
     times: &Times,
+    deadlines: &[Option<u32>],
     scenario: &Scenario,
     rows: &[Surveyed],
 ) -> Result<Table, AllocError>
-    ensures { IfOk result (λ table. table ≡ table_of with_ceilings times.now scenario.now rows.now) }
+    ensures { IfOk result (λ table. table ≡ table_of with_ceilings times.now deadlines.now scenario.now rows.now) }
 {
-    let mut table = Table::new(alloc, columns_of(alloc, with_ceilings, times)?);
+    let mut table = Table::new(alloc, columns_of(alloc, with_ceilings, times, deadlines)?);
     for message in 0..scenario.message_count() {
         let of_message = rows_of(alloc, message, rows)?;
         push_message(
             alloc,
             with_ceilings,
             times,
+            deadlines,
             scenario,
             &of_message,
             &mut table,
@@ -56,31 +62,47 @@ fn push_message(
     alloc: Global,
     with_ceilings: bool,
     times: &Times,
+    deadlines: &[Option<u32>],
     scenario: &Scenario,
     rows: &[Surveyed],
     table: &mut Table,
 ) -> Result<(), AllocError>
     requires { All (λ row. row.message < length scenario.now.multicasts) rows.now }
     ensures { OnOk result (table.new ≡ record table.old {
-      rows = table.old.rows ++ message_lines with_ceilings times.now scenario.now rows.now;
+      rows = table.old.rows ++ message_lines with_ceilings times.now deadlines.now scenario.now rows.now;
     }) }
 {
     let [first, ..] = rows else {
         return Ok(());
     };
     for row in rows {
-        table.push(cells_of(alloc, with_ceilings, times, scenario, row)?)?;
+        let cells = cells_of(alloc, with_ceilings, times, deadlines, scenario, row)?;
+        table.push(cells)?;
     }
-    table.push(at_all_cells(alloc, with_ceilings, times, scenario, first.message, rows)?)
+    table.push(at_all_cells(
+        alloc,
+        with_ceilings,
+        times,
+        deadlines,
+        scenario,
+        first.message,
+        rows,
+    )?)
 }
 
 /// The names of the columns.
-fn columns_of(alloc: Global, with_ceilings: bool, times: &Times) -> Result<Row, AllocError>
-    ensures { IfOk result (λ columns. columns ≡ columns_of with_ceilings times.now) }
+fn columns_of(
+    alloc: Global,
+    with_ceilings: bool,
+    times: &Times,
+    deadlines: &[Option<u32>],
+) -> Result<Row, AllocError>
+    ensures { IfOk result (λ columns. columns ≡ columns_of with_ceilings times.now deadlines.now) }
 {
     let mut columns = Row::new(alloc);
     columns.push_words(&["message", "group"])?;
     push_finding_columns(times, &mut columns)?;
+    push_judged_columns(deadlines, times, &mut columns)?;
     push_ceiling_columns_if(with_ceilings, times, &mut columns)?;
     Ok(columns)
 }

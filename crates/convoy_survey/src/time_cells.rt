@@ -1,6 +1,6 @@
 //! Cells of times.
 
-ghost use Rattle.std.specs.Prelude.{◌≡◌, ◌∷◌, [], ◌++◌, map, Some, OnOk};
+ghost use Rattle.std.specs.Prelude.{◌≡◌, ◌∷◌, [], ◌++◌, map, OnOk};
 ghost use Rattle.convoy_tables.specs.Tables.{numeral, word};
 ghost use Rattle.convoy_times.specs.Measures.{told_ticks};
 ghost use Rattle.convoy_survey.specs.Times.{time_cell, time_pair, unit_cell, where_told};
@@ -46,17 +46,17 @@ pub(crate) fn push_columns_if_told(
     }
 }
 
-/// Puts a number of ticks as a time at the end of a row, where times are told.
+/// Puts a number of ticks, which may not be known, as a time at the end of a row, where times are told.
 pub(crate) fn push_time_if_told(
     alloc: Global,
     times: &Times,
-    ticks: u32,
+    ticks: Option<u32>,
     cells: &mut Row,
 ) -> Result<(), AllocError>
-    ensures { OnOk result (cells.new ≡ cells.old ++ where_told times.now (time_cell times.now.measure (Some ticks) ∷ [])) }
+    ensures { OnOk result (cells.new ≡ cells.old ++ where_told times.now (time_cell times.now.measure ticks ∷ [])) }
 {
     if times.are_told {
-        push_time(alloc, times.measure, Some(ticks), cells)
+        push_time(alloc, times.measure, ticks, cells)
     } else {
         Ok(())
     }

@@ -3,9 +3,9 @@ use Rattle.std.proofs.Common.{◌≡◌, ◌⊎◌, ◌<◌, ℕ, List, [], ◌�
 use Rattle.convoy_streams.specs.declared.reading.ReadFault.TheVariants.{Read, TooManyReads}
 use Rattle.convoy_streams.specs.Devices.{Answer, Moved, Failed, failures}
 use Rattle.convoy_streams.specs.Jobs.{Job, ended_jobs, jobs_of}
-use Rattle.convoy_branch.specs.Options.{Settings}
 use Rattle.convoy_tasks.specs.declared.batch.TheConstants.{MOST_JOBS}
 use Rattle.convoy_commands.specs.declared.fault.Fault.TheVariants.{Memory, Reading, Write, TooManyJobs}
+use Rattle.convoy_commands.specs.Replies.{Rule}
 use Rattle.convoy_tasks.specs.Batches.{AnswersAll, AnswersMost, FailsAnswering, ReadsAll, ReadsOn, ReadsThen}
 use Rattle.convoy_tasks.specs.BatchLaws.{BatchFailuresAreTold}
 use Rattle.convoy_streams.proofs.FailureCounts.{after_pieces, in_nothing, none_in_pieces}
@@ -18,37 +18,37 @@ in_reads_then : (last : Answer) (reads : List Answer) (text : List ℕ) → Read
 in_reads_then last reads text read = rw read.last (after_pieces read.pieces last read.given.each)
 
 -- where blocks went out, all of them or as many as there may be
-in_blocks : (settings : Settings) (jobs : List Job) (writes : List Answer) → AnswersAll settings jobs writes → failures writes ≡ 0
-in_blocks settings jobs writes answered = none_in_pieces writes answered.written.each
+in_blocks : (says : Rule) (jobs : List Job) (writes : List Answer) → AnswersAll says jobs writes → failures writes ≡ 0
+in_blocks says jobs writes answered = none_in_pieces writes answered.written.each
 
-in_most_blocks : (settings : Settings) (reads writes : List Answer) →
-    ((text : List ℕ) × ReadsOn reads text × AnswersMost settings (ended_jobs text) writes)
-    ⊎ ((text : List ℕ) × ReadsAll reads text × (MOST_JOBS < length (jobs_of text)) × AnswersMost settings (jobs_of text) writes) →
+in_most_blocks : (says : Rule) (reads writes : List Answer) →
+    ((text : List ℕ) × ReadsOn reads text × AnswersMost says (ended_jobs text) writes)
+    ⊎ ((text : List ℕ) × ReadsAll reads text × (MOST_JOBS < length (jobs_of text)) × AnswersMost says (jobs_of text) writes) →
     failures writes ≡ 0
-in_most_blocks settings reads writes (inl on) = in_blocks settings on.2.first writes on.2.answered
-in_most_blocks settings reads writes (inr ended) = in_blocks settings ended.3.first writes ended.3.answered
+in_most_blocks says reads writes (inl on) = in_blocks says on.2.first writes on.2.answered
+in_most_blocks says reads writes (inr ended) = in_blocks says ended.3.first writes ended.3.answered
 
 -- where the sink failed within one
-in_block : (settings : Settings) (jobs : List Job) (writes : List Answer) → FailsAnswering settings jobs writes → failures writes ≡ 1
-in_block settings jobs writes failed =
+in_block : (says : Rule) (jobs : List Job) (writes : List Answer) → FailsAnswering says jobs writes → failures writes ≡ 1
+in_block says jobs writes failed =
     rw failed.written.last (after_pieces failed.written.pieces Failed failed.written.each)
 
-in_write : (settings : Settings) (reads writes : List Answer) (text : List ℕ) →
-    (ReadsOn reads text × FailsAnswering settings (ended_jobs text) writes) ⊎ (ReadsAll reads text × FailsAnswering settings (jobs_of text) writes) →
+in_write : (says : Rule) (reads writes : List Answer) (text : List ℕ) →
+    (ReadsOn reads text × FailsAnswering says (ended_jobs text) writes) ⊎ (ReadsAll reads text × FailsAnswering says (jobs_of text) writes) →
     (failures reads ≡ 0) × (failures writes ≡ 1)
-in_write settings reads writes text (inl on) = (in_reads reads text on.0, in_block settings (ended_jobs text) writes on.1)
-in_write settings reads writes text (inr ended) =
-    (in_reads_then (Moved []) reads text ended.0, in_block settings (jobs_of text) writes ended.1)
+in_write says reads writes text (inl on) = (in_reads reads text on.0, in_block says (ended_jobs text) writes on.1)
+in_write says reads writes text (inr ended) =
+    (in_reads_then (Moved []) reads text ended.0, in_block says (jobs_of text) writes ended.1)
 
-pub batch_failures_told : (settings : Settings) → BatchFailuresAreTold settings
-batch_failures_told settings most_reads reads writes (Ok end) ran =
-    (in_reads_then (Moved []) reads ran.0 ran.1, in_blocks settings (jobs_of ran.0) writes ran.3.answered)
-batch_failures_told settings most_reads reads writes (Err (Reading Read)) ran =
-    (in_reads_then Failed reads ran.0 ran.1, in_blocks settings (ended_jobs ran.0) writes ran.3)
-batch_failures_told settings most_reads reads writes (Err (Reading TooManyReads)) ran =
-    (in_reads reads ran.0 ran.1, in_blocks settings (ended_jobs ran.0) writes ran.4)
-batch_failures_told settings most_reads reads writes (Err TooManyJobs) ran =
-    (in_reads_then (Moved ran.bytes) reads ran.before ran.last, in_most_blocks settings reads writes ran.outcome)
-batch_failures_told settings most_reads reads writes (Err Write) ran = in_write settings reads writes ran.0 ran.1
-batch_failures_told settings most_reads reads writes (Err Memory) ran = (in_nothing reads ran.0, in_nothing writes ran.1)
-batch_failures_told settings most_reads reads writes (Err other) ran = absurd ran
+pub batch_failures_told : (says : Rule) → BatchFailuresAreTold says
+batch_failures_told says most_reads reads writes (Ok end) ran =
+    (in_reads_then (Moved []) reads ran.0 ran.1, in_blocks says (jobs_of ran.0) writes ran.3.answered)
+batch_failures_told says most_reads reads writes (Err (Reading Read)) ran =
+    (in_reads_then Failed reads ran.0 ran.1, in_blocks says (ended_jobs ran.0) writes ran.3)
+batch_failures_told says most_reads reads writes (Err (Reading TooManyReads)) ran =
+    (in_reads reads ran.0 ran.1, in_blocks says (ended_jobs ran.0) writes ran.4)
+batch_failures_told says most_reads reads writes (Err TooManyJobs) ran =
+    (in_reads_then (Moved ran.bytes) reads ran.before ran.last, in_most_blocks says reads writes ran.outcome)
+batch_failures_told says most_reads reads writes (Err Write) ran = in_write says reads writes ran.0 ran.1
+batch_failures_told says most_reads reads writes (Err Memory) ran = (in_nothing reads ran.0, in_nothing writes ran.1)
+batch_failures_told says most_reads reads writes (Err other) ran = absurd ran

@@ -8,12 +8,12 @@ use Rattle.convoy_streams.specs.declared.reading.ReadFault.TheVariants.{Read, To
 use Rattle.convoy_streams.specs.Jobs.{ended_jobs}
 use Rattle.convoy_streams.specs.StreamLaws.{EndedJobsStay, PiecesGoOn}
 use Rattle.convoy_streams.specs.Devices.{Answer, Moved, Failed, HasRun, IsPiece}
-use Rattle.convoy_branch.specs.Options.{Settings}
 use Rattle.convoy_tasks.specs.declared.batch.Batch.{Batch}
 use Rattle.convoy_commands.specs.declared.fault.Fault.{Fault}
 use Rattle.convoy_commands.specs.declared.fault.Fault.TheVariants.{Reading, Write, TooManyJobs}
 use Rattle.convoy_commands.specs.declared.done.Done.{Done}
 use Rattle.convoy_commands.specs.declared.done.Done.TheVariants.{Fine}
+use Rattle.convoy_commands.specs.Replies.{Rule}
 use Rattle.convoy_tasks.specs.Batches.{BatchRunsTo, EndsSo, IsBatchRun, ReadsOn, ReadsThen}
 use Rattle.convoy_tasks.specs.BatchSteps.{EndsBatch, IsUnderWay, StopsAnswering}
 use Rattle.convoy_tasks.proofs.Blocks.{stops_among}
@@ -23,16 +23,16 @@ pub byte_taken : (text piece : List ℕ) (i : ℕ) → i < length piece → (tex
 byte_taken text piece i below = append_assoc text (take i piece) (get_or piece i 0 ∷ []) ∙ ap (λ x. text ++ x) (sym (take_more piece i 0 below))
 
 -- to stop in a piece is to stop among the jobs of the whole piece
-pub stops_in_piece : EndedJobsStay → {K : Type 0} (settings : Settings) (may_write : K → Answer → K → Type 0) (start new : K) (text piece : List ℕ) (i : ℕ) (fault : Fault) →
-    i < length piece → StopsAnswering settings may_write start new (ended_jobs ((text ++ take i piece) ++ get_or piece i 0 ∷ [])) fault →
-    StopsAnswering settings may_write start new (ended_jobs (text ++ piece)) fault
-stops_in_piece stay settings may_write start new text piece i fault below stop =
+pub stops_in_piece : EndedJobsStay → {K : Type 0} (says : Rule) (may_write : K → Answer → K → Type 0) (start new : K) (text piece : List ℕ) (i : ℕ) (fault : Fault) →
+    i < length piece → StopsAnswering says may_write start new (ended_jobs ((text ++ take i piece) ++ get_or piece i 0 ∷ [])) fault →
+    StopsAnswering says may_write start new (ended_jobs (text ++ piece)) fault
+stops_in_piece stay says may_write start new text piece i fault below stop =
     let front = (text ++ take i piece) ++ get_or piece i 0 ∷ [] in
     let more = stay front (drop (i + 1) piece) in
     let whole : text ++ piece ≡ front ++ drop (i + 1) piece =
     ap (λ x. text ++ x) (sym (take-append-drop (i + 1) piece)) ∙ sym (append_assoc text (take (i + 1) piece) (drop (i + 1) piece))
     ∙ ap (λ x. x ++ drop (i + 1) piece) (sym (byte_taken text piece i below)) in
-    stops_among settings may_write start new (ended_jobs front) more.0 (ended_jobs (text ++ piece)) fault stop (ap ended_jobs whole ∙ more.1)
+    stops_among says may_write start new (ended_jobs front) more.0 (ended_jobs (text ++ piece)) fault stop (ap ended_jobs whole ∙ more.1)
 
 -- so many reads led from the one state of the source to the other, and gave this piece by piece
 pub record HasReadOn {S : Type 0} (reads : S → Answer → S → Type 0) (old : S) (text : List ℕ) (count : ℕ) (new : S) : Type 0 where
@@ -63,22 +63,22 @@ one_more_read go_on reads old mid new text more count p moved some = record {
 }
 
 -- no block yet
-pub no_blocks : {K : Type 0} (settings : Settings) (may_write : K → Answer → K → Type 0) (start : K) (end : Done) → end ≡ Fine →
-    HasRun may_write start start (λ answers. EndsSo settings [] answers end)
-no_blocks settings may_write start end is = record {
+pub no_blocks : {K : Type 0} (says : Rule) (may_write : K → Answer → K → Type 0) (start : K) (end : Done) → end ≡ Fine →
+    HasRun may_write start start (λ answers. EndsSo says [] answers end)
+no_blocks says may_write start end is = record {
   answers = [];
   calls = refl;
   says = record { answered = record { replies = []; allowed = tt; written = record { each = All-nil IsPiece; whole = refl } }; end_is = is };
 }
 
-module _ {S K : Type 0} (reads : S → Answer → S → Type 0) (writes : K → Answer → K → Type 0) (settings : Settings) (most count : ℕ) (source mid new : S) (sink now : K)
-    (bytes : List ℕ) (batch : Batch) (p : HasReadOn reads source bytes count mid) (u : IsUnderWay settings writes sink now bytes batch) (below : count < most) where
+module _ {S K : Type 0} (reads : S → Answer → S → Type 0) (writes : K → Answer → K → Type 0) (says : Rule) (most count : ℕ) (source mid new : S) (sink now : K)
+    (bytes : List ℕ) (batch : Batch) (p : HasReadOn reads source bytes count mid) (u : IsUnderWay says writes sink now bytes batch) (below : count < most) where
   then_so : (answer : Answer) → ReadsThen answer (p.answers ++ answer ∷ []) bytes
   then_so answer = record { pieces = p.answers; last = refl; given = p.given }
 
   -- one more read answered so, and these are the writes
   by_last : (answer : Answer) (answers : List Answer) (last : K) (result : Result Done Fault) → reads mid answer new → FoldsTo writes sink answers last →
-      BatchRunsTo settings most (p.answers ++ answer ∷ []) answers result → IsBatchRun settings most reads writes source new sink last result
+      BatchRunsTo says most (p.answers ++ answer ∷ []) answers result → IsBatchRun says most reads writes source new sink last result
   by_last answer answers last result moved wrote outcome = record {
     reads = p.answers ++ answer ∷ [];
     writes = answers;
@@ -89,14 +89,14 @@ module _ {S K : Type 0} (reads : S → Answer → S → Type 0) (writes : K → 
   }
 
   -- a read failed
-  pub by_failure : reads mid Failed new → IsBatchRun settings most reads writes source new sink now (Err (Reading Read))
+  pub by_failure : reads mid Failed new → IsBatchRun says most reads writes source new sink now (Err (Reading Read))
   by_failure failed =
       by_last Failed u.ready.wrote.answers now (Err (Reading Read)) failed u.ready.wrote.calls
       (bytes, then_so Failed, u.ready.few, u.ready.wrote.says.answered)
 
   -- the text ended
-  pub by_finish : (more : List ℕ) (last : K) (result : Result Done Fault) → reads mid (Moved more) new → length more ≡ 0 → EndsBatch settings writes sink last bytes result →
-      IsBatchRun settings most reads writes source new sink last result
+  pub by_finish : (more : List ℕ) (last : K) (result : Result Done Fault) → reads mid (Moved more) new → length more ≡ 0 → EndsBatch says writes sink last bytes result →
+      IsBatchRun says most reads writes source new sink last result
   by_finish (b ∷ more) last result moved none ends = absurd (omega arith)
   by_finish [] last (Ok end) moved none ends =
       by_last (Moved []) ends.1.answers last (Ok end) moved ends.1.calls (bytes, then_so (Moved []), omega (arith, ends.0), ends.1.says)
@@ -109,8 +109,8 @@ module _ {S K : Type 0} (reads : S → Answer → S → Type 0) (writes : K → 
 
   -- answering stopped in a piece
   pub in_piece : PiecesGoOn → (more : List ℕ) (last : K) (fault : Fault) → reads mid (Moved more) new → 0 < length more →
-      StopsAnswering settings writes sink last (ended_jobs (bytes ++ more)) fault →
-      IsBatchRun settings most reads writes source new sink last (Err fault)
+      StopsAnswering says writes sink last (ended_jobs (bytes ++ more)) fault →
+      IsBatchRun says most reads writes source new sink last (Err fault)
   in_piece go_on more last Write moved some stop =
       by_last (Moved more) stop.answers last (Err Write) moved stop.calls
       (bytes ++ more, inl (more_given go_on p.answers bytes more p.given some, stop.says))
@@ -126,10 +126,10 @@ module _ {S K : Type 0} (reads : S → Answer → S → Type 0) (writes : K → 
   in_piece go_on more last other moved some stop = absurd stop
 
 -- as many reads as there may be gave no end
-pub by_reads : {S K : Type 0} (reads : S → Answer → S → Type 0) (writes : K → Answer → K → Type 0) (settings : Settings) (most count : ℕ) (source mid : S) (sink now : K)
-    (bytes : List ℕ) (batch : Batch) → HasReadOn reads source bytes count mid → IsUnderWay settings writes sink now bytes batch → count ≡ most →
-    IsBatchRun settings most reads writes source mid sink now (Err (Reading TooManyReads))
-by_reads reads writes settings most count source mid sink now bytes batch p u all = record {
+pub by_reads : {S K : Type 0} (reads : S → Answer → S → Type 0) (writes : K → Answer → K → Type 0) (says : Rule) (most count : ℕ) (source mid : S) (sink now : K)
+    (bytes : List ℕ) (batch : Batch) → HasReadOn reads source bytes count mid → IsUnderWay says writes sink now bytes batch → count ≡ most →
+    IsBatchRun says most reads writes source mid sink now (Err (Reading TooManyReads))
+by_reads reads writes says most count source mid sink now bytes batch p u all = record {
   reads = p.answers;
   writes = u.ready.wrote.answers;
   read = p.calls;

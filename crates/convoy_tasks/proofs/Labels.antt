@@ -8,6 +8,7 @@ use Rattle.std.proofs.lemmas.Str.{IsUtf8-from_ascii}
 use Rattle.convoy_lines.specs.Places.{lines_in}
 use Rattle.convoy_lines.specs.Texts.{ended}
 use Rattle.convoy_streams.specs.Jobs.{Divided, Job, after_bytes, after_divider, after_line, at_end, is_divider, is_label, is_label_byte, is_label_part, jobs_of, label_in, may_be_label, names, progress_of, undivided}
+use Rattle.convoy_toml.specs.declared.asked.Asked.{Asked}
 use Rattle.convoy_branch.specs.Options.{Settings}
 use Rattle.convoy_tasks.specs.declared.job_row.JobRow.{JobRow}
 use Rattle.convoy_tasks.specs.JobRows.{AreJobRows}
@@ -79,17 +80,17 @@ ascii_bytes (byte ∷ bytes) are (suc i) = ascii_bytes bytes (and_parts (is_labe
 label_is_text : (label : List ℕ) → may_be_label label ≡ true → IsUtf8 label
 label_is_text label is = IsUtf8-from_ascii label (ascii_bytes label (and_parts (list_all is_label_byte label) _ is).0)
 
-rows_labelled : (settings : Settings) (jobs : List Job) (rows : List JobRow) → AreJobRows settings jobs rows → AllByRecursion IsLabelled jobs →
+rows_labelled : (asked : Asked) (settings : Settings) (jobs : List Job) (rows : List JobRow) → AreJobRows asked settings jobs rows → AllByRecursion IsLabelled jobs →
     AllByRecursion (λ (row : JobRow). IsUtf8 row.label.items) rows
-rows_labelled settings [] [] are labelled = tt
-rows_labelled settings [] (row ∷ rows) are labelled = absurd are
-rows_labelled settings (job ∷ jobs) [] are labelled = tt
-rows_labelled settings (job ∷ jobs) (row ∷ rows) are labelled =
-    (rw are.0.label (label_is_text job.label labelled.0), rows_labelled settings jobs rows are.1 labelled.1)
+rows_labelled asked settings [] [] are labelled = tt
+rows_labelled asked settings [] (row ∷ rows) are labelled = absurd are
+rows_labelled asked settings (job ∷ jobs) [] are labelled = tt
+rows_labelled asked settings (job ∷ jobs) (row ∷ rows) are labelled =
+    (rw are.0.label (label_is_text job.label labelled.0), rows_labelled asked settings jobs rows are.1 labelled.1)
 
 -- the labels in the rows of a text's jobs are texts
-pub labels_are_texts : (settings : Settings) (text : List ℕ) (rows : List JobRow) → AreJobRows settings (jobs_of text) rows →
+pub labels_are_texts : (asked : Asked) (settings : Settings) (text : List ℕ) (rows : List JobRow) → AreJobRows asked settings (jobs_of text) rows →
     All (λ (row : JobRow). IsUtf8 row.label.items) rows
-labels_are_texts settings text rows are =
+labels_are_texts asked settings text rows are =
     All-from_recursion (λ (row : JobRow). IsUtf8 row.label.items) rows
-    (rows_labelled settings (jobs_of text) rows are (recursion_from_All IsLabelled (jobs_of text) (labelled_jobs text)))
+    (rows_labelled asked settings (jobs_of text) rows are (recursion_from_All IsLabelled (jobs_of text) (labelled_jobs text)))

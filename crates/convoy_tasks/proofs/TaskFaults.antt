@@ -4,8 +4,7 @@ use Rattle.std.specs.Option.{option_map}
 use Rattle.convoy_streams.specs.declared.reading.ReadFault.TheVariants.{TooLong}
 use Rattle.convoy_draft.specs.declared.duration.TimeUnit.{TimeUnit}
 use Rattle.convoy_scenario.specs.Scenario.{Scenario}
-use Rattle.convoy_toml.specs.declared.target.TargetKey.{TargetKey}
-use Rattle.convoy_toml.specs.declared.target.TargetKey.TheVariants.{Optional}
+use Rattle.convoy_toml.specs.declared.asked.Asked.{Asked}
 use Rattle.convoy_branch.specs.Options.{Settings}
 use Rattle.convoy_certificate.specs.Certificate.{Certificate}
 use Rattle.convoy_certificate.specs.Reading.{certificate_of}
@@ -24,7 +23,7 @@ use Rattle.convoy_commands.specs.Asks.{AskSays}
 use Rattle.convoy_commands.specs.First.{first_text}
 use Rattle.convoy_commands.specs.Inputs.{reply_of_reading, reply_to_form}
 use Rattle.convoy_commands.specs.Replies.{fine}
-use Rattle.convoy_commands.specs.Searches.{IsFaulty, IsFaultyBy}
+use Rattle.convoy_commands.specs.Searches.{IsFaultyBy}
 use Rattle.convoy_commands.specs.Tells.{TellSays, certificate_told, job_told}
 use Rattle.convoy_commands.specs.WithCeilings.{explain_says, latency_says}
 use Rattle.convoy_commands.proofs.CheckTexts.{check_no_device, text_fault}
@@ -36,8 +35,9 @@ use Rattle.convoy_commands.proofs.TellTexts.{job_no_device as told_no_device}
 use Rattle.convoy_commands.proofs.WithinTexts.{fault_within}
 use Rattle.convoy_survey.specs.CeilingTables.{CeilingsSay}
 use Rattle.convoy_what_if.specs.WhatIf.{WhatIfSays}
+use Rattle.convoy_budget.specs.Answers.{BudgetSays}
 use Rattle.convoy_tasks.specs.declared.task.Task.{Task}
-use Rattle.convoy_tasks.specs.declared.task.Task.TheVariants.{First, Tell, Check, Explain, Draw, Ceiling, Ceilings, Analyse, Latency, Survey, WhatIf, BatchTable}
+use Rattle.convoy_tasks.specs.declared.task.Task.TheVariants.{First, Tell, Check, Explain, Draw, Ceiling, Ceilings, Analyse, Latency, Survey, WhatIf, Budget, BatchTable}
 use Rattle.convoy_tasks.specs.Abouts.{check_says}
 use Rattle.convoy_tasks.specs.Tasks.{task_says}
 
@@ -71,8 +71,8 @@ tell_no_device telling text fault says =
     form_no_device (certificate_told telling) (job_told telling) text (form_of text) fault (λ refused is. told_no_device telling text refused is) says
 
 -- a search's fault is one of its text
-search_no_device : (text : List ℕ) (fault : Fault) → IsFaulty text fault → IsNoDevice fault
-search_no_device text fault faulty = rw faulty.told (no_device_in_scenario faulty.cause)
+search_no_device : (asked : Asked) (text : List ℕ) (fault : Fault) → IsFaultyBy asked text fault → IsNoDevice fault
+search_no_device asked text fault faulty = rw faulty.told (no_device_in_scenario faulty.cause)
 
 -- what the command line names, or leaves out, in the rule of `check`
 about_no_device : (wanted : Option Scenario) (tells : Bool) (unit : Option TimeUnit) (text : List ℕ) (fault : Fault) → check_says wanted tells unit text (Err fault) → IsNoDevice fault
@@ -84,24 +84,25 @@ explained_no_device : (with_ceiling : Bool) (unit : Option TimeUnit) (text : Lis
 explained_no_device true unit text fault says = explain_no_device unit text fault says
 explained_no_device false unit text fault says = explain_no_device unit text fault says
 
--- the fault of a text in which the target may be left out
-any_target_no_device : (key : TargetKey) (text : List ℕ) (fault : Fault) → IsFaultyBy key text fault → IsNoDevice fault
-any_target_no_device key text fault faulty = rw faulty.told (no_device_in_scenario faulty.cause)
+ceilings_no_device : (format : Format) (asked : Asked) (unit : Option TimeUnit) (group : Option (List ℕ)) (text : List ℕ) (fault : Fault) → CeilingsSay format asked unit group text (Err fault) → IsNoDevice fault
+ceilings_no_device format asked unit group text fault (inl faulty) = search_no_device asked text fault faulty
+ceilings_no_device format asked unit group text fault (inr unknown) = rw unknown.told tt
 
-ceilings_no_device : (format : Format) (unit : Option TimeUnit) (group : Option (List ℕ)) (text : List ℕ) (fault : Fault) → CeilingsSay format unit group text (Err fault) → IsNoDevice fault
-ceilings_no_device format unit group text fault (inl faulty) = any_target_no_device Optional text fault faulty
-ceilings_no_device format unit group text fault (inr unknown) = rw unknown.told tt
+latency_no_device : (with_ceiling : Bool) (asked : Asked) (settings : Settings) (text : List ℕ) (fault : Fault) → latency_says with_ceiling asked settings text (Err fault) → IsNoDevice fault
+latency_no_device true asked settings text fault says = search_no_device asked text fault says
+latency_no_device false asked settings text fault says = search_no_device asked text fault says
 
-latency_no_device : (with_ceiling : Bool) (settings : Settings) (text : List ℕ) (fault : Fault) → latency_says with_ceiling settings text (Err fault) → IsNoDevice fault
-latency_no_device true settings text fault says = search_no_device text fault says
-latency_no_device false settings text fault says = search_no_device text fault says
+what_if_no_device : (format : Format) (shows_all : Bool) (asked : Asked) (settings : Settings) (text : List ℕ) (fault : Fault) → WhatIfSays format shows_all asked settings text (Err fault) → IsNoDevice fault
+what_if_no_device format shows_all asked settings text fault (inl faulty) = search_no_device asked text fault faulty
+what_if_no_device format shows_all asked settings text fault (inr is) = rw is.broken.makes_none.told tt
 
-what_if_no_device : (format : Format) (shows_all : Bool) (settings : Settings) (text : List ℕ) (fault : Fault) → WhatIfSays format shows_all settings text (Err fault) → IsNoDevice fault
-what_if_no_device format shows_all settings text fault (inl faulty) = search_no_device text fault faulty
-what_if_no_device format shows_all settings text fault (inr is) = rw is.broken.makes_none.told tt
+budget_no_device : (format : Format) (of_all of_ceiling : Bool) (asked : Asked) (settings : Settings) (text : List ℕ) (fault : Fault) → BudgetSays format of_all of_ceiling asked settings text (Err fault) → IsNoDevice fault
+budget_no_device format of_all of_ceiling asked settings text fault (inl faulty) = search_no_device asked text fault faulty
+budget_no_device format of_all of_ceiling asked settings text fault (inr (inl none)) = rw none.told tt
+budget_no_device format of_all of_ceiling asked settings text fault (inr (inr is)) = rw is.broken.2.1.told tt
 
 pub says_no_device : (task : Task) (wanted : Option Scenario) (text : List ℕ) (fault : Fault) → task_says task wanted text (Err fault) → IsNoDevice fault
-says_no_device First wanted text fault says = first_no_device text fault (fault_of_fine (first_text text) fault says)
+says_no_device (First asked) wanted text fault says = first_no_device asked text fault (fault_of_fine (first_text asked text) fault says)
 says_no_device (Tell telling) wanted text fault says = tell_no_device telling text fault says
 says_no_device (Check tells unit limit) wanted text fault says =
     about_no_device wanted tells unit text fault (fault_within limit NotChecked (check_says wanted tells unit) text fault says)
@@ -109,10 +110,11 @@ says_no_device (Explain with_ceiling unit limit) wanted text fault says =
     explained_no_device with_ceiling unit text fault (fault_within limit NotChecked (explain_says with_ceiling unit) text fault says)
 says_no_device (Draw unit limit) wanted text fault says =
     draw_no_device unit text fault (fault_within limit NotChecked (AskSays (askings.Draw unit)) text fault says)
-says_no_device (Ceiling simulations unit) wanted text fault says = search_no_device text fault says
-says_no_device (Ceilings format group simulations unit) wanted text fault says = ceilings_no_device format unit (option_map string_bytes group) text fault says
-says_no_device (Analyse options) wanted text fault says = search_no_device text fault says
-says_no_device (Latency with_ceiling options) wanted text fault says = latency_no_device with_ceiling options text fault says
-says_no_device (Survey format with_ceilings options) wanted text fault says = any_target_no_device Optional text fault says
-says_no_device (WhatIf format shows_all options) wanted text fault says = what_if_no_device format shows_all options text fault says
-says_no_device (BatchTable format options tells_status) wanted text fault says = rw says.0 tt
+says_no_device (Ceiling simulations asked unit) wanted text fault says = search_no_device asked text fault says
+says_no_device (Ceilings format group simulations asked unit) wanted text fault says = ceilings_no_device format asked unit (option_map string_bytes group) text fault says
+says_no_device (Analyse asked options) wanted text fault says = search_no_device asked text fault says
+says_no_device (Latency with_ceiling asked options) wanted text fault says = latency_no_device with_ceiling asked options text fault says
+says_no_device (Survey format with_ceilings asked options) wanted text fault says = search_no_device asked text fault says
+says_no_device (WhatIf format shows_all asked options) wanted text fault says = what_if_no_device format shows_all asked options text fault says
+says_no_device (Budget format of_all of_ceiling asked options) wanted text fault says = budget_no_device format of_all of_ceiling asked options text fault says
+says_no_device (BatchTable format asked options tells_status) wanted text fault says = rw says.0 tt

@@ -1,5 +1,5 @@
 -- Worked cells, computed from the definitions alone.
-use Rattle.std.proofs.Common.{◌≡◌, [], ◌∷◌, Some, Err, codes, refl}
+use Rattle.std.proofs.Common.{◌≡◌, [], ◌∷◌, true, false, Some, Err, codes, refl}
 use Rattle.std.specs.Fmt.{digits}
 use Rattle.convoy_streams.specs.declared.reading.ReadFault.TheVariants.{TooLong}
 use Rattle.convoy_tables.specs.Tables.{nothing, word}
@@ -9,17 +9,29 @@ use Rattle.convoy_commands.specs.declared.limits.TheConstants.{LONGEST_JOB}
 use Rattle.convoy_commands.specs.Faults.{fault_line_of}
 use Rattle.convoy_tasks.specs.JobTables.{column_names, found_cells, label_cell, tick_cell}
 
-names : column_names ≡
+names : column_names false ≡
     word (codes "job") ∷ word (codes "label") ∷ word (codes "answer") ∷ word (codes "least") ∷ word (codes "most")
     ∷ word (codes "least_time") ∷ word (codes "most_time") ∷ word (codes "unit") ∷ word (codes "tick") ∷ word (codes "rival") ∷ word (codes "tied") ∷ word (codes "nodes") ∷ []
 names = refl
 
-no_group : found_cells (Err (Scenario UnknownGroup)) ≡
+judged_names : column_names true ≡
+    word (codes "job") ∷ word (codes "label") ∷ word (codes "answer") ∷ word (codes "least") ∷ word (codes "most")
+    ∷ word (codes "least_time") ∷ word (codes "most_time") ∷ word (codes "unit") ∷ word (codes "tick") ∷ word (codes "rival") ∷ word (codes "tied") ∷ word (codes "nodes")
+    ∷ word (codes "verdict") ∷ word (codes "by") ∷ word (codes "by_time") ∷ []
+judged_names = refl
+
+no_group : found_cells false (Err (Scenario UnknownGroup)) ≡
     word (codes "fault 6 unknown group") ∷ nothing ∷ nothing ∷ nothing ∷ nothing ∷ nothing ∷ nothing ∷ nothing ∷ nothing ∷ nothing ∷ []
 unfolding fault_line_of digits
 no_group = refl
 
-too_long : found_cells (Err (Reading (TooLong LONGEST_JOB))) ≡
+no_verdict : found_cells true (Err (Scenario UnknownGroup)) ≡
+    word (codes "fault 6 unknown group") ∷ nothing ∷ nothing ∷ nothing ∷ nothing ∷ nothing ∷ nothing ∷ nothing ∷ nothing ∷ nothing
+    ∷ nothing ∷ nothing ∷ nothing ∷ []
+unfolding fault_line_of digits
+no_verdict = refl
+
+too_long : found_cells false (Err (Reading (TooLong LONGEST_JOB))) ≡
     word (codes "fault 42 job too long") ∷ nothing ∷ nothing ∷ nothing ∷ nothing ∷ nothing ∷ nothing ∷ nothing ∷ nothing ∷ nothing ∷ []
 unfolding fault_line_of digits
 too_long = refl

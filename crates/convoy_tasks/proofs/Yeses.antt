@@ -14,7 +14,7 @@ use Rattle.convoy_certificate.specs.CertificateLaws.{TextsDiffer}
 use Rattle.convoy_certificate.specs.Reading.{IsTextOf}
 use Rattle.convoy_checker.specs.Validity.{IsValid}
 use Rattle.convoy_commands.specs.declared.done.Done.{Done}
-use Rattle.convoy_commands.specs.declared.done.Done.TheVariants.{Fine, Open, Faulty, Refused, Differs, NotChecked}
+use Rattle.convoy_commands.specs.declared.done.Done.TheVariants.{Fine, Open, Beyond, Faulty, Refused, Differs, NotChecked}
 use Rattle.convoy_commands.specs.declared.fault.Fault.{Fault}
 use Rattle.convoy_commands.specs.declared.asking.Asking.TheVariants.{Check}
 use Rattle.convoy_commands.specs.Asks.{AskSays}
@@ -118,6 +118,8 @@ yes_is_given differ certificate tells unit text Fine out is spelled valid said =
     )
 yes_is_given differ certificate tells unit text Open out is spelled valid said =
     absurd (no_yes certificate text out Open (λ is. cc) is spelled valid said)
+yes_is_given differ certificate tells unit text Beyond out is spelled valid said =
+    absurd (no_yes certificate text out Beyond (λ is. cc) is spelled valid said)
 yes_is_given differ certificate tells unit text Faulty out is spelled valid said =
     absurd (no_yes certificate text out Faulty (λ is. cc) is spelled valid said)
 yes_is_given differ certificate tells unit text (Refused refusal) out is spelled valid said =

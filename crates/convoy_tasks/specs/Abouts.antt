@@ -6,7 +6,7 @@ use Rattle.convoy_streams.specs.Devices.{Answer}
 use Rattle.convoy_streams.specs.Reads.{ReadsText, StopsReading}
 use Rattle.convoy_draft.specs.declared.duration.TimeUnit.{TimeUnit}
 use Rattle.convoy_scenario.specs.Scenario.{Scenario}
-use Rattle.convoy_toml.specs.Reading.{scenario_of_text}
+use Rattle.convoy_toml.specs.Reading.{as_written, scenario_of_text}
 use Rattle.convoy_certificate.specs.Certificate.{Certificate}
 use Rattle.convoy_commands.specs.declared.done.Done.TheVariants.{Fine, Differs}
 use Rattle.convoy_commands.specs.declared.fault.Fault.{Fault}
@@ -16,7 +16,7 @@ use Rattle.convoy_commands.specs.declared.asking.Asking.TheVariants.{Check}
 use Rattle.convoy_commands.specs.Asks.{AskSays}
 use Rattle.convoy_commands.specs.Checks.{CheckSays, IsAccepted}
 use Rattle.convoy_commands.specs.Replies.{Rule}
-use Rattle.convoy_commands.specs.Searches.{IsFaulty}
+use Rattle.convoy_commands.specs.Searches.{IsFaultyBy}
 use Rattle.convoy_scenario.specs.declared.part.Part.{Part}
 use Rattle.convoy_tasks.specs.AcceptedLines.{differs_line, told_if}
 use Rattle.convoy_tasks.specs.Runs.{IsUnread}
@@ -70,7 +70,7 @@ ReadsScenario most_reads reads (Err Memory) =
     StopsReading LONGEST_JOB most_reads reads reading.Memory ⊎ ((text : List ℕ) × ReadsText LONGEST_JOB reads text)
 -- reading stopped, or the text has a fault
 ReadsScenario most_reads reads (Err fault) =
-    IsUnread LONGEST_JOB most_reads reads fault ⊎ ((text : List ℕ) × ReadsText LONGEST_JOB reads text × IsFaulty text fault)
+    IsUnread LONGEST_JOB most_reads reads fault ⊎ ((text : List ℕ) × ReadsText LONGEST_JOB reads text × IsFaultyBy as_written text fault)
 
 -- Over a source that may answer so, from its old state to its new one, there is a reading that gives this result.
 pub record IsScenarioRead {S : Type 0} (most_reads : ℕ) (may_read : S → Answer → S → Type 0) (source new_source : S)

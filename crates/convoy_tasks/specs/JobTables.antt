@@ -1,6 +1,6 @@
 -- The table of a batch.
-use Rattle.std.specs.Prelude.{ℕ, ◌-◌, List, [], ◌∷◌, ◌++◌, length, map, take, replicate, true, Option, Some, None, Result, Ok, Err, codes, decimal}
-use Rattle.std.specs.List.{enumerate_from}
+use Rattle.std.specs.Prelude.{ℕ, ◌-◌, List, [], ◌∷◌, ◌++◌, length, map, take, replicate, Bool, true, false, Option, Some, None, is_some, Result, Ok, Err, codes, decimal}
+use Rattle.std.specs.List.{enumerate_from, list_any}
 use Rattle.convoy_lines.specs.Texts.{line_of}
 use Rattle.convoy_draft.specs.Durations.{count_of, unit_of, unit_word}
 use Rattle.convoy_tables.specs.Tables.{Cell, Table, nothing, number, word}
@@ -8,6 +8,8 @@ use Rattle.convoy_commands.specs.declared.fault.Fault.{Fault}
 use Rattle.convoy_commands.specs.Faults.{fault_line_of}
 use Rattle.convoy_times.specs.declared.measure.Measure.{Measure}
 use Rattle.convoy_survey.specs.Cells.{answer_cells, answer_columns, cause_cells, cause_columns, tick_cells, time_cells, time_columns}
+use Rattle.convoy_survey.specs.Findings.{least_of, most_of}
+use Rattle.convoy_survey.specs.Judgements.{verdict_cells, verdict_columns}
 use Rattle.convoy_survey.specs.declared.times.Times.{Times}
 use Rattle.convoy_tasks.specs.declared.job_row.JobFinding.{JobFinding}
 use Rattle.convoy_tasks.specs.declared.job_row.JobRow.{JobRow}
@@ -36,6 +38,11 @@ searched_cells found =
     answer_cells found.finding ++ (tick_cells found.finding ++ (time_cells (times_by found.measure) found.finding
     ++ (tick_cell found.instance.tick ∷ cause_cells found.instance found.finding)))
 
+-- how that keeps the deadline of the target, in a table that is judged
+abbrev pub verdict_cells_of : Bool → JobFinding → List Cell
+verdict_cells_of judged found =
+    verdict_cells judged (times_by found.measure) found.deadline (least_of found.finding) (most_of found.finding)
+
 -- the words of a fault: its line without the byte that ends it
 abbrev pub fault_words : Fault → List ℕ
 fault_words fault = take (length (fault_line_of fault) - 1) (fault_line_of fault)
@@ -44,21 +51,37 @@ fault_words fault = take (length (fault_line_of fault) - 1) (fault_line_of fault
 abbrev pub fault_cells : Fault → List Cell
 fault_cells fault = word (fault_words fault) ∷ replicate 9 nothing
 
--- what was found of a job
-abbrev pub found_cells : Result JobFinding Fault → List Cell
-found_cells (Ok found) = searched_cells found
-found_cells (Err fault) = fault_cells fault
+-- what was found of a job, in a table that is judged or not: after a fault there is no verdict
+abbrev pub found_cells : Bool → Result JobFinding Fault → List Cell
+found_cells judged (Ok found) = searched_cells found ++ verdict_cells_of judged found
+found_cells judged (Err fault) = fault_cells fault ++ verdict_cells judged (times_by None) None None None
 
 -- the cells of the row of the job of that number
-abbrev pub cells_of : ℕ → JobRow → List Cell
-cells_of n row = number n ∷ label_cell row.label.items ∷ found_cells row.found
+abbrev pub cells_of : Bool → ℕ → JobRow → List Cell
+cells_of judged n row = number n ∷ label_cell row.label.items ∷ found_cells judged row.found
 
--- the names of the columns
-abbrev pub column_names : List Cell
-column_names =
+-- the names of the columns that tell what was found
+abbrev pub found_columns : List Cell
+found_columns =
     word (codes "job") ∷ word (codes "label")
     ∷ (answer_columns ++ (time_columns (times_by None) ++ (word (codes "tick") ∷ cause_columns)))
 
--- the table of these rows, which are those of the jobs from 1 on
+-- the names of all columns
+abbrev pub column_names : Bool → List Cell
+column_names judged = found_columns ++ verdict_columns judged (times_by None)
+
+-- the target of a job has a deadline
+abbrev pub has_deadline : JobRow → Bool
+has_deadline row = by_found row.found where
+  by_found : Result JobFinding Fault → Bool
+  by_found (Ok found) = is_some found.deadline
+  by_found (Err fault) = false
+
+-- the table of these rows, which are those of the jobs from 1 on, judged or not
+abbrev pub table_with : Bool → List JobRow → Table
+table_with judged rows =
+    record { columns = column_names judged; rows = map (λ p. cells_of judged p.0 p.1) (enumerate_from 1 rows) }
+
+-- the table of these rows: it is judged where one of them has a deadline for its target
 abbrev pub table_of : List JobRow → Table
-table_of rows = record { columns = column_names; rows = map (λ p. cells_of p.0 p.1) (enumerate_from 1 rows) }
+table_of rows = table_with (list_any has_deadline rows) rows

@@ -1,5 +1,6 @@
 pub use Rattle.convoy_survey.specs.Cells
 pub use Rattle.convoy_survey.specs.Findings
+pub use Rattle.convoy_survey.specs.Judgements
 pub use Rattle.convoy_commands.specs.Ends
 pub use Rattle.convoy_commands.specs.Faults
 pub use Rattle.convoy_tables.specs.Formats
@@ -12,6 +13,7 @@ pub use Rattle.convoy_scenario.specs.Scenario
 pub use Rattle.convoy_streams.specs.Devices
 pub use Rattle.convoy_streams.specs.Reads
 pub use Rattle.convoy_toml.specs.Reading
+pub use Rattle.convoy_toml.specs.Deadlines
 pub use Rattle.convoy_sim.specs.Greatest
 pub use Rattle.convoy_certificate.specs.Certificate
 pub use Rattle.convoy_certificate.specs.Reading as CertificateReading
@@ -20,6 +22,7 @@ pub use Rattle.convoy_commands.specs.Checks
 pub use Rattle.convoy_commands.specs.ReplyLines
 pub use Rattle.convoy_commands.specs.Refusals
 pub use Rattle.convoy_commands.specs.Replies
+pub use Rattle.convoy_commands.specs.Verdicts
 pub use Rattle.convoy_commands.specs.Withins
 pub use Rattle.convoy_commands.specs.WithCeilings
 pub use Rattle.convoy_commands.specs.Searches
@@ -27,6 +30,7 @@ pub use Rattle.convoy_commands.specs.CommandLaws
 pub use Rattle.convoy_survey.specs.Surveys
 pub use Rattle.convoy_survey.specs.CeilingTables
 pub use Rattle.convoy_what_if.specs.WhatIf
+pub use Rattle.convoy_budget.specs.Answers as BudgetAnswers
 pub use Rattle.convoy_scenario.specs.Differences
 -- what a reader has to believe: what is told of what was accepted, what may be answered for each task, and what its run does at its devices
 pub mod AcceptedLines

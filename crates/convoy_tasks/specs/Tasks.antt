@@ -16,47 +16,51 @@ use Rattle.convoy_commands.specs.Withins.{SaysWithin}
 use Rattle.convoy_survey.specs.CeilingTables.{CeilingsSay}
 use Rattle.convoy_survey.specs.Surveys.{SurveySays}
 use Rattle.convoy_what_if.specs.WhatIf.{WhatIfSays}
+use Rattle.convoy_budget.specs.Answers.{BudgetSays}
 use Rattle.convoy_tasks.specs.declared.batch_table.TheConstants.{LONGEST_BATCH}
 use Rattle.convoy_tasks.specs.BatchTables.{BatchTableSays}
 use Rattle.convoy_tasks.specs.declared.task.Task.{Task}
-use Rattle.convoy_tasks.specs.declared.task.Task.TheVariants.{First, Tell, Check, Explain, Draw, Ceiling, Ceilings, Analyse, Latency, Survey, WhatIf, BatchTable}
+use Rattle.convoy_tasks.specs.declared.task.Task.TheVariants.{First, Tell, Check, Explain, Draw, Ceiling, Ceilings, Analyse, Latency, Survey, WhatIf, Budget, BatchTable}
 use Rattle.convoy_tasks.specs.Abouts.{check_says}
 
 -- THE RULE OF A TASK: what may be answered for a text. The scenario that is wanted, if one is, is that of which a certificate has to be; no other task looks at it.
 abbrev pub task_says : Task → Option Scenario → Rule
-task_says First wanted = FirstSays
+task_says (First asked) wanted = FirstSays asked
 task_says (Tell telling) wanted = TellSays telling
 task_says (Check tells unit limit) wanted = SaysWithin limit NotChecked (check_says wanted tells unit)
 task_says (Explain with_ceiling unit limit) wanted = SaysWithin limit NotChecked (explain_says with_ceiling unit)
 task_says (Draw unit limit) wanted = SaysWithin limit NotChecked (AskSays (askings.Draw unit))
-task_says (Ceiling simulations unit) wanted = CeilingSays unit
-task_says (Ceilings format group simulations unit) wanted = CeilingsSay format unit (option_map string_bytes group)
-task_says (Analyse options) wanted = AnalyseSays options
-task_says (Latency with_ceiling options) wanted = latency_says with_ceiling options
-task_says (Survey format with_ceilings options) wanted = SurveySays format with_ceilings options
-task_says (WhatIf format shows_all options) wanted = WhatIfSays format shows_all options
-task_says (BatchTable format options tells_status) wanted = BatchTableSays format options
+task_says (Ceiling simulations asked unit) wanted = CeilingSays asked unit
+task_says (Ceilings format group simulations asked unit) wanted = CeilingsSay format asked unit (option_map string_bytes group)
+task_says (Analyse asked options) wanted = AnalyseSays asked options
+task_says (Latency with_ceiling asked options) wanted = latency_says with_ceiling asked options
+task_says (Survey format with_ceilings asked options) wanted = SurveySays format with_ceilings asked options
+task_says (WhatIf format shows_all asked options) wanted = WhatIfSays format shows_all asked options
+task_says (Budget format of_all of_ceiling asked options) wanted = BudgetSays format of_all of_ceiling asked options
+task_says (BatchTable format asked options tells_status) wanted = BatchTableSays format asked options
 
 -- HOW LONG ITS TEXT MAY BE, in bytes: as long as a certificate's where it may be one, and as long as a job's else
 abbrev pub longest_for : Task → ℕ
-longest_for First = LONGEST_JOB
+longest_for (First asked) = LONGEST_JOB
 longest_for (Tell telling) = LONGEST_CERTIFICATE
 longest_for (Check tells unit limit) = LONGEST_CERTIFICATE
 longest_for (Explain with_ceiling unit limit) = LONGEST_CERTIFICATE
 longest_for (Draw unit limit) = LONGEST_CERTIFICATE
-longest_for (Ceiling simulations unit) = LONGEST_JOB
-longest_for (Ceilings format group simulations unit) = LONGEST_JOB
-longest_for (Analyse options) = LONGEST_JOB
-longest_for (Latency with_ceiling options) = LONGEST_JOB
-longest_for (Survey format with_ceilings options) = LONGEST_JOB
-longest_for (WhatIf format shows_all options) = LONGEST_JOB
-longest_for (BatchTable format options tells_status) = LONGEST_BATCH
+longest_for (Ceiling simulations asked unit) = LONGEST_JOB
+longest_for (Ceilings format group simulations asked unit) = LONGEST_JOB
+longest_for (Analyse asked options) = LONGEST_JOB
+longest_for (Latency with_ceiling asked options) = LONGEST_JOB
+longest_for (Survey format with_ceilings asked options) = LONGEST_JOB
+longest_for (WhatIf format shows_all asked options) = LONGEST_JOB
+longest_for (Budget format of_all of_ceiling asked options) = LONGEST_JOB
+longest_for (BatchTable format asked options tells_status) = LONGEST_BATCH
 
 -- the task is done without a search for the greatest latency
 abbrev pub NeedsNoSearch : Task → Type 0
-NeedsNoSearch (Analyse options) = ⊥
-NeedsNoSearch (Latency with_ceiling options) = ⊥
-NeedsNoSearch (Survey format with_ceilings options) = ⊥
-NeedsNoSearch (WhatIf format shows_all options) = ⊥
-NeedsNoSearch (BatchTable format options tells_status) = ⊥
+NeedsNoSearch (Analyse asked options) = ⊥
+NeedsNoSearch (Latency with_ceiling asked options) = ⊥
+NeedsNoSearch (Survey format with_ceilings asked options) = ⊥
+NeedsNoSearch (WhatIf format shows_all asked options) = ⊥
+NeedsNoSearch (Budget format of_all of_ceiling asked options) = ⊥
+NeedsNoSearch (BatchTable format asked options tells_status) = ⊥
 NeedsNoSearch other = Unit {0}

@@ -10,6 +10,7 @@ ghost use Rattle.convoy_tasks.specs.Tasks.{NeedsNoSearch, longest_for, task_says
 use super::batch_table::{LONGEST_BATCH, batch_table_answer};
 use super::checking::check_answer;
 use super::task::Task;
+use convoy_budget::budget_answer;
 use convoy_commands::{
     Answer, Asking, Fault, LONGEST_CERTIFICATE, LONGEST_JOB, Watch, analyse_answer, ask,
     ceiling_answer, explain_with_ceiling, first_answer, latency_answer, tell,
@@ -17,6 +18,7 @@ use convoy_commands::{
 use convoy_scenario::{Scenario, TimeUnit};
 use convoy_survey::{ceilings_answer, survey_answer};
 use convoy_tables::Format;
+use convoy_toml::Asked;
 use convoy_what_if::what_if_answer;
 use std::alloc::Global;
 use std::sync::Wait;
@@ -42,27 +44,59 @@ pub fn answer<R: Threads + Wait + Sync, W: Watch + Sync>(
         (reply_of result) }
 {
     match task {
-        Task::Analyse { options } => analyse_answer(rt, alloc, text, options, watch),
+        Task::Analyse { asked, options } => {
+            analyse_answer(rt, alloc, asked, text, options, watch)
+        }
         Task::Latency {
             with_ceiling,
+            asked,
             options,
-        } => latency_answer(rt, alloc, *with_ceiling, text, options, watch),
+        } => latency_answer(rt, alloc, *with_ceiling, asked, text, options, watch),
         Task::Survey {
             format,
             with_ceilings,
+            asked,
             options,
-        } => survey_answer(rt, alloc, *format, *with_ceilings, options, text, watch),
+        } => survey_answer(
+            rt,
+            alloc,
+            *format,
+            *with_ceilings,
+            asked,
+            options,
+            text,
+            watch,
+        ),
         Task::WhatIf {
             format,
             shows_all,
+            asked,
             options,
-        } => what_if_answer(rt, alloc, *format, *shows_all, options, text, watch),
+        } => what_if_answer(rt, alloc, *format, *shows_all, asked, options, text, watch),
+        Task::Budget {
+            format,
+            of_all,
+            of_ceiling,
+            asked,
+            options,
+        } => budget_answer(
+            rt,
+            alloc,
+            *format,
+            *of_all,
+            *of_ceiling,
+            asked,
+            options,
+            text,
+            watch,
+        ),
         Task::BatchTable {
             format,
+            asked,
             options,
             ..
-        } => batch_table_answer(rt, alloc, options, *format, text, watch),
-        Task::First
+        } => batch_table_answer(rt, alloc, asked, options, *format, text, watch),
+        Task::First { .. }
         | Task::Tell(_)
         | Task::Check { .. }
         | Task::Explain { .. }
@@ -84,7 +118,7 @@ pub(crate) fn answer_at_once(
         (reply_of result) }
 {
     match task {
-        Task::First => first_answer(alloc, text),
+        Task::First { asked } => first_answer(alloc, asked, text),
         Task::Tell(telling) => tell(alloc, *telling, text),
         Task::Check { tells, unit, limit } => {
             check_answer(alloc, wanted, *tells, *unit, *limit, text)
@@ -95,17 +129,23 @@ pub(crate) fn answer_at_once(
             limit,
         } => answer_explain(alloc, *with_ceiling, *unit, *limit, text),
         Task::Draw { unit, limit } => ask(alloc, Asking::Draw(*unit), *limit, text),
-        Task::Ceiling { simulations, unit } => ceiling_answer(alloc, *simulations, *unit, text),
+        Task::Ceiling {
+            simulations,
+            asked,
+            unit,
+        } => ceiling_answer(alloc, *simulations, asked, *unit, text),
         Task::Ceilings {
             format,
             group,
             simulations,
+            asked,
             unit,
-        } => answer_ceilings(alloc, *format, *unit, group, *simulations, text),
+        } => answer_ceilings(alloc, *format, asked, *unit, group, *simulations, text),
         Task::Analyse { .. }
         | Task::Latency { .. }
         | Task::Survey { .. }
         | Task::WhatIf { .. }
+        | Task::Budget { .. }
         | Task::BatchTable { .. } => unreachable!(),
     }
 }
@@ -132,17 +172,21 @@ fn answer_explain(
 fn answer_ceilings(
     alloc: Global,
     format: Format,
+    asked: &Asked,
     unit: Option<TimeUnit>,
     group: &Option<String>,
     simulations: u64,
     text: &[u8],
 ) -> Result<Answer, Fault>
-    ensures { SaysUnlessMemory (CeilingsSay format unit (option_map string_bytes group.now)) text.now
+    ensures { SaysUnlessMemory (CeilingsSay format asked.now unit (option_map string_bytes group.now)) text.now
         (reply_of result) }
 {
     match group {
-        Some(name) => ceilings_answer(alloc, format, unit, Some(name.as_str()), simulations, text),
-        None => ceilings_answer(alloc, format, unit, None, simulations, text),
+        Some(name) => {
+            let name = Some(name.as_str());
+            ceilings_answer(alloc, format, asked, unit, name, simulations, text)
+        }
+        None => ceilings_answer(alloc, format, asked, unit, None, simulations, text),
     }
 }
 
@@ -155,12 +199,13 @@ pub fn longest_of(task: &Task) -> usize
             LONGEST_CERTIFICATE
         }
         Task::BatchTable { .. } => LONGEST_BATCH,
-        Task::First
+        Task::First { .. }
         | Task::Ceiling { .. }
         | Task::Ceilings { .. }
         | Task::Analyse { .. }
         | Task::Latency { .. }
         | Task::Survey { .. }
-        | Task::WhatIf { .. } => LONGEST_JOB,
+        | Task::WhatIf { .. }
+        | Task::Budget { .. } => LONGEST_JOB,
     }
 }

@@ -6,6 +6,7 @@ ghost use Rattle.convoy_commands.specs.declared.limits.TheConstants.{LONGEST_JOB
 ghost use Rattle.convoy_tasks.specs.BatchSteps.{AnswersOne, EndsBatch, IsFresh, IsReady, IsUnderWay, StopsAnswering};
 ghost use Rattle.convoy_tasks.specs.Batches.{IsBatchRun, JobSays};
 ghost use Rattle.convoy_commands.specs.Replies.{reply_of};
+ghost use Rattle.convoy_commands.specs.Searches.{LatencySays};
 
 use super::block::fill;
 use convoy_branch::Options;
@@ -15,6 +16,7 @@ use convoy_streams::stream_laws::{ended_jobs_stay, pieces_go_on};
 use convoy_streams::{
     BUFFER_LENGTH, JobFault, ReadFault, Sink, Source, Splitter, read_piece, write_all,
 };
+use convoy_toml::Asked;
 use std::alloc::{AllocError, Global};
 use std::sync::Wait;
 use std::thread::Threads;
@@ -23,8 +25,9 @@ use std::thread::Threads;
 pub const MOST_JOBS: u32 = 1_000;
 
 /// The command `batch`: reads a text to the end of the source, and writes for each of its jobs a block
-/// with what [`latency_answer`] tells of the job's own text (docs/FORMATS.md,
-/// "Batch"). Answers the worst end of all jobs, which is `Done::Fine` where each has the greatest latency.
+/// with what [`latency_answer`] tells of the job's own text, where that is asked of each (docs/FORMATS.md,
+/// "Batch"). Answers the worst end of all jobs, which is `Done::Fine` where each has the greatest latency, or keeps its
+/// deadline.
 ///
 /// Each search is watched, by [`NoGate`](convoy_branch::NoGate) where nobody watches; where the options have
 /// seconds each job has them for itself, and the watch counts them.
@@ -42,12 +45,13 @@ pub const MOST_JOBS: u32 = 1_000;
 pub fn run_batch<R: Threads + Wait + Sync, S: Source, K: Sink, W: Watch + Sync>(
     rt: &R,
     alloc: Global,
+    asked: &Asked,
     source: &mut S,
     sink: &mut K,
     options: &Options,
     watch: &W,
 ) -> Result<Done, Fault>
-    ensures { IsBatchRun options.now options.now.most_reads
+    ensures { IsBatchRun (LatencySays asked.now options.now) options.now.most_reads
         S.reads K.writes source.old source.new sink.old sink.new result }
 {
     pieces_go_on();
@@ -59,9 +63,9 @@ pub fn run_batch<R: Threads + Wait + Sync, S: Source, K: Sink, W: Watch + Sync>(
             return Err(Fault::Reading(ReadFault::Read));
         };
         if piece.is_empty() {
-            return batch.finish(rt, alloc, sink, options, watch);
+            return batch.finish(rt, alloc, asked, sink, options, watch);
         }
-        batch.take_piece(rt, alloc, piece, sink, options, watch)?;
+        batch.take_piece(rt, alloc, asked, piece, sink, options, watch)?;
     }
     Err(Fault::Reading(ReadFault::TooManyReads))
 }
@@ -95,20 +99,21 @@ impl Batch {
         &mut self,
         rt: &R,
         alloc: Global,
+        asked: &Asked,
         piece: &[u8],
         sink: &mut K,
         options: &Options,
         watch: &W,
     ) -> Result<(), Fault>
         ensures { (start : K) (text : List ℕ) →
-            IsUnderWay options.now K.writes start sink.old text self.old →
+            IsUnderWay (LatencySays asked.now options.now) K.writes start sink.old text self.old →
             MatchResult result
-            (λ _. IsUnderWay options.now K.writes start sink.new (text ++ piece.now) self.new)
-            (StopsAnswering options.now K.writes start sink.new (ended_jobs (text ++ piece.now))) }
+            (λ _. IsUnderWay (LatencySays asked.now options.now) K.writes start sink.new (text ++ piece.now) self.new)
+            (StopsAnswering (LatencySays asked.now options.now) K.writes start sink.new (ended_jobs (text ++ piece.now))) }
     {
         ended_jobs_stay();
         for byte in piece {
-            self.take(rt, alloc, *byte, sink, options, watch)?;
+            self.take(rt, alloc, asked, *byte, sink, options, watch)?;
         }
         Ok(())
     }
@@ -118,19 +123,20 @@ impl Batch {
         &mut self,
         rt: &R,
         alloc: Global,
+        asked: &Asked,
         byte: u8,
         sink: &mut K,
         options: &Options,
         watch: &W,
     ) -> Result<(), Fault>
         ensures { (start : K) (text : List ℕ) →
-            IsUnderWay options.now K.writes start sink.old text self.old →
+            IsUnderWay (LatencySays asked.now options.now) K.writes start sink.old text self.old →
             MatchResult result
-            (λ _. IsUnderWay options.now K.writes start sink.new (text ++ byte ∷ []) self.new)
-            (StopsAnswering options.now K.writes start sink.new (ended_jobs (text ++ byte ∷ []))) }
+            (λ _. IsUnderWay (LatencySays asked.now options.now) K.writes start sink.new (text ++ byte ∷ []) self.new)
+            (StopsAnswering (LatencySays asked.now options.now) K.writes start sink.new (ended_jobs (text ++ byte ∷ []))) }
     {
         if self.splitter.take(byte) {
-            self.end_job(rt, alloc, sink, options, watch)
+            self.end_job(rt, alloc, asked, sink, options, watch)
         } else {
             Ok(())
         }
@@ -141,19 +147,20 @@ impl Batch {
         &mut self,
         rt: &R,
         alloc: Global,
+        asked: &Asked,
         sink: &mut K,
         options: &Options,
         watch: &W,
     ) -> Result<Done, Fault>
         ensures { (start : K) (text : List ℕ) →
-            IsUnderWay options.now K.writes start sink.old text self.old →
-            EndsBatch options.now K.writes start sink.new text result }
+            IsUnderWay (LatencySays asked.now options.now) K.writes start sink.old text self.old →
+            EndsBatch (LatencySays asked.now options.now) K.writes start sink.new text result }
     {
         if !self.splitter.finish() {
-            return self.answer(rt, alloc, sink, options, watch);
+            return self.answer(rt, alloc, asked, sink, options, watch);
         }
-        self.end_job(rt, alloc, sink, options, watch)?;
-        self.answer(rt, alloc, sink, options, watch)
+        self.end_job(rt, alloc, asked, sink, options, watch)?;
+        self.answer(rt, alloc, asked, sink, options, watch)
     }
 
     /// Answers the job that ended at a divider, and starts the next one.
@@ -161,19 +168,20 @@ impl Batch {
         &mut self,
         rt: &R,
         alloc: Global,
+        asked: &Asked,
         sink: &mut K,
         options: &Options,
         watch: &W,
     ) -> Result<(), Fault>
         ensures { (start : K) (jobs : List Job) (job : Job) →
-            IsReady options.now K.writes start sink.old jobs self.old.number self.old.end →
+            IsReady (LatencySays asked.now options.now) K.writes start sink.old jobs self.old.number self.old.end →
             Holds LONGEST_JOB self.old.splitter job →
             MatchResult result
-            (λ _. IsReady options.now K.writes start sink.new (jobs ++ job ∷ []) self.new.number self.new.end
+            (λ _. IsReady (LatencySays asked.now options.now) K.writes start sink.new (jobs ++ job ∷ []) self.new.number self.new.end
             × IsFresh (next_label_of self.old.splitter) self.new.splitter)
-            (StopsAnswering options.now K.writes start sink.new (jobs ++ job ∷ [])) }
+            (StopsAnswering (LatencySays asked.now options.now) K.writes start sink.new (jobs ++ job ∷ [])) }
     {
-        self.answer(rt, alloc, sink, options, watch)?;
+        self.answer(rt, alloc, asked, sink, options, watch)?;
         if self.number >= MOST_JOBS {
             return Err(Fault::TooManyJobs);
         }
@@ -187,17 +195,18 @@ impl Batch {
         &mut self,
         rt: &R,
         alloc: Global,
+        asked: &Asked,
         sink: &mut K,
         options: &Options,
         watch: &W,
     ) -> Result<Done, Fault>
         ensures job { (job : Job) → Holds LONGEST_JOB self.old.splitter job →
-            AnswersOne options.now K.writes sink.old sink.new self.old.number self.old.end job result }
+            AnswersOne (LatencySays asked.now options.now) K.writes sink.old sink.new self.old.number self.old.end job result }
         ensures splitter { self.new.splitter ≡ self.old.splitter }
         ensures number { self.new.number ≡ self.old.number }
         ensures end { IfOk result (λ end. self.new.end ≡ end) }
     {
-        let answer = job_answer(rt, alloc, &self.splitter, options, watch);
+        let answer = job_answer(rt, alloc, asked, &self.splitter, options, watch);
         let end = fill(&mut self.block, self.number, self.splitter.label(), answer);
         if write_all(sink, self.block.bytes()).is_err() {
             return Err(Fault::Write);
@@ -211,15 +220,16 @@ impl Batch {
 fn job_answer<R: Threads + Wait + Sync, W: Watch + Sync>(
     rt: &R,
     alloc: Global,
+    asked: &Asked,
     splitter: &Splitter,
     options: &Options,
     watch: &W,
 ) -> Result<Answer, Fault>
     ensures { (job : Job) → Holds LONGEST_JOB splitter.now job →
-        JobSays options.now job (reply_of result) }
+        JobSays (LatencySays asked.now options.now) job (reply_of result) }
 {
     match splitter.job() {
-        Ok(text) => latency_answer(rt, alloc, false, text, options, watch),
+        Ok(text) => latency_answer(rt, alloc, false, asked, text, options, watch),
         Err(JobFault::TooLong) => Err(Fault::Reading(ReadFault::TooLong(LONGEST_JOB))),
         Err(JobFault::Memory) => Err(Fault::Memory),
     }

@@ -1,19 +1,21 @@
 //! What follows from the contracts of batches, as calls that do nothing.
 
+ghost use Rattle.convoy_toml.specs.declared.asked.Asked.{Asked};
 ghost use Rattle.convoy_branch.specs.Options.{Settings};
-ghost use Rattle.convoy_tasks.specs.BatchLaws.{BatchFailuresAreTold, JobRowsAreLatencies, JobRowsEnclose};
+ghost use Rattle.convoy_commands.specs.Searches.{LatencySays};
+ghost use Rattle.convoy_tasks.specs.BatchLaws.{BatchFailuresAreTold, JobRowsAreLatencies, JobRowsEnclose, JobVerdictsHold};
 
-use convoy_survey::survey_laws::rows_are_latencies;
+use convoy_survey::survey_laws::{row_verdicts_hold, rows_are_latencies};
 
-/// In every run of a batch, with whatever options, each failure of the source is told as
+/// In every run of a batch, whatever is asked and with whatever options, each failure of the source is told as
 /// `ReadFault::Read` and each failure of the sink as `Fault::Write`, and neither is told where the device
 /// did not fail.
 pub fn batch_failures_are_told()
-    ensures { (settings : Settings) → BatchFailuresAreTold settings }
+    ensures { (asked : Asked) (settings : Settings) → BatchFailuresAreTold (LatencySays asked settings) }
 {}
 
-/// In a batch that is answered as a table, the greatest latency in the row of a job is the one that
-/// [`run_latency`](super::run_latency) answers for the job's own text.
+/// In a batch that is answered as a table, the greatest latency in the row of a job, with the verdict on it, is the one
+/// that [`latency_answer`](convoy_commands::latency_answer) tells of the job's own text, where the same is asked.
 pub fn job_rows_are_latencies()
     ensures { JobRowsAreLatencies }
 {
@@ -26,3 +28,12 @@ pub fn job_rows_are_latencies()
 pub fn job_rows_enclose()
     ensures { JobRowsEnclose }
 {}
+
+/// In a batch that is answered as a table, what the verdict in the row of a job says holds of the job's scenario, also where
+/// the search did not end: within, no schedule has a latency above the deadline of the target, and beyond, some schedule
+/// has one.
+pub fn job_verdicts_hold()
+    ensures { JobVerdictsHold }
+{
+    row_verdicts_hold();
+}

@@ -2,7 +2,7 @@ ghost use Rattle.std.specs.Prelude.{◌≡◌, length};
 ghost use Rattle.convoy_streams.specs.Jobs.{jobs_of};
 ghost use Rattle.convoy_commands.specs.Replies.{SaysUnlessMemory, reply_of};
 ghost use Rattle.convoy_tasks.specs.BatchTables.{BatchTableSays, end_of_rows};
-ghost use Rattle.convoy_tasks.specs.JobRows.{is_open_row};
+ghost use Rattle.convoy_tasks.specs.JobRows.{end_of_row};
 
 use super::batch::MOST_JOBS;
 use super::job_row::{JobRow, rows_of};
@@ -11,6 +11,7 @@ use convoy_branch::Options;
 use convoy_commands::{Answer, Done, Fault, LONGEST_CERTIFICATE, LONGEST_JOB, Watch};
 use convoy_streams::Splitter;
 use convoy_tables::Format;
+use convoy_toml::Asked;
 use std::alloc::Global;
 use std::sync::Wait;
 use std::thread::Threads;
@@ -20,8 +21,9 @@ pub const LONGEST_BATCH: usize = LONGEST_CERTIFICATE;
 
 /// The jobs of a text as a table with a row for each (docs/FORMATS.md, "Batch"). The numbers of a row are in ticks, and
 /// as times in a unit of its own where the length of a tick is known, and are those that
-/// [`latency_answer`](convoy_commands::latency_answer) tells of the job's own text. It ends as the worst of all jobs,
-/// which is `Done::Fine` where each has the greatest latency. Each search is watched, by
+/// [`latency_answer`](convoy_commands::latency_answer) tells of the job's own text, where that is asked. Where the target
+/// of some job has a deadline, each row has the verdict on that of its own. It ends as the worst of all jobs, which is
+/// `Done::Fine` where each has the greatest latency, or keeps its deadline. Each search is watched, by
 /// [`NoGate`](convoy_branch::NoGate) where nobody watches; where the options have seconds each job has them for
 /// itself, and the watch counts them.
 ///
@@ -31,17 +33,18 @@ pub const LONGEST_BATCH: usize = LONGEST_CERTIFICATE;
 pub fn batch_table_answer<R: Threads + Wait + Sync, W: Watch + Sync>(
     rt: &R,
     alloc: Global,
+    asked: &Asked,
     options: &Options,
     format: Format,
     text: &[u8],
     watch: &W,
 ) -> Result<Answer, Fault>
-    ensures { SaysUnlessMemory (BatchTableSays format options.now) text.now (reply_of result) }
+    ensures { SaysUnlessMemory (BatchTableSays format asked.now options.now) text.now (reply_of result) }
 {
     if count_jobs(alloc, text) > MOST_JOBS as usize {
         return Err(Fault::TooManyJobs);
     }
-    let rows = rows_of(rt, alloc, text, options, watch)?;
+    let rows = rows_of(rt, alloc, asked, text, options, watch)?;
     let table = text_of(alloc, format, &rows)?;
     Ok(Answer {
         done: end_of_rows(&rows),
@@ -65,24 +68,23 @@ fn count_jobs(alloc: Global, text: &[u8]) -> usize
     if splitter.finish() { count + 1 } else { count }
 }
 
-/// How a batch with these rows ends.
+/// How a batch with these rows ends: as the worst of them.
 fn end_of_rows(rows: &[JobRow]) -> Done
     ensures { result ≡ end_of_rows rows.now }
 {
-    let (mut any_fault, mut any_open) = (false, false);
+    let mut end = Done::Fine;
     for row in rows {
-        any_fault |= row.found.is_err();
-        any_open |= is_open_row(row);
+        end = end.worse(end_of_row(row));
     }
-    Done::by(any_fault, any_open)
+    end
 }
 
-/// Whether the search for a job did not end.
-fn is_open_row(row: &JobRow) -> bool
-    ensures { result ≡ is_open_row row.now }
+/// How the job of a row ended.
+fn end_of_row(row: &JobRow) -> Done
+    ensures { result ≡ end_of_row row.now }
 {
     match &row.found {
-        Ok(found) => found.finding.is_open(),
-        Err(_) => false,
+        Ok(found) => found.end(),
+        Err(_) => Done::Faulty,
     }
 }

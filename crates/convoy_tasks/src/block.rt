@@ -99,7 +99,7 @@ fn end_of_answer(done: Done) -> Done
     ensures { (out : List ℕ) → result ≡ end_of (Ok (done, out)) }
 {
     match done {
-        Done::Fine | Done::Open => done,
+        Done::Fine | Done::Open | Done::Beyond => done,
         Done::Faulty | Done::Refused(_) | Done::Differs(_) | Done::NotChecked => Done::Faulty,
     }
 }

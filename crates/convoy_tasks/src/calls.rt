@@ -4,6 +4,7 @@ ghost use Rattle.convoy_commands.specs.declared.limits.TheConstants.{LONGEST_CER
 ghost use Rattle.convoy_commands.specs.Checks.{CheckSays};
 ghost use Rattle.convoy_commands.specs.declared.done.Done.TheVariants.{NotChecked};
 ghost use Rattle.convoy_commands.specs.First.{FirstSays};
+ghost use Rattle.convoy_toml.specs.Reading.{as_written};
 ghost use Rattle.convoy_tasks.specs.Runs.{IsRun};
 ghost use Rattle.convoy_commands.specs.Searches.{AnalyseSays, LatencySays};
 ghost use Rattle.convoy_commands.specs.Tells.{SimulateSays, TimelineSays};
@@ -13,6 +14,7 @@ use super::running::{run_at_once, run_task};
 use super::task::Task;
 use convoy_commands::{Done, Fault, NoGate, Options, Telling};
 use convoy_streams::{Sink, Source};
+use convoy_toml::Asked;
 use std::alloc::Global;
 use std::sync::Wait;
 use std::thread::Threads;
@@ -33,9 +35,12 @@ pub fn run_first<S: Source, K: Sink>(
     sink: &mut K,
     most_reads: u64,
 ) -> Result<Done, Fault>
-    ensures { IsRun LONGEST_JOB FirstSays most_reads S.reads K.writes source.old source.new sink.old sink.new result }
+    ensures { IsRun LONGEST_JOB (FirstSays as_written) most_reads S.reads K.writes source.old source.new sink.old sink.new result }
 {
-    Ok(run_at_once(alloc, &Task::First, source, sink, most_reads)?.done)
+    let task = Task::First {
+        asked: Asked::as_written(),
+    };
+    Ok(run_at_once(alloc, &task, source, sink, most_reads)?.done)
 }
 
 /// The command `simulate`: reads a scenario to the end of the source, and writes the latency in ticks
@@ -120,6 +125,8 @@ pub fn run_check<S: Source, K: Sink>(
 /// latency LEAST. Nobody watches this search, so seconds in the options do not stop it: for that there
 /// is [`run_task`](super::run_task).
 ///
+/// Where the text gives the target a deadline the same is written, and it ends as [`run_latency`] does.
+///
 /// At most `options.most_reads()` reads are made. Nothing is written before the answer is known. The
 /// faults are those of [`run_first`](super::run_first).
 pub fn run_analyse<R: Threads + Wait + Sync, S: Source, K: Sink>(
@@ -129,10 +136,13 @@ pub fn run_analyse<R: Threads + Wait + Sync, S: Source, K: Sink>(
     sink: &mut K,
     options: &Options,
 ) -> Result<Done, Fault>
-    ensures { IsRun LONGEST_JOB (AnalyseSays options.now) options.now.most_reads
+    ensures { IsRun LONGEST_JOB (AnalyseSays as_written options.now) options.now.most_reads
         S.reads K.writes source.old source.new sink.old sink.new result }
 {
-    let task = Task::Analyse { options: *options };
+    let task = Task::Analyse {
+        asked: Asked::as_written(),
+        options: *options,
+    };
     let most_reads = options.most_reads();
     Ok(run_task(rt, alloc, &task, None, source, sink, most_reads, &NoGate)?.done)
 }
@@ -146,6 +156,9 @@ pub fn run_analyse<R: Threads + Wait + Sync, S: Source, K: Sink>(
 /// least LEAST ticks and at most MOST. Where the length of a tick is known, both lines go on with the
 /// same as times and their unit: that of the options, or else that in which the scenario tells D.
 ///
+/// Where the text gives the target a deadline a line below tells how that is kept, and so does the end: `Done::Fine` where
+/// no latency is above it, `Done::Beyond` where some schedule has one that is, and `Done::Open` where neither is known.
+///
 /// At most `options.most_reads()` reads are made. Nothing is written before the answer is known. The
 /// faults are those of [`run_first`](super::run_first).
 pub fn run_latency<R: Threads + Wait + Sync, S: Source, K: Sink>(
@@ -155,11 +168,12 @@ pub fn run_latency<R: Threads + Wait + Sync, S: Source, K: Sink>(
     sink: &mut K,
     options: &Options,
 ) -> Result<Done, Fault>
-    ensures { IsRun LONGEST_JOB (LatencySays options.now) options.now.most_reads
+    ensures { IsRun LONGEST_JOB (LatencySays as_written options.now) options.now.most_reads
         S.reads K.writes source.old source.new sink.old sink.new result }
 {
     let task = Task::Latency {
         with_ceiling: false,
+        asked: Asked::as_written(),
         options: *options,
     };
     let most_reads = options.most_reads();

@@ -1,15 +1,18 @@
 //! The table of a batch: a row for each job.
 
-ghost use Rattle.std.specs.Prelude.{◌≡◌, ◌∷◌, [], ◌++◌, OnOk, IfOk, string_bytes};
-ghost use Rattle.std.specs.List.{All};
+ghost use Rattle.std.specs.Prelude.{◌≡◌, ◌∷◌, [], ◌++◌, None, OnOk, IfOk, string_bytes};
+ghost use Rattle.std.specs.List.{All, list_any};
 ghost use Rattle.std.specs.Str.{IsUtf8};
 ghost use Rattle.convoy_tables.specs.Formats.{table_text};
-ghost use Rattle.convoy_tasks.specs.JobTables.{cells_of, column_names, fault_cells, fault_words, found_cells, label_cell, searched_cells, table_of, tick_cell, tick_words, times_by};
+ghost use Rattle.convoy_tasks.specs.JobTables.{cells_of, column_names, fault_cells, fault_words, found_cells, found_columns, has_deadline, verdict_cells_of, label_cell, searched_cells, table_of, table_with, tick_cell, tick_words, times_by};
+ghost use Rattle.convoy_survey.specs.Judgements.{verdict_cells};
 
 use super::job_row::{JobFinding, JobRow};
 use convoy_commands::{Fault, FaultEnding, fault_row};
 use convoy_scenario::Duration;
-use convoy_survey::{Times, push_cause, push_ticks, push_times};
+use convoy_survey::{
+    Times, push_cause, push_ticks, push_times, push_verdict_cells, push_verdict_columns,
+};
 use convoy_tables::{Format, Row, Table, table_text};
 use convoy_times::Measure;
 use std::alloc::{AllocError, Global};
@@ -23,21 +26,55 @@ pub(crate) fn text_of(alloc: Global, format: Format, rows: &[JobRow]) -> Result<
     table_text(alloc, &table, format)
 }
 
-/// The table of the rows of jobs, whose labels are texts.
+/// The table of the rows of jobs, whose labels are texts: it is judged where the target of one of them has a deadline.
 fn table_of(alloc: Global, rows: &[JobRow]) -> Result<Table, AllocError>
     requires labels { All (λ row. IsUtf8 row.label.items) rows.now }
     ensures { IfOk result (λ table. table ≡ table_of rows.now) }
 {
-    let mut table = Table::new(alloc, column_names(alloc)?);
+    table_with(alloc, any_has_deadline(rows), rows)
+}
+
+/// Whether the target of one of the jobs has a deadline.
+fn any_has_deadline(rows: &[JobRow]) -> bool
+    ensures { result ≡ list_any has_deadline rows.now }
+{
+    rows.iter().any(|row| has_deadline(row))
+}
+
+/// Whether the target of a job has a deadline.
+fn has_deadline(row: &JobRow) -> bool
+    ensures { result ≡ has_deadline row.now }
+{
+    match &row.found {
+        Ok(found) => found.deadline.is_some(),
+        Err(_) => false,
+    }
+}
+
+/// The table of the rows of jobs, whose labels are texts, judged or not.
+fn table_with(alloc: Global, judged: bool, rows: &[JobRow]) -> Result<Table, AllocError>
+    requires labels { All (λ row. IsUtf8 row.label.items) rows.now }
+    ensures { IfOk result (λ table. table ≡ table_with judged rows.now) }
+{
+    let mut table = Table::new(alloc, column_names(alloc, judged)?);
     for i in 0..rows.len() {
-        table.push(cells_of(alloc, i as u64 + 1, &rows[i])?)?;
+        table.push(cells_of(alloc, judged, i as u64 + 1, &rows[i])?)?;
     }
     Ok(table)
 }
 
 /// The names of the columns.
-fn column_names(alloc: Global) -> Result<Row, AllocError>
-    ensures { IfOk result (λ names. names ≡ column_names) }
+fn column_names(alloc: Global, judged: bool) -> Result<Row, AllocError>
+    ensures { IfOk result (λ names. names ≡ column_names judged) }
+{
+    let mut names = found_columns(alloc)?;
+    push_verdict_columns(judged, &times_by(None), &mut names)?;
+    Ok(names)
+}
+
+/// The names of the columns that tell what was found.
+fn found_columns(alloc: Global) -> Result<Row, AllocError>
+    ensures { IfOk result (λ names. names ≡ found_columns) }
 {
     let mut names = Row::new(alloc);
     names.push_words(&[
@@ -58,14 +95,14 @@ fn column_names(alloc: Global) -> Result<Row, AllocError>
 }
 
 /// The cells of the row of the job of that number.
-fn cells_of(alloc: Global, number: u64, row: &JobRow) -> Result<Row, AllocError>
+fn cells_of(alloc: Global, judged: bool, number: u64, row: &JobRow) -> Result<Row, AllocError>
     requires { IsUtf8 row.now.label.items }
-    ensures { IfOk result (λ cells. cells ≡ cells_of number row.now) }
+    ensures { IfOk result (λ cells. cells ≡ cells_of judged number row.now) }
 {
     let mut cells = Row::new(alloc);
     cells.push_number(number)?;
     push_label(&row.label, &mut cells)?;
-    push_found(alloc, &row.found, &mut cells)?;
+    push_found(alloc, judged, &row.found, &mut cells)?;
     Ok(cells)
 }
 
@@ -80,17 +117,25 @@ fn push_label(label: &[u8], cells: &mut Row) -> Result<(), AllocError>
     }
 }
 
-/// Puts what was found of a job at the end of a row.
+/// Puts what was found of a job at the end of a row of a table that is judged or not.
+#[tactic(auto, using(std::proofs::lemmas::List::append_assoc))]
 fn push_found(
     alloc: Global,
+    judged: bool,
     found: &Result<JobFinding, Fault>,
     cells: &mut Row,
 ) -> Result<(), AllocError>
-    ensures { OnOk result (cells.new ≡ cells.old ++ found_cells found.now) }
+    ensures { OnOk result (cells.new ≡ cells.old ++ found_cells judged found.now) }
 {
     match found {
-        Ok(found) => push_searched(alloc, found, cells),
-        Err(fault) => push_fault(alloc, fault, cells),
+        Ok(found) => {
+            push_searched(alloc, found, cells)?;
+            push_verdict(alloc, judged, found, cells)
+        }
+        Err(fault) => {
+            push_fault(alloc, fault, cells)?;
+            push_no_verdict(alloc, judged, cells)
+        }
     }
 }
 
@@ -104,6 +149,34 @@ fn push_searched(alloc: Global, found: &JobFinding, cells: &mut Row) -> Result<(
     push_times(alloc, &times_by(found.measure), found.finding, cells)?;
     push_tick(alloc, scenario.tick(), cells)?;
     push_cause(scenario, found.finding, cells)
+}
+
+/// Puts how what was found keeps the deadline of the target at the end of a row, in a table that is judged.
+fn push_verdict(
+    alloc: Global,
+    judged: bool,
+    found: &JobFinding,
+    cells: &mut Row,
+) -> Result<(), AllocError>
+    ensures { OnOk result (cells.new ≡ cells.old ++ verdict_cells_of judged found.now) }
+{
+    let (least, most) = (found.finding.least(), found.finding.most());
+    push_verdict_cells(
+        alloc,
+        judged,
+        &times_by(found.measure),
+        found.deadline,
+        least,
+        most,
+        cells,
+    )
+}
+
+/// Puts nothing in the cells of a verdict at the end of a row, in a table that is judged.
+fn push_no_verdict(alloc: Global, judged: bool, cells: &mut Row) -> Result<(), AllocError>
+    ensures { OnOk result (cells.new ≡ cells.old ++ verdict_cells judged (times_by None) None None None) }
+{
+    push_verdict_cells(alloc, judged, &times_by(None), None, None, None, cells)
 }
 
 /// How a row tells times: in any case, so that the names of the columns are always the same.

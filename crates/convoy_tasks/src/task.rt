@@ -1,12 +1,16 @@
 use convoy_commands::{Options, Telling, TimeUnit};
 use convoy_tables::Format;
+use convoy_toml::Asked;
 
 /// What a run is asked for, with all options that what it answers rests on (docs/FORMATS.md, "Commands"). Times are told
-/// in the `unit`, where one is asked for, also of the options.
+/// in the `unit`, where one is asked for, also of the options. Where something is `asked` beside the text, as a target or
+/// a deadline, the text is read so.
 #[derive(Drop)]
 pub enum Task {
     /// The latency that the schedule of least delays attains.
-    First,
+    First {
+        asked: Asked,
+    },
     /// What is to be told of a scenario or of a certificate.
     Tell(Telling),
     /// Whether a certificate is valid and, where a scenario is wanted, is of that. Whether what is accepted is told
@@ -32,6 +36,7 @@ pub enum Task {
     /// The ceiling of a scenario, and traffic that is sought by so many simulations at most.
     Ceiling {
         simulations: u64,
+        asked: Asked,
         unit: Option<TimeUnit>,
     },
     /// The ceiling of each message at each group, or at the group of that name alone, as a table in that format;
@@ -40,15 +45,18 @@ pub enum Task {
         format: Format,
         group: Option<String>,
         simulations: u64,
+        asked: Asked,
         unit: Option<TimeUnit>,
     },
     /// A certificate of the greatest latency.
     Analyse {
+        asked: Asked,
         options: Options,
     },
     /// The greatest latency, and whether the ceiling of the scenario is told below it.
     Latency {
         with_ceiling: bool,
+        asked: Asked,
         options: Options,
     },
     /// The greatest latency of each message at each group, as a table in that format, and whether each row has
@@ -56,6 +64,7 @@ pub enum Task {
     Survey {
         format: Format,
         with_ceilings: bool,
+        asked: Asked,
         options: Options,
     },
     /// The greatest latency of the target with each change of one thing, as a table in that format, and whether each
@@ -63,12 +72,23 @@ pub enum Task {
     WhatIf {
         format: Format,
         shows_all: bool,
+        asked: Asked,
+        options: Options,
+    },
+    /// How slow each link may get, and how fast, before the target's deadline is missed, or that of each message at each
+    /// group, as a table in that format; and whether the ceiling has to keep the deadline, not just the greatest latency.
+    Budget {
+        format: Format,
+        of_all: bool,
+        of_ceiling: bool,
+        asked: Asked,
         options: Options,
     },
     /// A table in that format, with a row for each scenario of a batch. Whether the exit status of a program is to tell
     /// how their searches end, on which nothing that is answered rests.
     BatchTable {
         format: Format,
+        asked: Asked,
         options: Options,
         tells_status: bool,
     },

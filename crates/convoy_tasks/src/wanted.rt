@@ -9,7 +9,7 @@ use convoy_toml::read_toml;
 use std::alloc::Global;
 
 /// Reads the scenario that a certificate is to be of: a scenario text, to the end of the source. Its target
-/// is needed; what schedule it gives does not matter.
+/// is needed; what schedule and what deadlines it gives does not matter.
 ///
 /// At most `most_reads` reads are made. The faults are `Fault::Scenario`, of that of
 /// [`read_toml`](convoy_toml::read_toml); `Fault::Reading`, of `ReadFault::Read` where the source fails,

@@ -1,5 +1,5 @@
 -- What is read of a text is a well-formed scenario.
-use Rattle.std.proofs.Common.{◌≡◌, ℕ, List, Result, Ok, Err, is_some, refl, subst}
+use Rattle.std.proofs.Common.{◌≡◌, ℕ, Bool, List, Option, Result, Ok, Err, is_some, refl, subst}
 use Rattle.convoy_lines.specs.Results.{◌>>=◌}
 use Rattle.convoy_draft.specs.declared.fault.ScenarioFault.{ScenarioFault}
 use Rattle.convoy_draft.specs.Draft.{Draft}
@@ -7,9 +7,10 @@ use Rattle.convoy_scenario.specs.ScenarioLaws.{DraftsGiveScenarios}
 use Rattle.convoy_scenario.specs.Numbering.{scenario_of_draft}
 use Rattle.convoy_scenario.specs.Scenario.{Scenario}
 use Rattle.convoy_scenario.specs.WellFormed.{IsScenario}
-use Rattle.convoy_toml.specs.declared.target.TargetKey.TheVariants.{Required}
-use Rattle.convoy_toml.specs.Reading.{InputView, table_of_text, need_ranges, input_of_written, input_of_table, input_of_text, scenario_of_input, scenario_of_text}
-use Rattle.convoy_toml.specs.Shape.{Written, written_of_table}
+use Rattle.convoy_toml.specs.declared.asked.Asked.{Asked}
+use Rattle.convoy_toml.specs.Deadlines.{deadlines_of_written}
+use Rattle.convoy_toml.specs.Reading.{InputView, table_of_text, need_ranges, input_of_written, input_of_table, input_of_text_by, scenario_of_input, scenario_of_text_by, scenario_of_written}
+use Rattle.convoy_toml.specs.Shape.{Written, WrittenScenario, written_of_table}
 use Rattle.convoy_toml.specs.Times.{draft_of_written}
 
 after_ok : {A B : Type 0} (r : Result A ScenarioFault) (f : A → Result B ScenarioFault) (y : B) → (r >>= f) ≡ Ok y → (x : A) × (r ≡ Ok x) × (f x ≡ Ok y)
@@ -22,26 +23,38 @@ input_has (Ok input) scenario e =
     (input, refl, cc)
 input_has (Err fault) scenario e = absurd cc
 
--- what is given where this is written, its times in ticks are these, and the scenario is this
-abbrev input_of_scenario : Written → Draft → Scenario → Result InputView ScenarioFault
-input_of_scenario written draft scenario = need_ranges (is_some written.scenario.least) draft >>= λ ranges. Ok (record { scenario = scenario; schedule = written.schedule; order = written.order })
+-- what is given where this is written, and the scenario is this
+abbrev input_of_scenario : Asked → Written → Scenario → Result InputView ScenarioFault
+input_of_scenario asked written scenario = deadlines_of_written asked.at_most written.scenario >>= λ deadlines. Ok (record { scenario = scenario; schedule = written.schedule; order = written.order })
 
--- what is given where this is written and its times in ticks are these
-abbrev input_of_draft : Written → Draft → Result InputView ScenarioFault
-input_of_draft written draft = scenario_of_draft draft >>= input_of_scenario written draft
+-- the scenario of a draft, where ranges are written
+abbrev ranged : Bool → Draft → Scenario → Result Scenario ScenarioFault
+ranged has_least draft scenario = need_ranges has_least draft >>= λ ranges. Ok scenario
 
-of_input : (drafts : DraftsGiveScenarios) (text : List ℕ) (input : InputView) → input_of_text text ≡ Ok input → IsScenario input.scenario
-of_input drafts text input e =
-    let table = after_ok (table_of_text text) (input_of_table Required) input e in
-    let written = after_ok (written_of_table Required table.0) input_of_written input table.2 in
-    let draft = after_ok (draft_of_written written.0.scenario) (input_of_draft written.0) input written.2 in
-    let given = after_ok (scenario_of_draft draft.0) (input_of_scenario written.0 draft.0) input draft.2 in
-    let ranged = after_ok (need_ranges (is_some written.0.scenario.least) draft.0) (λ ranges. Ok (record { scenario = given.0; schedule = written.0.schedule; order = written.0.order })) input given.2 in
-    let is : ◌≡◌ {A = Result InputView ScenarioFault} (Ok (record { scenario = given.0; schedule = written.0.schedule; order = written.0.order })) (Ok input) = ranged.2 in
+of_draft : (drafts : DraftsGiveScenarios) (has_least : Bool) (draft : Draft) (scenario : Scenario) → (scenario_of_draft draft >>= ranged has_least draft) ≡ Ok scenario → IsScenario scenario
+of_draft drafts has_least draft scenario e =
+    let given = after_ok (scenario_of_draft draft) (ranged has_least draft) scenario e in
+    let there = after_ok (need_ranges has_least draft) (λ ranges. Ok given.0) scenario given.2 in
+    let is : ◌≡◌ {A = Result Scenario ScenarioFault} (Ok given.0) (Ok scenario) = there.2 in
+    let same : given.0 ≡ scenario = cc in
+    subst IsScenario same (drafts draft given.0 given.1)
+
+of_written : (drafts : DraftsGiveScenarios) (written : WrittenScenario) (scenario : Scenario) → scenario_of_written written ≡ Ok scenario → IsScenario scenario
+of_written drafts written scenario e =
+    let draft = after_ok (draft_of_written written) (λ d. scenario_of_draft d >>= ranged (is_some written.least) d) scenario e in
+    of_draft drafts (is_some written.least) draft.0 scenario draft.2
+
+of_input : (drafts : DraftsGiveScenarios) (asked : Asked) (text : List ℕ) (input : InputView) → input_of_text_by asked text ≡ Ok input → IsScenario input.scenario
+of_input drafts asked text input e =
+    let table = after_ok (table_of_text text) (input_of_table asked) input e in
+    let written = after_ok (written_of_table asked.target table.0) (input_of_written asked) input table.2 in
+    let given = after_ok (scenario_of_written written.0.scenario) (input_of_scenario asked written.0) input written.2 in
+    let timed = after_ok (deadlines_of_written asked.at_most written.0.scenario) (λ deadlines. Ok (record { scenario = given.0; schedule = written.0.schedule; order = written.0.order })) input given.2 in
+    let is : ◌≡◌ {A = Result InputView ScenarioFault} (Ok (record { scenario = given.0; schedule = written.0.schedule; order = written.0.order })) (Ok input) = timed.2 in
     let same : record { scenario = given.0; schedule = written.0.schedule; order = written.0.order } ≡ input = cc in
-    subst (λ (i : InputView). IsScenario i.scenario) same (drafts draft.0 given.0 given.1)
+    subst (λ (i : InputView). IsScenario i.scenario) same (of_written drafts written.0.scenario given.0 given.1)
 
-pub of_text : (drafts : DraftsGiveScenarios) (text : List ℕ) (scenario : Scenario) → scenario_of_text text ≡ Ok scenario → IsScenario scenario
-of_text drafts text scenario e =
-    let has = input_has (input_of_text text) scenario e in
-    subst IsScenario has.2 (of_input drafts text has.0 has.1)
+pub of_text : (drafts : DraftsGiveScenarios) (asked : Asked) (text : List ℕ) (scenario : Scenario) → scenario_of_text_by asked text ≡ Ok scenario → IsScenario scenario
+of_text drafts asked text scenario e =
+    let has = input_has (input_of_text_by asked text) scenario e in
+    subst IsScenario has.2 (of_input drafts asked text has.0 has.1)

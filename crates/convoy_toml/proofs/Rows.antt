@@ -12,8 +12,7 @@ use Rattle.convoy_draft.specs.Durations.{duration_of}
 use Rattle.convoy_scenario.specs.Scenario.{Link, Scenario, message_at}
 use Rattle.convoy_scenario.proofs.RowScenarios.{of_two}
 use Rattle.convoy_lines.specs.Results.{◌>>=◌}
-use Rattle.convoy_toml.specs.declared.target.TargetKey.TheVariants.{Required, Optional}
-use Rattle.convoy_toml.specs.Reading.{input_of_table, scenario_of_input}
+use Rattle.convoy_toml.specs.Reading.{as_written, input_of_table, of_any_target, scenario_of_input}
 use Rattle.convoy_toml.specs.Shape.{link_of_table}
 use Rattle.convoy_toml.specs.Times.{divisor_within}
 
@@ -36,7 +35,7 @@ odd = member (codes "zone") (boolean true) no_members
 
 -- the scenario of a table
 abbrev scenario_of_table : Members → Result Scenario ScenarioFault
-scenario_of_table members = scenario_of_input (input_of_table Required members)
+scenario_of_table members = scenario_of_input (input_of_table as_written members)
 
 -- these groups, and one message of a client to the group of that number, at which its latency is asked
 abbrev lone : List (List ℕ) → ℕ → Scenario
@@ -73,7 +72,7 @@ odd_at_top = refl
 abbrev given : Items → Members → Members
 given delays more = member (codes "schedule") (array delays) more
 
-schedule_given : input_of_table Required (top (one (message_table no_members)) (target_table no_members) (given (item (integer (pos 3)) (item (integer (negsuc 4)) no_items)) no_members)) ≡ Ok (record {
+schedule_given : input_of_table as_written (top (one (message_table no_members)) (target_table no_members) (given (item (integer (pos 3)) (item (integer (negsuc 4)) no_items)) no_members)) ≡ Ok (record {
   scenario = lone (codes "a" ∷ []) 0;
   schedule = Some (pos 3 ∷ negsuc 4 ∷ []);
   order = None;
@@ -157,17 +156,17 @@ abbrev untargeted : Members → Members
 untargeted more = member (codes "delay") (integer (pos 3)) (member (codes "groups") (array (item (string (codes "b")) (item (string (codes "a")) no_items)))
     (member (codes "multicast") (array (one (message_table no_members))) more))
 
-target_left_out : scenario_of_input (input_of_table Optional (untargeted no_members)) ≡ Ok (lone (codes "b" ∷ codes "a" ∷ []) 1)
+target_left_out : scenario_of_input (input_of_table of_any_target (untargeted no_members)) ≡ Ok (lone (codes "b" ∷ codes "a" ∷ []) 1)
 target_left_out = refl
 
 target_needed : scenario_of_table (untargeted no_members) ≡ Err (Shape key.Target)
 target_needed = refl
 
-target_no_table : scenario_of_input (input_of_table Optional (untargeted (member (codes "target") (boolean true) no_members))) ≡ Err (Shape key.Target)
+target_no_table : scenario_of_input (input_of_table of_any_target (untargeted (member (codes "target") (boolean true) no_members))) ≡ Err (Shape key.Target)
 target_no_table = refl
 
 target_without_destination :
-    scenario_of_input (input_of_table Optional (member (codes "delay") (integer (pos 3)) (member (codes "groups") (array (item (string (codes "a")) no_items))
+    scenario_of_input (input_of_table of_any_target (member (codes "delay") (integer (pos 3)) (member (codes "groups") (array (item (string (codes "a")) no_items))
     (member (codes "multicast") (array (one (member (codes "at") (integer (pos 0)) (member (codes "name") (string (codes "t")) (member (codes "to") (array no_items) no_members))))) no_members)))) ≡ Err NoDestination
 target_without_destination = refl
 
@@ -259,7 +258,7 @@ time_in_message = refl
 
 -- the order that a text gives beside the scenario
 abbrev order_read : Members → Result (Option (List ℤ)) ScenarioFault
-order_read more = input_of_table Required (top (one (message_table no_members)) (target_table no_members) more) >>= λ input. Ok input.order
+order_read more = input_of_table as_written (top (one (message_table no_members)) (target_table no_members) more) >>= λ input. Ok input.order
 
 order_given : order_read (member (codes "order") (array (item (integer (pos 1)) (item (integer (negsuc 4)) no_items))) no_members) ≡ Ok (Some (pos 1 ∷ negsuc 4 ∷ []))
 order_given = refl

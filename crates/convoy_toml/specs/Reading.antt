@@ -1,12 +1,12 @@
 -- The scenario of a TOML table, and of a text, with the schedule and the order of its ties that are given beside it.
-use Rattle.std.specs.Prelude.{ℕ, ℤ, Bool, if◌then◌else◌, List, Option, None, option_map, is_some, ok_or, Result, Ok, Err}
+use Rattle.std.specs.Prelude.{ℕ, ℤ, Bool, if◌then◌else◌, List, [], Option, None, option_map, is_some, ok_or, Result, Ok, Err}
 use Rattle.std.specs.Result.{result_map_both}
 use Rattle.std.specs.Str.{is_utf8}
 use Rattle.toml.specs.Data.{Members}
 use Rattle.toml.specs.Parse.{parse_document}
 use Rattle.convoy_draft.specs.declared.fault.ScenarioFault.{ScenarioFault}
+use Rattle.convoy_toml.specs.declared.asked.Asked.{Asked}
 use Rattle.convoy_toml.specs.declared.input.Input.{Input}
-use Rattle.convoy_toml.specs.declared.target.TargetKey.{TargetKey}
 use Rattle.convoy_toml.specs.declared.target.TargetKey.TheVariants.{Required, Optional}
 use Rattle.convoy_draft.specs.declared.fault.ScenarioFault.TheVariants.{NotToml, NoRange}
 use Rattle.convoy_draft.specs.Draft.{Draft}
@@ -14,7 +14,8 @@ use Rattle.convoy_draft.specs.declared.duration.TimeUnit.{TimeUnit}
 use Rattle.convoy_scenario.specs.Scenario.{Scenario}
 use Rattle.convoy_scenario.specs.Numbering.{scenario_of_draft}
 use Rattle.convoy_lines.specs.Results.{◌>>=◌}
-use Rattle.convoy_toml.specs.Shape.{Written, unit_of_table, written_of_table}
+use Rattle.convoy_toml.specs.Deadlines.{deadlines_of_written}
+use Rattle.convoy_toml.specs.Shape.{Written, WrittenScenario, unit_of_table, written_of_table}
 use Rattle.convoy_toml.specs.Times.{draft_of_written}
 use Rattle.convoy_toml.specs.Ways.{has_ranges}
 
@@ -32,37 +33,62 @@ table_of_text text = if is_utf8 text then ok_or (parse_document text) NotToml el
 abbrev pub need_ranges : Bool → Draft → Result (Unit {0}) ScenarioFault
 need_ranges has_least draft = if has_ranges has_least draft then Ok tt else Err NoRange
 
--- what is given where this is written: its times in ticks first, then the checks of the scenario, and last whether ranges are written; schedule and order stay as they are written
-abbrev pub input_of_written : Written → Result InputView ScenarioFault
-input_of_written written = do
-  draft ← draft_of_written written.scenario
+-- ask nothing beside the text: it has to name its target
+abbrev pub as_written : Asked
+as_written = record { target = Required; at_most = None }
+
+-- the same, but it may leave out its target
+abbrev pub of_any_target : Asked
+of_any_target = record { target = Optional; at_most = None }
+
+-- the scenario of what is written: its times in ticks first, then the checks of the scenario, and then whether ranges are written
+abbrev pub scenario_of_written : WrittenScenario → Result Scenario ScenarioFault
+scenario_of_written written = do
+  draft ← draft_of_written written
   scenario ← scenario_of_draft draft
-  _ ← need_ranges (is_some written.scenario.least) draft
+  _ ← need_ranges (is_some written.least) draft
+  Ok scenario
+
+-- what is given where this is written: the scenario first, and then the deadlines; schedule and order stay as they are written
+abbrev pub input_of_written : Asked → Written → Result InputView ScenarioFault
+input_of_written asked written = do
+  scenario ← scenario_of_written written.scenario
+  _ ← deadlines_of_written asked.at_most written.scenario
   Ok (record { scenario = scenario; schedule = written.schedule; order = written.order })
 
--- what a table gives, where the target has to be written or not: its shape first, then what is said of that
-abbrev pub input_of_table : TargetKey → Members → Result InputView ScenarioFault
-input_of_table key table = written_of_table key table >>= input_of_written
+-- what a table gives, where that is asked: its shape first, then what is said of that
+abbrev pub input_of_table : Asked → Members → Result InputView ScenarioFault
+input_of_table asked table = written_of_table asked.target table >>= input_of_written asked
 
--- what a text gives, where the target has to be written or not
-abbrev pub input_of_text_by : TargetKey → List ℕ → Result InputView ScenarioFault
-input_of_text_by key text = table_of_text text >>= input_of_table key
+-- what a text gives, where that is asked
+abbrev pub input_of_text_by : Asked → List ℕ → Result InputView ScenarioFault
+input_of_text_by asked text = table_of_text text >>= input_of_table asked
 
 -- what a text gives
 abbrev pub input_of_text : List ℕ → Result InputView ScenarioFault
-input_of_text text = input_of_text_by Required text
+input_of_text text = input_of_text_by as_written text
 
 -- the scenario alone
 abbrev pub scenario_of_input : Result InputView ScenarioFault → Result Scenario ScenarioFault
 scenario_of_input given = result_map_both (λ g. g.scenario) (λ fault. fault) given
 
--- the scenario of a text, where the target has to be written or not
-abbrev pub scenario_of_text_by : TargetKey → List ℕ → Result Scenario ScenarioFault
-scenario_of_text_by key text = scenario_of_input (input_of_text_by key text)
+-- the scenario of a text, where that is asked
+abbrev pub scenario_of_text_by : Asked → List ℕ → Result Scenario ScenarioFault
+scenario_of_text_by asked text = scenario_of_input (input_of_text_by asked text)
 
 -- the scenario of a text
 abbrev pub scenario_of_text : List ℕ → Result Scenario ScenarioFault
-scenario_of_text text = scenario_of_text_by Required text
+scenario_of_text text = scenario_of_text_by as_written text
+
+-- the deadlines of the messages of a text, where that is asked, in ticks, by the numbers of the messages; none where the text is at fault
+abbrev pub deadlines_of_text : Asked → List ℕ → List (Option ℕ)
+deadlines_of_text asked text = of_reading (table_of_text text >>= of_table) where
+  of_table : Members → Result (List (Option ℕ)) ScenarioFault
+  of_table table = written_of_table asked.target table >>= λ written. deadlines_of_written asked.at_most written.scenario
+
+  of_reading : Result (List (Option ℕ)) ScenarioFault → List (Option ℕ)
+  of_reading (Ok deadlines) = deadlines
+  of_reading (Err fault) = []
 
 -- what was read, with schedule and order as lists
 abbrev pub input_read : Result Input ScenarioFault → Result InputView ScenarioFault

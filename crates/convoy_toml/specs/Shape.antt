@@ -11,7 +11,7 @@ use Rattle.std.specs.Str.{bytes_eq}
 use Rattle.toml.specs.Data.{Data, Items, no_items, item, Members, no_members, member, get_member, as_str, as_integer, as_bool, as_array, as_table}
 use Rattle.convoy_lines.specs.Results.{◌>>=◌}
 use Rattle.convoy_draft.specs.declared.fault.Key.{Key}
-use Rattle.convoy_draft.specs.declared.fault.Key.TheVariants.{Time, Tick, Delay, Groups, Multicast, Name, From, To, At, Until, Target, Message, Group, Link, Least, Most, Both, Schedule, Order, Unknown}
+use Rattle.convoy_draft.specs.declared.fault.Key.TheVariants.{Time, Tick, Delay, Groups, Multicast, Name, From, To, At, Until, Within, Target, Message, Group, Link, Least, Most, Both, Schedule, Order, Unknown}
 use Rattle.convoy_draft.specs.declared.fault.ScenarioFault.{ScenarioFault}
 use Rattle.convoy_draft.specs.declared.fault.ScenarioFault.TheVariants.{Shape}
 use Rattle.convoy_draft.specs.declared.time.Time.{Time as AnyTime}
@@ -20,17 +20,18 @@ use Rattle.convoy_draft.specs.Durations.{duration_of, unit_of_text}
 use Rattle.convoy_draft.specs.declared.duration.TimeUnit.{TimeUnit}
 use Rattle.convoy_draft.specs.Keys.{key_word, time_named}
 use Rattle.convoy_toml.specs.declared.target.TargetKey.{TargetKey}
-use Rattle.convoy_toml.specs.declared.target.TargetKey.TheVariants.{Required, Optional}
+use Rattle.convoy_toml.specs.declared.target.TargetKey.TheVariants.{Named, Required, Optional}
 use Rattle.convoy_toml.specs.declared.written.WrittenTime.{WrittenTime}
 use Rattle.convoy_toml.specs.declared.written.WrittenTime.TheVariants.{Count, Lasting}
 
--- a message as it is written: its name, the group that sends it (none for a client), the groups that it goes to, and the first time at which it may be issued, and the last where that is written
+-- a message as it is written: its name, the group that sends it (none for a client), the groups that it goes to, the first time at which it may be issued, and the last where that is written, and its deadline where it has one
 pub record WrittenMessage : Type 0 where
   pub name : List ℕ
   pub sender : Option (List ℕ)
   pub to : List (List ℕ)
   pub at : WrittenTime
   pub until : Option WrittenTime
+  pub within : Option WrittenTime
 
 -- where the links of a table lead: from the groups that send (none where the clients do) to these groups, and perhaps back as well
 pub record LinkEnds : Type 0 where
@@ -140,8 +141,9 @@ message_of_table time table = do
   to ← need_all To as_str table
   at ← need At (as_when time) table
   until ← wish Until (as_when time) table
-  _ ← need_only (Name ∷ From ∷ To ∷ At ∷ Until ∷ []) table
-  Ok (record { name = name; sender = sender; to = to; at = at; until = until })
+  within ← wish Within (as_when time) table
+  _ ← need_only (Name ∷ From ∷ To ∷ At ∷ Until ∷ Within ∷ []) table
+  Ok (record { name = name; sender = sender; to = to; at = at; until = until; within = within })
 
 -- the messages, unless one is at fault
 abbrev pub messages_of : AnyTime → List Members → Result (List WrittenMessage) ScenarioFault
@@ -220,11 +222,12 @@ first_target groups messages = of_message (first_known messages) where
   of_message None = record { message = []; group = [] }
   of_message (Some message) = record { message = message.name; group = slice_index_or message.to 0 (slice_index_or groups 0 []) }
 
--- the target of a scenario's table: what is written, or the first target where that may be left out and is
+-- the target of a scenario's table: what is written, or the first target where that may be left out and is, or the one that is named beside it
 abbrev pub target_of_table : TargetKey → Members → List (List ℕ) → List WrittenMessage → Result WrittenTarget ScenarioFault
 target_of_table Required table groups messages = written_target table
 target_of_table Optional table groups messages =
     if is_some (get_member (key_word Target) table) then written_target table else Ok (first_target groups messages)
+target_of_table (Named message group) table groups messages = Ok (record { message = message; group = group })
 
 -- the scenario as it is written, whatever else stands in the table
 abbrev pub scenario_of_table : TargetKey → Members → Result WrittenScenario ScenarioFault

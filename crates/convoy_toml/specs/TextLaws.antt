@@ -6,18 +6,19 @@ use Rattle.convoy_draft.specs.declared.fault.Key.TheVariants.{Target}
 use Rattle.convoy_draft.specs.Keys.{key_word}
 use Rattle.convoy_scenario.specs.Scenario.{Scenario}
 use Rattle.convoy_scenario.specs.WellFormed.{IsScenario}
-use Rattle.convoy_toml.specs.declared.target.TargetKey.TheVariants.{Optional}
-use Rattle.convoy_toml.specs.Reading.{table_of_text, input_of_text, input_of_text_by, scenario_of_text}
+use Rattle.convoy_toml.specs.declared.asked.Asked.{Asked}
+use Rattle.convoy_toml.specs.Reading.{of_any_target, table_of_text, input_of_text, input_of_text_by, scenario_of_text_by}
 use Rattle.convoy_toml.specs.Times.{common_divisor}
 
--- what a text is read as is a well-formed scenario
+-- what a text is read as is a well-formed scenario, whatever is asked beside it
 abbrev pub TextsGiveScenarios : Type 0
-TextsGiveScenarios = (text : List ℕ) (scenario : Scenario) → scenario_of_text text ≡ Ok scenario → IsScenario scenario
+TextsGiveScenarios =
+    (asked : Asked) (text : List ℕ) (scenario : Scenario) → scenario_of_text_by asked text ≡ Ok scenario → IsScenario scenario
 
 -- a text in which the target is written gives the same, whether the target may be left out or not
 abbrev pub TargetsMayBeSaid : Type 0
 TargetsMayBeSaid =
-    (text : List ℕ) (table : Members) → table_of_text text ≡ Ok table → IsSome (get_member (key_word Target) table) → input_of_text_by Optional text ≡ input_of_text text
+    (text : List ℕ) (table : Members) → table_of_text text ≡ Ok table → IsSome (get_member (key_word Target) table) → input_of_text_by of_any_target text ≡ input_of_text text
 
 -- the common divisor of two lengths divides both, and each number that divides both divides it
 abbrev pub CommonDivisorsAreGreatest : Type 0

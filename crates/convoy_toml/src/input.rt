@@ -9,6 +9,9 @@ pub struct Input {
     pub schedule: Option<Vec<i64>>,
     /// The ranks of the moments of that run, where the text gives them.
     pub order: Option<Vec<i64>>,
+    /// The deadlines of its messages, by their numbers, in ticks: the most that a latency may be; none for a message
+    /// that has none. Deadlines are no part of the scenario.
+    pub deadlines: Vec<Option<u32>>,
     /// The unit in which the text writes D, where it writes that as a duration.
     pub unit: Option<TimeUnit>,
     /// The first of its times that is a plain number beside durations, for who wants to say what that counts: no

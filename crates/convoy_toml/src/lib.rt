@@ -2,13 +2,15 @@
 //! whose links several in one table, and of the schedule and the order of its ties where they are given.
 #![tactic(auto)]
 
+pub use asked::Asked;
 pub use bundle::Bundle;
+pub use deadlines::GREATEST_DEADLINE;
 pub use divisor::common_divisor;
 pub use input::Input;
 pub use links::{MOST_WRITTEN_LINKS, links_of_bundle};
 pub use placed::{Placed, ScenarioTable};
 pub use plain::PlainNumber;
-pub use read::{read_table, read_toml, read_toml_any_target, read_toml_placed};
+pub use read::{read_table, read_toml, read_toml_asked};
 pub use shape::{time_of_table, written_of_table};
 pub use target::TargetKey;
 pub use times::{bundles_of, draft_of_written, tick_of};
@@ -18,7 +20,9 @@ pub use written::{
     WrittenTime,
 };
 
+mod asked;
 mod bundle;
+mod deadlines;
 mod divisor;
 mod input;
 mod links;

@@ -3,18 +3,20 @@ ghost use Rattle.std.specs.Result.{result_map_both};
 ghost use Rattle.toml.specs.View.{table_view};
 ghost use Rattle.convoy_draft.specs.declared.fault.ScenarioFault.TheVariants.{Memory};
 ghost use Rattle.convoy_scenario.specs.Memory.{IsUnlessMemory};
-ghost use Rattle.convoy_toml.specs.declared.target.TargetKey.TheVariants.{Optional};
-ghost use Rattle.convoy_toml.specs.Reading.{table_of_text, input_of_text, input_of_text_by, input_read, scenario_of_text, scenario_of_text_by, scenario_read, unit_written};
+ghost use Rattle.convoy_toml.specs.Reading.{deadlines_of_text, input_of_written, scenario_of_written, table_of_text, input_of_text, input_of_text_by, input_read, scenario_of_text, scenario_of_text_by, scenario_read, unit_written};
+ghost use Rattle.convoy_toml.specs.Deadlines.{deadlines_of_written};
+ghost use Rattle.convoy_toml.specs.Reading.{as_written};
 
+use super::asked::Asked;
+use super::deadlines::deadlines_of_written;
 use super::input::Input;
 use super::placed::Placed;
 use super::plain::plain_number;
 use super::shape::{unit_of_table, written_of_table};
-use super::target::TargetKey;
 use super::times::draft_of_written;
 use super::ways::has_ranges;
-use super::written::WrittenInput;
-use convoy_scenario::{Scenario, ScenarioFault};
+use super::written::{WrittenInput, WrittenScenario};
+use convoy_scenario::{Scenario, ScenarioFault, TimeUnit};
 use std::alloc::Global;
 use toml::Table;
 
@@ -30,62 +32,91 @@ pub fn read_toml(alloc: Global, text: &[u8]) -> Result<Input, ScenarioFault>
     ensures input { IsUnlessMemory Memory (input_of_text text.now) (input_read result) }
     ensures read { IfOk result (λ input. scenario_of_text text.now ≡ Ok input.scenario) }
     ensures unit { IfOk result (λ input. input.unit ≡ unit_written text.now) }
+    ensures deadlines { IfOk result (λ input. input.deadlines.items ≡ deadlines_of_text as_written text.now) }
     ensures given { IfOk result (λ input. input_of_text text.now
         ≡ Ok (record { scenario = input.scenario; schedule = option_map (λ delays. delays.items) input.schedule; order = option_map (λ ranks. ranks.items) input.order })) }
 {
-    let input = read_toml_placed(alloc, text, TargetKey::Required)?;
+    let input = read_toml_placed(alloc, text, &Asked::as_written())?;
     Ok(input)
 }
 
-/// Reads a scenario text as [`read_toml`] does, but takes one without a target too.
+/// Reads a scenario text as [`read_toml`] does, where something is asked beside it.
 ///
-/// Where the table `target` is absent, the scenario asks of its first message at the first group that
-/// this goes to. A text that has it is read as by [`read_toml`] (`text_laws::targets_may_be_said`).
-pub fn read_toml_any_target(alloc: Global, text: &[u8]) -> Result<Input, ScenarioFault>
-    ensures scenario { IsUnlessMemory Memory (scenario_of_text_by Optional text.now) (scenario_read result) }
-    ensures input { IsUnlessMemory Memory (input_of_text_by Optional text.now) (input_read result) }
-    ensures read { IfOk result (λ input. scenario_of_text_by Optional text.now ≡ Ok input.scenario) }
+/// Where the target may be left out and the table `target` is absent, the scenario asks of its first message at the
+/// first group that this goes to; a text that has it is read as by [`read_toml`] (`text_laws::targets_may_be_said`).
+/// A target that is named takes the place of the text's. A deadline that is asked is that of each message that has none.
+pub fn read_toml_asked(alloc: Global, text: &[u8], asked: &Asked) -> Result<Input, ScenarioFault>
+    ensures scenario { IsUnlessMemory Memory (scenario_of_text_by asked.now text.now) (scenario_read result) }
+    ensures input { IsUnlessMemory Memory (input_of_text_by asked.now text.now) (input_read result) }
+    ensures read { IfOk result (λ input. scenario_of_text_by asked.now text.now ≡ Ok input.scenario) }
     ensures unit { IfOk result (λ input. input.unit ≡ unit_written text.now) }
-    ensures given { IfOk result (λ input. input_of_text_by Optional text.now
+    ensures deadlines { IfOk result (λ input. input.deadlines.items ≡ deadlines_of_text asked.now text.now) }
+    ensures given { IfOk result (λ input. input_of_text_by asked.now text.now
         ≡ Ok (record { scenario = input.scenario; schedule = option_map (λ delays. delays.items) input.schedule; order = option_map (λ ranks. ranks.items) input.order })) }
 {
-    let input = read_toml_placed(alloc, text, TargetKey::Optional)?;
+    let input = read_toml_placed(alloc, text, asked)?;
     Ok(input)
 }
 
-/// Reads a scenario text, in which the target has to be written or not, as [`read_toml`] and
-/// [`read_toml_any_target`] do, and tells of a fault also which table it is of.
-pub fn read_toml_placed(alloc: Global, text: &[u8], target: TargetKey) -> Result<Input, Placed>
-    ensures scenario { IsUnlessMemory Memory (scenario_of_text_by target text.now) (scenario_read result) }
-    ensures input { IsUnlessMemory Memory (input_of_text_by target text.now) (input_read result) }
-    ensures read { IfOk result (λ input. scenario_of_text_by target text.now ≡ Ok input.scenario) }
+/// Reads a scenario text as [`read_toml_asked`] does, and tells of a fault also which table it is of.
+fn read_toml_placed(alloc: Global, text: &[u8], asked: &Asked) -> Result<Input, Placed>
+    ensures scenario { IsUnlessMemory Memory (scenario_of_text_by asked.now text.now) (scenario_read result) }
+    ensures input { IsUnlessMemory Memory (input_of_text_by asked.now text.now) (input_read result) }
+    ensures read { IfOk result (λ input. scenario_of_text_by asked.now text.now ≡ Ok input.scenario) }
     ensures unit { IfOk result (λ input. input.unit ≡ unit_written text.now) }
-    ensures given { IfOk result (λ input. input_of_text_by target text.now
+    ensures deadlines { IfOk result (λ input. input.deadlines.items ≡ deadlines_of_text asked.now text.now) }
+    ensures given { IfOk result (λ input. input_of_text_by asked.now text.now
         ≡ Ok (record { scenario = input.scenario; schedule = option_map (λ delays. delays.items) input.schedule; order = option_map (λ ranks. ranks.items) input.order })) }
 {
     let table = read_table(alloc, text)?;
     let unit = unit_of_table(&table);
-    let written = written_of_table(alloc, &table, target)?;
+    let written = written_of_table(alloc, &table, &asked.target)?;
+    input_of_written(alloc, asked, unit, written)
+}
+
+/// What is given where this is written (docs/FORMATS.md, "How faults are found"), with the unit in which D is.
+fn input_of_written(
+    alloc: Global,
+    asked: &Asked,
+    unit: Option<TimeUnit>,
+    written: WrittenInput,
+) -> Result<Input, Placed>
+    ensures input { IsUnlessMemory Memory (input_of_written asked.now written) (input_read result) }
+    ensures unit { IfOk result (λ input. input.unit ≡ unit) }
+    ensures deadlines { IfOk result (λ input.
+        deadlines_of_written asked.now.at_most written.scenario ≡ Ok input.deadlines.items) }
+    ensures given { IfOk result (λ input. input_of_written asked.now written
+        ≡ Ok (record { scenario = input.scenario; schedule = option_map (λ delays. delays.items) input.schedule; order = option_map (λ ranks. ranks.items) input.order })) }
+{
     let WrittenInput {
-        scenario,
+        scenario: written,
         schedule,
         order,
     } = written;
-    let has_least = scenario.least.is_some();
-    let plain = plain_number(&scenario);
-    let draft = draft_of_written(alloc, &scenario)?;
-    let has_ranges = has_ranges(alloc, has_least, &draft)?;
-    let scenario = Scenario::from_draft(alloc, draft)?;
-    if !has_ranges {
-        return Err(Placed::from(ScenarioFault::NoRange));
-    }
+    let scenario = scenario_of_written(alloc, &written)?;
+    let deadlines = deadlines_of_written(alloc, asked.at_most, &written)?;
     Ok(Input {
         scenario,
         schedule,
         order,
+        deadlines,
         unit,
-        plain,
+        plain: plain_number(&written),
     })
+}
+
+/// The scenario of what is written, in which a packet that travels has a range that is written, where time is real.
+fn scenario_of_written(alloc: Global, written: &WrittenScenario) -> Result<Scenario, Placed>
+    ensures { IsUnlessMemory Memory (scenario_of_written written.now) result }
+{
+    let draft = draft_of_written(alloc, written)?;
+    let has_ranges = has_ranges(alloc, written.least.is_some(), &draft)?;
+    let scenario = Scenario::from_draft(alloc, draft)?;
+    if has_ranges {
+        Ok(scenario)
+    } else {
+        Err(Placed::from(ScenarioFault::NoRange))
+    }
 }
 
 /// The table of a scenario text, or `ScenarioFault::NotToml` where it is none.

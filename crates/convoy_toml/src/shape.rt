@@ -308,13 +308,25 @@ fn multicast_of_table(
     let to = names(alloc, table, Key::To)?;
     let at = when(table, Key::At, time)?;
     let until = when_written(table, Key::Until, time)?;
-    need_only(table, &[Key::Name, Key::From, Key::To, Key::At, Key::Until])?;
+    let within = when_written(table, Key::Within, time)?;
+    need_only(
+        table,
+        &[
+            Key::Name,
+            Key::From,
+            Key::To,
+            Key::At,
+            Key::Until,
+            Key::Within,
+        ],
+    )?;
     Ok(WrittenMulticast {
         name,
         sender,
         to,
         at,
         until,
+        within,
     })
 }
 
@@ -465,22 +477,26 @@ fn written_target(alloc: Global, table: &Table) -> Result<WrittenTarget, Placed>
 }
 
 /// The target of a scenario's table: what is written, or the first target where that may be left out and
-/// is.
+/// is, or the one that is named beside it.
 fn target_of_table(
     alloc: Global,
     table: &Table,
-    target: TargetKey,
+    target: &TargetKey,
     groups: &[Name],
     multicasts: &[WrittenMulticast],
 ) -> Result<WrittenTarget, Placed>
     ensures { IsUnlessMemory ScenarioFault.Memory
-        (target_of_table target (table_view table.now) groups.now multicasts.now) result }
+        (target_of_table target.now (table_view table.now) groups.now multicasts.now) result }
 {
     match target {
+        TargetKey::Named { message, group } => Ok(WrittenTarget {
+            message: message.copy()?,
+            group: group.copy()?,
+        }),
         TargetKey::Optional if value_at(table, Key::Target).is_none() => {
             Ok(first_target(alloc, groups, multicasts)?)
         }
-        _ => written_target(alloc, table),
+        TargetKey::Required | TargetKey::Optional => written_target(alloc, table),
     }
 }
 
@@ -489,10 +505,10 @@ fn target_of_table(
 pub fn written_of_table(
     alloc: Global,
     table: &Table,
-    target: TargetKey,
+    target: &TargetKey,
 ) -> Result<WrittenInput, Placed>
     ensures { IsUnlessMemory ScenarioFault.Memory
-        (written_of_table target (table_view table.now)) result }
+        (written_of_table target.now (table_view table.now)) result }
 {
     let scenario = scenario_of_table(alloc, table, target)?;
     let schedule = integers(alloc, table, Key::Schedule)?;
@@ -523,10 +539,10 @@ pub fn written_of_table(
 fn scenario_of_table(
     alloc: Global,
     table: &Table,
-    target: TargetKey,
+    target: &TargetKey,
 ) -> Result<WrittenScenario, Placed>
     ensures { IsUnlessMemory ScenarioFault.Memory
-        (scenario_of_table target (table_view table.now)) result }
+        (scenario_of_table target.now (table_view table.now)) result }
 {
     let time = time_of_table(table)?;
     let tick = tick_of_table(table, time)?;

@@ -5,7 +5,7 @@ ghost use Rattle.convoy_toml.specs.TextLaws.{CommonDivisorsAreGreatest, TargetsM
 
 use convoy_scenario::scenario_laws::drafts_give_scenarios;
 
-/// What a text is read as is a well-formed scenario.
+/// What a text is read as is a well-formed scenario, whatever is asked beside it.
 pub fn texts_give_scenarios()
     ensures { TextsGiveScenarios }
 {

@@ -2,6 +2,7 @@ ghost use Rattle.std.specs.Prelude.{◌≡◌, ◌≤◌, ◌++◌, map, flat_ma
 ghost use Rattle.convoy_draft.specs.declared.duration.TheConstants.{LONGEST_DURATION};
 ghost use Rattle.std.specs.List.{list_all};
 ghost use Rattle.convoy_scenario.specs.Memory.{IsUnlessMemory};
+ghost use Rattle.convoy_toml.specs.Deadlines.{has_durations};
 ghost use Rattle.convoy_toml.specs.Shape.{listed};
 ghost use Rattle.convoy_toml.specs.Times.{if_written, whole_if_written, greatest_most, delay_or_greatest, is_least, need_least, times_of_message, times_of_links, is_count, is_lasting, length_of, divisor_of_all, times_of, tick_between, tick_of, ticks_in, ticks_of, whole, last_tick, draft_message_of, draft_messages_of, bundle_of, bundles_of, draft_of_written};
 
@@ -146,8 +147,16 @@ pub fn tick_of(alloc: Global, scenario: &WrittenScenario) -> Result<Option<Durat
     tick_between(&times)
 }
 
+/// Whether a time of a scenario is written as a duration.
+pub(crate) fn has_durations(alloc: Global, scenario: &WrittenScenario) -> Result<bool, AllocError>
+    ensures { IfOk result (λ has. has ≡ has_durations scenario.now) }
+{
+    let times = times_of(alloc, scenario)?;
+    Ok(!are_counts(&times))
+}
+
 /// The nanoseconds of a tick, if there is one.
-fn length_of(tick: &Option<Duration>) -> Option<u64>
+pub(crate) fn length_of(tick: &Option<Duration>) -> Option<u64>
     ensures { result ≡ tick.now }
 {
     match tick {

@@ -23,12 +23,14 @@ pub struct WrittenMulticast {
     pub at: WrittenTime,
     /// The last time at which it may be issued, where that is written: else its issue is known.
     pub until: Option<WrittenTime>,
+    /// The most that its latency may be, where it has a deadline.
+    pub within: Option<WrittenTime>,
 }
 
 impl Model for WrittenMulticast {
     ghost Value = { WrittenMessage };
 
-    ghost view = { λ m. record { name = m.name; sender = m.sender; to = m.to.items; at = m.at; until = m.until } };
+    ghost view = { λ m. record { name = m.name; sender = m.sender; to = m.to.items; at = m.at; until = m.until; within = m.within } };
 }
 
 /// Where the links of a table lead.

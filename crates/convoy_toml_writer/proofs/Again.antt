@@ -1,5 +1,5 @@
 -- What is written of a scenario with a schedule is read as both.
-use Rattle.std.proofs.Common.{◌≡◌, List, [], ◌∷◌, length, map, pos, Some, is_some, Result, Ok, refl, ap, ◌∙◌, arith}
+use Rattle.std.proofs.Common.{◌≡◌, List, [], ◌∷◌, length, map, pos, Some, None, is_some, Result, Ok, refl, ap, ◌∙◌, arith}
 use Rattle.convoy_lines.specs.Results.{◌>>=◌}
 use Rattle.convoy_draft.specs.declared.fault.ScenarioFault.{ScenarioFault}
 use Rattle.convoy_draft.specs.declared.time.Time.{Time}
@@ -10,12 +10,12 @@ use Rattle.convoy_scenario.specs.Numbering.{scenario_of_draft}
 use Rattle.convoy_scenario.specs.Naming.{draft_for}
 use Rattle.convoy_scenario.specs.Scenario.{Message, Scenario}
 use Rattle.convoy_packets.specs.ScheduleLaws.{RanksAreOneEach}
-use Rattle.convoy_toml.specs.declared.target.TargetKey.TheVariants.{Required}
-use Rattle.convoy_toml.specs.Reading.{InputView, need_ranges, input_of_text, input_of_table, input_of_written}
+use Rattle.convoy_toml.specs.Deadlines.{deadlines_of_written}
+use Rattle.convoy_toml.specs.Reading.{InputView, as_written, need_ranges, input_of_text, input_of_table, input_of_written}
 use Rattle.convoy_toml.specs.Shape.{Written}
 use Rattle.convoy_toml_writer.specs.Text.{toml_text}
 use Rattle.convoy_toml_writer.specs.WrittenTextLaws.{TextsAreRead, input_for, ranks_for}
-use Rattle.convoy_toml_writer.proofs.Drafted.{draft_same}
+use Rattle.convoy_toml_writer.proofs.Drafted.{draft_same, none_written}
 use Rattle.convoy_toml_writer.proofs.Parsed.{text_read}
 use Rattle.convoy_toml_writer.proofs.Shaped.{document_shaped, written_least, written_scenario}
 use Rattle.convoy_toml_writer.proofs.Writable.{tick_readable, tick_short, writable}
@@ -38,8 +38,11 @@ texts_again grounds scenario schedule is assigned =
     written : Written
     written = record { scenario = written_scenario scenario; schedule = Some (map pos schedule.delays); order = ranks_for scenario schedule.order }
 
+    ranged : Draft → Scenario → Result Scenario ScenarioFault
+    ranged draft s = need_ranges (is_some (written_least scenario.time)) draft >>= λ _. Ok s
+
     given : Scenario → Result InputView ScenarioFault
-    given s = Ok (record { scenario = s; schedule = Some (map pos schedule.delays); order = ranks_for scenario schedule.order })
+    given s = deadlines_of_written None (written_scenario scenario) >>= λ deadlines. Ok (record { scenario = s; schedule = Some (map pos schedule.delays); order = ranks_for scenario schedule.order })
 
     by_messages : (messages : List Message) → scenario.multicasts ≡ messages → input_of_text (toml_text scenario schedule) ≡ Ok (input_for scenario schedule)
     by_messages [] none = absurd (omega (arith, is.multicasts_low, ap length none))
@@ -48,7 +51,8 @@ texts_again grounds scenario schedule is assigned =
         let shaped = document_shaped scenario schedule message messages some (tick_readable scenario is) in
         let drafted = draft_same scenario is.delay_low (grounds.links scenario is) in
         let numbered = grounds.drafts scenario is in
-        ap (λ r. r >>= input_of_table Required) read ∙ ap (λ r. r >>= input_of_written) shaped
-        ∙ ap (λ r. r >>= (λ draft. scenario_of_draft draft >>= (λ s. need_ranges (is_some (written_least scenario.time)) draft >>= (λ _. given s)))) drafted
-        ∙ ap (λ r. r >>= (λ s. need_ranges (is_some (written_least scenario.time)) (draft_for scenario) >>= (λ _. given s))) numbered
-        ∙ ap (λ r. r >>= (λ _. given scenario)) (ranges_there scenario.time (draft_for scenario) refl)
+        ap (λ r. r >>= input_of_table as_written) read ∙ ap (λ r. r >>= input_of_written as_written) shaped
+        ∙ ap (λ r. r >>= (λ draft. scenario_of_draft draft >>= ranged draft) >>= given) drafted
+        ∙ ap (λ r. r >>= ranged (draft_for scenario) >>= given) numbered
+        ∙ ap (λ r. r >>= (λ _. Ok scenario) >>= given) (ranges_there scenario.time (draft_for scenario) refl)
+        ∙ ap (λ r. r >>= (λ _. Ok (input_for scenario schedule))) (none_written scenario)

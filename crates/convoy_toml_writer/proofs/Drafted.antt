@@ -1,5 +1,5 @@
 -- The draft of what is written of a scenario is the scenario by names.
-use Rattle.std.proofs.Common.{◌≡◌, ℕ, ◌+◌, ◌≤◌, leb, true, not, List, [], ◌∷◌, ◌++◌, map, flat_map, length, pos, ℤ, Option, Some, None, Ok, refl, ap, ◌∙◌, arith, inl, inr}
+use Rattle.std.proofs.Common.{◌≡◌, ℕ, ◌+◌, ◌≤◌, leb, Bool, true, not, List, [], ◌∷◌, ◌++◌, map, flat_map, length, pos, ℤ, Option, Some, None, Ok, refl, ap, ◌∙◌, arith, inl, inr}
 use Rattle.std.specs.List.{list_all, sum_by}
 use Rattle.std.proofs.lemmas.Bool.{cases_Bool, le-leb, ltb-false, false≢true, or_right}
 use Rattle.std.proofs.lemmas.List.Sums.{sum_by-cons}
@@ -17,6 +17,7 @@ use Rattle.convoy_toml.specs.declared.links.TheConstants.{MOST_WRITTEN_LINKS}
 use Rattle.convoy_toml.specs.declared.written.WrittenTime.{WrittenTime}
 use Rattle.convoy_toml.specs.declared.written.WrittenTime.TheVariants.{Count}
 use Rattle.convoy_toml.specs.Links.{Bundle, apart, ways_of, count_of, links_of_bundle, links_of_bundles}
+use Rattle.convoy_toml.specs.Deadlines.{deadlines_of, deadlines_of_written, has_durations}
 use Rattle.convoy_toml.specs.Shape.{WrittenScenario}
 use Rattle.convoy_toml.specs.Times.{is_count, if_written, times_of_message, times_of_links, times_of, tick_of, last_tick, whole_if_written, is_least, need_least, draft_messages_of, bundles_of, draft_of_written}
 use Rattle.convoy_toml.specs.Ways.{with_least}
@@ -157,3 +158,13 @@ draft_same scenario some few =
     in_steps (written_scenario scenario) scenario.tick scenario.delay (least_ticks scenario.time) (map (draft_message scenario) scenario.multicasts) (map (bundle scenario) scenario.links) (map (draft_link scenario) scenario.links)
     (tick_same scenario) refl (least_whole scenario.tick scenario.time) (messages_same scenario.tick scenario scenario.multicasts) (bundles_same scenario.tick scenario scenario.links) (links_same scenario scenario.links few) (least_within scenario.delay scenario.time some)
     ∙ ap Ok (least_adds_none scenario.time (draft_for scenario))
+
+-- ---- deadlines: none is written
+
+no_deadlines : (lasting : Bool) (tick : Option ℕ) (scenario : Scenario) (messages : List Message)
+    → deadlines_of None lasting tick (map (written_message scenario) messages) ≡ Ok (map (λ message. None) messages)
+no_deadlines lasting tick scenario [] = refl
+no_deadlines lasting tick scenario (m ∷ ms) = rw (no_deadlines lasting tick scenario ms) refl
+
+pub none_written : (scenario : Scenario) → deadlines_of_written None (written_scenario scenario) ≡ Ok (map (λ message. None) scenario.multicasts)
+none_written scenario = rw (tick_same scenario, no_deadlines (has_durations (written_scenario scenario)) scenario.tick scenario scenario.multicasts) refl

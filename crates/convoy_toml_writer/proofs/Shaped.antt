@@ -67,6 +67,7 @@ written_message scenario message = record {
   to = map (group_name_at scenario) message.destinations;
   at = Count (pos message.at);
   until = written_until message;
+  within = None;
 }
 
 abbrev pub written_link : Scenario → ScenarioLink → WrittenLink

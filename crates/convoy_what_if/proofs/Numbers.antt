@@ -39,8 +39,8 @@ greatest_of settings scenario another row latency nodes cause (Err fault) given 
     absurd cc
 
 pub rows_are_latencies : RowsAreLatencies
-rows_are_latencies settings other scenario another row latency nodes cause text out is finding made read told =
-    latency_told other another latency text out
+rows_are_latencies settings other asked scenario another row latency nodes cause text out end is finding made read told =
+    latency_told asked other another latency text out end
     (greatest_of settings scenario another row latency nodes cause is.answer is.given is.told finding made) read told
 
 -- what is told encloses the greatest latency of that scenario

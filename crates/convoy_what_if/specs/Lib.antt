@@ -11,6 +11,7 @@ pub use Rattle.convoy_tables.specs.Formats
 pub use Rattle.convoy_commands.specs.Searches
 pub use Rattle.convoy_survey.specs.Findings
 pub use Rattle.convoy_survey.specs.Times
+pub use Rattle.convoy_survey.specs.Judgements
 -- what a reader has to believe: what a change makes of a scenario, and which changes there are; what is tried of each, in which order the rows stand, and the table that is written
 pub mod Changes
 pub mod Cells

@@ -4,25 +4,29 @@ ghost use Rattle.std.specs.Prelude.{◌≡◌, ◌∷◌, [], ◌++◌, string_b
 ghost use Rattle.convoy_scenario.specs.Naming.{sender_word};
 ghost use Rattle.convoy_scenario.specs.Scenario.{group_name_at};
 ghost use Rattle.convoy_tables.specs.Tables.{nothing, word};
-ghost use Rattle.convoy_what_if.specs.Cells.{change_cells, change_word, left_out, link_cells, number_cells, others_cells, others_words, row_cells, text_cell};
+ghost use Rattle.convoy_what_if.specs.Cells.{change_cells, change_word, judged_cells, left_out, link_cells, number_cells, others_cells, others_words, row_cells, text_cell};
 
 use super::kinds::Change;
 use super::tried::Tried;
 use convoy_draft::Name;
 use convoy_scenario::naming::{group_name, sender_word};
 use convoy_scenario::{Scenario, Sender};
-use convoy_survey::{Finding, Times, push_name, push_nodes, push_ticks, push_times};
+use convoy_survey::{
+    Finding, Times, push_name, push_nodes, push_ticks, push_times, push_verdict_cells,
+};
 use convoy_tables::Row;
 use std::alloc::{AllocError, Global};
 
-/// The cells of a row: the change by the names of the scenario, and what was found.
+/// The cells of a row: the change by the names of the scenario, what was found, and how that keeps the deadline of the
+/// target, where this has one.
 pub(crate) fn row_cells(
     alloc: Global,
     times: &Times,
+    deadline: Option<u32>,
     scenario: &Scenario,
     row: &Tried,
 ) -> Result<Row, AllocError>
-    ensures { IfOk result (λ cells. cells ≡ row_cells times.now scenario.now row.now) }
+    ensures { IfOk result (λ cells. cells ≡ row_cells times.now deadline scenario.now row.now) }
 {
     let mut cells = Row::new(alloc);
     push_change(scenario, row.change, &mut cells)?;
@@ -30,6 +34,7 @@ pub(crate) fn row_cells(
     push_text(&row.rival, &mut cells)?;
     push_text(&row.tied, &mut cells)?;
     push_nodes(row.finding, &mut cells)?;
+    push_judged(alloc, times, deadline, row.finding, &mut cells)?;
     Ok(cells)
 }
 
@@ -37,16 +42,18 @@ pub(crate) fn row_cells(
 pub(crate) fn others_cells(
     alloc: Global,
     times: &Times,
+    deadline: Option<u32>,
     count: usize,
     finding: Finding,
 ) -> Result<Row, AllocError>
-    ensures { IfOk result (λ cells. cells ≡ others_cells times.now count finding) }
+    ensures { IfOk result (λ cells. cells ≡ others_cells times.now deadline count finding) }
 {
     let mut cells = Row::new(alloc);
     cells.push_word(&others_words(alloc, count)?)?;
     push_nothing_thrice(&mut cells)?;
     push_numbers(alloc, times, finding, &mut cells)?;
     push_nothing_thrice(&mut cells)?;
+    push_judged(alloc, times, deadline, finding, &mut cells)?;
     Ok(cells)
 }
 
@@ -82,6 +89,28 @@ fn push_numbers(
     cells.push_word(finding.answer())?;
     push_ticks(finding, cells)?;
     push_times(alloc, times, finding, cells)
+}
+
+/// Puts how what was found keeps the deadline of the target at the end of a row, where this has one.
+fn push_judged(
+    alloc: Global,
+    times: &Times,
+    deadline: Option<u32>,
+    finding: Finding,
+    cells: &mut Row,
+) -> Result<(), AllocError>
+    ensures { OnOk result (cells.new ≡ cells.old ++ judged_cells times.now deadline finding) }
+{
+    let (least, most) = (finding.least(), finding.most());
+    push_verdict_cells(
+        alloc,
+        deadline.is_some(),
+        times,
+        deadline,
+        least,
+        most,
+        cells,
+    )
 }
 
 /// Puts a name at the end of a row, or nothing where there is none.

@@ -6,22 +6,24 @@ use super::cells::{others_cells, row_cells};
 use super::folding::{count_leaving, folded_latency, is_nothing, leaves_latency};
 use super::tried::Tried;
 use convoy_scenario::Scenario;
-use convoy_survey::{Finding, Times, push_finding_columns};
+use convoy_survey::{Finding, Times, push_finding_columns, push_verdict_columns};
 use convoy_tables::{Format, Row, Table, table_text};
 use std::alloc::{AllocError, Global};
 
-/// The table of these rows as it is written in a format: all of them, or without those that change nothing.
+/// The table of these rows as it is written in a format, by the deadline of the target where this has one: all of them,
+/// or without those that change nothing.
 pub(crate) fn text_of(
     alloc: Global,
     format: Format,
     times: &Times,
+    deadline: Option<u32>,
     shows_all: bool,
     scenario: &Scenario,
     rows: &[Tried],
 ) -> Result<Vec<u8>, AllocError>
-    ensures { IfOk result (λ text. text.items ≡ table_text format (table_of times.now shows_all scenario.now rows.now)) }
+    ensures { IfOk result (λ text. text.items ≡ table_text format (table_of times.now deadline shows_all scenario.now rows.now)) }
 {
-    let table = table_of(alloc, times, shows_all, scenario, rows)?;
+    let table = table_of(alloc, times, deadline, shows_all, scenario, rows)?;
     table_text(alloc, &table, format)
 }
 
@@ -29,15 +31,18 @@ pub(crate) fn text_of(
 fn table_of(
     alloc: Global,
     times: &Times,
+    deadline: Option<u32>,
     shows_all: bool,
     scenario: &Scenario,
     rows: &[Tried],
 ) -> Result<Table, AllocError>
-    ensures { IfOk result (λ table. table ≡ table_of times.now shows_all scenario.now rows.now) }
+    ensures { IfOk result (λ table. table ≡ table_of times.now deadline shows_all scenario.now rows.now) }
 {
-    let mut table = Table::new(alloc, columns_of(alloc, times)?);
+    let mut table = Table::new(alloc, columns_of(alloc, times, deadline)?);
     let unchanged = folded_latency(shows_all, rows);
-    push_rows(alloc, times, scenario, unchanged, rows, &mut table)?;
+    push_rows(
+        alloc, times, deadline, scenario, unchanged, rows, &mut table,
+    )?;
     Ok(table)
 }
 
@@ -45,18 +50,21 @@ fn table_of(
 fn push_rows(
     alloc: Global,
     times: &Times,
+    deadline: Option<u32>,
     scenario: &Scenario,
     unchanged: Option<u32>,
     rows: &[Tried],
     table: &mut Table,
 ) -> Result<(), AllocError>
     ensures { OnOk result (table.new ≡ record table.old {
-      rows = table.old.rows ++ lines_of times.now scenario.now unchanged rows.now;
+      rows = table.old.rows ++ lines_of times.now deadline scenario.now unchanged rows.now;
     }) }
 {
     let count = count_leaving(unchanged, rows);
     for row in rows {
-        push_row(alloc, times, scenario, unchanged, count, row, table)?;
+        push_row(
+            alloc, times, deadline, scenario, unchanged, count, row, table,
+        )?;
     }
     Ok(())
 }
@@ -66,6 +74,7 @@ fn push_rows(
 fn push_row(
     alloc: Global,
     times: &Times,
+    deadline: Option<u32>,
     scenario: &Scenario,
     unchanged: Option<u32>,
     count: usize,
@@ -73,44 +82,46 @@ fn push_row(
     table: &mut Table,
 ) -> Result<(), AllocError>
     ensures { OnOk result (table.new ≡ record table.old {
-      rows = table.old.rows ++ row_lines times.now scenario.now unchanged count row.now;
+      rows = table.old.rows ++ row_lines times.now deadline scenario.now unchanged count row.now;
     }) }
 {
     if is_nothing(row.change) {
-        table.push(row_cells(alloc, times, scenario, row)?)?;
-        return push_others(alloc, times, count, row.finding, table);
+        table.push(row_cells(alloc, times, deadline, scenario, row)?)?;
+        return push_others(alloc, times, deadline, count, row.finding, table);
     }
     if leaves_latency(unchanged, row) {
         return Ok(());
     }
-    table.push(row_cells(alloc, times, scenario, row)?)
+    table.push(row_cells(alloc, times, deadline, scenario, row)?)
 }
 
 /// Puts the line that stands for so many other changes at the end of a table, if there is any.
 fn push_others(
     alloc: Global,
     times: &Times,
+    deadline: Option<u32>,
     count: usize,
     finding: Finding,
     table: &mut Table,
 ) -> Result<(), AllocError>
     ensures { OnOk result (table.new ≡ record table.old {
-      rows = table.old.rows ++ others_lines times.now count finding;
+      rows = table.old.rows ++ others_lines times.now deadline count finding;
     }) }
 {
     if count == 0 {
         Ok(())
     } else {
-        table.push(others_cells(alloc, times, count, finding)?)
+        table.push(others_cells(alloc, times, deadline, count, finding)?)
     }
 }
 
 /// The names of the columns.
-fn columns_of(alloc: Global, times: &Times) -> Result<Row, AllocError>
-    ensures { IfOk result (λ columns. columns ≡ columns_of times.now) }
+fn columns_of(alloc: Global, times: &Times, deadline: Option<u32>) -> Result<Row, AllocError>
+    ensures { IfOk result (λ columns. columns ≡ columns_of times.now deadline) }
 {
     let mut columns = Row::new(alloc);
     columns.push_words(&["change", "message", "from", "to"])?;
     push_finding_columns(times, &mut columns)?;
+    push_verdict_columns(deadline.is_some(), times, &mut columns)?;
     Ok(columns)
 }

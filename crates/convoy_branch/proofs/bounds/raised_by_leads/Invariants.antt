@@ -7,7 +7,7 @@ abbrev pub invariant-loop-low : goal.invariant-loop-low
 invariant-loop-low l = record {
   low : l.upper ≤ l.low;
   order : l.low ≤ l.high;
-  closes : closes_for Lead l.instance l.branch.delay_box l.high ≡ true;
+  closes : closes_for Lead l.instance l.branch.region l.high ≡ true;
   within : l.high ≤ max l.upper l.bound;
 }
 

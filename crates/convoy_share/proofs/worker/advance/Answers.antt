@@ -7,7 +7,7 @@ use Rattle.convoy_share.specs.declared.means.TakenUp.{TakenUp}
 use Rattle.convoy_share.specs.declared.means.TakenUp.TheVariants.{Turned}
 use Rattle.convoy_share.specs.declared.piece.Piece.{Piece}
 use Rattle.convoy_share.specs.declared.piece.Piece.TheVariants.{Done, Todo}
-use Rattle.convoy_share.specs.Pieces.{IsPiece, left_boxes}
+use Rattle.convoy_share.specs.Pieces.{IsPiece, left_regions}
 use Rattle.convoy_share.specs.Means.{IsTakenUp}
 use Rattle.convoy_share.proofs.Grown.{IsGrown-turned, IsGrown-left, left_same}
 use Rattle.convoy_share.proofs.Placed.{IsGrown-placed}
@@ -102,7 +102,7 @@ returns-in_ok-part-in-Turned-Halves-clause-left g c before =
     let written = reverse c.args.growing.now.written.items in
     let h = c.in-Turned-Halves in
     let taken = subst Taken (h.is ∙ ap (λ (t : Turn). Turned t) h.field-0-is) c.in_ok-node.ensures in
-    left_same bounds scenario may_stop most between after written (reverse c.part.new.self.written.items) c.args.branch (Halves h.split h.first h.second h.tried) taken (ap (λ (ps : List Piece). left_boxes (reverse ps)) c.in_ok-part-in-Turned-Halves.ensures.written) before
+    left_same bounds scenario may_stop most between after written (reverse c.part.new.self.written.items) c.args.branch (Halves h.split h.first h.second h.tried) taken (ap (λ (ps : List Piece). left_regions (reverse ps)) c.in_ok-part-in-Turned-Halves.ensures.written) before
 
 pub returns-in_ok-leave-in-Left-clause-left : goal.returns-in_ok-leave-in-Left-clause-left
 returns-in_ok-leave-in-Left-clause-left g c before =

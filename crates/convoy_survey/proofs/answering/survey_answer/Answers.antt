@@ -11,7 +11,7 @@ returns g c =
       lawful = c.message_count-count.ensures.lawful;
       surveyed = c.in_ok-rows.ensures;
       written =
-          rw (c.about.ensures.text, c.in_ok-text.ensures, c.deref.ensures.value, c.of-times.ensures, c.of.ensures, c.unit.ensures, c.in_ok-input.ensures.unit)
+          rw (c.about.ensures.text, c.in_ok-text.ensures, c.deref.ensures.value, c.of-times.ensures, c.of.ensures, c.unit.ensures, c.in_ok-input.ensures.unit, c.as_slice-deadlines.ensures.value, c.in_ok-input.ensures.deadlines)
           refl;
-      ends = rw (c.about.ensures.done, c.end_of.ensures, c.deref-2.ensures.value) refl;
+      ends = rw (c.about.ensures.done, c.end_of-done.ensures, c.deref-2.ensures.value, c.as_slice-deadlines.ensures.value, c.in_ok-input.ensures.deadlines) refl;
     })

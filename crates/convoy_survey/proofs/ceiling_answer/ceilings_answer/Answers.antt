@@ -12,7 +12,7 @@ returns c =
       named = search rules;
       ceiled = c.in_ok-rows.ensures;
       written =
-          rw (c.about.ensures.text, c.in_ok-text.ensures, c.deref.ensures.value, c.is_at_all_groups.ensures, c.of-times.ensures, c.of.ensures, c.in_ok-input.ensures.unit)
+          rw (c.about.ensures.text, c.in_ok-text.ensures, c.deref.ensures.value, c.is_at_all_groups.ensures, c.of-times.ensures, c.of.ensures, c.in_ok-input.ensures.unit, c.as_slice-deadlines.ensures.value, c.in_ok-input.ensures.deadlines)
           refl;
-      ends = rw (c.about.ensures.done, c.end_of.ensures, c.deref-2.ensures.value) refl;
+      ends = rw (c.about.ensures.done, c.end_of-done.ensures, c.deref-2.ensures.value, c.as_slice-deadlines.ensures.value, c.in_ok-input.ensures.deadlines) refl;
     })

@@ -15,7 +15,7 @@ push_message-requires c =
 
 pub loop-message-preserved : goal.loop-message-preserved
 loop-message-preserved c =
-    let lines : ℕ → List (List Cell) = λ m. message_lines c.args.with_ceilings c.args.times.now c.args.scenario.now (rows_of m c.args.rows.now) in
-    let table : List (List Cell) → Table = λ rows. record { columns = columns_of c.args.with_ceilings c.args.times.now; rows = rows } in
+    let lines : ℕ → List (List Cell) = λ m. message_lines c.args.with_ceilings c.args.times.now c.args.deadlines.now c.args.scenario.now (rows_of m c.args.rows.now) in
+    let table : List (List Cell) → Table = λ rows. record { columns = columns_of c.args.with_ceilings c.args.times.now c.args.deadlines.now; rows = rows } in
     rw (c.in_ok-push_message.ensures, c.loop-message.invariant, c.deref.ensures.value, c.in_ok-of_message.ensures)
     (ap table (sym (flat_map_range_more lines c.loop-message.message)))

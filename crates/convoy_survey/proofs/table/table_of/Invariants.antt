@@ -7,6 +7,6 @@ use Rattle.convoy_survey.proofs.table.table_of.Given as goal
 -- the table of the messages so far
 abbrev pub invariant-loop-message : goal.invariant-loop-message
 invariant-loop-message l = l.table ≡ record {
-  columns = columns_of l.with_ceilings l.times;
-  rows = flat_map (λ m. message_lines l.with_ceilings l.times l.scenario (rows_of m l.rows)) (range_with_len 0 l.message);
+  columns = columns_of l.with_ceilings l.times l.deadlines;
+  rows = flat_map (λ m. message_lines l.with_ceilings l.times l.deadlines l.scenario (rows_of m l.rows)) (range_with_len 0 l.message);
 }

@@ -1,5 +1,6 @@
 -- Each read so far gave a piece of the text, and the blocks of the jobs that ended in it have gone out.
 use Rattle.std.proofs.Common.{List, ℕ}
+use Rattle.convoy_commands.specs.Searches.{LatencySays}
 use Rattle.convoy_tasks.specs.BatchSteps.{IsUnderWay}
 use Rattle.convoy_tasks.proofs.BatchRuns.{HasReadOn}
 use Rattle.convoy_tasks.proofs.batch.run_batch.Given as goal
@@ -8,5 +9,5 @@ abbrev pub invariant-loop : goal.invariant-loop
 invariant-loop g l = record {
   bytes : List ℕ;
   moved : HasReadOn g.S.Source.reads l.fn.source bytes l.counter l.source;
-  under : IsUnderWay l.options g.K.Sink.writes l.fn.sink l.sink bytes l.batch;
+  under : IsUnderWay (LatencySays l.asked l.options) g.K.Sink.writes l.fn.sink l.sink bytes l.batch;
 }

@@ -2,7 +2,8 @@ use Rattle.convoy_scenario.specs.Scenario.{Scenario}
 use Rattle.convoy_tasks.proofs.batch_laws.job_rows_are_latencies.Goals as goal
 
 pub returns : goal.returns
-returns c = λ settings other text out found latency nodes cause searched is told.
+returns c = λ asked settings other text out end found latency nodes cause searched is told.
     let scenario : Scenario = found.instance in
-    c.rows_are_latencies.ensures settings other scenario scenario.target_message scenario.target_group latency nodes cause text out
-    (rw is at searched.finding) searched.read told
+    rw searched.deadline
+    (c.rows_are_latencies.ensures settings other asked scenario scenario.target_message scenario.target_group latency nodes cause text out end
+    (rw is at searched.finding) searched.read told)

@@ -6,5 +6,5 @@ use Rattle.convoy_tasks.proofs.job_row.push_row.Goals as goal
 pub returns : goal.returns
 returns g c = λ jobs job are held.
     rw c.in_ok-push.ensures.items
-    (all_zipped_more (IsJobRow c.args.options.now) jobs _ job _ are
+    (all_zipped_more (IsJobRow c.args.asked.now c.args.options.now) jobs _ job _ are
     (record { label = c.in_ok-label.ensures.items ∙ c.label.ensures.label _ job held; found = c.find_job-found.ensures job held }))

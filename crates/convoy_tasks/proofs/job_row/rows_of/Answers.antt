@@ -10,7 +10,7 @@ use Rattle.convoy_tasks.proofs.job_row.rows_of.Goals as goal
 pub returns : goal.returns
 returns g c =
     let text : List ℕ = take c.loop-byte.byte-index c.args.text.now in
-    let P : List Job → Type 0 = λ jobs. AreJobRows c.args.options.now jobs c.push_row-2.new.rows.items in
+    let P : List Job → Type 0 = λ jobs. AreJobRows c.args.asked.now c.args.options.now jobs c.push_row-2.new.rows.items in
     let whole = ap jobs_of (take_all c.loop-byte.byte-index c.args.text.now c.loop-byte-test.false) in
     let ends = c.finish.ensures LONGEST_JOB text c.loop-byte.invariant.after in
     elim c.if-finish.branch [

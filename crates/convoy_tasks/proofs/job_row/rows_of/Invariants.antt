@@ -9,5 +9,5 @@ use Rattle.convoy_tasks.proofs.job_row.rows_of.Given as goal
 abbrev pub invariant-loop-byte : goal.invariant-loop-byte
 invariant-loop-byte g l = record {
   after : IsAfter LONGEST_JOB l.splitter (take l.byte-index l.text);
-  found : AreJobRows l.options (ended_jobs (take l.byte-index l.text)) l.rows.items;
+  found : AreJobRows l.asked l.options (ended_jobs (take l.byte-index l.text)) l.rows.items;
 }

@@ -1,0 +1,125 @@
+//! What a command line asks of a scenario beside its text: its target, and a deadline.
+
+use super::escaping::Escaped;
+use clap::ArgMatches;
+use convoy_scenario::{Duration, Name};
+use convoy_toml::{Asked, TargetKey, WrittenTime};
+use std::alloc::{AllocError, Global};
+
+/// Why the words of a command line ask for nothing.
+#[derive(Drop)]
+pub(crate) enum Unasked {
+    /// A value of an option is none: the words are rejected with this text.
+    Rejected(String),
+    /// Memory ran out.
+    Memory,
+}
+
+impl From<AllocError> for Unasked {
+    fn from(_error: AllocError) -> Unasked {
+        Unasked::Memory
+    }
+}
+
+/// How `--at-most` stands in a text for a person, and what can be written there.
+const AT_MOST: (&str, &str) = (
+    "--at-most <TIME>",
+    "write a number of ticks, from 1 on, or a duration above 0, as '400 ms'",
+);
+
+/// The same of `--target`.
+const TARGET: (&str, &str) = (
+    "--target <MESSAGE@GROUP>",
+    "write the name of a message and that of a group, with one '@' between them, as 't@a'",
+);
+
+/// What the command of that name asks of its text beside what that says.
+pub(crate) fn asked_of(
+    alloc: Global,
+    name: &str,
+    given: &ArgMatches<'_>,
+) -> Result<Asked, Unasked> {
+    Ok(Asked {
+        target: target_of(alloc, name, given)?,
+        at_most: at_most_of(alloc, given)?,
+    })
+}
+
+/// The target: the one that is given, or else the text's, which may be missing where each message is asked for.
+fn target_of(alloc: Global, name: &str, given: &ArgMatches<'_>) -> Result<TargetKey, Unasked> {
+    match given.get_str("target") {
+        Some(word) => target_in(alloc, word),
+        None if asks_for_several(name, given) => Ok(TargetKey::Optional),
+        None => Ok(TargetKey::Required),
+    }
+}
+
+/// Whether several messages are asked for, whatever the target is.
+fn asks_for_several(name: &str, given: &ArgMatches<'_>) -> bool {
+    match name {
+        "survey" => !given.get_flag("without"),
+        "budget" => given.get_flag("all"),
+        "ceiling" => given.get_flag("all") || given.get_str("group").is_some(),
+        _ => false,
+    }
+}
+
+/// The target that a word tells: two names with one `@` between them.
+fn target_in(alloc: Global, word: &str) -> Result<TargetKey, Unasked> {
+    match word.split_once('@') {
+        Some((message, group)) if is_name(message) && is_name(group) => Ok(TargetKey::Named {
+            message: Name::new(alloc, message)?,
+            group: Name::new(alloc, group)?,
+        }),
+        _ => Err(rejected(alloc, TARGET, word)),
+    }
+}
+
+/// Whether a side of a target is a name, be it one of a scenario or not.
+fn is_name(side: &str) -> bool {
+    !side.is_empty() && !side.contains('@')
+}
+
+/// The deadline that is given for messages to which the text gives none, if one is.
+fn at_most_of(alloc: Global, given: &ArgMatches<'_>) -> Result<Option<WrittenTime>, Unasked> {
+    let Some(word) = given.get_str("at-most") else {
+        return Ok(None);
+    };
+    match time_in(word) {
+        Some(time) => Ok(Some(time)),
+        None => Err(rejected(alloc, AT_MOST, word)),
+    }
+}
+
+/// The time above 0 that a word tells: a number of ticks, by digits alone, or a duration as scenario texts write it.
+fn time_in(word: &str) -> Option<WrittenTime> {
+    if word.bytes().all(|byte| byte.is_ascii_digit()) {
+        return count_in(word);
+    }
+    let duration = Duration::read(word.as_bytes())?;
+    if duration.nanoseconds() >= 1 {
+        Some(WrittenTime::Lasting(duration))
+    } else {
+        None
+    }
+}
+
+/// The number of ticks above 0 that digits tell.
+fn count_in(digits: &str) -> Option<WrittenTime> {
+    match digits.parse::<i64>() {
+        Ok(ticks) if ticks >= 1 => Some(WrittenTime::Count(ticks)),
+        _ => None,
+    }
+}
+
+/// That a word is no value of that option, in the form of clap's own texts; or that memory ran out.
+fn rejected(alloc: Global, (option, tip): (&'static str, &'static str), word: &str) -> Unasked {
+    let word = Escaped(word);
+    let text = format!(in alloc;
+        "error: invalid value '{word}' for '{option}'\n\n  tip: {tip}\n\nFor more information, try '--help'.\n"
+    );
+    match text {
+        Ok(text) => Unasked::Rejected(text),
+        Err(AllocError) => Unasked::Memory,
+    }
+}
