@@ -12,4 +12,5 @@ pub mod SearchOutcomes
 pub mod LeftBounds
 pub mod FrontUppers
 pub mod Withins
+pub mod FirstPasses
 pub mod OpenTurns

@@ -10,6 +10,7 @@ use Rattle.convoy_branch.specs.declared.bounds.Bounds.TheVariants.{Lead, Plain}
 use Rattle.convoy_branch.specs.declared.limit.Limit.{Limit}
 use Rattle.convoy_branch.specs.declared.outcome.Outcome.{Outcome}
 use Rattle.convoy_branch.specs.declared.outcome.Outcome.TheVariants.{Proved, Open}
+use Rattle.convoy_branch.specs.declared.splits.Splits.TheVariants.{Orders}
 use Rattle.convoy_branch.specs.Limits.{IsWithin}
 use Rattle.convoy_branch.specs.Outcomes.{IsOpen, IsOutcome, best_of}
 
@@ -37,7 +38,7 @@ returns_all result limit IsAnswer =
     IfOk-weaker result (λ outcome. IsAnswer limit.tickets outcome) (λ outcome. IsWithin limit (λ tickets. IsAnswer tickets outcome)) (λ outcome answer. IsWithin-all limit (λ tickets. IsAnswer tickets outcome) answer)
 
 -- nothing stops the search
-pub returns_whole : {E : Type 0} (result : Result Outcome E) (limit : Limit) (tickets : ℕ) (IsAnswer : ℕ → Outcome → Type 0) → limit ≡ record { tickets = tickets; may_stop = false } → IfOk result (λ outcome. IsWithin limit (λ spent. IsAnswer spent outcome)) → IfOk result (λ outcome. IsAnswer tickets outcome)
+pub returns_whole : {E : Type 0} (result : Result Outcome E) (limit : Limit) (tickets : ℕ) (IsAnswer : ℕ → Outcome → Type 0) → limit ≡ record { tickets = tickets; may_stop = false; splits = Orders } → IfOk result (λ outcome. IsWithin limit (λ spent. IsAnswer spent outcome)) → IfOk result (λ outcome. IsAnswer tickets outcome)
 returns_whole result limit tickets IsAnswer is =
     IfOk-weaker result (λ outcome. IsWithin limit (λ spent. IsAnswer spent outcome)) (λ outcome. IsAnswer tickets outcome) (λ outcome within. subst (λ (spent : ℕ). IsAnswer spent outcome) (within.all (ap (λ (l : Limit). l.may_stop) is) ∙ ap (λ (l : Limit). l.tickets) is) within.answer)
 

@@ -10,6 +10,7 @@ use Rattle.convoy_branch.specs.declared.limit.Limit.{Limit}
 use Rattle.convoy_branch.specs.declared.options.TheConstants.{MOST_SIMULATIONS}
 use Rattle.convoy_branch.specs.declared.options.Settings as options
 use Rattle.convoy_branch.specs.declared.options.Ways.{Ways}
+use Rattle.convoy_branch.specs.declared.splits.Splits.TheVariants.{Orders}
 use Rattle.convoy_branch.specs.declared.options.Ways.TheVariants.{One, Both}
 
 -- the highest limit of tickets: by one kind of bounds as many as nodes of its certificate can be read in any case; both ways any number of nodes that can be read, since few of the tickets are for leads
@@ -40,7 +41,7 @@ both_ways_settings workers limit most_reads = record {
 
 -- how far a search with these settings goes: it may be stopped where there are seconds to stop it after
 abbrev pub limit_of : Settings → Limit
-limit_of settings = record { tickets = settings.limit; may_stop = is_some settings.seconds }
+limit_of settings = record { tickets = settings.limit; may_stop = is_some settings.seconds; splits = Orders }
 
 -- there is a worker and a ticket, and no more of them, and of simulations, than may be
 pub record AreSettings (settings : Settings) : Type 0 where

@@ -10,6 +10,7 @@ use super::bounds::Bounds;
 use super::gate::Gate;
 use super::limit::Limit;
 use super::ordering::order_to_split;
+use super::splits::Splits;
 use super::step::{place_to_split, wished};
 use convoy_packets::Instance;
 use convoy_regions::Branch;
@@ -23,8 +24,11 @@ const MOST_TESTS: u32 = 100;
 /// How many times boxes are split at most until all are closed for a latency.
 const MOST_AIMS: u32 = 24;
 
-/// How many boxes are taken up at most below the root.
-const MOST_BOXES: u32 = 200;
+/// How many boxes are taken up at most in the first round below the root; in the next one four times as many.
+const FEWEST_BOXES: u32 = 50;
+
+/// How many such rounds there are.
+const ROUNDS: u32 = 2;
 
 /// What seeking from above has come to.
 #[derive(Drop)]
@@ -63,7 +67,9 @@ pub fn root_from_above<G: Gate>(
 }
 
 /// The same below the root, where a bound in ticks is known for which leads close it: boxes are split as in a search
-/// by leads that closes them for a latency just below that. Each box that is open has its wish runs simulated.
+/// by leads that closes them for a latency just below that. Each box that is open has its wish runs simulated. In real
+/// time trees in which boxes are split at packets alone take turns with those that are split by orders, too, in rounds of
+/// more and more boxes, since what one of them ends in a few boxes the other may not end in thousands.
 pub fn split_from_above<G: Gate>(
     alloc: Global,
     instance: &Instance,
@@ -76,8 +82,37 @@ pub fn split_from_above<G: Gate>(
     ensures of_scenario { IfOk result (λ found. found.best.scenario ≡ instance.now) }
     ensures no_lower { IfOk result (λ found. known.latency ≤ found.best.latency) }
 {
-    let mut above = Above::of(alloc, instance, known);
-    let mut bound = bound;
+    let mut found = FromAbove { best: known, bound };
+    for round in 0..ROUNDS {
+        let boxes = FEWEST_BOXES << (2 * round);
+        found = trees_from_above(alloc, instance, found, Splits::Packets, boxes, limit, gate)?;
+        if matches!(instance.time(), Time::Real) {
+            found = trees_from_above(alloc, instance, found, Splits::Orders, boxes, limit, gate)?;
+        }
+    }
+    Ok(found)
+}
+
+/// The same where boxes are split so.
+fn trees_from_above<G: Gate>(
+    alloc: Global,
+    instance: &Instance,
+    found: FromAbove,
+    splits: Splits,
+    boxes: u32,
+    limit: Limit,
+    gate: &G,
+) -> Result<FromAbove, AllocError>
+    requires of_scenario { found.best.scenario ≡ instance.now }
+    ensures of_scenario { IfOk result (λ after. after.best.scenario ≡ instance.now) }
+    ensures no_lower { IfOk result (λ after. found.best.latency ≤ after.best.latency) }
+{
+    let mut bound = found.bound;
+    let mut above = Above {
+        splits,
+        boxes,
+        ..Above::of(alloc, instance, found.best)
+    };
     let mut below = 1;
     for _ in 0..MOST_AIMS {
         if above.best.latency() >= bound || limit.is_over(gate) {
@@ -118,6 +153,8 @@ struct Above<'a> {
     best: Record,
     /// How many boxes may still be taken up.
     boxes: u32,
+    /// By what they are split.
+    splits: Splits,
 }
 
 impl<'a> Above<'a> {
@@ -130,7 +167,8 @@ impl<'a> Above<'a> {
             alloc,
             instance,
             best: known,
-            boxes: MOST_BOXES,
+            boxes: FEWEST_BOXES,
+            splits: Splits::Packets,
         }
     }
 
@@ -196,14 +234,14 @@ impl<'a> Above<'a> {
     {
         let mut work = Vec::new(self.alloc);
         work.push(Branch::root(self.alloc, self.instance)?)?;
-        for _ in 0..MOST_BOXES {
+        for _ in 0..self.boxes {
             let Some(branch) = work.pop() else {
                 return Ok(Aimed::Closed);
             };
-            if self.boxes == 0 || limit.is_over(gate) {
+            if limit.is_over(gate) {
                 return Ok(Aimed::GivenUp);
             }
-            self.boxes -= 1;
+            self.boxes = self.boxes.saturating_sub(1);
             if !self.take_up(&mut work, branch, aim)? {
                 return Ok(Aimed::GivenUp);
             }
@@ -237,7 +275,7 @@ impl<'a> Above<'a> {
         if let Some(found) = wished(alloc, instance, &branch, &asked, known)? {
             self.best = found;
         }
-        let halves = halves_of(alloc, instance, branch, aim, asked.left)?;
+        let halves = halves_of(alloc, instance, branch, aim, self.splits, asked.left)?;
         let Some((first, second)) = halves else {
             return Ok(matches!(instance.time(), Time::Ticks));
         };
@@ -255,6 +293,7 @@ fn halves_of(
     instance: &Instance,
     branch: Branch,
     latency: u32,
+    splits: Splits,
     left: Option<Box<LeftOpen>>,
 ) -> Result<Option<(Branch, Branch)>, AllocError>
     requires of_scenario { branch.scenario ≡ instance.now }
@@ -263,6 +302,7 @@ fn halves_of(
         (halves.0.scenario ≡ instance.now) × (halves.1.scenario ≡ instance.now))) }
 {
     if matches!(instance.time(), Time::Real)
+        && (splits == Splits::Orders || branch.is_point())
         && let Some((first, second)) = order_to_split(alloc, instance, &branch, &left)?
     {
         return match branch.orders(alloc, instance, first, second) {

@@ -10,7 +10,9 @@ pub use options::{
     DEFAULT_LIMIT, DEFAULT_SIMULATIONS, MOST_SIMULATIONS, MOST_TICKETS, Options, Settings, Ways,
 };
 pub use outcome::Outcome;
+pub use passes::{AfterFirst, after_first};
 pub use search::{search_alone, search_alone_from};
+pub use splits::Splits;
 pub use step::{Step, Turn, step_branch};
 pub use ways::{AfterPlain, PLAIN_TICKETS, after_plain, lead_share, plain_share, search_both_ways};
 
@@ -23,8 +25,10 @@ mod limit;
 mod options;
 mod ordering;
 mod outcome;
+mod passes;
 mod placing;
 mod search;
+mod splits;
 mod step;
 mod want;
 mod wants;

@@ -1,24 +1,29 @@
 ghost use Rattle.std.specs.Prelude.{◌≡◌, ◌⊎◌, ◌≤◌, ◌<◌, IsFalse, IsTrue, false, true};
+ghost use Rattle.convoy_branch.specs.declared.splits.Splits.TheVariants.{Orders};
 
 use super::gate::Gate;
+use super::splits::Splits;
 
-/// How far a search goes.
+/// How far a search goes, and how.
 #[derive(Clone, Copy)]
 pub struct Limit {
     /// How many tickets it spends at most.
     pub tickets: u64,
     /// Whether its gate is asked, before each region that is taken up, whether the search is to stop.
     pub may_stop: bool,
+    /// By what regions are split in a search by leads in real time.
+    pub splits: Splits,
 }
 
 impl Limit {
     /// So many tickets, of a search that nothing stops.
     pub fn of(tickets: u64) -> Limit
-        ensures { result ≡ record { tickets = tickets; may_stop = false } }
+        ensures { result ≡ record { tickets = tickets; may_stop = false; splits = Orders } }
     {
         Limit {
             tickets,
             may_stop: false,
+            splits: Splits::Orders,
         }
     }
 

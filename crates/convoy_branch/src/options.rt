@@ -5,6 +5,7 @@ ghost use Rattle.convoy_branch.specs.declared.options.Ways.TheVariants.{One};
 
 use super::bounds::Bounds;
 use super::limit::Limit;
+use super::splits::Splits;
 use convoy_certificate::MOST_NODES;
 use convoy_scenario::TimeUnit;
 use convoy_shares::MOST_WORKERS;
@@ -210,6 +211,7 @@ impl Options {
         Limit {
             tickets: self.settings.limit,
             may_stop: self.settings.seconds.is_some(),
+            splits: Splits::Orders,
         }
     }
 }

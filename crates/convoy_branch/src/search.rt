@@ -18,6 +18,7 @@ use super::front_laws::{fronts_bound, uppers_begin, uppers_raised};
 use super::gate::{Gate, NoGate};
 use super::limit::Limit;
 use super::outcome::Outcome;
+use super::splits::Splits;
 use super::step::{Turn, step_branch};
 use convoy_certificate::{Certificate, Node};
 use convoy_checker::tree_laws::trees_cover;
@@ -75,7 +76,7 @@ pub fn search_alone_from<G: Gate>(
             Work::Write(node) => search.nodes.push(node)?,
             Work::Branch { branch, tried } if limit.allows(search.tickets, gate) => {
                 gate.before_branch(0, search.tickets + 1);
-                search.take_up(alloc, instance, branch, tried, bounds)?;
+                search.take_up(alloc, instance, branch, tried, bounds, limit.splits)?;
             }
             Work::Branch { branch, tried } => {
                 return search.into_open(alloc, instance, branch, tried, bounds);
@@ -141,6 +142,7 @@ impl Search {
         branch: Branch,
         tried: bool,
         bounds: Bounds,
+        splits: Splits,
     ) -> Result<(), AllocError>
         requires lawful { IsTable (table_of instance.now) }
         requires searching { IsSearching bounds instance.now self.old.best
@@ -152,7 +154,7 @@ impl Search {
     {
         halves_are_regions();
         let seen = self.best.latency();
-        let step = match step_branch(alloc, instance, branch, tried, seen, bounds) {
+        let step = match step_branch(alloc, instance, branch, tried, seen, bounds, splits) {
             Ok(step) => step,
             Err((_, error)) => return Err(error),
         };

@@ -15,6 +15,7 @@ use super::asked::{Asked, LeftOpen};
 use super::bounds::Bounds;
 use super::ordering::order_to_split;
 use super::placing::place_by_leads;
+use super::splits::Splits;
 use convoy_certificate::Node;
 use convoy_intervals::DelayBox;
 use convoy_intervals::box_laws::{tests_decide, upper_keeps_greatest};
@@ -69,6 +70,7 @@ pub fn step_branch(
     tried: bool,
     seen: u32,
     bounds: Bounds,
+    splits: Splits,
 ) -> Result<Step, (Branch, AllocError)>
     requires of_scenario { branch.scenario ≡ instance.now }
     requires known { IsTriedIf instance.now branch.region tried seen }
@@ -86,7 +88,7 @@ pub fn step_branch(
         Some(leaf) => Turn::Closed(leaf),
         None => {
             let known = known_after(&found, seen);
-            open_turn(alloc, instance, branch, known, left)?
+            open_turn(alloc, instance, branch, known, splits, left)?
         }
     };
     Ok(Step { found, turn })
@@ -253,6 +255,7 @@ fn open_turn(
     instance: &Instance,
     branch: Branch,
     latency: u32,
+    splits: Splits,
     left: Option<Box<LeftOpen>>,
 ) -> Result<Turn, (Branch, AllocError)>
     requires of_scenario { branch.scenario ≡ instance.now }
@@ -261,9 +264,9 @@ fn open_turn(
         → IfOk result (λ turn. IsTurn by instance.now branch.region known turn) }
     ensures back { IfErr result (λ refused. refused.0 ≡ branch) }
 {
-    match instance.time() {
-        Time::Ticks => packet_turn(alloc, instance, branch, latency, left),
-        Time::Real => order_turn(alloc, instance, branch, latency, left),
+    match (instance.time(), splits) {
+        (Time::Real, Splits::Orders) => order_turn(alloc, instance, branch, latency, left),
+        _ => packet_turn(alloc, instance, branch, latency, left),
     }
 }
 

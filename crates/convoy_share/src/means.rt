@@ -97,9 +97,10 @@ fn step_of(shared: &Shared, branch: Branch, tried: bool, known: u32) -> Result<S
         alloc,
         instance,
         bounds,
+        limit,
         ..
     } = *shared;
-    match step_branch(alloc, instance, branch, tried, known, bounds) {
+    match step_branch(alloc, instance, branch, tried, known, bounds, limit.splits) {
         Ok(step) => Ok(step),
         Err((_, error)) => Err(error),
     }

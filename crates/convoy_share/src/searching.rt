@@ -25,7 +25,7 @@ use convoy_branch::front_laws::{
     fronts_better, fronts_bound, only_leads_have_lead_leaves, plain_fronts_have_no_stamps,
     whole_fronts_are_readable, whole_fronts_are_trees,
 };
-use convoy_branch::{Bounds, Gate, Limit, Outcome};
+use convoy_branch::{AfterFirst, Bounds, Gate, Limit, Outcome, after_first};
 use convoy_certificate::Certificate;
 use convoy_checker::tree_laws::trees_cover;
 use convoy_incumbent::{Board, CloseFault, Hand};
@@ -74,6 +74,37 @@ pub fn search<R: Threads + Wait + Sync, G: Gate + Sync>(
 ///
 /// The only error is that memory ran out, for any worker or for the outcome.
 pub fn search_from<'a, R: Threads + Wait + Sync, G: Gate + Sync>(
+    rt: &R,
+    alloc: Global,
+    instance: &'a Instance,
+    opening: Record,
+    workers: u32,
+    limit: Limit,
+    bounds: Bounds,
+    gate: &G,
+) -> Result<Outcome, AllocError>
+    requires of_scenario { opening.scenario ≡ instance.now }
+    requires least { latency_of instance.now (least_of (ranges_of instance.now)) ≤ opening.latency }
+    requires workers { (1 ≤ workers) × (workers ≤ MOST_WORKERS) }
+    requires tickets { (1 ≤ limit.tickets) × (limit.tickets ≤ most_tickets) }
+    ensures value { IfOk result (λ outcome.
+        IsWithin limit (λ tickets. IsOutcome bounds instance.now workers tickets outcome)) }
+    ensures opened { IfOk result (λ outcome. opening.latency ≤ best_of outcome) }
+{
+    let Some(few) = limit.first_pass(instance.time(), bounds) else {
+        return search_by(rt, alloc, instance, opening, workers, limit, bounds, gate);
+    };
+    let first = search_by(rt, alloc, instance, opening, workers, few, bounds, gate)?;
+    match after_first(first, limit, gate) {
+        AfterFirst::Ended(outcome) => Ok(outcome),
+        AfterFirst::Again(best) => {
+            search_by(rt, alloc, instance, best, workers, limit, bounds, gate)
+        }
+    }
+}
+
+/// The search of [`search_from`] in one pass: regions are split as the limit says.
+fn search_by<'a, R: Threads + Wait + Sync, G: Gate + Sync>(
     rt: &R,
     alloc: Global,
     instance: &'a Instance,

@@ -1,10 +1,8 @@
 use Rattle.std.proofs.Common.{◌≡◌, ◌≤◌}
-use Rattle.convoy_branch.specs.Aims.{IsAbove}
 use Rattle.convoy_branch.proofs.above.split_from_above.Given as goal
 
-abbrev pub invariant-loop : goal.invariant-loop
-invariant-loop g l = record {
-  instance_is : l.above.instance.now ≡ l.instance;
-  above : IsAbove l.above;
-  rises : l.fn.known.latency ≤ l.above.best.latency;
+abbrev pub invariant-loop-round : goal.invariant-loop-round
+invariant-loop-round g l = record {
+  of_scenario : l.found.best.scenario ≡ l.instance;
+  rises : l.fn.known.latency ≤ l.found.best.latency;
 }

@@ -1,0 +1,10 @@
+use Rattle.std.proofs.Common.{◌≡◌, ◌≤◌}
+use Rattle.convoy_branch.specs.Aims.{IsAbove}
+use Rattle.convoy_branch.proofs.above.trees_from_above.Given as goal
+
+abbrev pub invariant-loop : goal.invariant-loop
+invariant-loop g l = record {
+  instance_is : l.above.instance.now ≡ l.instance;
+  above : IsAbove l.above;
+  rises : l.fn.found.best.latency ≤ l.above.best.latency;
+}
