@@ -24,11 +24,11 @@ const MOST_TESTS: u32 = 100;
 /// How many times boxes are split at most until all are closed for a latency.
 const MOST_AIMS: u32 = 24;
 
-/// How many boxes are taken up at most in the first round below the root; in the next one four times as many.
-const FEWEST_BOXES: u32 = 50;
+/// How many boxes are taken up at most below the root.
+const MOST_BOXES: u32 = 200;
 
-/// How many such rounds there are.
-const ROUNDS: u32 = 2;
+/// How many at first, where two ways of splitting them take turns.
+const FEW_BOXES: u32 = 50;
 
 /// What seeking from above has come to.
 #[derive(Drop)]
@@ -68,8 +68,8 @@ pub fn root_from_above<G: Gate>(
 
 /// The same below the root, where a bound in ticks is known for which leads close it: boxes are split as in a search
 /// by leads that closes them for a latency just below that. Each box that is open has its wish runs simulated. In real
-/// time trees in which boxes are split at packets alone take turns with those that are split by orders, too, in rounds of
-/// more and more boxes, since what one of them ends in a few boxes the other may not end in thousands.
+/// time trees in which boxes are split at packets alone take turns with such that are split by orders, too, first with few
+/// boxes and then with more: what one way ends in a few boxes the other may not end in thousands.
 pub fn split_from_above<G: Gate>(
     alloc: Global,
     instance: &Instance,
@@ -82,18 +82,38 @@ pub fn split_from_above<G: Gate>(
     ensures of_scenario { IfOk result (λ found. found.best.scenario ≡ instance.now) }
     ensures no_lower { IfOk result (λ found. known.latency ≤ found.best.latency) }
 {
-    let mut found = FromAbove { best: known, bound };
-    for round in 0..ROUNDS {
-        let boxes = FEWEST_BOXES << (2 * round);
-        found = trees_from_above(alloc, instance, found, Splits::Packets, boxes, limit, gate)?;
-        if matches!(instance.time(), Time::Real) {
-            found = trees_from_above(alloc, instance, found, Splits::Orders, boxes, limit, gate)?;
+    let found = FromAbove { best: known, bound };
+    match instance.time() {
+        Time::Ticks => {
+            let splits = Splits::Packets;
+            trees_from_above(alloc, instance, found, splits, MOST_BOXES, limit, gate)
+        }
+        Time::Real => {
+            let found = both_from_above(alloc, instance, found, FEW_BOXES, limit, gate)?;
+            both_from_above(alloc, instance, found, MOST_BOXES, limit, gate)
         }
     }
-    Ok(found)
 }
 
-/// The same where boxes are split so.
+/// The same by trees of at most so many boxes that are split at packets alone, and then by such that are split by orders,
+/// too.
+fn both_from_above<G: Gate>(
+    alloc: Global,
+    instance: &Instance,
+    found: FromAbove,
+    boxes: u32,
+    limit: Limit,
+    gate: &G,
+) -> Result<FromAbove, AllocError>
+    requires of_scenario { found.best.scenario ≡ instance.now }
+    ensures of_scenario { IfOk result (λ after. after.best.scenario ≡ instance.now) }
+    ensures no_lower { IfOk result (λ after. found.best.latency ≤ after.best.latency) }
+{
+    let found = trees_from_above(alloc, instance, found, Splits::Packets, boxes, limit, gate)?;
+    trees_from_above(alloc, instance, found, Splits::Orders, boxes, limit, gate)
+}
+
+/// The same by trees of at most so many boxes that are split so.
 fn trees_from_above<G: Gate>(
     alloc: Global,
     instance: &Instance,
@@ -167,7 +187,7 @@ impl<'a> Above<'a> {
             alloc,
             instance,
             best: known,
-            boxes: FEWEST_BOXES,
+            boxes: MOST_BOXES,
             splits: Splits::Packets,
         }
     }
