@@ -3,7 +3,7 @@ use Rattle.std.specs.Prelude.{◌≡◌, ◌≢◌, ◌⊎◌, ℕ, ◌≤◌, f
 use Rattle.std.specs.List.{list_any}
 use Rattle.convoy_scenario.specs.Scenario.{Scenario}
 use Rattle.convoy_toml.specs.declared.asked.Asked.{Asked}
-use Rattle.convoy_toml.specs.Reading.{as_written, scenario_of_text_by}
+use Rattle.convoy_toml.specs.Reading.{scenario_of_text_by}
 use Rattle.convoy_scenario.specs.WellFormed.{IsScenario}
 use Rattle.convoy_draft.specs.declared.fault.ScenarioFault.{ScenarioFault}
 use Rattle.convoy_packets.specs.Assignment.{Schedule, IsAssignment}
@@ -42,10 +42,6 @@ pub record IsFaultyBy (asked : Asked) (text : List ℕ) (fault : Fault) : Type 0
   pub cause : ScenarioFault
   pub found : scenario_of_text_by asked text ≡ Err cause
   pub told : fault ≡ told_of cause
-
--- The text has this fault.
-abbrev pub IsFaulty : List ℕ → Fault → Type 0
-IsFaulty text fault = IsFaultyBy as_written text fault
 
 -- what a search by one kind of bounds, or both ways, answers with that limit
 abbrev pub IsOutcomeBy : Ways → Scenario → ℕ → Limit → Outcome → Type 0
