@@ -1,2 +1,2 @@
 mod Placing
-pub mod Keys
+pub mod OfKeys

@@ -1,13 +1,12 @@
 -- Rows as they are put in their places and taken from there.
-use Rattle.std.proofs.Common.{ℕ, Vec, Bool, true, false, if◌then◌else◌, ◌≡◌, ◌+◌, ◌<◌, ◌≤◌, List, [], ◌∷◌, ◌++◌, Option, Some, None, IfSome, get_or, set, length, replicate, suc, zero, sym, ap, subst, ◌∙◌, refl, arith, ⊎_elim}
+use Rattle.std.proofs.Common.{ℕ, Vec, Bool, true, false, if◌then◌else◌, ◌≡◌, ◌+◌, ◌<◌, ◌≤◌, List, [], ◌∷◌, ◌++◌, Option, Some, None, get_or, set, length, replicate, suc, zero, sym, ap, subst, ◌∙◌, arith, ⊎_elim}
 use Rattle.std.proofs.lemmas.Bool.{cases_eq, cases_lt}
 use Rattle.std.proofs.lemmas.Grind.{get_or-set_at}
 use Rattle.std.proofs.lemmas.List.{get_or-replicate, get_or-set_other, get_or_past, length-replicate, set_past}
-use Rattle.std.proofs.lemmas.List.FromFn.{map-range_with_len_more}
 use Rattle.std.proofs.lemmas.List.Elements.{All-push}
 use Rattle.std.proofs.lemmas.Option.{none-some, same_Some}
 use Rattle.std.proofs.lemmas.Slice.Zip.{all_zipped_more}
-use Rattle.std.specs.List.{AllZip, fold, range_with_len}
+use Rattle.std.specs.List.{fold, range_with_len}
 use denote.Ref.{Bor}
 use Rattle.convoy_rows.specs.Rows.{AreMade, AreRightPairs, AreRightPlaces, AreRightShares, IsMade, places_of, with_row, with_rows}
 

@@ -1,5 +1,5 @@
 -- Rows, each made by a call that is given its number, or its key, and a watch.
-use Rattle.std.specs.Prelude.{◌≡◌, ℕ, ◌<◌, List, length, Vec, replicate, Option, Some, None, slice_index_or, slice_set}
+use Rattle.std.specs.Prelude.{◌≡◌, ℕ, ◌<◌, List, Vec, replicate, Option, Some, None, slice_index_or, slice_set}
 use Rattle.std.specs.List.{All, AllZip, fold, range_with_len}
 use denote.Ref.{Bor}
 
@@ -16,9 +16,13 @@ pub record IsMade {W T : Type 0} (may_answer : ℕ → Bor W → T → Type 0) (
 abbrev pub AreMade : {W T : Type 0} → (ℕ → Bor W → T → Type 0) → ℕ → List T → Type 0
 AreMade may_answer count rows = AllZip (IsMade may_answer) (range_with_len 0 count) rows
 
--- a call on these terms may be made for each of these keys, with any watch
+-- a call on these terms may be made for the key, with any watch
+abbrev pub TakesKey : {K W : Type 0} → (Bor K → Bor W → Type 0) → K → Type 0
+TakesKey {K} {W} may_call key = (lent : Bor K) (watch : Bor W) → lent.now ≡ key → may_call lent watch
+
+-- a call may be made for each of these keys
 abbrev pub TakesKeys : {K W : Type 0} → List K → (Bor K → Bor W → Type 0) → Type 0
-TakesKeys {K} {W} keys may_call = (i : ℕ) (key : Bor K) (watch : Bor W) → i < length keys → key.now ≡ slice_index_or keys i key.now → may_call key watch
+TakesKeys keys may_call = All (TakesKey may_call) keys
 
 -- The row is what may be answered for the key, with some watch.
 pub record IsMadeOf {K W T : Type 0} (may_answer : Bor K → Bor W → T → Type 0) (key : K) (row : T) : Type 0 where

@@ -1,4 +1,3 @@
-use Rattle.std.proofs.Common.{length}
 use Rattle.convoy_rows.specs.Rows.{AreMade, AreRightPlaces, IsMade}
 use Rattle.convoy_rows.proofs.threads.make_rest.Given as goal
 
