@@ -39,11 +39,12 @@ TakesTargets scenario may_call =
 abbrev pub IsTargetPair : Scenario → ℕ × ℕ → Type 0
 IsTargetPair scenario target = IsTarget scenario target.0 target.1
 
--- it may be answered, with some watch
-abbrev pub MayAnswerBy : {W : Type 0} → (ℕ → ℕ → Bor W → Result Finding AllocError → Type 0) → ℕ → ℕ → Result Finding AllocError → Type 0
-MayAnswerBy {W} may_answer message group answer = (watch : Bor W) × may_answer message group watch answer
+-- It may be answered, with some watch.
+pub record MayAnswerBy {W : Type 0} (may_answer : ℕ → ℕ → Bor W → Result Finding AllocError → Type 0) (message group : ℕ) (answer : Result Finding AllocError) : Type 0 where
+  pub watch : Bor W
+  pub answered : may_answer message group watch answer
 
--- the row is that of the target, and tells what may be answered for it
+-- The row is that of the target, and tells what may be answered for it.
 pub record TellsTarget (may_answer : ℕ → ℕ → Result Finding AllocError → Type 0) (target : ℕ × ℕ) (row : Surveyed) : Type 0 where
   pub of_target : target_of row ≡ target
   pub told : IsRowBy may_answer row

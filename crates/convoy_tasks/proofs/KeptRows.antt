@@ -8,22 +8,24 @@ use Rattle.convoy_branch.specs.Options.{Settings}
 use Rattle.convoy_commands.specs.declared.fault.Fault.{Fault}
 use Rattle.convoy_commands.specs.declared.fault.Fault.TheVariants.{Memory, Reading}
 use Rattle.convoy_commands.specs.declared.limits.TheConstants.{LONGEST_JOB}
+use Rattle.convoy_streams.specs.declared.splitter.JobFault.{JobFault}
+use Rattle.convoy_streams.specs.declared.splitter.JobFault.TheVariants as kept_faults
 use Rattle.convoy_streams.specs.declared.reading.ReadFault.TheVariants.{TooLong}
 use Rattle.convoy_tasks.specs.declared.job_row.JobFinding.{JobFinding}
 use Rattle.convoy_tasks.specs.declared.job_row.JobRow.{JobRow}
 use Rattle.convoy_tasks.specs.declared.kept_jobs.KeptJob.{KeptJob}
 use Rattle.convoy_tasks.specs.JobRows.{AreJobRows, IsJobFound, IsJobRow, JobFinds}
-use Rattle.convoy_tasks.specs.KeptJobs.{AreKept, FindsKept, IsKept, IsTextKept, IsTextOf, TellsKept}
+use Rattle.convoy_tasks.specs.KeptJobs.{AreKept, FindsKept, fault_of, IsKept, IsTextKept, IsTextOf, TellsKept}
 
-found_short : (asked : Asked) (settings : Settings) (job : Job) (text : Result (Vec ℕ Global) Fault) (found : Result JobFinding Fault)
+found_short : (asked : Asked) (settings : Settings) (job : Job) (text : Result (Vec ℕ Global) JobFault) (found : Result JobFinding Fault)
     → IsTextOf job text → FindsKept asked settings text found → JobFinds asked settings job.text found
 found_short asked settings job (Ok text) found is finds = subst (λ bytes. JobFinds asked settings bytes found) is finds
-found_short asked settings job (Err fault) found is finds = subst (JobFinds asked settings job.text) (sym (finds ∙ ap Err is)) (inr refl)
+found_short asked settings job (Err fault) found is finds = subst (JobFinds asked settings job.text) (sym (finds ∙ ap (λ (f : JobFault). Err (fault_of f)) is)) (inr refl)
 
-found_long : (asked : Asked) (settings : Settings) (text : Result (Vec ℕ Global) Fault) (found : Result JobFinding Fault) (fault : Fault)
-    → text ≡ Err fault → FindsKept asked settings text found → found ≡ Err fault
+found_long : (asked : Asked) (settings : Settings) (text : Result (Vec ℕ Global) JobFault) (found : Result JobFinding Fault) (fault : JobFault)
+    → text ≡ Err fault → FindsKept asked settings text found → found ≡ Err (fault_of fault)
 found_long asked settings text found fault is finds =
-    let told : FindsKept asked settings (Err fault) found = subst (λ (t : Result (Vec ℕ Global) Fault). FindsKept asked settings t found) is finds in told
+    let told : FindsKept asked settings (Err fault) found = subst (λ (t : Result (Vec ℕ Global) JobFault). FindsKept asked settings t found) is finds in told
 
 -- the row of one job
 row_of_kept : (asked : Asked) (settings : Settings) (job : Job) (kept : KeptJob) (row : JobRow) → IsKept job kept → TellsKept asked settings kept row
@@ -31,7 +33,7 @@ row_of_kept : (asked : Asked) (settings : Settings) (job : Job) (kept : KeptJob)
 row_of_kept asked settings job kept row is tells = record {
   label = tells.label ∙ is.label;
   found = record {
-    long = λ large. found_long asked settings kept.text row.found (Reading (TooLong LONGEST_JOB)) (is.text.long large) tells.found;
+    long = λ large. found_long asked settings kept.text row.found kept_faults.TooLong (is.text.long large) tells.found;
     short = λ small. found_short asked settings job kept.text row.found (is.text.short small) tells.found;
   };
 }

@@ -2,6 +2,8 @@
 use Rattle.std.specs.Prelude.{◌≡◌, ℕ, ◌<◌, ◌≤◌, List, Vec, length, Result, Ok, Err}
 use Rattle.std.specs.List.{AllZip}
 use Rattle.std.specs.declared.alloc.Global.{Global}
+use Rattle.convoy_streams.specs.declared.splitter.JobFault.{JobFault}
+use Rattle.convoy_streams.specs.declared.splitter.JobFault.TheVariants as kept_faults
 use Rattle.convoy_streams.specs.declared.reading.ReadFault.TheVariants.{TooLong}
 use Rattle.convoy_streams.specs.Jobs.{Job}
 use Rattle.convoy_toml.specs.declared.asked.Asked.{Asked}
@@ -14,14 +16,14 @@ use Rattle.convoy_tasks.specs.declared.job_row.JobRow.{JobRow}
 use Rattle.convoy_tasks.specs.declared.kept_jobs.KeptJob.{KeptJob}
 use Rattle.convoy_tasks.specs.JobRows.{JobFinds}
 
--- the text is the job's, or the fault says that memory ran out
-abbrev pub IsTextOf : Job → Result (Vec ℕ Global) Fault → Type 0
+-- the text is the job's, or memory ran out
+abbrev pub IsTextOf : Job → Result (Vec ℕ Global) JobFault → Type 0
 IsTextOf job (Ok text) = text.items ≡ job.text
-IsTextOf job (Err fault) = fault ≡ Memory
+IsTextOf job (Err fault) = fault ≡ kept_faults.Memory
 
 -- What is kept of the text of a job: that it is too long just where it is.
-pub record IsTextKept (job : Job) (text : Result (Vec ℕ Global) Fault) : Type 0 where
-  pub long : LONGEST_JOB < length job.text → text ≡ Err (Reading (TooLong LONGEST_JOB))
+pub record IsTextKept (job : Job) (text : Result (Vec ℕ Global) JobFault) : Type 0 where
+  pub long : LONGEST_JOB < length job.text → text ≡ Err kept_faults.TooLong
   pub short : length job.text ≤ LONGEST_JOB → IsTextOf job text
 
 -- The job is kept with its label.
@@ -33,10 +35,15 @@ pub record IsKept (job : Job) (kept : KeptJob) : Type 0 where
 abbrev pub AreKept : List Job → List KeptJob → Type 0
 AreKept jobs kept = AllZip IsKept jobs kept
 
+-- how a job is told of which no text was kept
+abbrev pub fault_of : JobFault → Fault
+fault_of kept_faults.TooLong = Reading (TooLong LONGEST_JOB)
+fault_of kept_faults.Memory = Memory
+
 -- what may be found for a text that was kept, and the fault where none was
-abbrev pub FindsKept : Asked → Settings → Result (Vec ℕ Global) Fault → Result JobFinding Fault → Type 0
+abbrev pub FindsKept : Asked → Settings → Result (Vec ℕ Global) JobFault → Result JobFinding Fault → Type 0
 FindsKept asked settings (Ok text) found = JobFinds asked settings text.items found
-FindsKept asked settings (Err fault) found = found ≡ Err fault
+FindsKept asked settings (Err fault) found = found ≡ Err (fault_of fault)
 
 -- The row has the label of a job that was kept, and what may be found for its text.
 pub record TellsKept (asked : Asked) (settings : Settings) (kept : KeptJob) (row : JobRow) : Type 0 where

@@ -8,9 +8,10 @@ ghost use Rattle.convoy_tasks.specs.KeptJobs.{FindsKept, TellsKept};
 
 use super::kept_jobs::{KeptJob, split_jobs};
 use convoy_branch::Options;
-use convoy_commands::{Done, Fault, Watch, deadline_at, judged};
+use convoy_commands::{Done, Fault, LONGEST_JOB, Watch, deadline_at, judged};
 use convoy_packets::Instance;
 use convoy_rows::{all_values, make_each};
+use convoy_streams::{JobFault, ReadFault};
 use convoy_survey::{Finding, find};
 use convoy_times::Measure;
 use convoy_toml::{Asked, read_toml_asked};
@@ -111,7 +112,7 @@ fn find_kept<R: Threads + Wait + Sync, W: Watch + Sync>(
     rt: &R,
     alloc: Global,
     asked: &Asked,
-    text: &Result<Vec<u8>, Fault>,
+    text: &Result<Vec<u8>, JobFault>,
     options: &Options,
     watch: &W,
 ) -> Result<JobFinding, Fault>
@@ -119,7 +120,8 @@ fn find_kept<R: Threads + Wait + Sync, W: Watch + Sync>(
 {
     match text {
         Ok(text) => find_text(rt, alloc, asked, text, options, watch),
-        Err(fault) => Err(*fault),
+        Err(JobFault::TooLong) => Err(Fault::Reading(ReadFault::TooLong(LONGEST_JOB))),
+        Err(JobFault::Memory) => Err(Fault::Memory),
     }
 }
 

@@ -1,24 +1,25 @@
 //! The jobs of a batch, kept until each has its row.
 
-ghost use Rattle.std.specs.Prelude.{[], ◌∷◌, ◌++◌, List, IfOk, OnOk};
+ghost use Rattle.std.specs.Prelude.{◌≡◌, [], ◌∷◌, ◌++◌, List, IfOk, MatchResult, OnOk};
+ghost use Rattle.convoy_streams.specs.declared.splitter.JobFault.TheVariants.{Memory};
 ghost use Rattle.convoy_streams.specs.Jobs.{Job, jobs_of};
 ghost use Rattle.convoy_streams.specs.Splitting.{Holds};
 ghost use Rattle.convoy_commands.specs.declared.limits.TheConstants.{LONGEST_JOB};
 ghost use Rattle.convoy_tasks.specs.KeptJobs.{AreKept, IsTextKept};
 
-use convoy_commands::{Fault, LONGEST_JOB};
-use convoy_streams::{JobFault, ReadFault, Splitter};
+use convoy_commands::LONGEST_JOB;
+use convoy_streams::{JobFault, Splitter};
 use std::alloc::{AllocError, Global};
 
 /// A job: its label, which is empty where it has none, and its text, or the fault for which there is none.
 #[derive(Drop)]
 pub(crate) struct KeptJob {
     pub(crate) label: Vec<u8>,
-    pub(crate) text: Result<Vec<u8>, Fault>,
+    pub(crate) text: Result<Vec<u8>, JobFault>,
 }
 
-/// The jobs of a text. One of more than [`LONGEST_JOB`] bytes has the fault `ReadFault::TooLong`, and one for which
-/// memory runs out `Fault::Memory`. Fails where there is no memory for the list, and else never.
+/// The jobs of a text. One of more than [`LONGEST_JOB`] bytes has the fault `JobFault::TooLong`, and one for which
+/// memory runs out `JobFault::Memory`. Fails where there is no memory for the list, and else never.
 pub(crate) fn split_jobs(alloc: Global, text: &[u8]) -> Result<Vec<KeptJob>, AllocError>
     ensures { IfOk result (λ kept. AreKept (jobs_of text.now) kept.items) }
 {
@@ -50,12 +51,22 @@ fn push_job(alloc: Global, splitter: &Splitter, jobs: &mut Vec<KeptJob>) -> Resu
 }
 
 /// The text of the job that ended.
-fn text_of(alloc: Global, splitter: &Splitter) -> Result<Vec<u8>, Fault>
+fn text_of(alloc: Global, splitter: &Splitter) -> Result<Vec<u8>, JobFault>
     ensures { (job : Job) → Holds LONGEST_JOB splitter.now job → IsTextKept job result }
 {
     match splitter.job() {
-        Ok(text) => Ok(Vec::from_slice(alloc, text)?),
-        Err(JobFault::TooLong) => Err(Fault::Reading(ReadFault::TooLong(LONGEST_JOB))),
-        Err(JobFault::Memory) => Err(Fault::Memory),
+        Ok(text) => copied(alloc, text),
+        Err(JobFault::TooLong) => Err(JobFault::TooLong),
+        Err(JobFault::Memory) => Err(JobFault::Memory),
+    }
+}
+
+/// A text of its own with these bytes.
+fn copied(alloc: Global, text: &[u8]) -> Result<Vec<u8>, JobFault>
+    ensures { MatchResult result (λ copy. copy.items ≡ text.now) (λ fault. fault ≡ Memory) }
+{
+    match Vec::from_slice(alloc, text) {
+        Ok(copy) => Ok(copy),
+        Err(AllocError) => Err(JobFault::Memory),
     }
 }

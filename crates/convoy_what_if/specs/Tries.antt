@@ -63,9 +63,10 @@ pub record IsRefusedBy (may_answer : Change → Result Searched ScenarioFault �
   pub no_memory : cause ≢ Memory
   pub told : fault ≡ faults.Scenario cause
 
--- it may be answered, with some watch
-abbrev pub MayAnswerBy : {W : Type 0} → (Change → Bor W → Result Searched ScenarioFault → Type 0) → Change → Result Searched ScenarioFault → Type 0
-MayAnswerBy {W} may_answer change answer = (watch : Bor W) × may_answer change watch answer
+-- It may be answered, with some watch.
+pub record MayAnswerBy {W : Type 0} (may_answer : Change → Bor W → Result Searched ScenarioFault → Type 0) (change : Change) (answer : Result Searched ScenarioFault) : Type 0 where
+  pub watch : Bor W
+  pub answered : may_answer change watch answer
 
 -- what is told of a change is its row, or the fault that was answered for it, or that memory ran out
 abbrev pub TellsChange : (Change → Result Searched ScenarioFault → Type 0) → Change → Result Tried Fault → Type 0
