@@ -421,6 +421,11 @@ How many workers share the search, each in a thread of its own: from 1 to 16. Th
 latency does not depend on it; which schedule has it, and which tree shows it,
 may, and with several workers they may be others each time";
 
+pub(crate) const ABOUT_JOBS: &str = "\
+How many rows of the table are made at a time, each in a thread of its own, which
+`--workers` may share: from 1 to 16, and 1 without this option. The table does not
+depend on it, but for rows that `--seconds` stops";
+
 pub(crate) const ABOUT_PROGRESS: &str = "\
 Tells on standard error, once a second, how far the search has come. Where that
 is a terminal it is told anyway";

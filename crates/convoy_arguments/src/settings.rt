@@ -4,9 +4,9 @@ use super::help::{
     ABOUT_ALL, ABOUT_ALL_CHANGES, ABOUT_ALL_DEADLINES, ABOUT_ANALYSE, ABOUT_AT_MOST, ABOUT_BATCH,
     ABOUT_BATCH_AT_MOST, ABOUT_BATCH_FORMAT, ABOUT_BESIDE, ABOUT_BOUNDS, ABOUT_BUDGET,
     ABOUT_CEILING, ABOUT_CHECK, ABOUT_DRAW, ABOUT_EXPLAIN, ABOUT_FIRST, ABOUT_FORMAT, ABOUT_GROUP,
-    ABOUT_LATENCY, ABOUT_LIMIT, ABOUT_OF_CEILING, ABOUT_PACKETS, ABOUT_PROGRESS, ABOUT_SCENARIO,
-    ABOUT_SECONDS, ABOUT_SEEK, ABOUT_SEEK_TRAFFIC, ABOUT_SIMULATE, ABOUT_STATUS, ABOUT_STEPS,
-    ABOUT_SURVEY, ABOUT_TARGET, ABOUT_TELL, ABOUT_TIMELINE, ABOUT_UNIT, ABOUT_WANTED,
+    ABOUT_JOBS, ABOUT_LATENCY, ABOUT_LIMIT, ABOUT_OF_CEILING, ABOUT_PACKETS, ABOUT_PROGRESS,
+    ABOUT_SCENARIO, ABOUT_SECONDS, ABOUT_SEEK, ABOUT_SEEK_TRAFFIC, ABOUT_SIMULATE, ABOUT_STATUS,
+    ABOUT_STEPS, ABOUT_SURVEY, ABOUT_TARGET, ABOUT_TELL, ABOUT_TIMELINE, ABOUT_UNIT, ABOUT_WANTED,
     ABOUT_WITHOUT, ABOUT_WORKERS, LONG_ABOUT_ANALYSE, LONG_ABOUT_BATCH, LONG_ABOUT_BUDGET,
     LONG_ABOUT_CEILING, LONG_ABOUT_CHECK, LONG_ABOUT_DRAW, LONG_ABOUT_EXPLAIN, LONG_ABOUT_FIRST,
     LONG_ABOUT_LATENCY, LONG_ABOUT_PACKETS, LONG_ABOUT_SCENARIO, LONG_ABOUT_SIMULATE,
@@ -101,6 +101,9 @@ const NAMED_TARGET: Value = Value::Given("MESSAGE@GROUP", ValueParser::String);
 /// How many schedules may be simulated, and how many are where that is not said.
 const SIMULATIONS: Value = Value::Usual("N", ValueParser::Unsigned(0, MOST_SIMULATIONS), "20000");
 
+/// How many rows of a table may be made at a time: as many as workers may share a search.
+const ROWS_AT_A_TIME: Value = Value::Given("N", ValueParser::Signed(1, MOST_WORKERS as i64));
+
 // The usual numbers are told as texts.
 const _: () = prove!(DEFAULT_SIMULATIONS == 20_000);
 
@@ -163,6 +166,22 @@ const WORKERS: Setting = Setting {
     about: ABOUT_WORKERS,
     value: Value::Usual("N", ValueParser::Signed(1, MOST_WORKERS as i64), "1"),
     company: Company::Any,
+};
+
+/// How many rows of a table are made at a time.
+const JOBS: Setting = Setting {
+    name: "jobs",
+    about: ABOUT_JOBS,
+    value: ROWS_AT_A_TIME,
+    company: Company::Any,
+};
+
+/// The same of a batch that is written as a table.
+const BATCH_JOBS: Setting = Setting {
+    name: "jobs",
+    about: ABOUT_JOBS,
+    value: ROWS_AT_A_TIME,
+    company: Company::With("format"),
 };
 
 /// Whether a search tells how far it has come.
@@ -395,6 +414,7 @@ pub(crate) const COMMANDS: [Listed; 14] = [
             SEEK,
             BOUNDS,
             WORKERS,
+            JOBS,
             PROGRESS,
             FORMAT,
             UNIT,
@@ -419,6 +439,7 @@ pub(crate) const COMMANDS: [Listed; 14] = [
             SEEK,
             BOUNDS,
             WORKERS,
+            JOBS,
             PROGRESS,
             FORMAT,
             UNIT,
@@ -434,6 +455,7 @@ pub(crate) const COMMANDS: [Listed; 14] = [
             SEEK,
             BOUNDS,
             WORKERS,
+            BATCH_JOBS,
             PROGRESS,
             BATCH_AT_MOST,
             STATUS,

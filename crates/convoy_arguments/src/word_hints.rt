@@ -9,7 +9,7 @@ use std::fmt;
 const WITH_TABLES: [&str; 4] = ["survey", "batch", "ceiling", "budget"];
 
 /// Options of a command or two, and these commands as they are told.
-const OF_SOME: [(&str, &str); 11] = [
+const OF_SOME: [(&str, &str); 12] = [
     ("all", "'ceiling', 'budget' and 'survey --without'"),
     ("group", "'ceiling'"),
     ("ceiling", "'latency', 'explain', 'survey' and 'budget'"),
@@ -29,6 +29,7 @@ const OF_SOME: [(&str, &str); 11] = [
         "unit",
         "'latency', 'survey', 'ceiling', 'budget', 'batch', 'explain', 'draw' and 'check'",
     ),
+    ("jobs", "'survey', 'budget' and 'batch --format'"),
     ("format", "'survey', 'batch', 'ceiling' and 'budget'"),
 ];
 

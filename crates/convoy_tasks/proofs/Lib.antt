@@ -10,3 +10,4 @@ pub mod Blocks
 pub mod Labels
 pub mod JobCells
 pub mod WorkedCells
+pub mod KeptRows
