@@ -13,7 +13,9 @@ use Rattle.convoy_commands.specs.declared.fault.FaultEnding.{FaultEnding}
 use Rattle.convoy_commands.specs.declared.fault.FaultEnding.TheVariants as endings
 use Rattle.convoy_commands.specs.declared.fault.OrderFault.TheVariants as orders
 use Rattle.convoy_commands.specs.declared.fault.Fault.{Fault}
-use Rattle.convoy_commands.specs.declared.fault.Fault.TheVariants.{Scenario, Schedule, Order, Reading, Write, TooManyJobs, Memory}
+use Rattle.convoy_commands.specs.declared.fault.Fault.TheVariants.{Scenario, Schedule, Order, Reading, Write, TooManyJobs, Sweep, Memory}
+use Rattle.convoy_commands.specs.declared.fault.SweepCause.{SweepCause}
+use Rattle.convoy_commands.specs.declared.fault.SweepCause.TheVariants as sweeps
 
 -- a limit's word
 abbrev pub limit_word : Limit → List ℕ
@@ -48,6 +50,26 @@ row_of_scenario scenario.TargetWaits = (19, codes "target with until")
 row_of_scenario scenario.NoRange = (20, codes "no range")
 row_of_scenario scenario.Memory = memory_row
 
+-- the words for why the keys of a text can't be given values; none for a value that has a row of its own
+abbrev pub sweep_word : SweepCause → List ℕ
+sweep_word sweeps.UnknownKey = codes "unknown key"
+sweep_word sweeps.SeveralTables = codes "several tables"
+sweep_word sweeps.NoIssue = codes "no time of issue"
+sweep_word sweeps.MixedTimes = codes "mixed times"
+sweep_word sweeps.NotWhole = codes "not whole"
+sweep_word sweeps.BeyondLimits = codes "beyond limits"
+sweep_word sweeps.NoStep = codes "no step"
+sweep_word sweeps.Backwards = codes "backwards"
+sweep_word sweeps.TooManyValues = codes "too many values"
+sweep_word sweeps.OneValue = codes "one value"
+sweep_word sweeps.KeyTwice = codes "key twice"
+sweep_word (sweeps.NoScenario value) = []
+
+-- the number and the text of such a fault
+abbrev pub row_of_sweep : SweepCause → ℕ × List ℕ
+row_of_sweep (sweeps.NoScenario value) = (46, codes "no scenario with " ++ decimal value)
+row_of_sweep cause = (45, codes "no sweep " ++ sweep_word cause)
+
 -- a fault's number and its text
 abbrev pub row_of : Fault → ℕ × List ℕ
 row_of (Scenario cause) = row_of_scenario cause
@@ -62,6 +84,7 @@ row_of Write = (41, codes "write failed")
 row_of (Reading (reading.TooLong limit)) = (42, codes "job too long")
 row_of TooManyJobs = (43, codes "too many jobs")
 row_of (Reading reading.TooManyReads) = (44, codes "too many reads")
+row_of (Sweep cause) = row_of_sweep cause
 row_of (Reading reading.Memory) = memory_row
 row_of Memory = memory_row
 

@@ -1,5 +1,5 @@
 ghost use Rattle.std.specs.Prelude.{◌≡◌, ◌≤◌, ◌++◌, length, OnOk, OnErr, IfOk, string_bytes};
-ghost use Rattle.convoy_commands.specs.Faults.{IsShortEnding, ending_text, fault_line_of, limit_word, row_of, row_of_scenario, told_of_order};
+ghost use Rattle.convoy_commands.specs.Faults.{IsShortEnding, ending_text, fault_line_of, limit_word, row_of, row_of_scenario, sweep_word, told_of_order};
 
 use convoy_packets::ListFault;
 use convoy_scenario::{Limit, ScenarioFault};
@@ -33,6 +33,9 @@ pub enum Fault {
     /// The input of a batch has more jobs than a batch may have.
     #[error("there are too many jobs")]
     TooManyJobs,
+    /// The keys of a text can't be given the values that a sweep is to give them.
+    #[error(transparent)]
+    Sweep(SweepCause),
     /// Memory ran out, which says nothing of the input.
     #[error("out of memory")]
     Memory,
@@ -51,6 +54,47 @@ pub enum OrderFault {
     /// A number is no rank: the first such number, by its place in the list.
     #[error("the order has a number that is no rank: {0}")]
     Rank(usize),
+}
+
+/// Why the keys of a text can't be given the values that a sweep is to give them.
+#[derive(Clone, Copy, Debug, PartialEq, Eq, Error)]
+pub enum SweepCause {
+    /// The text has no such key.
+    #[error("the text has no such key")]
+    UnknownKey,
+    /// The key is one of several tables of links.
+    #[error("the key is one of several tables of links")]
+    SeveralTables,
+    /// Windows are asked for, and the key is no time of issue.
+    #[error("only a time of issue may be a window")]
+    NoIssue,
+    /// Durations stand beside numbers of ticks, and the length of a tick is not written.
+    #[error("durations and numbers of ticks stand beside each other")]
+    MixedTimes,
+    /// A value is no whole number of ticks.
+    #[error("a value is no whole number of ticks")]
+    NotWhole,
+    /// A value has more ticks than any time may have, or less than 0.
+    #[error("a value is beyond the limits of times")]
+    BeyondLimits,
+    /// A step is 0.
+    #[error("a step is 0")]
+    NoStep,
+    /// The first value is above the last.
+    #[error("the first value is above the last")]
+    Backwards,
+    /// There are more rows than a sweep may have.
+    #[error("there are too many values")]
+    TooManyValues,
+    /// Windows are asked for, and there is but one value.
+    #[error("one value is no window")]
+    OneValue,
+    /// Both settings are of one key.
+    #[error("both settings are of one key")]
+    KeyTwice,
+    /// With that value of the first key, in ticks, the text is that of no scenario: the first such row.
+    #[error("with the value {0} the text is that of no scenario")]
+    NoScenario(u32),
 }
 
 impl From<AllocError> for Fault {
@@ -171,11 +215,38 @@ pub fn fault_row(fault: &Fault) -> (u8, &'static str, FaultEnding)
         Fault::Reading(ReadFault::TooLong(_)) => (42, "job too long", NOTHING),
         Fault::TooManyJobs => (43, "too many jobs", NOTHING),
         Fault::Reading(ReadFault::TooManyReads) => (44, "too many reads", NOTHING),
+        Fault::Sweep(SweepCause::NoScenario(value)) => (
+            46,
+            "no scenario with ",
+            FaultEnding::Number(*value as usize),
+        ),
+        Fault::Sweep(cause) => (45, "no sweep ", FaultEnding::Word(word_of_sweep(*cause))),
         Fault::Memory | Fault::Schedule(ListFault::Memory) | Fault::Reading(ReadFault::Memory) => (
             11,
             "out of memory",
             NOTHING,
         ),
+    }
+}
+
+/// The words for why the keys of a text can't be given values; none for a value that has a row of its own.
+fn word_of_sweep(cause: SweepCause) -> &'static str
+    ensures word { result.now ≡ sweep_word cause }
+    ensures short { length result.now ≤ 64 }
+{
+    match cause {
+        SweepCause::UnknownKey => "unknown key",
+        SweepCause::SeveralTables => "several tables",
+        SweepCause::NoIssue => "no time of issue",
+        SweepCause::MixedTimes => "mixed times",
+        SweepCause::NotWhole => "not whole",
+        SweepCause::BeyondLimits => "beyond limits",
+        SweepCause::NoStep => "no step",
+        SweepCause::Backwards => "backwards",
+        SweepCause::TooManyValues => "too many values",
+        SweepCause::OneValue => "one value",
+        SweepCause::KeyTwice => "key twice",
+        SweepCause::NoScenario(_) => "",
     }
 }
 

@@ -13,7 +13,7 @@ pub use convoy_packets::ListFault;
 pub use convoy_scenario::{Duration, ScenarioFault, TimeUnit};
 pub use convoy_streams::ReadFault;
 pub use done::Done;
-pub use fault::{Fault, FaultEnding, OrderFault, fault_line, fault_row};
+pub use fault::{Fault, FaultEnding, OrderFault, SweepCause, fault_line, fault_row};
 pub use first::first_answer;
 pub use latency::latency_answer;
 pub use limits::{DEFAULT_STEPS, LONGEST_CERTIFICATE, LONGEST_JOB, MOST_STEPS};
