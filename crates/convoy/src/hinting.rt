@@ -18,6 +18,7 @@ use convoy_hints::{
     hint_for_reading, hint_for_scenario, hint_for_seconds, hint_for_tickets, hint_for_unchecked,
     hint_for_writing, hint_of_text, is_name_of_file, line_for_file,
 };
+use super::sweep_hints::hint_for_sweep;
 use convoy_streams::KeptReader;
 use convoy_tasks::{MOST_JOBS, Task};
 use convoy_toml::Asked;
@@ -90,7 +91,9 @@ fn text_of(task: &Task) -> &'static str {
         | Task::Latency { .. }
         | Task::Survey { .. }
         | Task::WhatIf { .. }
-        | Task::Budget { .. } => "a scenario",
+        | Task::Budget { .. }
+        | Task::Sweep { .. }
+        | Task::Report { .. } => "a scenario",
         Task::Check { .. } | Task::Explain { .. } | Task::Draw { .. } => "a certificate",
         Task::Tell(_) => "a scenario or a certificate",
         Task::BatchTable { .. } => "scenarios",
@@ -212,6 +215,7 @@ fn hint_for_fault<R, W>(alloc: Global, run: &Finished<'_, R, W>, fault: &Fault) 
             None => Ok(None),
         },
         Fault::TooManyJobs => Ok(Some(hint_for_jobs(alloc, MOST_JOBS)?)),
+        Fault::Sweep(cause) => Ok(Some(hint_for_sweep(alloc, *cause)?)),
         Fault::Scenario(_)
         | Fault::Schedule(_)
         | Fault::Order(_)
@@ -248,6 +252,8 @@ fn asked_of_task(task: &Task) -> Option<&Asked> {
         | Task::Survey { asked, .. }
         | Task::WhatIf { asked, .. }
         | Task::Budget { asked, .. }
+        | Task::Sweep { asked, .. }
+        | Task::Report { asked, .. }
         | Task::BatchTable { asked, .. } => Some(asked),
         Task::Tell(_) | Task::Check { .. } | Task::Explain { .. } | Task::Draw { .. } => None,
     }
@@ -370,7 +376,9 @@ fn options_of(verdict: &Verdict) -> Option<&Options> {
         | Task::Latency { options, .. }
         | Task::Survey { options, .. }
         | Task::WhatIf { options, .. }
-        | Task::Budget { options, .. } => Some(options),
+        | Task::Budget { options, .. }
+        | Task::Sweep { options, .. }
+        | Task::Report { options, .. } => Some(options),
         _ => None,
     }
 }

@@ -16,6 +16,7 @@ mod hinting;
 mod kept;
 mod obeying;
 mod progress;
+mod sweep_hints;
 
 use convoy_arguments::{Input, Inputs, MOST_READS, Verdict, judge, judge_bytes};
 use convoy_commands::{Done, Fault, Options, Watch, fault_line};

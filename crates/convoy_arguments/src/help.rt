@@ -353,6 +353,44 @@ with the numbers the deadline is kept all the same.
 The exit status is 5 where the deadline is missed already, else 1 where memory ran out
 for a row, else 3 where one is open.";
 
+pub(crate) const ABOUT_SWEEP: &str = "Tells the latency for each value of a time or a range";
+
+pub(crate) const LONG_ABOUT_SWEEP: &str = "\
+Reads a scenario, and writes a table with a row for each value that the option `--set`
+gives a key of it: the greatest latency of the target in the scenario with that value:
+  convoy sweep --set t.at=0..10/5 scenario.toml
+  t.at  answer    least  most  rival  tied  nodes
+     0  greatest     12    12  y      x         1
+     5  greatest      9     9  y      -         1
+    10  greatest      7     7  -      -         1
+A key is `delay`, MESSAGE.at, MESSAGE.until, FROM-TO.least or FROM-TO.most, where FROM
+is a group or `client`, and a link from there is in the scenario. The values go from
+FROM in steps up to at most TO, each in ticks or as '10 ms', as the scenario's own
+times. With a second `--set` there is a row for each pair of values, at most 10000.
+Of what lies between two values nothing is told.
+
+The exit status is 5 where a row is beyond the target's deadline, else 1 where memory
+ran out for one, else 3 where one is open.";
+
+pub(crate) const ABOUT_SET: &str = "\
+Which key of the scenario has which values; once, or twice for all pairs of values";
+
+pub(crate) const ABOUT_ENVELOPE: &str = "\
+Lets each row speak of all times of issue from one value to the next, as a window does:
+for keys MESSAGE.at, but not of the target";
+
+pub(crate) const ABOUT_REPORT: &str = "Writes a report to pass on, as one page of HTML";
+
+pub(crate) const LONG_ABOUT_REPORT: &str = "\
+Reads a scenario, and writes a page of HTML that stands alone: the greatest latency of
+the target, the system, the table of `survey --ceiling` for all messages, the worst run
+of the target and of each message that is beyond its deadline, drawn and explained, the
+changes that save most, and how to check all this.
+  convoy report scenario.toml > report.html
+
+The exit status is that of `survey`: 5 where a message is beyond its deadline, else 1
+where memory ran out for a row, else 3 where one is open.";
+
 pub(crate) const ABOUT_ALL_DEADLINES: &str = "\
 Tells the budgets of each message that has a deadline, at each group that it goes to;
 the text need not have a target";

@@ -6,7 +6,7 @@ use std::convert::AsStr;
 use std::fmt;
 
 /// The commands that write tables: `ceiling` where it is asked for several ceilings.
-const WITH_TABLES: [&str; 4] = ["survey", "batch", "ceiling", "budget"];
+const WITH_TABLES: [&str; 5] = ["survey", "batch", "ceiling", "budget", "sweep"];
 
 /// Options of a command or two, and these commands as they are told.
 const OF_SOME: [(&str, &str); 12] = [

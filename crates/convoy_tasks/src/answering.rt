@@ -15,8 +15,10 @@ use convoy_commands::{
     Answer, Asking, Fault, LONGEST_CERTIFICATE, LONGEST_JOB, Watch, analyse_answer, ask,
     ceiling_answer, explain_with_ceiling, first_answer, latency_answer, tell,
 };
+use convoy_report::report_answer;
 use convoy_scenario::{Scenario, TimeUnit};
 use convoy_survey::{ceilings_answer, survey_answer};
+use convoy_sweep::sweep_told;
 use convoy_tables::Format;
 use convoy_toml::Asked;
 use convoy_what_if::what_if_answer;
@@ -30,7 +32,8 @@ use std::thread::Threads;
 /// is a watch where nobody watches. Who watches counts the seconds that the options give a search.
 ///
 /// The faults are those of a text: `Fault::Scenario` where it is that of no scenario, where none of its groups has the
-/// name that is given, or where a change of it makes none; `Fault::Schedule` and `Fault::Order` for a schedule that is
+/// name that is given, or where a change of it makes none; `Fault::Sweep` where its keys can't be given the values of a
+/// sweep; `Fault::Schedule` and `Fault::Order` for a schedule that is
 /// none of it; `Fault::Reading` for a scenario of more than [`LONGEST_JOB`] bytes where a certificate may be longer;
 /// `Fault::TooManyJobs`; and `Fault::Memory`.
 pub fn answer<R: Threads + Wait + Sync, W: Watch + Sync>(
@@ -94,6 +97,18 @@ pub fn answer<R: Threads + Wait + Sync, W: Watch + Sync>(
             text,
             watches,
         ),
+        Task::Sweep {
+            format,
+            sweep,
+            envelope,
+            asked,
+            options,
+        } => sweep_told(
+            rt, alloc, *format, sweep, *envelope, asked, options, text, watches,
+        ),
+        Task::Report { asked, options } => {
+            report_answer(rt, alloc, asked, options, text, watches)
+        }
         Task::BatchTable {
             format,
             asked,
@@ -150,6 +165,8 @@ pub(crate) fn answer_at_once(
         | Task::Survey { .. }
         | Task::WhatIf { .. }
         | Task::Budget { .. }
+        | Task::Sweep { .. }
+        | Task::Report { .. }
         | Task::BatchTable { .. } => unreachable!(),
     }
 }
@@ -210,6 +227,8 @@ pub fn longest_of(task: &Task) -> usize
         | Task::Latency { .. }
         | Task::Survey { .. }
         | Task::WhatIf { .. }
-        | Task::Budget { .. } => LONGEST_JOB,
+        | Task::Budget { .. }
+        | Task::Sweep { .. }
+        | Task::Report { .. } => LONGEST_JOB,
     }
 }
