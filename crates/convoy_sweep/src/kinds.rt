@@ -1,4 +1,5 @@
 use convoy_scenario::Name;
+use convoy_survey::Finding;
 use convoy_toml::WrittenTime;
 
 /// How many rows a sweep has at most; and how many values each of its keys has at most.
@@ -67,4 +68,12 @@ pub struct Point {
     pub first: Given,
     /// Of the second key, where there is one.
     pub second: Option<Given>,
+}
+
+/// A row of a sweep.
+#[derive(Clone, Copy)]
+pub struct Swept {
+    pub point: Point,
+    /// What a search found of the latency in the scenario that the text makes at the point; or that memory ran out.
+    pub finding: Finding,
 }
