@@ -1,0 +1,3 @@
+pub mod Enclosing
+pub mod Giving
+pub mod Making
