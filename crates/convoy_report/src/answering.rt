@@ -63,6 +63,7 @@ pub fn report_answer<R: Threads + Wait + Sync, W: Watch + Sync>(
 }
 
 /// The page of an instance's scenario with these rows, changes and runs.
+#[tactic(auto, using(std::proofs::lemmas::List::append_assoc))]
 fn report_text(
     alloc: Global,
     measure: &Option<Measure>,
@@ -89,6 +90,7 @@ fn report_text(
 }
 
 /// Appends the section of all messages.
+#[tactic(auto, using(std::proofs::lemmas::List::append_assoc))]
 fn push_survey(
     measure: &Option<Measure>,
     deadlines: &[Option<u32>],

@@ -22,6 +22,7 @@ pub const MOST_CHANGES: usize = 10;
 
 /// Appends the section of the changes that save most, which come first among these rows. Fails where memory runs out, and
 /// else never.
+#[tactic(auto, using(std::proofs::lemmas::List::append_assoc))]
 pub(crate) fn push_changes(
     times: &Times,
     deadline: Option<u32>,

@@ -12,6 +12,7 @@ use std::alloc::{AllocError, Global};
 
 /// Appends the section of the scenario's sum and text, with how to check it, and the end of the page. Fails where memory
 /// runs out, and else never.
+#[tactic(auto, using(std::proofs::lemmas::List::append_assoc))]
 pub(crate) fn push_digest(instance: &Instance, out: &mut Vec<u8>) -> Result<(), AllocError>
     ensures { OnOk result (out.new.items ≡ out.old.items ++ digest_section instance.now) }
 {

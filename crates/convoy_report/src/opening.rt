@@ -18,6 +18,7 @@ use std::alloc::AllocError;
 
 /// Appends the head of the page, the system in a sentence, what is asked, and the answer by these rows and deadlines.
 /// Fails where memory runs out, and else never.
+#[tactic(auto, using(std::proofs::lemmas::List::append_assoc))]
 pub(crate) fn push_opening(
     measure: &Option<Measure>,
     deadlines: &[Option<u32>],
@@ -36,6 +37,7 @@ pub(crate) fn push_opening(
 }
 
 /// Appends the head of the page, up to its heading.
+#[tactic(auto, using(std::proofs::lemmas::List::append_assoc))]
 fn push_head(scenario: &Scenario, out: &mut Vec<u8>) -> Result<(), AllocError>
     ensures { OnOk result (out.new.items ≡ out.old.items ++ head_text scenario.now) }
 {
@@ -47,6 +49,7 @@ fn push_head(scenario: &Scenario, out: &mut Vec<u8>) -> Result<(), AllocError>
 }
 
 /// Appends the title of the page.
+#[tactic(auto, using(std::proofs::lemmas::List::append_assoc))]
 fn push_title(scenario: &Scenario, out: &mut Vec<u8>) -> Result<(), AllocError>
     ensures { OnOk result (out.new.items ≡ out.old.items ++ title_words scenario.now) }
 {
@@ -55,6 +58,7 @@ fn push_title(scenario: &Scenario, out: &mut Vec<u8>) -> Result<(), AllocError>
 }
 
 /// Appends the target by its names.
+#[tactic(auto, using(std::proofs::lemmas::List::append_assoc))]
 pub(crate) fn push_target(scenario: &Scenario, out: &mut Vec<u8>) -> Result<(), AllocError>
     ensures { OnOk result (out.new.items ≡ out.old.items ++ target_words scenario.now) }
 {
@@ -70,6 +74,7 @@ pub(crate) fn push_target(scenario: &Scenario, out: &mut Vec<u8>) -> Result<(), 
 }
 
 /// Appends the system in a sentence.
+#[tactic(auto, using(std::proofs::lemmas::List::append_assoc))]
 fn push_system(
     measure: &Option<Measure>,
     scenario: &Scenario,
@@ -99,6 +104,7 @@ fn time_sentence(time: Time) -> &'static str
 }
 
 /// Appends so many things.
+#[tactic(auto, using(std::proofs::lemmas::List::append_assoc))]
 fn push_counted(count: usize, word: &str, out: &mut Vec<u8>) -> Result<(), AllocError>
     ensures { OnOk result (out.new.items ≡ out.old.items ++ counted count word.now) }
 {
@@ -112,6 +118,7 @@ fn push_counted(count: usize, word: &str, out: &mut Vec<u8>) -> Result<(), Alloc
 }
 
 /// Appends what is asked.
+#[tactic(auto, using(std::proofs::lemmas::List::append_assoc))]
 fn push_asked(scenario: &Scenario, out: &mut Vec<u8>) -> Result<(), AllocError>
     ensures { OnOk result (out.new.items ≡ out.old.items ++ asked_text scenario.now) }
 {
@@ -131,6 +138,7 @@ fn push_asked(scenario: &Scenario, out: &mut Vec<u8>) -> Result<(), AllocError>
 }
 
 /// Appends the answer.
+#[tactic(auto, using(std::proofs::lemmas::List::append_assoc))]
 fn push_answer(
     measure: &Option<Measure>,
     deadline: Option<u32>,
@@ -163,6 +171,7 @@ fn push_found(
 }
 
 /// Appends the greatest latency.
+#[tactic(auto, using(std::proofs::lemmas::List::append_assoc))]
 fn push_exact(measure: &Option<Measure>, latency: u32, out: &mut Vec<u8>) -> Result<(), AllocError>
     ensures { OnOk result (out.new.items ≡ out.old.items ++ exact_text measure.now latency) }
 {
@@ -172,6 +181,7 @@ fn push_exact(measure: &Option<Measure>, latency: u32, out: &mut Vec<u8>) -> Res
 }
 
 /// Appends the least and the most that it may be.
+#[tactic(auto, using(std::proofs::lemmas::List::append_assoc))]
 fn push_between(
     measure: &Option<Measure>,
     least: u32,
@@ -222,6 +232,7 @@ fn push_judged(
 }
 
 /// Appends a deadline, and how a latency that is at least and at most so many ticks keeps it.
+#[tactic(auto, using(std::proofs::lemmas::List::append_assoc))]
 fn push_verdict(
     measure: &Option<Measure>,
     deadline: u32,
@@ -253,6 +264,7 @@ fn push_verdict(
 }
 
 /// Appends a number of ticks between two pieces of text.
+#[tactic(auto, using(std::proofs::lemmas::List::append_assoc))]
 fn push_margin(
     measure: &Option<Measure>,
     before: &str,

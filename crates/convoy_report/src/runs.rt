@@ -42,6 +42,7 @@ pub(crate) fn show_all<R: Threads + Wait + Sync, W: Watch + Sync>(
 }
 
 /// Appends the section of these runs. Fails where memory runs out, and else never.
+#[tactic(auto, using(std::proofs::lemmas::List::append_assoc))]
 pub(crate) fn push_runs(runs: &[Shown], out: &mut Vec<u8>) -> Result<(), AllocError>
     ensures { OnOk result (out.new.items ≡ out.old.items ++ runs_section runs.now) }
 {

@@ -107,6 +107,7 @@ fn image(
 
 /// What is written of the run of a certificate's schedule, of which this is an image. The checker says of the certificate
 /// that no run is worse: it does, unless memory runs out.
+#[tactic(auto, using(std::proofs::lemmas::List::append_assoc))]
 fn worst_text(
     alloc: Global,
     measure: &Option<Measure>,
@@ -160,6 +161,7 @@ fn explanation(
 
 /// What is written of the latest run that was found, of which this is an image, where the search did not end: it takes so
 /// many ticks, and none takes more than the most.
+#[tactic(auto, using(std::proofs::lemmas::List::append_assoc))]
 fn latest_text(
     alloc: Global,
     measure: &Option<Measure>,
@@ -200,6 +202,7 @@ fn reason(alloc: Global, instance: &Instance, schedule: &Schedule) -> Result<Str
 }
 
 /// Appends the heading of a run, its image, and what begins its caption.
+#[tactic(auto, using(std::proofs::lemmas::List::append_assoc))]
 fn push_image(scenario: &Scenario, image: &[u8], out: &mut Vec<u8>) -> Result<(), AllocError>
     ensures { OnOk result (out.new.items ≡ out.old.items ++ image_html scenario.now image.now) }
 {

@@ -17,6 +17,7 @@ use convoy_times::Measure;
 use std::alloc::AllocError;
 
 /// Appends the section of the system: its picture, and what that shows. Fails where memory runs out, and else never.
+#[tactic(auto, using(std::proofs::lemmas::List::append_assoc))]
 pub(crate) fn push_system(
     measure: &Option<Measure>,
     scenario: &Scenario,
@@ -60,6 +61,7 @@ fn group_count(scenario: &Scenario) -> u32
 }
 
 /// Appends the start of the picture, with its size.
+#[tactic(auto, using(std::proofs::lemmas::List::append_assoc))]
 fn push_size(scenario: &Scenario, out: &mut Vec<u8>) -> Result<(), AllocError>
     ensures { OnOk result (out.new.items ≡ out.old.items ++ size_svg scenario.now) }
 {
@@ -97,6 +99,7 @@ fn push_group_lane(scenario: &Scenario, group: usize, out: &mut Vec<u8>) -> Resu
 }
 
 /// Appends the lane of that number, of a place of that name, with so many arrows.
+#[tactic(auto, using(std::proofs::lemmas::List::append_assoc))]
 fn push_lane(count: u32, lane: u32, name: &str, out: &mut Vec<u8>) -> Result<(), AllocError>
     requires few { count ≤ MOST_LINKS }
     requires near { lane ≤ MOST_GROUPS }
@@ -144,6 +147,7 @@ fn push_links(
 }
 
 /// Appends a link, as the one of that number: its ends and its range in words, and its arrow.
+#[tactic(auto, using(std::proofs::lemmas::List::append_assoc))]
 fn push_link(
     measure: &Option<Measure>,
     scenario: &Scenario,
@@ -166,6 +170,7 @@ fn push_link(
 }
 
 /// Appends an arrow from one lane to another, as the one of that number, and its words.
+#[tactic(auto, using(std::proofs::lemmas::List::append_assoc))]
 fn push_arrow(
     measure: &Option<Measure>,
     number: u32,
@@ -201,6 +206,7 @@ fn tip(from: u32, to: u32) -> &'static str
 }
 
 /// Appends the range of a link, in ticks or in the unit of a measure.
+#[tactic(auto, using(std::proofs::lemmas::List::append_assoc))]
 fn push_range(measure: &Option<Measure>, link: &Link, out: &mut Vec<u8>) -> Result<(), AllocError>
     ensures { OnOk result (out.new.items ≡ out.old.items ++ range_text measure.now link.now) }
 {

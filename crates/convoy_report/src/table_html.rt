@@ -11,6 +11,7 @@ use std::alloc::AllocError;
 
 /// Appends a table, in a box of its own in which it can be moved where it is wider than the page. Fails where memory
 /// runs out, and else never.
+#[tactic(auto, using(std::proofs::lemmas::List::append_assoc))]
 pub(crate) fn push_table(table: &Table, out: &mut Vec<u8>) -> Result<(), AllocError>
     ensures { OnOk result (out.new.items ≡ out.old.items ++ table_html table.now) }
 {
@@ -32,6 +33,7 @@ fn push_columns(columns: &[Cell], out: &mut Vec<u8>) -> Result<(), AllocError>
 }
 
 /// Appends the name of a column.
+#[tactic(auto, using(std::proofs::lemmas::List::append_assoc))]
 fn push_column(column: &Cell, out: &mut Vec<u8>) -> Result<(), AllocError>
     ensures { OnOk result (out.new.items ≡ out.old.items ++ column_html column.now) }
 {
@@ -51,6 +53,7 @@ fn push_rows(rows: &[Row], out: &mut Vec<u8>) -> Result<(), AllocError>
 }
 
 /// Appends a row.
+#[tactic(auto, using(std::proofs::lemmas::List::append_assoc))]
 fn push_row(row: &Row, out: &mut Vec<u8>) -> Result<(), AllocError>
     ensures { OnOk result (out.new.items ≡ out.old.items ++ row_html row.now) }
 {
@@ -73,6 +76,7 @@ fn push_cells(cells: &[Cell], out: &mut Vec<u8>) -> Result<(), AllocError>
 }
 
 /// Appends the cell that names a row.
+#[tactic(auto, using(std::proofs::lemmas::List::append_assoc))]
 fn push_row_name(cell: &Cell, out: &mut Vec<u8>) -> Result<(), AllocError>
     ensures { OnOk result (out.new.items ≡ out.old.items ++ row_name_html cell.now) }
 {
@@ -92,6 +96,7 @@ fn push_further(cells: &[Cell], out: &mut Vec<u8>) -> Result<(), AllocError>
 }
 
 /// Appends a cell.
+#[tactic(auto, using(std::proofs::lemmas::List::append_assoc))]
 fn push_cell(cell: &Cell, out: &mut Vec<u8>) -> Result<(), AllocError>
     ensures { OnOk result (out.new.items ≡ out.old.items ++ cell_html cell.now) }
 {

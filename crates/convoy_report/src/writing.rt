@@ -31,6 +31,7 @@ pub(crate) fn push_count(count: usize, out: &mut Vec<u8>) -> Result<(), AllocErr
 }
 
 /// Appends a number after some text.
+#[tactic(auto, using(std::proofs::lemmas::List::append_assoc))]
 pub(crate) fn push_numbered(before: &str, number: u32, out: &mut Vec<u8>) -> Result<(), AllocError>
     ensures { OnOk result (out.new.items ≡ out.old.items ++ numbered before.now number) }
 {

@@ -5,4 +5,4 @@ use Rattle.convoy_report.proofs.system.push_links.Given as goal
 
 -- the links so far
 abbrev pub invariant-loop-i : goal.invariant-loop-i
-invariant-loop-i l = l.out.items ≡ l.initial.out.items ++ flat_map (link_svg l.measure l.scenario) (enumerate_from 0 (take l.i l.links))
+invariant-loop-i l = l.out.items ≡ l.initial.out.items ++ flat_map (link_svg l.measure l.scenario) (take l.i (enumerate_from 0 l.scenario.links))
