@@ -83,7 +83,7 @@ IsShown settings measure scenario shown =
 
 -- A run is shown of each of these targets, in their order.
 pub record AreShown (settings : Settings) (measure : Option Measure) (scenario : Scenario) (targets : List Target) (runs : List Shown) : Type 0 where
-  pub targets : map (λ run. run.target) runs ≡ targets
+  pub same : map (λ run. run.target) runs ≡ targets
   pub each : All (IsShown settings measure scenario) runs
 
 -- the section of the runs
