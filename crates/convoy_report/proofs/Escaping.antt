@@ -18,13 +18,16 @@ piece byte = by_tests (byte == 38) (byte == 60) (byte == 62) (byte == 34) refl r
   by_tests false false true d ampersand less greater quote = inl (2, omega arith, refl)
   by_tests false false false true ampersand less greater quote = inl (3, omega arith, refl)
   by_tests false false false false ampersand less greater quote =
-      inr
-      (byte, refl, record {
-        no_ampersand = grind (arith, nat_tests, ampersand);
-        no_less = grind (arith, nat_tests, less);
-        no_greater = grind (arith, nat_tests, greater);
-        no_quote = grind (arith, nat_tests, quote);
-      })
+      inr (
+        byte,
+        refl,
+        record {
+          no_ampersand = grind (arith, nat_tests, ampersand);
+          no_less = grind (arith, nat_tests, less);
+          no_greater = grind (arith, nat_tests, greater);
+          no_quote = grind (arith, nat_tests, quote);
+        },
+      )
 
 pieces : (text : List ℕ) → All IsPiece (map escaped text)
 pieces [] = All-nil IsPiece
