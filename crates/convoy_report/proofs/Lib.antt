@@ -1,0 +1,4 @@
+pub mod Escaping
+pub mod MoreRuns
+pub mod RunEnds
+pub mod Told
