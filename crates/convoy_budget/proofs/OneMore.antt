@@ -19,9 +19,9 @@ lawful_keys lawful ways [] all = λ k d small. absurd (omega (arith, small))
 lawful_keys lawful ways (target ∷ targets) all =
     All-append (λ (key : Target × Way). lawful key.0) (keys_of ways target) (flat_map (keys_of ways) targets) (of_one (all 0 target (omega arith)) ways)
     (lawful_keys lawful ways targets (λ k d small. all (suc k) d (omega (arith, small)))) where
-  of_one : lawful target → (ways : List Way) → All (λ (key : Target × Way). lawful key.0) (keys_of ways target)
-  of_one is [] = λ k d small. absurd (omega (arith, small))
-  of_one is (way ∷ ways) = All-cons (λ (key : Target × Way). lawful key.0) (target, way) (keys_of ways target) is (of_one is ways)
+      of_one : lawful target → (ways : List Way) → All (λ (key : Target × Way). lawful key.0) (keys_of ways target)
+      of_one is [] = λ k d small. absurd (omega (arith, small))
+      of_one is (way ∷ ways) = All-cons (λ (key : Target × Way). lawful key.0) (target, way) (keys_of ways target) is (of_one is ways)
 
 -- a row of the scenario with a target is one of the scenario
 pub told_of : (settings : Settings) (of_ceiling : Bool) (scenario asked : Scenario) (target : Target) (way : Way) (row : Budget) →

@@ -46,8 +46,10 @@ made_of_keys {K} {W} {V} {T} by_place by_key keys rows then all = over keys rows
   over [] [] from then all = tt
   over [] (row ∷ rows) from then all = absurd all
   over (key ∷ keys) [] from then all = absurd all
-  over (key ∷ keys) (row ∷ rows) from then all = (then 0 all.0.watch row (subst (λ n. by_place n all.0.watch row) (omega arith) all.0.answered) key,
-      over keys rows (from + 1) (λ i watch r made. then (suc i) watch r (subst (λ n. by_place n watch r) (omega arith) made)) all.1)
+  over (key ∷ keys) (row ∷ rows) from then all = (
+    then 0 all.0.watch row (subst (λ n. by_place n all.0.watch row) (omega arith) all.0.answered) key,
+    over keys rows (from + 1) (λ i watch r made. then (suc i) watch r (subst (λ n. by_place n watch r) (omega arith) made)) all.1,
+  )
 
 -- rows that are made of keys, by what a call says of the key that it is lent
 pub by_keys : {K W T : Type 0} (may_answer : Bor K → Bor W → T → Type 0) (P : K → T → Type 0) (keys : List K) (rows : List T)

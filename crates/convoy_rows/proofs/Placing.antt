@@ -28,9 +28,11 @@ right_with {T} is_right places (n, x) are right = ⊎_elim within past (cases_lt
   here : n < length places → (i : ℕ) (row : T) → i ≡ n → get_or (set places n (Some x)) i None ≡ Some row → is_right i row
   here small i row same is =
       subst (λ k. is_right k row) (sym same) (same_row is_right n x right row (sym (get_or-set_at places n i (Some x) None same small) ∙ is))
+
   within : n < length places → AreRightPlaces is_right (with_row places (n, x))
   within small = λ i row is. ⊎_elim (λ same. here small i row same is)
       (λ other. are i row (sym (get_or-set_other places n i (Some x) None other) ∙ is)) (cases_eq i n)
+
   past : length places ≤ n → AreRightPlaces is_right (with_row places (n, x))
   past large = subst (AreRightPlaces is_right) (sym (set_past places n (Some x) large)) are
 
@@ -65,9 +67,11 @@ pub right_without : {T : Type 0} (is_right : ℕ → T → Type 0) (places : Lis
 right_without {T} is_right places n are = ⊎_elim within past (cases_lt n (length places)) where
   here : n < length places → (i : ℕ) (row : T) → i ≡ n → get_or (set places n None) i None ≡ Some row → is_right i row
   here small i row same is = absurd (none-some row (sym (get_or-set_at places n i None None same small) ∙ is))
+
   within : n < length places → AreRightPlaces is_right (set places n None)
   within small = λ i row is. ⊎_elim (λ same. here small i row same is)
       (λ other. are i row (sym (get_or-set_other places n i None None other) ∙ is)) (cases_eq i n)
+
   past : length places ≤ n → AreRightPlaces is_right (set places n None)
   past large = subst (AreRightPlaces is_right) (sym (set_past places n None large)) are
 

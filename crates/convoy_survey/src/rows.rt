@@ -1,4 +1,4 @@
-ghost use Rattle.std.specs.Prelude.{◌≡◌, ◌<◌, ◌++◌, length, IfOk, OnOk};
+ghost use Rattle.std.specs.Prelude.{◌≡◌, ◌<◌, [], ◌∷◌, ◌++◌, length, IfOk, OnOk};
 ghost use Rattle.std.specs.List.{All};
 ghost use Rattle.convoy_scenario.specs.Targets.{targets_at, targets_of};
 ghost use Rattle.convoy_survey.specs.Findings.{MayAnswer};
@@ -36,7 +36,8 @@ pub fn survey<R: Threads + Wait + Sync, W: Watch + Sync>(
         requires { IsTarget scenario.now message group }
         ensures { MayAnswer options.entry.now scenario.entry.now message group result }
     { find_target(rt, alloc, scenario, message, group, options, watch) };
-    survey_by(rt, alloc, scenario, watches, &find)
+    let rows = survey_by(rt, alloc, scenario, watches, &find)?;
+    Ok(rows)
 }
 
 /// The rows of [`survey`], each by a search of the caller's own, which is given the numbers of a message and of a
@@ -111,7 +112,22 @@ fn push_message(
         return Ok(());
     }
     for group in scenario.destinations(message) {
-        targets.push((message, *group))?;
+        push_target(scenario, message, *group, targets)?;
     }
     Ok(())
+}
+
+/// Appends a message at a group that it goes to; it is one that does not wait.
+fn push_target(
+    _scenario: &Scenario,
+    message: usize,
+    group: usize,
+    targets: &mut Vec<(usize, usize)>,
+) -> Result<(), AllocError>
+    requires target { IsTarget _scenario.now message group }
+    requires lawful { All (IsTargetPair _scenario.now) targets.old.items }
+    ensures targets { OnOk result (targets.new.items ≡ targets.old.items ++ (message, group) ∷ []) }
+    ensures lawful { OnOk result (All (IsTargetPair _scenario.now) targets.new.items) }
+{
+    Ok(targets.push((message, group))?)
 }
