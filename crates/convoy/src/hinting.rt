@@ -4,6 +4,7 @@
 
 use super::ending::End;
 use super::kept::KeptWriter;
+use super::sweep_hints::hint_for_sweep;
 use convoy_arguments::{Input, MOST_SECONDS, REJECTED, Verdict, hint_for_words};
 use convoy_commands::{
     Bounds, Done, Fault, Known, LONGEST_JOB, ListFault, MOST_SIMULATIONS, MOST_STEPS, MOST_TICKETS,
@@ -18,7 +19,6 @@ use convoy_hints::{
     hint_for_reading, hint_for_scenario, hint_for_seconds, hint_for_tickets, hint_for_unchecked,
     hint_for_writing, hint_of_text, is_name_of_file, line_for_file,
 };
-use super::sweep_hints::hint_for_sweep;
 use convoy_streams::KeptReader;
 use convoy_tasks::{MOST_JOBS, Task};
 use convoy_toml::Asked;
@@ -92,8 +92,7 @@ fn text_of(task: &Task) -> &'static str {
         | Task::Survey { .. }
         | Task::WhatIf { .. }
         | Task::Budget { .. }
-        | Task::Sweep { .. }
-        | Task::Report { .. } => "a scenario",
+        | Task::Sweep { .. } => "a scenario",
         Task::Check { .. } | Task::Explain { .. } | Task::Draw { .. } => "a certificate",
         Task::Tell(_) => "a scenario or a certificate",
         Task::BatchTable { .. } => "scenarios",
@@ -253,7 +252,6 @@ fn asked_of_task(task: &Task) -> Option<&Asked> {
         | Task::WhatIf { asked, .. }
         | Task::Budget { asked, .. }
         | Task::Sweep { asked, .. }
-        | Task::Report { asked, .. }
         | Task::BatchTable { asked, .. } => Some(asked),
         Task::Tell(_) | Task::Check { .. } | Task::Explain { .. } | Task::Draw { .. } => None,
     }
@@ -377,8 +375,7 @@ fn options_of(verdict: &Verdict) -> Option<&Options> {
         | Task::Survey { options, .. }
         | Task::WhatIf { options, .. }
         | Task::Budget { options, .. }
-        | Task::Sweep { options, .. }
-        | Task::Report { options, .. } => Some(options),
+        | Task::Sweep { options, .. } => Some(options),
         _ => None,
     }
 }

@@ -140,7 +140,7 @@ pub(crate) fn sweep_of(alloc: Global, given: &ArgMatches<'_>) -> Result<Sweep, U
 
 /// The key with its values that a word tells.
 fn setting_in(alloc: Global, word: &str) -> Result<Setting, Unasked> {
-    match Setting::read(alloc, word.as_bytes()) {
+    match Setting::read(alloc, word) {
         Ok(setting) => Ok(setting),
         Err(UnreadSetting::Memory) => Err(Unasked::Memory),
         Err(UnreadSetting::Form | UnreadSetting::Key | UnreadSetting::Time) => {

@@ -379,18 +379,6 @@ pub(crate) const ABOUT_ENVELOPE: &str = "\
 Lets each row speak of all times of issue from one value to the next, as a window does:
 for keys MESSAGE.at, but not of the target";
 
-pub(crate) const ABOUT_REPORT: &str = "Writes a report to pass on, as one page of HTML";
-
-pub(crate) const LONG_ABOUT_REPORT: &str = "\
-Reads a scenario, and writes a page of HTML that stands alone: the greatest latency of
-the target, the system, the table of `survey --ceiling` for all messages, the worst run
-of the target and of each message that is beyond its deadline, drawn and explained, the
-changes that save most, and how to check all this.
-  convoy report scenario.toml > report.html
-
-The exit status is that of `survey`: 5 where a message is beyond its deadline, else 1
-where memory ran out for a row, else 3 where one is open.";
-
 pub(crate) const ABOUT_ALL_DEADLINES: &str = "\
 Tells the budgets of each message that has a deadline, at each group that it goes to;
 the text need not have a target";

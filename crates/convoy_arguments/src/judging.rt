@@ -258,10 +258,6 @@ fn task_for(
         "check" | "explain" | "draw" => Ok(certificate_task_for(name, given)),
         "ceiling" => ceiling_for(alloc, given, asked),
         "budget" => Ok(budget_for(given, asked)),
-        "report" => Ok(Task::Report {
-            asked,
-            options: options_of(given),
-        }),
         "batch" | "survey" => Ok(table_for(name, given, asked)),
         _ => Ok(Task::First { asked }),
     }

@@ -5,13 +5,13 @@ use super::help::{
     ABOUT_BATCH_AT_MOST, ABOUT_BATCH_FORMAT, ABOUT_BESIDE, ABOUT_BOUNDS, ABOUT_BUDGET,
     ABOUT_CEILING, ABOUT_CHECK, ABOUT_DRAW, ABOUT_ENVELOPE, ABOUT_EXPLAIN, ABOUT_FIRST,
     ABOUT_FORMAT, ABOUT_GROUP, ABOUT_JOBS, ABOUT_LATENCY, ABOUT_LIMIT, ABOUT_OF_CEILING,
-    ABOUT_PACKETS, ABOUT_PROGRESS, ABOUT_REPORT, ABOUT_SCENARIO, ABOUT_SECONDS, ABOUT_SEEK,
-    ABOUT_SEEK_TRAFFIC, ABOUT_SET, ABOUT_SIMULATE, ABOUT_STATUS, ABOUT_STEPS, ABOUT_SURVEY,
-    ABOUT_SWEEP, ABOUT_TARGET, ABOUT_TELL, ABOUT_TIMELINE, ABOUT_UNIT, ABOUT_WANTED, ABOUT_WITHOUT,
-    ABOUT_WORKERS, LONG_ABOUT_ANALYSE, LONG_ABOUT_BATCH, LONG_ABOUT_BUDGET, LONG_ABOUT_CEILING,
-    LONG_ABOUT_CHECK, LONG_ABOUT_DRAW, LONG_ABOUT_EXPLAIN, LONG_ABOUT_FIRST, LONG_ABOUT_LATENCY,
-    LONG_ABOUT_PACKETS, LONG_ABOUT_REPORT, LONG_ABOUT_SCENARIO, LONG_ABOUT_SIMULATE,
-    LONG_ABOUT_SURVEY, LONG_ABOUT_SWEEP, LONG_ABOUT_TIMELINE,
+    ABOUT_PACKETS, ABOUT_PROGRESS, ABOUT_SCENARIO, ABOUT_SECONDS, ABOUT_SEEK, ABOUT_SEEK_TRAFFIC,
+    ABOUT_SET, ABOUT_SIMULATE, ABOUT_STATUS, ABOUT_STEPS, ABOUT_SURVEY, ABOUT_SWEEP, ABOUT_TARGET,
+    ABOUT_TELL, ABOUT_TIMELINE, ABOUT_UNIT, ABOUT_WANTED, ABOUT_WITHOUT, ABOUT_WORKERS,
+    LONG_ABOUT_ANALYSE, LONG_ABOUT_BATCH, LONG_ABOUT_BUDGET, LONG_ABOUT_CEILING, LONG_ABOUT_CHECK,
+    LONG_ABOUT_DRAW, LONG_ABOUT_EXPLAIN, LONG_ABOUT_FIRST, LONG_ABOUT_LATENCY, LONG_ABOUT_PACKETS,
+    LONG_ABOUT_SCENARIO, LONG_ABOUT_SIMULATE, LONG_ABOUT_SURVEY, LONG_ABOUT_SWEEP,
+    LONG_ABOUT_TIMELINE,
 };
 use super::limits::MOST_SECONDS;
 use clap::builder::ValueParser;
@@ -179,12 +179,12 @@ const JOBS: Setting = Setting {
     company: Company::Any,
 };
 
-/// The same of a batch that is written as a table.
-const BATCH_JOBS: Setting = Setting {
+/// The same of a survey: of changes it has none.
+const SURVEY_JOBS: Setting = Setting {
     name: "jobs",
     about: ABOUT_JOBS,
     value: ROWS_AT_A_TIME,
-    company: Company::With("format"),
+    company: Company::Without("without"),
 };
 
 /// Whether a search tells how far it has come.
@@ -380,7 +380,7 @@ const TELL: Setting = Setting {
 };
 
 /// The commands.
-pub(crate) const COMMANDS: [Listed; 16] = [
+pub(crate) const COMMANDS: [Listed; 15] = [
     Listed {
         name: "analyse",
         about: ABOUT_ANALYSE,
@@ -433,7 +433,7 @@ pub(crate) const COMMANDS: [Listed; 16] = [
             SEEK,
             BOUNDS,
             WORKERS,
-            JOBS,
+            SURVEY_JOBS,
             PROGRESS,
             FORMAT,
             UNIT,
@@ -458,7 +458,6 @@ pub(crate) const COMMANDS: [Listed; 16] = [
             SEEK,
             BOUNDS,
             WORKERS,
-            JOBS,
             PROGRESS,
             FORMAT,
             UNIT,
@@ -474,14 +473,6 @@ pub(crate) const COMMANDS: [Listed; 16] = [
         ],
     },
     Listed {
-        name: "report",
-        about: ABOUT_REPORT,
-        long_about: LONG_ABOUT_REPORT,
-        settings: &[
-            TARGET, AT_MOST, LIMIT, SECONDS, SEEK, BOUNDS, WORKERS, JOBS, PROGRESS, UNIT,
-        ],
-    },
-    Listed {
         name: "batch",
         about: ABOUT_BATCH,
         long_about: LONG_ABOUT_BATCH,
@@ -491,7 +482,6 @@ pub(crate) const COMMANDS: [Listed; 16] = [
             SEEK,
             BOUNDS,
             WORKERS,
-            BATCH_JOBS,
             PROGRESS,
             BATCH_AT_MOST,
             STATUS,

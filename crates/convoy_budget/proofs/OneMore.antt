@@ -13,23 +13,27 @@ use Rattle.convoy_budget.specs.declared.kinds.Target.{Target}
 use Rattle.convoy_budget.specs.declared.kinds.Way.{Way}
 use Rattle.convoy_budget.specs.Budgets.{HasBroken, IsBroken, IsBudget, IsBudgetOf, key_of, keys_of}
 
--- each target with each way is lawful where the targets are
-pub lawful_keys : (lawful : Target → Type 0) (ways : List Way) (targets : List Target) → All lawful targets → All (λ key. lawful key.0) (flat_map (keys_of ways) targets)
-lawful_keys lawful ways [] all = λ k d small. absurd (omega (arith, small))
-lawful_keys lawful ways (target ∷ targets) all =
-    All-append (λ (key : Target × Way). lawful key.0) (keys_of ways target) (flat_map (keys_of ways) targets) (of_one (all 0 target (omega arith)) ways)
-    (lawful_keys lawful ways targets (λ k d small. all (suc k) d (omega (arith, small)))) where
-      of_one : lawful target → (ways : List Way) → All (λ (key : Target × Way). lawful key.0) (keys_of ways target)
-      of_one is [] = λ k d small. absurd (omega (arith, small))
-      of_one is (way ∷ ways) = All-cons (λ (key : Target × Way). lawful key.0) (target, way) (keys_of ways target) is (of_one is ways)
+-- the keys of the rows, with that of the next way
+pub keys_more : (target : Target) (ways : List Way) (i : ℕ) (d : Way) (before : List (Target × Way)) (rows : List Budget) (row : Budget) →
+    i < length ways → map key_of rows ≡ before ++ keys_of (take i ways) target → key_of row ≡ (target, get_or ways i d) →
+    map key_of (rows ++ row ∷ []) ≡ before ++ keys_of (take (i + 1) ways) target
+keys_more target ways i d before rows row within so_far is =
+    let f : Way → Target × Way = λ way. (target, way) in
+    map-append key_of rows (row ∷ [])
+    ∙ ap (λ (ks : List (Target × Way)). ks ++ key_of row ∷ []) so_far
+    ∙ ap (λ (k : Target × Way). (before ++ keys_of (take i ways) target) ++ k ∷ []) is
+    ∙ append_assoc before (keys_of (take i ways) target) (f (get_or ways i d) ∷ [])
+    ∙ ap (λ (ks : List (Target × Way)). before ++ ks)
+    (sym (map-append f (take i ways) (get_or ways i d ∷ [])) ∙ ap (map f) (sym (take_more ways i d within)))
 
 -- a row of the scenario with a target is one of the scenario
-pub told_of : (settings : Settings) (of_ceiling : Bool) (scenario asked : Scenario) (target : Target) (way : Way) (row : Budget) →
-    asked ≡ with_target scenario target.message target.group → key_of row ≡ (target, way) →
-    IsBudgetOf settings of_ceiling asked row → IsBudget settings of_ceiling scenario row
-told_of settings of_ceiling scenario asked target way row is_asked key is =
-    subst (λ (s : Scenario). IsBudgetOf settings of_ceiling s row)
-    (is_asked ∙ ap (λ (k : Target × Way). with_target scenario k.0.message k.0.group) (sym key)) is
+pub told_more : (settings : Settings) (of_ceiling : Bool) (scenario asked : Scenario) (target : Target) (way : Way) (rows : List Budget) (row : Budget) →
+    asked ≡ with_target scenario target.message target.group → All (IsBudget settings of_ceiling scenario) rows → key_of row ≡ (target, way) →
+    IsBudgetOf settings of_ceiling asked row → All (IsBudget settings of_ceiling scenario) (rows ++ row ∷ [])
+told_more settings of_ceiling scenario asked target way rows row is_asked all key is =
+    All-push (IsBudget settings of_ceiling scenario) rows row all
+    (subst (λ (s : Scenario). IsBudgetOf settings of_ceiling s row)
+    (is_asked ∙ ap (λ (k : Target × Way). with_target scenario k.0.message k.0.group) (sym key)) is)
 
 -- what is broken in the scenario with a target is broken with some target
 pub broken_of : (scenario asked : Scenario) (m g : ℕ) (fault : Fault) → asked ≡ with_target scenario m g → IsBroken asked fault →

@@ -1,11 +1,10 @@
 -- The rows of a budget: for each target that has a deadline, each way on which packets travel.
-use Rattle.std.specs.Prelude.{◌≡◌, ◌⊎◌, ℕ, Result, Ok, Err, Bool, true, false, if◌then◌else◌, List, [], ◌∷◌, map, Option, Some, None}
+use Rattle.std.specs.Prelude.{◌≡◌, ℕ, Bool, true, false, if◌then◌else◌, List, [], ◌∷◌, map, Option, Some, None}
 use Rattle.std.specs.List.{All, flat_map}
 use Rattle.convoy_scenario.specs.Scenario.{Scenario, may_wait, message_at, message_numbers}
 use Rattle.convoy_scenario.specs.Targets.{with_target}
 use Rattle.convoy_branch.specs.Options.{Settings}
 use Rattle.convoy_commands.specs.declared.fault.Fault.{Fault}
-use Rattle.convoy_commands.specs.declared.fault.Fault.TheVariants.{Memory}
 use Rattle.convoy_commands.specs.Verdicts.{deadline_at}
 use Rattle.convoy_survey.specs.Surveys.{IsTarget}
 use Rattle.convoy_budget.specs.declared.kinds.Budget.{Budget}
@@ -77,8 +76,3 @@ IsBroken scenario fault = (widening : Widening) × MakesNone scenario widening f
 -- it is so with some target
 abbrev pub HasBroken : Scenario → Fault → Type 0
 HasBroken scenario fault = (m : ℕ) × (g : ℕ) × IsBroken (with_target scenario m g) fault
-
--- what is told of a target and a way is their budget in the scenario, or a fault where some range makes none, or that memory ran out
-abbrev pub TellsBudget : Settings → Bool → Scenario → Target × Way → Result Budget Fault → Type 0
-TellsBudget settings of_ceiling scenario key (Ok row) = (key_of row ≡ key) × IsBudget settings of_ceiling scenario row
-TellsBudget settings of_ceiling scenario key (Err fault) = HasBroken scenario fault ⊎ (fault ≡ Memory)

@@ -1,4 +1,4 @@
-ghost use Rattle.std.specs.Prelude.{◌≡◌, ◌<◌, length};
+ghost use Rattle.std.specs.Prelude.{◌≡◌};
 ghost use Rattle.convoy_commands.specs.Replies.{SaysUnlessMemory, reply_of};
 ghost use Rattle.convoy_budget.specs.Answers.{BudgetSays, end_of};
 
@@ -37,9 +37,8 @@ pub fn budget_answer<R: Threads + Wait + Sync, W: Watch + Sync>(
     asked: &Asked,
     options: &Options,
     text: &[u8],
-    watches: &[W],
+    watch: &W,
 ) -> Result<Answer, Fault>
-    requires { 0 < length watches.now }
     ensures { SaysUnlessMemory (BudgetSays format of_all of_ceiling asked.now options.now) text.now (reply_of result) }
 {
     let input = read_toml_asked(alloc, text, asked)?;
@@ -48,7 +47,7 @@ pub fn budget_answer<R: Threads + Wait + Sync, W: Watch + Sync>(
     if targets.is_empty() {
         return Err(Fault::Scenario(ScenarioFault::Shape(Key::Within)));
     }
-    let rows = budgets(rt, alloc, &instance, &targets, of_ceiling, options, watches)?;
+    let rows = budgets(rt, alloc, &instance, &targets, of_ceiling, options, watch)?;
     let scenario = instance.into_scenario();
     let times = Times::of(format, Measure::of(&scenario, options.unit(), input.unit));
     let text = text_of(alloc, format, &times, &scenario, &rows)?;

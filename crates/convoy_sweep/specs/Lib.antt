@@ -17,4 +17,5 @@ pub mod Points
 pub mod Rows
 pub mod Cells
 pub mod Answers
+pub mod Told
 pub mod SweepLaws

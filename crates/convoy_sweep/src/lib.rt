@@ -8,6 +8,7 @@ pub use fault::{SettingFault, SweepFault, UnreadSetting};
 pub use kinds::{Given, LAST_TICK, MOST_ROWS, Point, Setting, Sweep, SweepKey, Swept};
 pub use preparing::{Made, Prepared, prepare};
 pub use rows::sweep_rows;
+pub use telling::sweep_told;
 
 mod answering;
 mod cells;
@@ -23,5 +24,6 @@ mod reading;
 mod rows;
 pub mod sweep_laws;
 mod table;
+mod telling;
 mod time_cells;
 mod values;

@@ -50,9 +50,7 @@ fn told_of_sweep(fault: SweepFault) -> Fault
         }
         SweepFault::SameKey => Fault::Sweep(SweepCause::KeyTwice),
         SweepFault::TooManyRows => Fault::Sweep(SweepCause::TooManyValues),
-        SweepFault::Value(point, _) => {
-            Fault::Sweep(SweepCause::NoScenario(point.first.value))
-        }
+        SweepFault::Value(point, _) => { Fault::Sweep(SweepCause::NoScenario(point.first.value)) }
     }
 }
 

@@ -10,4 +10,3 @@ pub mod Blocks
 pub mod Labels
 pub mod JobCells
 pub mod WorkedCells
-pub mod KeptRows

@@ -40,7 +40,6 @@ pub mod Runs
 pub mod TaskLaws
 pub mod Batches
 pub mod JobRows
-pub mod KeptJobs
 pub mod JobTables
 pub mod BatchTables
 pub mod BatchLaws

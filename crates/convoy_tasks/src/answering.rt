@@ -15,7 +15,6 @@ use convoy_commands::{
     Answer, Asking, Fault, LONGEST_CERTIFICATE, LONGEST_JOB, Watch, analyse_answer, ask,
     ceiling_answer, explain_with_ceiling, first_answer, latency_answer, tell,
 };
-use convoy_report::report_answer;
 use convoy_scenario::{Scenario, TimeUnit};
 use convoy_survey::{ceilings_answer, survey_answer};
 use convoy_sweep::sweep_told;
@@ -78,7 +77,14 @@ pub fn answer<R: Threads + Wait + Sync, W: Watch + Sync>(
             asked,
             options,
         } => what_if_answer(
-            rt, alloc, *format, *shows_all, asked, options, text, watches,
+            rt,
+            alloc,
+            *format,
+            *shows_all,
+            asked,
+            options,
+            text,
+            &watches[0],
         ),
         Task::Budget {
             format,
@@ -95,7 +101,7 @@ pub fn answer<R: Threads + Wait + Sync, W: Watch + Sync>(
             asked,
             options,
             text,
-            watches,
+            &watches[0],
         ),
         Task::Sweep {
             format,
@@ -106,15 +112,12 @@ pub fn answer<R: Threads + Wait + Sync, W: Watch + Sync>(
         } => sweep_told(
             rt, alloc, *format, sweep, *envelope, asked, options, text, watches,
         ),
-        Task::Report { asked, options } => {
-            report_answer(rt, alloc, asked, options, text, watches)
-        }
         Task::BatchTable {
             format,
             asked,
             options,
             ..
-        } => batch_table_answer(rt, alloc, asked, options, *format, text, watches),
+        } => batch_table_answer(rt, alloc, asked, options, *format, text, &watches[0]),
         Task::First { .. }
         | Task::Tell(_)
         | Task::Check { .. }
@@ -166,7 +169,6 @@ pub(crate) fn answer_at_once(
         | Task::WhatIf { .. }
         | Task::Budget { .. }
         | Task::Sweep { .. }
-        | Task::Report { .. }
         | Task::BatchTable { .. } => unreachable!(),
     }
 }
@@ -228,7 +230,6 @@ pub fn longest_of(task: &Task) -> usize
         | Task::Survey { .. }
         | Task::WhatIf { .. }
         | Task::Budget { .. }
-        | Task::Sweep { .. }
-        | Task::Report { .. } => LONGEST_JOB,
+        | Task::Sweep { .. } => LONGEST_JOB,
     }
 }

@@ -1,4 +1,4 @@
-ghost use Rattle.std.specs.Prelude.{◌≡◌, ◌<◌, length};
+ghost use Rattle.std.specs.Prelude.{◌≡◌, length};
 ghost use Rattle.convoy_streams.specs.Jobs.{jobs_of};
 ghost use Rattle.convoy_commands.specs.Replies.{SaysUnlessMemory, reply_of};
 ghost use Rattle.convoy_tasks.specs.BatchTables.{BatchTableSays, end_of_rows};
@@ -37,15 +37,14 @@ pub fn batch_table_answer<R: Threads + Wait + Sync, W: Watch + Sync>(
     options: &Options,
     format: Format,
     text: &[u8],
-    watches: &[W],
+    watch: &W,
 ) -> Result<Answer, Fault>
-    requires { 0 < length watches.now }
     ensures { SaysUnlessMemory (BatchTableSays format asked.now options.now) text.now (reply_of result) }
 {
     if count_jobs(alloc, text) > MOST_JOBS as usize {
         return Err(Fault::TooManyJobs);
     }
-    let rows = rows_of(rt, alloc, asked, text, options, watches)?;
+    let rows = rows_of(rt, alloc, asked, text, options, watch)?;
     let table = text_of(alloc, format, &rows)?;
     Ok(Answer {
         done: end_of_rows(&rows),

@@ -1,17 +1,15 @@
 //! What is found of the jobs of a batch that is answered as a table.
 
-ghost use Rattle.std.specs.Prelude.{◌≡◌, ◌<◌, length, IfOk};
-ghost use Rattle.std.specs.List.{AllZip};
-ghost use Rattle.convoy_streams.specs.Jobs.{jobs_of};
-ghost use Rattle.convoy_tasks.specs.JobRows.{AreJobRows, JobFinds, end_of_found};
-ghost use Rattle.convoy_tasks.specs.KeptJobs.{FindsKept, TellsKept};
+ghost use Rattle.std.specs.Prelude.{◌≡◌, [], ◌∷◌, ◌++◌, List, IfOk, OnOk};
+ghost use Rattle.convoy_streams.specs.Jobs.{Job, jobs_of};
+ghost use Rattle.convoy_streams.specs.Splitting.{Holds};
+ghost use Rattle.convoy_commands.specs.declared.limits.TheConstants.{LONGEST_JOB};
+ghost use Rattle.convoy_tasks.specs.JobRows.{AreJobRows, IsJobFound, JobFinds, end_of_found};
 
-use super::kept_jobs::{KeptJob, split_jobs};
 use convoy_branch::Options;
 use convoy_commands::{Done, Fault, LONGEST_JOB, Watch, deadline_at, judged};
 use convoy_packets::Instance;
-use convoy_rows::{all_values, make_each};
-use convoy_streams::{JobFault, ReadFault};
+use convoy_streams::{JobFault, ReadFault, Splitter};
 use convoy_survey::{Finding, find};
 use convoy_times::Measure;
 use convoy_toml::{Asked, read_toml_asked};
@@ -51,74 +49,65 @@ pub(crate) struct JobRow {
     pub(crate) found: Result<JobFinding, Fault>,
 }
 
-/// What is found of each job of a text, where that is asked of each, in their order. As many searches are made at a time
-/// as there are watches, and each is watched by one of them. Fails where there is no memory for the rows, and else never.
+/// What is found of each job of a text, where that is asked of each, in their order. Each search is watched. Fails where there is no memory
+/// for the rows, and else never.
 pub(crate) fn rows_of<R: Threads + Wait + Sync, W: Watch + Sync>(
     rt: &R,
     alloc: Global,
     asked: &Asked,
     text: &[u8],
     options: &Options,
-    watches: &[W],
+    watch: &W,
 ) -> Result<Vec<JobRow>, AllocError>
-    requires { 0 < length watches.now }
     ensures { IfOk result (λ rows. AreJobRows asked.now options.now (jobs_of text.now) rows.items) }
 {
-    let jobs = split_jobs(alloc, text)?;
-    let rows = find_jobs(rt, alloc, asked, &jobs, options, watches)?;
+    let mut splitter = Splitter::new(alloc, LONGEST_JOB);
+    let mut rows = Vec::new(alloc);
+    for byte in text {
+        if splitter.take(*byte) {
+            push_row(rt, alloc, asked, &splitter, options, watch, &mut rows)?;
+            splitter.start_next();
+        }
+    }
+    if splitter.finish() {
+        push_row(rt, alloc, asked, &splitter, options, watch, &mut rows)?;
+        splitter.start_next();
+    }
+    push_row(rt, alloc, asked, &splitter, options, watch, &mut rows)?;
     Ok(rows)
 }
 
-/// What is found of each of some jobs.
-fn find_jobs<R: Threads + Wait + Sync, W: Watch + Sync>(
+/// Appends what is found of the job that ended.
+fn push_row<R: Threads + Wait + Sync, W: Watch + Sync>(
     rt: &R,
     alloc: Global,
     asked: &Asked,
-    jobs: &[KeptJob],
-    options: &Options,
-    watches: &[W],
-) -> Result<Vec<JobRow>, AllocError>
-    requires { 0 < length watches.now }
-    ensures { IfOk result (λ rows. AllZip (TellsKept asked.now options.now) jobs.now rows.items) }
-{
-    let find = |job: &KeptJob, watch: &W| -> Result<JobRow, AllocError>
-        ensures { IfOk result (TellsKept asked.entry.now options.entry.now job.now) }
-    { row_of(rt, alloc, asked, job, options, watch) };
-    let results = make_each(rt, alloc, watches, jobs, &find)?;
-    match all_values(alloc, results)? {
-        Ok(rows) => Ok(rows),
-        Err(AllocError) => Err(AllocError),
-    }
-}
-
-/// The row of a job.
-fn row_of<R: Threads + Wait + Sync, W: Watch + Sync>(
-    rt: &R,
-    alloc: Global,
-    asked: &Asked,
-    job: &KeptJob,
+    splitter: &Splitter,
     options: &Options,
     watch: &W,
-) -> Result<JobRow, AllocError>
-    ensures { IfOk result (TellsKept asked.now options.now job.now) }
+    rows: &mut Vec<JobRow>,
+) -> Result<(), AllocError>
+    ensures { (jobs : List Job) (job : Job) →
+        AreJobRows asked.now options.now jobs rows.old.items → Holds LONGEST_JOB splitter.now job →
+        OnOk result (AreJobRows asked.now options.now (jobs ++ job ∷ []) rows.new.items) }
 {
-    let label = Vec::from_slice(alloc, &job.label)?;
-    let found = find_kept(rt, alloc, asked, &job.text, options, watch);
-    Ok(JobRow { label, found })
+    let label = Vec::from_slice(alloc, splitter.label())?;
+    let found = find_job(rt, alloc, asked, splitter, options, watch);
+    Ok(rows.push(JobRow { label, found })?)
 }
 
-/// What is found for the text of a job, if that was kept.
-fn find_kept<R: Threads + Wait + Sync, W: Watch + Sync>(
+/// What is found of the job that ended.
+fn find_job<R: Threads + Wait + Sync, W: Watch + Sync>(
     rt: &R,
     alloc: Global,
     asked: &Asked,
-    text: &Result<Vec<u8>, JobFault>,
+    splitter: &Splitter,
     options: &Options,
     watch: &W,
 ) -> Result<JobFinding, Fault>
-    ensures { FindsKept asked.now options.now text.now result }
+    ensures { (job : Job) → Holds LONGEST_JOB splitter.now job → IsJobFound asked.now options.now job result }
 {
-    match text {
+    match splitter.job() {
         Ok(text) => find_text(rt, alloc, asked, text, options, watch),
         Err(JobFault::TooLong) => Err(Fault::Reading(ReadFault::TooLong(LONGEST_JOB))),
         Err(JobFault::Memory) => Err(Fault::Memory),

@@ -24,7 +24,6 @@ mod checking;
 mod ended;
 mod job_row;
 mod job_table;
-mod kept_jobs;
 mod running;
 mod task;
 pub mod task_laws;

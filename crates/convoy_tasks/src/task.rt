@@ -94,11 +94,6 @@ pub enum Task {
         asked: Asked,
         options: Options,
     },
-    /// A report on the scenario, to be passed on.
-    Report {
-        asked: Asked,
-        options: Options,
-    },
     /// A table in that format, with a row for each scenario of a batch. Whether the exit status of a program is to tell
     /// how their searches end, on which nothing that is answered rests.
     BatchTable {

@@ -1,7 +1,6 @@
 -- What is tried of a scenario: a change, and a search of the scenario that it makes.
 use Rattle.std.specs.Prelude.{◌≡◌, ◌≢◌, ◌⊎◌, ℕ, Ok, Err, List, Option, None, option_map, Result}
 use Rattle.std.specs.List.{Contains}
-use denote.Ref.{Bor}
 use Rattle.convoy_draft.specs.declared.fault.ScenarioFault.{ScenarioFault}
 use Rattle.convoy_draft.specs.declared.fault.ScenarioFault.TheVariants.{Memory}
 use Rattle.convoy_scenario.specs.Scenario.{Scenario, message_at}
@@ -62,16 +61,6 @@ pub record IsRefusedBy (may_answer : Change → Result Searched ScenarioFault �
   pub answered : may_answer change (Err cause)
   pub no_memory : cause ≢ Memory
   pub told : fault ≡ faults.Scenario cause
-
--- It may be answered, with some watch.
-pub record MayAnswerBy {W : Type 0} (may_answer : Change → Bor W → Result Searched ScenarioFault → Type 0) (change : Change) (answer : Result Searched ScenarioFault) : Type 0 where
-  pub watch : Bor W
-  pub answered : may_answer change watch answer
-
--- what is told of a change is its row, or the fault that was answered for it, or that memory ran out
-abbrev pub TellsChange : (Change → Result Searched ScenarioFault → Type 0) → Change → Result Tried Fault → Type 0
-TellsChange may_answer change (Ok row) = (row.change ≡ change) × IsTriedBy may_answer row
-TellsChange may_answer change (Err fault) = IsRefusedBy may_answer change fault ⊎ (fault ≡ faults.Memory)
 
 -- It is so of one of these changes.
 pub record HasRefusedBy (may_answer : Change → Result Searched ScenarioFault → Type 0) (changes : List Change) (fault : Fault) : Type 0 where

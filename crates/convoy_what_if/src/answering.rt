@@ -1,4 +1,4 @@
-ghost use Rattle.std.specs.Prelude.{◌≡◌, ◌<◌, length};
+ghost use Rattle.std.specs.Prelude.{◌≡◌};
 ghost use Rattle.std.specs.List.{list_any};
 ghost use Rattle.convoy_commands.specs.Replies.{SaysUnlessMemory, reply_of};
 ghost use Rattle.convoy_survey.specs.Findings.{is_fault};
@@ -44,15 +44,14 @@ pub fn what_if_answer<R: Threads + Wait + Sync, W: Watch + Sync>(
     asked: &Asked,
     options: &Options,
     text: &[u8],
-    watches: &[W],
+    watch: &W,
 ) -> Result<Answer, Fault>
-    requires { 0 < length watches.now }
     ensures { SaysUnlessMemory (WhatIfSays format shows_all asked.now options.now) text.now (reply_of result) }
 {
     let input = read_toml_asked(alloc, text, asked)?;
     let deadline = deadline_at(&input.deadlines, input.scenario.target_message());
     let instance = Instance::of(alloc, input.scenario)?;
-    let rows = what_if(rt, alloc, &instance, options, watches)?;
+    let rows = what_if(rt, alloc, &instance, options, watch)?;
     let scenario = instance.into_scenario();
     let times = Times::of(format, Measure::of(&scenario, options.unit(), input.unit));
     let text = text_of(alloc, format, &times, deadline, shows_all, &scenario, &rows)?;

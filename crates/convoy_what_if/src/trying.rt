@@ -1,9 +1,9 @@
 //! One change, tried.
 
-ghost use Rattle.std.specs.Prelude.{◌≡◌, IfOk};
+ghost use Rattle.std.specs.Prelude.{◌≡◌, ◌⊎◌, IfOk, IfErr};
 ghost use Rattle.convoy_scenario.specs.Memory.{IsUnlessMemory};
 ghost use Rattle.convoy_what_if.specs.Changes.{changed};
-ghost use Rattle.convoy_what_if.specs.Tries.{MayAnswer, MayAnswerBy, TellsChange, TellsFound, TellsMemory, name_in};
+ghost use Rattle.convoy_what_if.specs.Tries.{IsRefusedBy, IsTriedBy, MayAnswer, TellsFound, TellsMemory, name_in};
 
 use super::drafting;
 use super::kinds::Change;
@@ -50,16 +50,17 @@ fn changed_instance(
 
 /// The row of a change that is tried by `search`: what that answers, and that memory ran out just where it answers
 /// so. Fails with the fault that it answers else, and with `Fault::Memory` where there is no memory for the row.
-pub(crate) fn try_change<W, F: Fn(Change, &W) -> Result<Searched, ScenarioFault>>(
+pub(crate) fn try_change<F: Fn(Change) -> Result<Searched, ScenarioFault>>(
     alloc: Global,
     change: Change,
-    watch: &W,
     search: &F,
 ) -> Result<Tried, Fault>
-    requires { F.IsAlwaysCallable search.now }
-    ensures { TellsChange (MayAnswerBy (F.post search.now)) change result }
+    requires { F.pre search.now change }
+    ensures change { IfOk result (λ row. row.change ≡ change) }
+    ensures tried { IfOk result (IsTriedBy (F.post search.now)) }
+    ensures err { IfErr result (λ fault. IsRefusedBy (F.post search.now) change fault ⊎ (fault ≡ Fault.Memory)) }
 {
-    match search(change, watch) {
+    match search(change) {
         Ok(searched) => Ok(row_of(alloc, change, &searched)?),
         Err(ScenarioFault::Memory) => Ok(row_without(change)),
         Err(cause) => Err(Fault::Scenario(cause)),

@@ -1,8 +1,0 @@
-use Rattle.std.proofs.Common.{◌≡◌, take}
-use Rattle.std.specs.List.{flat_map}
-use Rattle.convoy_budget.specs.Budgets.{keys_of}
-use Rattle.convoy_budget.proofs.rows.keys_of.Given as goal
-
--- the keys so far are those of the targets so far
-abbrev pub invariant-loop-target : goal.invariant-loop-target
-invariant-loop-target l = l.keys.items ≡ flat_map (keys_of l.ways) (take l.target-index l.targets)

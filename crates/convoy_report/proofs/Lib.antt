@@ -1,4 +1,0 @@
-pub mod Escaping
-pub mod MoreRuns
-pub mod RunEnds
-pub mod Told

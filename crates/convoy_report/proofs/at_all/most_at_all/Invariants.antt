@@ -1,7 +1,0 @@
-use Rattle.std.proofs.Common.{◌≡◌, take}
-use Rattle.convoy_survey.specs.AtAll.{most_at_all}
-use Rattle.convoy_report.proofs.at_all.most_at_all.Given as goal
-
--- the greatest of the rows so far
-abbrev pub invariant-loop-row : goal.invariant-loop-row
-invariant-loop-row l = l.most ≡ most_at_all (take l.row-index l.rows)
