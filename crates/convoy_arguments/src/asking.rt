@@ -121,21 +121,18 @@ const SET: (&str, &str) = (
 
 /// The keys of a sweep with their values: of one `--set`, or of two.
 pub(crate) fn sweep_of(alloc: Global, given: &ArgMatches<'_>) -> Result<Sweep, Unasked> {
-    let mut words = given.get_strs("set");
-    let Some(first) = words.next() else {
-        return Err(rejected(alloc, SET, ""));
-    };
-    let second = match words.next() {
-        Some(word) => Some(setting_in(alloc, word)?),
-        None => None,
-    };
-    if let Some(third) = words.next() {
-        return Err(rejected(alloc, SET, third));
+    match given.get_strs("set") {
+        Some([first]) => Ok(Sweep {
+            first: setting_in(alloc, first)?,
+            second: None,
+        }),
+        Some([first, second]) => Ok(Sweep {
+            first: setting_in(alloc, first)?,
+            second: Some(setting_in(alloc, second)?),
+        }),
+        Some([_, _, third, ..]) => Err(rejected(alloc, SET, third)),
+        _ => Err(rejected(alloc, SET, "")),
     }
-    Ok(Sweep {
-        first: setting_in(alloc, first)?,
-        second,
-    })
 }
 
 /// The key with its values that a word tells.
